@@ -1,0 +1,222 @@
+ghost use Rattle.std.specs.Prelude.{◌≡◌, ℕ, ◌+◌, ◌-◌, ◌≤◌, ◌↔◌, List, Some, take, drop, [], ◌∷◌, ◌++◌, length, IsTrue, IfOk, OnOk, OnErr, true};
+ghost use Rattle.std.specs.Str.{chars, encode_utf8_all, all_scalars, bytes_eq};
+ghost use Rattle.std.specs.Cmp.{on_per, on_equiv, partial_equiv_from_equiv};
+ghost use Rattle.std.specs.Cmp.Lexicographic.{nat_list_eq_equiv};
+ghost use Rattle.std.specs.String.{string_bytes};
+ghost use Rattle.xi_plain.specs.Text.{byte_len, gap_at, place_of};
+
+use crate::memory::{Copied, NoMemory};
+use std::alloc::Global;
+use std::cmp::Ordering;
+use std::fmt;
+use std::marker::Model;
+
+/// A list of characters, held as UTF-8: a text of ASCII takes one byte a character.
+#[derive(Drop)]
+pub struct Text {
+    utf8: String,
+}
+
+impl Model for Text {
+    ghost use Rattle.std.specs.Prelude.{ℕ, List};
+    ghost use Rattle.std.specs.Str.{chars};
+    ghost use Rattle.std.specs.String.{string_bytes};
+
+    ghost Value = { List ℕ };
+
+    ghost view = { λ t. chars (string_bytes t.utf8) };
+}
+
+impl Text {
+    /// The empty text, which takes no memory.
+    pub fn new(alloc: Global) -> Text
+        ensures { result ≡ [] }
+    {
+        Text {
+            utf8: String::new(alloc),
+        }
+    }
+
+    /// A copy of the characters of a `str`.
+    pub fn from_str(alloc: Global, text: &str) -> Result<Text, NoMemory>
+        ensures made { IfOk result (λ made. made ≡ chars text.now) }
+    {
+        Ok(Text {
+            utf8: String::from_str(alloc, text)?,
+        })
+    }
+
+    /// The characters of a `String`, which is kept as it is.
+    pub fn from_string(utf8: String) -> Text
+        ensures { result ≡ chars (string_bytes utf8) }
+    {
+        Text { utf8 }
+    }
+
+    /// The text as a `String`, with no copy.
+    pub fn into_string(self) -> String
+        ensures utf8 { string_bytes result ≡ encode_utf8_all self }
+        ensures characters { chars (string_bytes result) ≡ self }
+    {
+        let Text { utf8 } = self;
+        utf8
+    }
+
+    /// The text as UTF-8, with no copy.
+    pub fn as_str(&self) -> &str
+        ensures utf8 { result.now ≡ encode_utf8_all self.now }
+        ensures characters { chars result.now ≡ self.now }
+        ensures scalars { all_scalars self.now ≡ true }
+    {
+        self.utf8.as_str()
+    }
+
+    /// How many bytes the text takes in UTF-8; this costs nothing.
+    pub fn byte_len(&self) -> u64
+        ensures { result ≡ byte_len self.now }
+    {
+        self.as_str().len() as u64
+    }
+
+    /// How many characters the text has; this walks the text.
+    pub fn len(&self) -> u64
+        ensures { result ≡ length self.now }
+    {
+        self.as_str().chars().count() as u64
+    }
+
+    pub fn is_empty(&self) -> bool
+        ensures { IsTrue result ↔ (self.now ≡ []) }
+    {
+        self.as_str().is_empty()
+    }
+
+    /// Puts a character at the end. After want of memory the text is as before.
+    pub fn push(&mut self, character: char) -> Result<(), NoMemory>
+        ensures pushed { OnOk result (self.new ≡ self.old ++ character ∷ []) }
+        ensures unchanged { OnErr result (self.new ≡ self.old) }
+    {
+        self.utf8.push(character)?;
+        Ok(())
+    }
+
+    /// Puts a text at the end. After want of memory the text is as before.
+    pub fn push_text(&mut self, other: &Text) -> Result<(), NoMemory>
+        ensures pushed { OnOk result (self.new ≡ self.old ++ other.now) }
+        ensures unchanged { OnErr result (self.new ≡ self.old) }
+    {
+        self.push_str(other.as_str())
+    }
+
+    /// Puts the characters of a `str` at the end. After want of memory the text is as before.
+    pub fn push_str(&mut self, other: &str) -> Result<(), NoMemory>
+        ensures pushed { OnOk result (self.new ≡ self.old ++ chars other.now) }
+        ensures unchanged { OnErr result (self.new ≡ self.old) }
+    {
+        self.utf8.push_str(other)?;
+        Ok(())
+    }
+
+    /// The gap whose place is this byte offset; `None` exactly where the offset is no place. This walks the text up to it.
+    pub fn gap_at(&self, at: u64) -> Option<u64>
+        ensures { result ≡ gap_at self.now at }
+    {
+        gap_in(self.as_str(), at)
+    }
+
+    /// The byte offset of a gap, or of the end where there is no such gap. This walks the text up to it.
+    pub fn place_of(&self, gap: u64) -> u64
+        ensures { result ≡ place_of self.now gap }
+    {
+        place_in(self.as_str(), gap)
+    }
+
+    /// The characters between two gaps. This walks the text up to the second gap and copies what it gives.
+    pub fn slice(&self, alloc: Global, from: u64, to: u64) -> Result<Text, NoMemory>
+        requires ordered { from ≤ to }
+        requires inside { to ≤ length self.now }
+        ensures { IfOk result (λ part. part ≡ take (to - from) (drop from self.now)) }
+    {
+        let part = between(self.as_str(), from, to);
+        Text::from_str(alloc, part)
+    }
+}
+
+impl Copied for Text {
+    fn copy(&self, alloc: Global) -> Result<Text, NoMemory> {
+        Text::from_str(alloc, self.as_str())
+    }
+}
+
+impl fmt::Display for Text {
+    ghost output = { λ t. Some (encode_utf8_all t) };
+
+    fn fmt<W: fmt::Write>(&self, f: &mut fmt::Formatter<W>) -> fmt::Result {
+        f.write_str(self.as_str())
+    }
+}
+
+impl fmt::Debug for Text {
+    fn fmt<W: fmt::Write>(&self, f: &mut fmt::Formatter<W>) -> fmt::Result {
+        fmt::Debug::fmt(&self.as_str(), f)
+    }
+}
+
+impl PartialEq for Text {
+    ghost eq = { λ a b. bytes_eq (encode_utf8_all a) (encode_utf8_all b) };
+
+    ghost laws = { on_per (λ t. encode_utf8_all t) (partial_equiv_from_equiv nat_list_eq_equiv) };
+
+    fn eq(&self, other: &Text) -> bool {
+        self.as_str() == other.as_str()
+    }
+}
+
+impl Eq for Text {
+    ghost laws = { on_equiv (λ t. encode_utf8_all t) nat_list_eq_equiv };
+}
+
+/// The gap whose place in the text is this byte offset.
+fn gap_in(text: &str, at: u64) -> Option<u64>
+    ensures { result ≡ gap_at (chars text.now) at }
+{
+    let mut gap: u64 = 0;
+    let mut left = at;
+    for c in text.chars() {
+        if left == 0 {
+            return Some(gap);
+        }
+        let width = c.len_utf8() as u64;
+        if left < width {
+            return None;
+        }
+        left -= width;
+        gap += 1;
+    }
+    if left == 0 { Some(gap) } else { None }
+}
+
+/// How many bytes the first `gap` characters take.
+fn place_in(text: &str, gap: u64) -> u64
+    ensures { result ≡ place_of (chars text.now) gap }
+{
+    let mut place: u64 = 0;
+    let mut left = gap;
+    for c in text.chars() {
+        if left == 0 {
+            break;
+        }
+        place += c.len_utf8() as u64;
+        left -= 1;
+    }
+    place
+}
+
+/// The part of the text between two gaps.
+fn between(text: &str, from: u64, to: u64) -> &str
+    requires ordered { from ≤ to }
+    requires inside { to ≤ length (chars text.now) }
+    ensures { chars result.now ≡ take (to - from) (drop from (chars text.now)) }
+{
+    &text[place_in(text, from) as usize..place_in(text, to) as usize]
+}
