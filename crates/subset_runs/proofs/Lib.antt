@@ -1,0 +1,5 @@
+pub mod FlagLemmas
+pub mod RunLemmas
+pub mod StretchLemmas
+pub mod RangeLemmas
+pub mod RenumberingLemmas

@@ -1,0 +1,6 @@
+pub mod Subset
+pub mod Renumbering
+pub mod Runs
+pub mod Ranges
+pub mod Stretch
+pub mod Keep

@@ -1,0 +1,6 @@
+/// Some positions in a row that are all members, or all none.
+#[derive(Clone, Copy, Debug, PartialEq, Eq)]
+pub struct Stretch {
+    pub len: u64,
+    pub member: bool,
+}
