@@ -1,0 +1,3 @@
+-- Laws for the layers above: what several calls gave, gained and counted.
+pub mod Calls
+pub mod Parts

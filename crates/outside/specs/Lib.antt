@@ -1,0 +1,7 @@
+-- What the sources and sinks mean.
+pub mod Faults
+pub mod Source
+pub mod Sink
+pub mod Schedule
+pub mod MemSource
+pub mod MemSink

@@ -1,0 +1,14 @@
+-- A sink in memory, exactly.
+use Rattle.std.specs.Prelude.{ℕ, min, List, Option, if◌then◌else◌}
+use Rattle.outside.specs.declared.sink.Pushed.{Pushed}
+use Rattle.outside.specs.declared.sink.Pushed.TheVariants.{Took, Failed}
+use Rattle.outside.specs.Schedule.{Plan, is_due}
+
+-- the bytes held, where the sink still tells them, and the plan of the calls
+pub record Store : Type 0 where
+  pub held : Option (List ℕ)
+  pub plan : Plan
+
+-- what the next call answers at a piece of this length
+abbrev pub answer : Store → ℕ → Pushed
+answer store len = if is_due store.plan then Failed else Took (min len store.plan.greatest)

@@ -1,0 +1,35 @@
+-- What a call of a source does.
+use Rattle.std.specs.Prelude.{◌≡◌, ℕ, ◌<◌, ◌≤◌, List, [], ◌++◌, take, drop, Option, Some, None}
+use Rattle.outside.specs.Faults.{counted}
+use Rattle.outside.specs.declared.source.Pulled.{Pulled}
+use Rattle.outside.specs.declared.source.Pulled.TheVariants.{Got, End, Failed}
+
+-- the source gave these bytes: they were the first ones left, and the others still are. It tells after a call
+-- exactly where it told before
+abbrev pub Gives : Option (List ℕ) → Option (List ℕ) → List ℕ → Type 0
+Gives None None given = Unit {0}
+Gives None (Some after) given = ⊥
+Gives (Some before) None given = ⊥
+Gives (Some before) (Some after) given = before ≡ given ++ after
+
+-- the bytes that an answer gives, which stand at the front of the buffer
+abbrev pub pulled : Pulled → List ℕ → List ℕ
+pulled (Got n) buf = take n buf
+pulled End buf = []
+pulled Failed buf = []
+
+-- a piece has at least one byte and finds room
+abbrev pub IsPiece : Pulled → ℕ → Type 0
+IsPiece (Got n) room = (0 < n) × (n ≤ room)
+IsPiece End room = Unit {0}
+IsPiece Failed room = Unit {0}
+
+-- the count of faults after an answer: one more where the call failed
+abbrev pub faults_after : Pulled → ℕ → ℕ
+faults_after (Got n) faults = faults
+faults_after End faults = faults
+faults_after Failed faults = counted faults
+
+-- the buffer with the first n of these bytes at its front
+abbrev pub filled : List ℕ → List ℕ → ℕ → List ℕ
+filled buf bytes n = take n bytes ++ drop n buf

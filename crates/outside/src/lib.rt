@@ -1,0 +1,27 @@
+//! The outside: where bytes come from, and where they go.
+//!
+//! To a contract a `Source` is the bytes that it has left, and a `Sink` the bytes that it holds, where they tell;
+//! each also has a count of its faults. The sources and sinks in memory tell everything, and those over standard
+//! input and output tell nothing but their count.
+#![tactic(auto)]
+
+mod calm_sink;
+mod calm_source;
+mod mem_sink;
+mod mem_source;
+mod schedule;
+mod sink;
+mod source;
+mod std_sink;
+mod std_source;
+#[cfg(test)]
+mod tests;
+
+pub use calm_sink::CalmSink;
+pub use calm_source::CalmSource;
+pub use mem_sink::MemSink;
+pub use mem_source::MemSource;
+pub use sink::{Pushed, Sink};
+pub use source::{Pulled, Source};
+pub use std_sink::StdSink;
+pub use std_source::StdSource;

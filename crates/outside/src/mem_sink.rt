@@ -1,0 +1,96 @@
+ghost use Rattle.std.specs.Prelude.{◌≡◌, ℕ, ◌^◌, ◌<◌, ◌≤◌, Some, min, length, take, [], IfSome, IsTrue};
+ghost use Rattle.std.specs.Option.{option_map};
+ghost use Rattle.outside.specs.Sink.{Gains, IsPart, pushed};
+ghost use Rattle.outside.specs.MemSink.{answer};
+ghost use Rattle.outside.specs.Schedule.{plan_of, is_due, next};
+ghost use Rattle.outside.specs.Faults.{Rose};
+
+use crate::calm_sink::CalmSink;
+use crate::schedule::Schedule;
+use crate::sink::{Pushed, Sink};
+use std::alloc::Global;
+use std::marker::Model;
+
+/// A sink in memory which takes small pieces, and fails at the calls that it is told to.
+///
+/// Where it finds no memory to keep a piece, it takes the piece and from then on tells nothing.
+#[derive(Drop)]
+pub struct MemSink {
+    sink: CalmSink,
+    schedule: Schedule,
+}
+
+impl Model for MemSink {
+    ghost use Rattle.outside.specs.MemSink.{Store};
+
+    ghost Value = { Store };
+
+    ghost view = { λ s. record { held = s.sink; plan = s.schedule } };
+}
+
+impl MemSink {
+    /// An empty sink that takes at most `greatest` bytes at a call, and whose calls with the numbers `failing` fail,
+    /// counted from 1.
+    pub fn new(alloc: Global, greatest: usize, failing: Vec<u64>) -> Self
+        requires { 0 < greatest }
+        ensures held { result.held ≡ Some [] }
+        ensures plan { result.plan ≡ plan_of greatest failing.items }
+    {
+        MemSink {
+            sink: CalmSink::new(alloc),
+            schedule: Schedule::new(greatest, failing),
+        }
+    }
+
+    /// The bytes that it holds, where it still tells them.
+    pub fn bytes(&self) -> Option<&[u8]>
+        ensures { option_map (λ bytes. bytes.now) result ≡ self.now.held }
+    {
+        self.sink.bytes()
+    }
+
+    /// Gives up the bytes that it holds, where it still tells them.
+    pub fn into_bytes(self) -> Option<Vec<u8>>
+        ensures { option_map (λ bytes. bytes.items) result ≡ self.held }
+    {
+        let MemSink { sink, schedule: _ } = self;
+        sink.into_bytes()
+    }
+
+    /// How many calls were made. The count stands still at the end of `u64`.
+    pub fn calls(&self) -> u64
+        ensures { result ≡ self.now.plan.calls }
+    {
+        self.schedule.calls()
+    }
+
+    /// How many calls failed.
+    pub fn faults(&self) -> u64
+        ensures { result ≡ self.now.plan.faults }
+    {
+        self.schedule.faults()
+    }
+}
+
+impl Sink for MemSink {
+    ghost held = { λ s. s.held };
+
+    ghost faults = { λ s. s.plan.faults };
+
+    fn write(&mut self, piece: &[u8]) -> Pushed
+        requires { 0 < length piece.now }
+        ensures answer { result ≡ answer self.old (length piece.now) }
+        ensures gains { Gains self.old.held self.new.held (pushed result piece.now) }
+        ensures kept { IsTrue (is_due self.old.plan) → self.new.held ≡ self.old.held }
+        ensures plan { self.new.plan ≡ next self.old.plan }
+        ensures part { IsPart result (length piece.now) }
+        ensures faults_stay { self.old.plan.faults ≤ self.new.plan.faults }
+        ensures faults_fit { self.new.plan.faults < 2 ^ 64 }
+    {
+        if self.schedule.enter() {
+            return Pushed::Failed;
+        }
+        let room = piece.len().min(self.schedule.greatest());
+        self.sink.write(&piece[..room])
+    }
+}
