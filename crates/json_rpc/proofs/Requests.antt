@@ -1,0 +1,45 @@
+-- What a line asks, from what it reads as.
+use Rattle.std.proofs.Common.{◌≡◌, ◌≢◌, ℕ, List, Option, Some, None, Result, Ok, Err, IfOk, IfErr, IsUtf8, String, Global, option_map, string_bytes, true, codes, get_or, sym, ap, ◌∙◌, arith}
+use Rattle.std.specs.Option.{ok_or}
+use Rattle.std.proofs.lemmas.Str.{IsUtf8-string_bytes, scalars-chars}
+use Rattle.std.specs.Str.{chars, all_scalars}
+use Rattle.serde_json.specs.Data.{Data}
+use Rattle.serde_json.specs.Read.{read}
+use Rattle.json_rpc.specs.declared.fault.RpcFault.{RpcFault}
+use Rattle.json_rpc.specs.declared.fault.RpcFault.TheVariants.{Parse, Invalid, NoMemory}
+use Rattle.json_rpc.specs.declared.rpc.Rpc.{Rpc}
+use Rattle.json_rpc.specs.Line.{without_lf, text_value, reading}
+use Rattle.json_rpc.specs.Request.{Request, request, request_of, or_fault, value_request, line_request}
+use Rattle.json_rpc.proofs.Lines.{text_value-read, text_value-none}
+
+pub line_request-read : (line text : List ℕ) (d : Data) → text ≡ without_lf line → IsUtf8 text × (read text ≡ Some d) → line_request line ≡ or_fault Invalid (request_of d)
+unfolding line_request reading
+line_request-read line text d is h = ap (λ t. value_request (text_value t)) (sym is) ∙ ap value_request (text_value-read text d h)
+
+pub line_request-unread : (line text : List ℕ) → text ≡ without_lf line → (IsUtf8 text → read text ≡ None) → line_request line ≡ Err Parse
+unfolding line_request reading
+line_request-unread line text is h = ap (λ t. value_request (text_value t)) (sym is) ∙ ap value_request (text_value-none text h)
+
+pub asked : (r : Result Request RpcFault) (o : Option Rpc) → r ≡ or_fault Invalid (option_map request o) → IfOk (ok_or o Invalid) (λ rpc. r ≡ Ok (request rpc))
+asked r None e = tt
+asked r (Some rpc) e = e
+
+pub refused : (r : Result Request RpcFault) (o : Option Rpc) → r ≡ or_fault Invalid (option_map request o) → IfErr (ok_or o Invalid) (λ fault. fault ≢ NoMemory → r ≡ Err fault)
+refused r None e = λ other. e
+refused r (Some rpc) e = tt
+
+pub all_scalars-string : (text : List ℕ) (s : String Global) → text ≡ chars (string_bytes s) → all_scalars text ≡ true
+all_scalars-string text s e = ap all_scalars e ∙ scalars-chars (string_bytes s) (IsUtf8-string_bytes s)
+
+-- texts whose first bytes differ
+differ : (xs ys : List ℕ) → get_or xs 0 0 ≢ get_or ys 0 0 → xs ≢ ys
+differ xs ys apart e = apart (ap (λ l. get_or l 0 0) e)
+
+pub method≢id : codes "method" ≢ codes "id"
+method≢id = differ (codes "method") (codes "id") (λ e. omega arith)
+
+pub params≢id : codes "params" ≢ codes "id"
+params≢id = differ (codes "params") (codes "id") (λ e. omega arith)
+
+pub params≢method : codes "params" ≢ codes "method"
+params≢method = differ (codes "params") (codes "method") (λ e. omega arith)

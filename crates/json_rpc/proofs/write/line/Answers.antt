@@ -1,0 +1,10 @@
+use Rattle.std.proofs.Common.{◌++◌, string_bytes, ◌∙◌, ap, arith}
+use Rattle.std.proofs.lemmas.Str.{IsUtf8-string_bytes, encodes-chars}
+use Rattle.std.specs.Str.{encode_utf8_all}
+use Rattle.json_rpc.proofs.Lines.{IsLineOf-text}
+use Rattle.json_rpc.proofs.write.line.Goals as goal
+
+pub returns : goal.returns
+returns c =
+    IsLineOf-text _ _ _ (c.in_ok-text.ensures.text c.requires.no_float) (IsUtf8-string_bytes c.in_ok-text.text) (c.in_ok-text.ensures.reads_back c.requires.shallow)
+    (ap encode_utf8_all c.from_string.ensures ∙ encodes-chars _ (IsUtf8-string_bytes c.push.new.self) ∙ c.in_ok-push.ensures.bytes ∙ ap (λ lf. string_bytes c.in_ok-text.text ++ lf) (c.in_ok-push.ensures.ascii (omega arith)))

@@ -1,0 +1,13 @@
+use Rattle.std.proofs.Common.{codes, ap, ◌∙◌, subst}
+use Rattle.std.proofs.lemmas.Result.{IfOk-weaker}
+use Rattle.std.specs.Str.{encode_utf8_all}
+use Rattle.serde_json.specs.View.{view}
+use Rattle.json_rpc.specs.Line.{IsLineOf}
+use Rattle.json_rpc.specs.Response.{pair_data}
+use Rattle.json_rpc.proofs.Responses.{line_request-note}
+use Rattle.json_rpc.proofs.write.write_note.Goals as goal
+
+pub returns-clause-reads_back : goal.returns-clause-reads_back
+returns-clause-reads_back c =
+    let shape = c.in_ok-pair.ensures ∙ ap (λ d. pair_data (codes "method") d (codes "params") (view c.args.params)) c.in_ok-method.ensures.value in
+    IfOk-weaker c.line.result _ _ (λ text is. line_request-note c.args.method.now (view c.args.params) _ (subst (λ d. IsLineOf d (encode_utf8_all text)) shape is) c.in_ok-method.ensures.characters) c.line.ensures

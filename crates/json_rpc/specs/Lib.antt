@@ -1,0 +1,4 @@
+pub mod Proper
+pub mod Line
+pub mod Request
+pub mod Response

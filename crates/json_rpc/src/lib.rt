@@ -1,0 +1,20 @@
+//! JSON lines: every line has its reading or its refusal, and what is written reads back.
+//!
+//! A line is the bytes of one value of JSON, with or without the LF at its end. Its reading is that of `serde_json`: values nest at
+//! most 127 deep, a whole number of at most 64 bits stays whole, and of equal members the last stays. [`read_line`] gives the
+//! request that a line is, and the writers give the lines that answer it. A contract sees a value of JSON as its data, and says each
+//! line by [`line_of`](laws) of the data: `specs/` has what a line is, what it asks, and what it answers.
+#![tactic(auto)]
+
+mod fault;
+mod laws;
+mod read;
+mod rpc;
+#[cfg(test)]
+mod tests;
+mod write;
+
+pub use fault::RpcFault;
+pub use read::read_line;
+pub use rpc::Rpc;
+pub use write::{write_error, write_note, write_reply};
