@@ -1,10 +1,10 @@
 -- Lemmas on the characters of a text and on its UTF-8.
-use Rattle.std.proofs.Common.{take-append-drop, subst, ◌≡◌, ◌≢◌, ℕ, zero, suc, true, String, ◌+◌, ◌-◌, ◌<◌, ◌≤◌, List, Option, Some, None, take, drop, [], ◌∷◌, ◌++◌, length, append-nil, refl, ap, sym, ◌∙◌, arith, length-append}
+use Rattle.std.proofs.Common.{take-append-drop, ◌↔◌, inl, inr, subst, ◌≡◌, ◌≢◌, ℕ, zero, suc, true, String, ◌+◌, ◌-◌, ◌<◌, ◌≤◌, List, Some, None, take, drop, [], ◌∷◌, ◌++◌, length, append-nil, refl, ap, sym, ◌∙◌, arith, length-append}
 use Rattle.std.specs.Str.{chars, encode_utf8_all, IsUtf8, all_scalars, IsCharBoundary}
 use Rattle.std.specs.String.{string_bytes}
-use Rattle.std.proofs.lemmas.Str.{length-encode, encodes-chars, chars-encodes, scalars-chars, IsUtf8-string_bytes, chars-nil, length-le-encodes, chars_past_char, chars-append, IsUtf8-encode, encodes-append, IsCharBoundary-at_seam}
+use Rattle.std.proofs.lemmas.Str.{length-encode, encodes-chars, chars-encodes, scalars-chars, IsUtf8-string_bytes, chars-nil, length-le-encodes, chars_past_char, len_utf8_bounds, chars-append, IsUtf8-encode, encodes-append, IsCharBoundary-at_seam}
 use Rattle.std.proofs.Math.Seq.{take-append_seam, drop-append-add, take-nil, drop-nil}
-use Rattle.std.proofs.lemmas.Bool.{and_parts, and_from}
+use Rattle.std.proofs.lemmas.Bool.{and_parts, and_from, cases_eq, cases_lt}
 use Rattle.std.proofs.lemmas.List.{nil_from_length}
 use Rattle.std.proofs.lemmas.Bool.Decides.{nat_tests}
 use Rattle.std.specs.Prelude.{if◌then◌else◌, nat_lt, ◌==◌}
@@ -157,3 +157,68 @@ pub IsCharBoundary-gap : (bs : List ℕ) (gap : ℕ) → IsUtf8 bs → IsCharBou
 IsCharBoundary-gap bs gap is_text =
     let At : List ℕ → Type 0 = λ b. IsCharBoundary b (place_of (chars bs) gap) in
     subst At (encodes-chars bs is_text) (IsCharBoundary-place (chars bs) gap (scalars-chars bs is_text))
+
+-- an offset past the first character
+past_first : (start c : ℕ) (text : List ℕ) (at : ℕ) → at ≢ 0 → len_utf8 c ≤ at →
+    gap_from start (c ∷ text) at ≡ gap_from (start + 1) text (at - len_utf8 c)
+past_first start c text at some reaches = grind (arith, nat_tests)
+
+-- the gap of a place
+pub gap_from-place : (start : ℕ) (text : List ℕ) (gap : ℕ) → gap ≤ length text → gap_from start text (place_of text gap) ≡ Some (start + gap)
+gap_from-place start text zero inside = gap_from-here start text 0 refl ∙ ap Some (omega arith)
+gap_from-place start [] (suc gap) inside = absurd (omega arith)
+gap_from-place start (c ∷ text) (suc gap) inside =
+    let rest = gap_from-place (start + 1) text gap (omega arith) in
+    let wide = len_utf8_bounds c in
+    let less : (len_utf8 c + place_of text gap) - len_utf8 c ≡ place_of text gap = omega arith in
+    let sum : start + 1 + gap ≡ start + suc gap = omega arith in
+    past_first start c text (len_utf8 c + place_of text gap) (omega arith) (omega arith) ∙
+    ap (gap_from (start + 1) text) less ∙ rest ∙ ap Some sum
+
+-- a gap that is found has the place that was asked
+pub FoundAt : ℕ → List ℕ → ℕ → ℕ → Type 0
+FoundAt start text at gap = (k : ℕ) × (gap ≡ start + k) × (k ≤ length text) × (place_of text k ≡ at)
+
+found_here : (start : ℕ) (text : List ℕ) (at gap : ℕ) → at ≡ 0 → gap_from start text at ≡ Some gap → FoundAt start text at gap
+unfolding FoundAt
+found_here start text at gap is found =
+    let here : Some gap ≡ Some start = sym found ∙ gap_from-here start text at is in
+    let same : gap ≡ start = cc in
+    (0, omega arith, omega arith, place_of-start text 0 refl ∙ sym is)
+
+found_later : (start c : ℕ) (text : List ℕ) (at gap : ℕ) → at ≢ 0 → len_utf8 c ≤ at →
+    FoundAt (start + 1) text (at - len_utf8 c) gap → FoundAt start (c ∷ text) at gap
+unfolding FoundAt
+found_later start c text at gap some reaches (k, is, inside, place) = (suc k, omega arith, omega arith, omega arith)
+
+none_inside : (start c : ℕ) (text : List ℕ) (at gap : ℕ) → at ≢ 0 → at < len_utf8 c → gap_from start (c ∷ text) at ≡ Some gap → ⊥
+none_inside start c text at gap some below found = grind (arith, nat_tests)
+
+none_past : (start at gap : ℕ) → at ≢ 0 → gap_from start [] at ≡ Some gap → ⊥
+none_past start at gap some found = grind (arith, nat_tests)
+
+pub place-gap_from : (start : ℕ) (text : List ℕ) (at gap : ℕ) → gap_from start text at ≡ Some gap → FoundAt start text at gap
+place-gap_from start [] at gap found =
+    elim (cases_eq at 0) [ inl is ↦ found_here start [] at gap is found | inr some ↦ absurd (none_past start at gap some found) ]
+place-gap_from start (c ∷ text) at gap found =
+    elim (cases_eq at 0) [
+      | inl is ↦ found_here start (c ∷ text) at gap is found
+      | inr some ↦
+          elim (cases_lt at (len_utf8 c)) [
+            | inl below ↦ absurd (none_inside start c text at gap some below found)
+            | inr reaches ↦
+                found_later start c text at gap some reaches
+                (place-gap_from (start + 1) text (at - len_utf8 c) gap (sym (past_first start c text at some reaches) ∙ found))
+          ]
+    ]
+
+pub gap_at_iff : (text : List ℕ) (at gap : ℕ) → (gap_from 0 text at ≡ Some gap) ↔ ((gap ≤ length text) × (place_of text gap ≡ at))
+unfolding FoundAt
+gap_at_iff text at gap = (
+  (λ found. one_way (place-gap_from 0 text at gap found)),
+  (λ (inside, place). ap (gap_from 0 text) (sym place) ∙ gap_from-place 0 text gap inside ∙ ap Some (omega arith)),
+)
+  where
+    one_way : (k : ℕ) × (gap ≡ 0 + k) × (k ≤ length text) × (place_of text k ≡ at) → (gap ≤ length text) × (place_of text gap ≡ at)
+    one_way (k, is, inside, place) =
+        let same : gap ≡ k = omega arith in (omega arith, ap (place_of text) same ∙ place)

@@ -1,5 +1,5 @@
 -- When old groups may be collected, and which characters no kept revision can show again.
-use Rattle.std.specs.Prelude.{◌≡◌, ℕ, ◌+◌, ◌-◌, ◌≤◌, Bool, true, false, not, ◌&&◌, ◌||◌, nat_le, List, drop}
+use Rattle.std.specs.Prelude.{◌≡◌, ℕ, ◌≤◌, Bool, true, false, not, ◌&&◌, ◌||◌, nat_le, List, drop}
 use Rattle.std.specs.List.{list_all, list_any, count_by}
 use Rattle.xi_plain.specs.Numbers.{has}
 use Rattle.xi_plain.specs.History.{Tagged, Revision, edit, undo, History, head, group_of, undone, is_undone}

@@ -1,5 +1,5 @@
 -- A delta on the wire, over a base text: the first misfit, and what it keeps and adds where it has none.
-use Rattle.std.specs.Prelude.{◌≡◌, ℕ, Bool, true, false, not, ◌&&◌, ◌||◌, if◌then◌else◌, nat_lt, nat_le, ◌==◌, List, [], ◌∷◌, ◌++◌, Option, Some, None}
+use Rattle.std.specs.Prelude.{◌≡◌, ℕ, Bool, not, ◌&&◌, ◌||◌, if◌then◌else◌, nat_lt, nat_le, ◌==◌, List, [], ◌∷◌, Option, Some, None}
 use Rattle.std.specs.List.{list_any, flat_map}
 use Rattle.xi_plain.specs.declared.delta.El.{El}
 use Rattle.xi_plain.specs.declared.delta.El.TheVariants.{Copy, Insert}

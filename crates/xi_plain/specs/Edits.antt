@@ -1,5 +1,5 @@
 -- What an edit and an undo add to a history, when they may come, and what edits of one base come to.
-use Rattle.std.specs.Prelude.{◌≡◌, ◌≢◌, ℕ, ◌+◌, ◌<◌, ◌≤◌, Bool, true, false, not, ◌&&◌, if◌then◌else◌, nat_lt, nat_le, ◌==◌, List, [], ◌∷◌, ◌++◌, length, map, take, drop, Option, Some, None}
+use Rattle.std.specs.Prelude.{◌≡◌, ℕ, ◌+◌, ◌<◌, Bool, true, false, not, ◌&&◌, if◌then◌else◌, nat_lt, nat_le, ◌==◌, List, [], ◌∷◌, ◌++◌, length, map, take, Option, Some, None}
 use Rattle.std.specs.List.{flat_map, range_with_len, count_by, list_all, list_any, AllByRecursion}
 use Rattle.xi_plain.specs.declared.delta.Misfit.{Misfit}
 use Rattle.xi_plain.specs.declared.delta.Delta.{Delta}

@@ -1,5 +1,5 @@
 -- The layout of a text with its carets. (A line has no styles yet and is not wrapped.)
-use Rattle.std.specs.Prelude.{ℕ, ◌+◌, ◌-◌, Bool, if◌then◌else◌, nat_lt, ◌==◌, List, [], ◌∷◌, length, map, take, Option, Some}
+use Rattle.std.specs.Prelude.{ℕ, ◌+◌, ◌-◌, if◌then◌else◌, nat_lt, ◌==◌, List, [], ◌∷◌, length, map, Some}
 use Rattle.std.specs.List.{filter, range_with_len, onto_first}
 use Rattle.xi_plain.specs.declared.screen.Line.{Line}
 use Rattle.xi_plain.specs.Numbers.{has}

@@ -13,3 +13,4 @@ pub mod Screen
 pub mod Plan
 pub mod Journal
 pub mod Rows
+pub mod Laws

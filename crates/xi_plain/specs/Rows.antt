@@ -5,9 +5,9 @@ use Rattle.xi_plain.specs.declared.delta.Delta.{Delta}
 use Rattle.xi_plain.specs.declared.screen.Line.{Line}
 use Rattle.xi_plain.specs.declared.screen.Op.TheVariants.{Copy, Skip, Invalidate, Ins}
 use Rattle.xi_plain.specs.Delta.{misfit_of}
-use Rattle.xi_plain.specs.History.{History, Revision, head, loaded, text_at}
+use Rattle.xi_plain.specs.History.{History, head, loaded, text_at}
 use Rattle.xi_plain.specs.Edits.{plain_edit, edited, undid, edit_refusal}
-use Rattle.xi_plain.specs.Collection.{is_clean, kept}
+use Rattle.xi_plain.specs.Collection.{is_clean}
 use Rattle.xi_plain.specs.Layout.{layout, point_of}
 use Rattle.xi_plain.specs.Screen.{Screen, screen_after}
 use Rattle.xi_plain.specs.Plan.{update_plan}

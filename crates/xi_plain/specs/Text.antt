@@ -1,5 +1,5 @@
 -- A text is a list of characters.
-use Rattle.std.specs.Prelude.{◌≡◌, ℕ, ◌+◌, ◌-◌, ◌≤◌, Bool, if◌then◌else◌, nat_lt, ◌==◌, List, [], ◌∷◌, length, take, Option, Some, None, unwrap_or, is_some}
+use Rattle.std.specs.Prelude.{ℕ, ◌+◌, ◌-◌, Bool, if◌then◌else◌, nat_lt, ◌==◌, List, [], ◌∷◌, take, Option, Some, None, unwrap_or, is_some}
 use Rattle.std.specs.Char.{len_utf8}
 
 -- how many bytes the text takes in UTF-8

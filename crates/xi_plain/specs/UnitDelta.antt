@@ -1,5 +1,5 @@
 -- A delta in characters: when it is well formed and canonical, what it keeps and adds, and where it takes a caret.
-use Rattle.std.specs.Prelude.{◌≡◌, ◌≢◌, ℕ, ◌+◌, ◌<◌, ◌≤◌, Bool, List, [], ◌∷◌}
+use Rattle.std.specs.Prelude.{◌≢◌, ℕ, ◌+◌, ◌<◌, ◌≤◌, Bool, List, [], ◌∷◌}
 use Rattle.xi_plain.specs.declared.delta.Run.{Run}
 use Rattle.xi_plain.specs.declared.delta.Added.{Added}
 use Rattle.xi_plain.specs.declared.delta.UnitDelta.{UnitDelta}

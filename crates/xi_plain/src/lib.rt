@@ -8,12 +8,15 @@
 mod command;
 mod config;
 mod delta;
+pub mod laws;
 mod listed;
 mod memory;
 pub mod rows;
 mod screen;
 mod selection;
 mod steps;
+#[cfg(test)]
+mod tests;
 mod text;
 
 pub use command::{Act, Bytes, Command, EditAct, Entries, Entry, Fault, Id, Texts};

@@ -1,4 +1,4 @@
-use Rattle.std.proofs.Common.{◌∙◌, ap, ◌-◌, take, drop}
+use Rattle.std.proofs.Common.{◌∙◌, ap}
 use Rattle.std.specs.Str.{chars}
 use Rattle.xi_plain.proofs.TextLemmas.{place_of-rises, IsCharBoundary-gap, chars-between}
 use Rattle.xi_plain.proofs.text.between.Goals as goal
