@@ -7,10 +7,10 @@ use Rattle.subset_runs.specs.Subset.{count, complement, expand_as, items_outside
 use Rattle.subset_runs.specs.Renumbering.{Renumbers, Expands, Shrinks}
 use Rattle.subset_runs.proofs.FlagLemmas.{count_le_length}
 
-no_flag : {b : Bool} (o : Option Bool) → o ≡ None → o ≡ Some b → ⊥
+pub no_flag : {b : Bool} (o : Option Bool) → o ≡ None → o ≡ Some b → ⊥
 no_flag o none some = cc
 
-one_flag : {x y : Bool} → Some x ≡ Some y → x ≡ y
+pub one_flag : {x y : Bool} → Some x ≡ Some y → x ≡ y
 one_flag e = cc
 
 pub length-expand_as : (inside : Bool) (flags by : List Bool) → length (expand_as inside flags by) ≡ length by

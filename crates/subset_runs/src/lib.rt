@@ -6,7 +6,7 @@
 #![tactic(auto)]
 
 mod fault;
-mod laws;
+pub mod laws;
 mod ranges;
 mod steps;
 mod stretch;

@@ -179,6 +179,28 @@ impl Subset {
     }
 }
 
+/// Equal lengths and equal members, in the time of the runs.
+impl PartialEq for Subset {
+    ghost use Rattle.std.specs.Bool.{beq};
+    ghost use Rattle.std.specs.Cmp.{partial_equiv_from_equiv, bool_eq_equiv};
+    ghost use Rattle.std.specs.Cmp.Lexicographic.{pointwise, lists_equiv};
+
+    ghost eq = { λ s t. pointwise beq s t };
+
+    ghost laws = { partial_equiv_from_equiv (lists_equiv bool_eq_equiv) };
+
+    fn eq(&self, other: &Self) -> bool {
+        self.len == other.len && self.runs == other.runs
+    }
+}
+
+impl Eq for Subset {
+    ghost use Rattle.std.specs.Cmp.{bool_eq_equiv};
+    ghost use Rattle.std.specs.Cmp.Lexicographic.{lists_equiv};
+
+    ghost laws = { lists_equiv bool_eq_equiv };
+}
+
 // Whether one of the runs has the position.
 fn is_in_some(runs: &[(u64, u64)], i: u64) -> bool
     requires { AreRuns 0 runs.now }
