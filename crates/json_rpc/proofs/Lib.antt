@@ -3,3 +3,9 @@ pub mod Lines
 pub mod Members
 pub mod Requests
 pub mod Responses
+pub mod ReadTexts
+pub mod ReadTokens
+pub mod ReadValues
+pub mod Asked
+pub mod Apart
+pub mod Writable

@@ -8,6 +8,7 @@ use Rattle.json.proofs.Printed.Utf8.{IsUtf8-are_ascii}
 use Rattle.serde_json.specs.Data.{Data, depth}
 use Rattle.serde_json.specs.Read.{read, max_depth}
 use Rattle.serde_json.specs.Written.{has_float, compact_text}
+use Rattle.serde_json.proofs.Nesting.{depth-read}
 use Rattle.json_rpc.specs.Proper.{IsProper}
 use Rattle.json_rpc.specs.Line.{HasNoLf, without_lf, text_value, reading, line_of, IsLineOf}
 use Rattle.json_rpc.proofs.Proper.{read-compact_text, IsUtf8-compact_text, HasNoLf-compact_text}
@@ -15,7 +16,7 @@ use Rattle.json_rpc.proofs.Proper.{read-compact_text, IsUtf8-compact_text, HasNo
 ends_line : (b : ℕ) (xs ys : List ℕ) → b ≡ 10 → cond (b == 10) xs ys ≡ xs
 ends_line b xs ys e = let is = eq-eqb b 10 e in rw is
 
-goes_on : (b : ℕ) (xs ys : List ℕ) → b ≢ 10 → cond (b == 10) xs ys ≡ ys
+pub goes_on : {X : Type 0} (b : ℕ) (xs ys : X) → b ≢ 10 → cond (b == 10) xs ys ≡ ys
 goes_on b xs ys other = let no = ne_eqb b 10 other in rw no
 
 -- a line that LF ends is that line with its LF
@@ -73,3 +74,12 @@ line_of-ends d = refl
 pub reading-ended : (bytes : List ℕ) → HasNoLf bytes → reading (bytes ++ 10 ∷ []) ≡ reading bytes
 unfolding reading
 reading-ended bytes h = ap text_value (without_lf-ended bytes ∙ sym (without_lf-HasNoLf bytes h))
+
+depth-text_value : (b : Bool) (text : List ℕ) (d : Data) → cond b (read text) None ≡ Some d → depth d ≤ max_depth
+depth-text_value true text d e = depth-read text d e
+depth-text_value false text d e = absurd (cc)
+
+-- what a line reads as is nested at most 127 deep
+pub depth-reading : (line : List ℕ) (d : Data) → reading line ≡ Some d → depth d ≤ max_depth
+unfolding reading text_value
+depth-reading line d e = depth-text_value (is_utf8 (without_lf line)) (without_lf line) d e

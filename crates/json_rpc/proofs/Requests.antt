@@ -1,8 +1,6 @@
 -- What a line asks, from what it reads as.
-use Rattle.std.proofs.Common.{◌≡◌, ◌≢◌, ℕ, List, Option, Some, None, Result, Ok, Err, IfOk, IfErr, IsUtf8, String, Global, option_map, string_bytes, true, codes, get_or, sym, ap, ◌∙◌, arith}
+use Rattle.std.proofs.Common.{◌≡◌, ◌≢◌, ℕ, List, Option, Some, None, Result, Ok, Err, IfOk, IfErr, IsUtf8, option_map, codes, get_or, sym, ap, ◌∙◌, arith}
 use Rattle.std.specs.Option.{ok_or}
-use Rattle.std.proofs.lemmas.Str.{IsUtf8-string_bytes, scalars-chars}
-use Rattle.std.specs.Str.{chars, all_scalars}
 use Rattle.serde_json.specs.Data.{Data}
 use Rattle.serde_json.specs.Read.{read}
 use Rattle.json_rpc.specs.declared.fault.RpcFault.{RpcFault}
@@ -27,9 +25,6 @@ asked r (Some rpc) e = e
 pub refused : (r : Result Request RpcFault) (o : Option Rpc) → r ≡ or_fault Invalid (option_map request o) → IfErr (ok_or o Invalid) (λ fault. fault ≢ NoMemory → r ≡ Err fault)
 refused r None e = λ other. e
 refused r (Some rpc) e = tt
-
-pub all_scalars-string : (text : List ℕ) (s : String Global) → text ≡ chars (string_bytes s) → all_scalars text ≡ true
-all_scalars-string text s e = ap all_scalars e ∙ scalars-chars (string_bytes s) (IsUtf8-string_bytes s)
 
 -- texts whose first bytes differ
 differ : (xs ys : List ℕ) → get_or xs 0 0 ≢ get_or ys 0 0 → xs ≢ ys

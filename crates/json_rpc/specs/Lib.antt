@@ -2,3 +2,4 @@ pub mod Proper
 pub mod Line
 pub mod Request
 pub mod Response
+pub mod Laws

@@ -1,15 +1,16 @@
 -- What a line of the other side asks.
-use Rattle.std.specs.Prelude.{◌≡◌, ℕ, ◌-◌, ◌^◌, pos, negsuc, ◌≤ℤ◌, List, codes, true, Option, Some, None, option_map, option_and_then, unwrap_or, Result, Ok, Err, ⊤}
+use Rattle.std.specs.Prelude.{◌≡◌, ◌≤◌, ℕ, ◌-◌, ◌^◌, ℤ, pos, negsuc, ◌≤ℤ◌, List, codes, true, Option, Some, None, option_map, option_and_then, unwrap_or, Result, Ok, Err, ⊤}
 use Rattle.std.specs.Str.{chars, all_scalars}
 use Rattle.xi_plain.specs.declared.command.Id.{Id}
 use Rattle.xi_plain.specs.declared.command.Id.TheVariants.{NoId, Num, Word}
-use Rattle.serde_json.specs.Data.{Num as Number, unsigned, negative, float, Data, null, boolean, number, string, array, object}
+use Rattle.serde_json.specs.Data.{Num as Number, unsigned, negative, float, Data, null, boolean, number, string, array, object, depth}
 use Rattle.serde_json.specs.Find.{get, as_str}
 use Rattle.serde_json.specs.View.{view}
 use Rattle.json_rpc.specs.declared.fault.RpcFault.{RpcFault}
 use Rattle.json_rpc.specs.declared.fault.RpcFault.TheVariants.{Parse, Invalid}
 use Rattle.json_rpc.specs.declared.rpc.Rpc.{Rpc}
 use Rattle.json_rpc.specs.Line.{reading}
+use Rattle.json_rpc.specs.Proper.{IsProper}
 
 -- a method, called with parameters, and the id that the answer has to name
 pub record Request : Type 0 where
@@ -21,10 +22,14 @@ pub record Request : Type 0 where
 abbrev pub request : Rpc → Request
 request rpc = record { id = rpc.id; method = rpc.method; params = view rpc.params }
 
--- a numeric id is a number that JSON keeps whole
+-- a whole number that JSON keeps whole
+abbrev pub IsWireNumber : ℤ → Type 0
+IsWireNumber z = (negsuc (2 ^ 63 - 1) ≤ℤ z) × (z ≤ℤ pos (2 ^ 64 - 1))
+
+-- a numeric id is such a number
 abbrev pub IsWireId : Id → Type 0
 IsWireId NoId = ⊤
-IsWireId (Num z) = (negsuc (2 ^ 63 - 1) ≤ℤ z) × (z ≤ℤ pos (2 ^ 64 - 1))
+IsWireId (Num z) = IsWireNumber z
 IsWireId (Word text) = ⊤
 
 -- the characters of an id that is a text are characters of Unicode
@@ -76,3 +81,11 @@ value_request (Some d) = or_fault Invalid (request_of d)
 -- the request that a line is. Else `Parse` where it has no reading, and `Invalid` where its value is no request
 unfoldable pub line_request : List ℕ → Result Request RpcFault
 line_request line = value_request (reading line)
+
+-- what every request that a line is has: with such parts it can be answered, and written again where `params` holds no float
+pub record IsAsked (r : Request) : Type 0 where
+  pub id_fits : IsWireId r.id
+  pub id_text : IsTextId r.id
+  pub method : all_scalars r.method ≡ true
+  pub params : IsProper r.params
+  pub shallow : depth r.params ≤ 126

@@ -7,7 +7,7 @@
 #![tactic(auto)]
 
 mod fault;
-mod laws;
+pub mod laws;
 mod read;
 mod rpc;
 #[cfg(test)]

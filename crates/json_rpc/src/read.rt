@@ -1,11 +1,11 @@
-ghost use Rattle.std.specs.Prelude.{◌≡◌, ◌≢◌, ◌↔◌, List, ℕ, Some, None, Ok, Err, IfOk, IfErr, IfSome, option_map, option_and_then, string_bytes, true};
-ghost use Rattle.std.specs.Str.{chars, all_scalars};
+ghost use Rattle.std.specs.Prelude.{◌≡◌, ◌≢◌, ◌↔◌, List, ℕ, Some, None, Ok, Err, IfOk, IfErr, option_map, option_and_then};
+ghost use Rattle.std.specs.Str.{chars};
 ghost use Rattle.serde_json.specs.Data.{object};
 ghost use Rattle.serde_json.specs.Errors.{IsMemory};
 ghost use Rattle.serde_json.specs.Find.{get_member, as_str};
 ghost use Rattle.serde_json.specs.View.{view, number_view, members_view};
 ghost use Rattle.json_rpc.specs.Line.{without_lf};
-ghost use Rattle.json_rpc.specs.Request.{request, request_of, request_from, or_fault, line_request, member_id, number_id, IsWireId, IsTextId};
+ghost use Rattle.json_rpc.specs.Request.{request, request_of, request_from, or_fault, line_request, member_id, number_id, IsWireId, IsAsked};
 
 use crate::fault::RpcFault;
 use crate::rpc::Rpc;
@@ -22,7 +22,7 @@ pub fn read_line(alloc: Global, line: &[u8]) -> Result<Rpc, RpcFault>
     ensures refused { IfErr result (λ fault. fault ≢ RpcFault.NoMemory
         → line_request line.now ≡ Err fault) }
     ensures id_fits { IfOk result (λ rpc. IsWireId rpc.id) }
-    ensures id_text { IfOk result (λ rpc. IsTextId rpc.id) }
+    ensures asked { IfOk result (λ rpc. IsAsked (request rpc)) }
 {
     let value = value_in(alloc, line)?;
     request_in(value).ok_or(RpcFault::Invalid)
@@ -63,8 +63,7 @@ fn fault_of(error: &Error) -> RpcFault
 
 #[tactic(auto, unfolding(crate::specs::Request::request_of))]
 fn request_in(value: Value) -> Option<Rpc>
-    ensures asks { option_map request result ≡ request_of (view value) }
-    ensures fits { IfSome result (λ rpc. IsWireId rpc.id × IsTextId rpc.id) }
+    ensures { option_map request result ≡ request_of (view value) }
 {
     match value {
         Value::Object(members) => request_of_members(members),
@@ -73,9 +72,8 @@ fn request_in(value: Value) -> Option<Rpc>
 }
 
 fn request_of_members(mut members: Map<String, Value>) -> Option<Rpc>
-    ensures asks { option_map request result
+    ensures { option_map request result
         ≡ request_of (object (members_view members.entries)) }
-    ensures fits { IfSome result (λ rpc. IsWireId rpc.id × IsTextId rpc.id) }
 {
     let id = taken(&mut members, "id");
     let method = taken(&mut members, "method");
@@ -84,9 +82,8 @@ fn request_of_members(mut members: Map<String, Value>) -> Option<Rpc>
 }
 
 fn request_from(id: Option<Value>, method: Option<Value>, params: Option<Value>) -> Option<Rpc>
-    ensures asks { option_map request result
+    ensures { option_map request result
         ≡ request_from (option_map view id) (option_map view method) (option_map view params) }
-    ensures fits { IfSome result (λ rpc. IsWireId rpc.id × IsTextId rpc.id) }
 {
     let method = text_of(method)?;
     let id = id_of(id)?;
@@ -105,20 +102,18 @@ fn taken(members: &mut Map<String, Value>, name: &str) -> Option<Value>
 }
 
 fn id_of(member: Option<Value>) -> Option<Id>
-    ensures value { result ≡ member_id (option_map view member) }
-    ensures fits { IfSome result (λ id. IsWireId id × IsTextId id) }
+    ensures { result ≡ member_id (option_map view member) }
 {
     match member {
         None => Some(Id::NoId),
         Some(Value::Number(number)) => number_id(number),
-        Some(Value::String(text)) => Some(Id::Word(moved(text))),
+        Some(Value::String(text)) => Some(Id::Word(Text::from_string(text))),
         Some(_) => None,
     }
 }
 
 fn number_id(number: Number) -> Option<Id>
-    ensures value { result ≡ number_id (number_view number) }
-    ensures fits { IfSome result (λ id. IsWireId id × IsTextId id) }
+    ensures { result ≡ number_id (number_view number) }
 {
     if let Some(n) = number.as_u64() {
         return Some(Id::Num(i128::from(n)));
@@ -130,14 +125,7 @@ fn text_of(member: Option<Value>) -> Option<Text>
     ensures { result ≡ option_map chars (option_and_then as_str (option_map view member)) }
 {
     match member {
-        Some(Value::String(text)) => Some(moved(text)),
+        Some(Value::String(text)) => Some(Text::from_string(text)),
         _ => None,
     }
-}
-
-fn moved(text: String) -> Text
-    ensures value { result ≡ chars (string_bytes text) }
-    ensures characters { all_scalars result ≡ true }
-{
-    Text::from_string(text)
 }
