@@ -84,21 +84,23 @@ pairs_decided r s =
       same_pair r s (eqb-true r.0 s.0 both.0) (eqb-true r.1 s.1 both.1), λ e.
       and_from (eqb r.0 s.0) (eqb r.1 s.1) (eq-eqb r.0 s.0 (ap (λ (x : ℕ × ℕ). x.0) e)) (eq-eqb r.1 s.1 (ap (λ (x : ℕ × ℕ). x.1) e)))
 
+-- what `==` of two subsets says
+pub flags_decided : (xs ys : List Bool) → (pointwise beq xs ys ≡ true → xs ≡ ys) × (xs ≡ ys → pointwise beq xs ys ≡ true)
+flags_decided xs ys = pointwise_decides booleans_Decides xs ys
+
 -- runs of texts of one length are equal exactly where the flags are
 pub same_answer : (xs ys : List (ℕ × ℕ)) (len other m n : ℕ) (flags others : List Bool) → IsStored xs len m → IsStored ys other n → flags_in xs 0 len ≡ flags → flags_in ys 0 other ≡ others → len ≡ other → pointwise same_pairs xs ys ≡ pointwise beq flags others
 same_answer xs ys len other m n flags others one two e f same =
     let two_here : IsStored ys len n = subst (λ (k : ℕ). IsStored ys k n) (sym same) two in
     let f_here : flags_in ys 0 len ≡ others = subst (λ (k : ℕ). flags_in ys 0 k ≡ others) (sym same) f in
     let runs_decided = pointwise_decides pairs_decided xs ys in
-    let flags_decided = pointwise_decides booleans_Decides flags others in
     both_ways _ _
-    (λ is. flags_decided.1 (sym e ∙ (ap (λ rs. flags_in rs 0 len) (runs_decided.0 is) ∙ f_here)))
-    (λ is. runs_decided.1 (runs_from_flags xs ys len m n one two_here (e ∙ (flags_decided.0 is ∙ sym f_here))))
+    (λ is. (flags_decided flags others).1 (sym e ∙ (ap (λ rs. flags_in rs 0 len) (runs_decided.0 is) ∙ f_here)))
+    (λ is. runs_decided.1 (runs_from_flags xs ys len m n one two_here (e ∙ ((flags_decided flags others).0 is ∙ sym f_here))))
 
 -- and texts of different lengths have no flags in common
 pub other_answer : (xs ys : List (ℕ × ℕ)) (len other : ℕ) (flags others : List Bool) → flags_in xs 0 len ≡ flags → flags_in ys 0 other ≡ others → (len ≡ other → ⊥) → eqb len other ≡ pointwise beq flags others
 other_answer xs ys len other flags others e f differ =
-    let flags_decided = pointwise_decides booleans_Decides flags others in
     both_ways _ _
     (λ is. absurd (differ (eqb-true len other is)))
-    (λ is. absurd (differ (sym (length_stored xs len flags e) ∙ (ap length (flags_decided.0 is) ∙ length_stored ys other others f))))
+    (λ is. absurd (differ (sym (length_stored xs len flags e) ∙ (ap length ((flags_decided flags others).0 is) ∙ length_stored ys other others f))))

@@ -5,9 +5,9 @@ use Rattle.std.proofs.lemmas.Bool.{cases_lt, or_from, or_left, or_right, or_case
 use Rattle.std.proofs.lemmas.List.{drop_more, length-append, length-replicate, get_or_past}
 use Rattle.std.proofs.lemmas.List.FromFn.{get_or-map-range_with_len}
 use Rattle.subset_runs.specs.Ranges.{IsGood, IsFault, IsFirstFault, AreGood, HasRanges}
-use Rattle.subset_runs.specs.Runs.{is_in, is_in_some, flags_in}
+use Rattle.subset_runs.specs.Runs.{is_in, is_in_some, flags_in, IsStored}
 use Rattle.subset_runs.specs.Subset.{contains}
-use Rattle.subset_runs.proofs.RunLemmas.{is_in-true, is_in-before, is_in-after, length-flags_in, flags_in-append, flags_in_all}
+use Rattle.subset_runs.proofs.RunLemmas.{contains-stored, is_in-true, is_in-before, is_in-after, length-flags_in, flags_in-append, flags_in_all}
 
 -- ---- the first fault
 
@@ -117,4 +117,13 @@ HasRanges-flags_in len ranges good = record {
   members = λ p.
     (λ is. any_range p ranges (sym (contains-flags_in len 0 p ranges good) ∙ is), λ any.
       contains-flags_in len 0 p ranges good ∙ in_any_range p any.0 any.1 ranges any.2 any.3 any.4.0 any.4.1);
+}
+
+-- so are the runs of a subset
+pub HasRanges-stored : (runs : List (ℕ × ℕ)) (len members : ℕ) (flags : List Bool) → IsStored runs len members → flags_in runs 0 len ≡ flags → HasRanges (length flags) runs flags
+HasRanges-stored runs len members flags stored e = record {
+  len = refl;
+  members = λ p.
+    let same = contains-stored runs len members p flags stored e in
+    (λ is. any_range p runs (same ∙ is), λ any. sym same ∙ in_any_range p any.0 any.1 runs any.2 any.3 any.4.0 any.4.1);
 }

@@ -1,8 +1,11 @@
 //! Subsets of the positions of a text, kept as runs.
 //!
-//! To a contract a `Subset` and a `Walk` are lists of flags, one for each position in order: true for a member. Of such a
-//! list `length` is the length of the text, and `members` the rising list of the members; `laws::members_and_length` says that
-//! these two are all that there is to it.
+//! To a contract a `Subset` is a list of flags, one for each position in order: true for a member. Its `length` is that of the
+//! text, and `members` is the rising list of the members; `laws::members_and_length` says that the flags are no more than these
+//! two. A `Walk` is the flags that are still ahead.
+//!
+//! A text has at most 2^64 - 1 positions. Every transform takes the time of the runs of its operands, whatever the length;
+//! `len` and `count` take O(1), and `contains` takes the logarithm of the number of runs.
 #![tactic(auto)]
 
 mod fault;

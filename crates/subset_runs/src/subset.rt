@@ -11,7 +11,7 @@ use crate::{SubsetFault, Walk};
 use std::alloc::{AllocError, Global};
 use std::marker::Model;
 
-/// A length and a set of positions below it.
+/// A length and a set of positions below it, kept as its runs of members.
 #[derive(Debug, Drop)]
 pub struct Subset {
     runs: Vec<(u64, u64)>,
@@ -64,15 +64,17 @@ impl Subset {
         is_in_some(&self.runs, i)
     }
 
-    /// The runs of members as ranges: each is its start and its end, the end not included.
+    /// The runs of members as ranges, in O(1): each is its start and its end, the end not included.
     pub fn runs(&self) -> &[(u64, u64)]
         ensures apart { AreRuns 0 result.now }
+        ensures within { next_start 0 result.now ≤ length self.now + 1 }
+        ensures members { HasRanges (length self.now) result.now self.now }
         ensures together { flags_in result.now 0 (length self.now) ≡ self.now }
     {
         &self.runs
     }
 
-    /// A walk from the first position on.
+    /// A walk from the first position on, in O(1).
     pub fn walk(&self) -> Walk<'_>
         ensures all { result ≡ self.now }
         ensures bound { length self.now < 2 ^ 64 }
@@ -268,3 +270,6 @@ fn shrunk(alloc: Global, flags: &Subset, by: &Subset) -> Result<Subset, AllocErr
     }
     Ok(out)
 }
+
+#[cfg(test)]
+mod tests;
