@@ -34,8 +34,8 @@ same_rest : (r : ℕ × ℕ) (xs ys : List (ℕ × ℕ)) → AreRuns (r.1 + 1) x
 same_rest r xs ys a b same = λ p. elim (cases_lt p (r.1 + 1)) [
   | inl before ↦ is_in_some-before (r.1 + 1) p xs a before ∙ sym (is_in_some-before (r.1 + 1) p ys b before)
   | inr past ↦
-    let out = is_in-after p r (omega arith) in
-    ap (λ b. b || is_in_some xs p) (sym out) ∙ (same p ∙ ap (λ b. b || is_in_some ys p) out)
+      let out = is_in-after p r (omega arith) in
+      ap (λ b. b || is_in_some xs p) (sym out) ∙ (same p ∙ ap (λ b. b || is_in_some ys p) out)
 ]
 
 same_pair : (r s : ℕ × ℕ) → r.0 ≡ s.0 → r.1 ≡ s.1 → r ≡ s
@@ -67,22 +67,24 @@ pub runs_from_flags : (xs ys : List (ℕ × ℕ)) (len m n : ℕ) → IsStored x
 runs_from_flags xs ys len m n one other e =
     runs_same 0 xs ys one.apart other.apart (λ p. elim (cases_lt p len) [
       | inl less ↦
-        sym (get_or-map-range_with_len (is_in_some xs) 0 len p p false less (omega arith))
-        ∙ (ap (λ (fs : List Bool). get_or fs p false) e ∙ get_or-map-range_with_len (is_in_some ys) 0 len p p false less (omega arith))
+          sym (get_or-map-range_with_len (is_in_some xs) 0 len p p false less (omega arith))
+          ∙ (ap (λ (fs : List Bool). get_or fs p false) e ∙ get_or-map-range_with_len (is_in_some ys) 0 len p p false less (omega arith))
       | inr past ↦
-        is_in_some-after 0 p xs one.apart (omega (arith, one.within))
-        ∙ sym (is_in_some-after 0 p ys other.apart (omega (arith, other.within)))
+          is_in_some-after 0 p xs one.apart (omega (arith, one.within))
+          ∙ sym (is_in_some-after 0 p ys other.apart (omega (arith, other.within)))
     ])
 
 abbrev same_pairs : ℕ × ℕ → ℕ × ℕ → Bool
 same_pairs r s = eqb r.0 s.0 && eqb r.1 s.1
 
 pairs_decided : (r s : ℕ × ℕ) → (same_pairs r s ≡ true → r ≡ s) × (r ≡ s → same_pairs r s ≡ true)
-pairs_decided r s =
-    (λ e.
+pairs_decided r s = (
+  λ e.
       let both = and_parts (eqb r.0 s.0) (eqb r.1 s.1) e in
-      same_pair r s (eqb-true r.0 s.0 both.0) (eqb-true r.1 s.1 both.1), λ e.
-      and_from (eqb r.0 s.0) (eqb r.1 s.1) (eq-eqb r.0 s.0 (ap (λ (x : ℕ × ℕ). x.0) e)) (eq-eqb r.1 s.1 (ap (λ (x : ℕ × ℕ). x.1) e)))
+      same_pair r s (eqb-true r.0 s.0 both.0) (eqb-true r.1 s.1 both.1),
+  λ e.
+      and_from (eqb r.0 s.0) (eqb r.1 s.1) (eq-eqb r.0 s.0 (ap (λ (x : ℕ × ℕ). x.0) e)) (eq-eqb r.1 s.1 (ap (λ (x : ℕ × ℕ). x.1) e)),
+)
 
 -- what `==` of two subsets says
 pub flags_decided : (xs ys : List Bool) → (pointwise beq xs ys ≡ true → xs ≡ ys) × (xs ≡ ys → pointwise beq xs ys ≡ true)

@@ -63,13 +63,13 @@ IsFilled-more ranges rest r len out gap new filled to_start to_end =
     let gap_len : length gap ≡ r.0 = omega (arith, ap length to_start, length-append out (replicate (r.0 - at) false), length-replicate (r.0 - at) false) in
     let new_len : length new ≡ r.1 = omega (arith, ap length to_end, length-append gap (replicate (r.1 - r.0) true), length-replicate (r.1 - r.0) true) in
     let gap_flags : flags_in ranges 0 r.0 ≡ flags_in ranges 0 at ++ replicate (r.0 - at) false =
-      flags_in-append ranges 0 at (r.0 - at) r.0 at (omega arith) (omega arith)
-      ∙ ap (λ xs. flags_in ranges 0 at ++ xs) (flags_in_all ranges at (r.0 - at) false (λ p from to.
-        filled.members p from ∙ or_from _ _ (is_in-before p r (omega arith)) (is_in_some-low len r.1 p rest filled.good.1 (omega arith)))) in
+    flags_in-append ranges 0 at (r.0 - at) r.0 at (omega arith) (omega arith)
+    ∙ ap (λ xs. flags_in ranges 0 at ++ xs) (flags_in_all ranges at (r.0 - at) false (λ p from to.
+    filled.members p from ∙ or_from _ _ (is_in-before p r (omega arith)) (is_in_some-low len r.1 p rest filled.good.1 (omega arith)))) in
     let new_flags : flags_in ranges 0 r.1 ≡ flags_in ranges 0 r.0 ++ replicate (r.1 - r.0) true =
-      flags_in-append ranges 0 r.0 (r.1 - r.0) r.1 r.0 (omega arith) (omega arith)
-      ∙ ap (λ xs. flags_in ranges 0 r.0 ++ xs) (flags_in_all ranges r.0 (r.1 - r.0) true (λ p from to.
-        filled.members p (omega arith) ∙ or_left _ _ (is_in-true p r from (omega arith)))) in
+    flags_in-append ranges 0 r.0 (r.1 - r.0) r.1 r.0 (omega arith) (omega arith)
+    ∙ ap (λ xs. flags_in ranges 0 r.0 ++ xs) (flags_in_all ranges r.0 (r.1 - r.0) true (λ p from to.
+    filled.members p (omega arith) ∙ or_left _ _ (is_in-true p r from (omega arith)))) in
     let so_far = filled.so_far in
     record {
       so_far = cc;
@@ -82,8 +82,8 @@ pub IsFilled-end : (ranges : List (ℕ × ℕ)) (len : ℕ) (out new : List Bool
 IsFilled-end ranges len out new filled to_end =
     let at = length out in
     let flags : flags_in ranges 0 len ≡ flags_in ranges 0 at ++ replicate (len - at) false =
-      flags_in-append ranges 0 at (len - at) len at (omega (arith, filled.within)) (omega arith)
-      ∙ ap (λ xs. flags_in ranges 0 at ++ xs) (flags_in_all ranges at (len - at) false (λ p from to. filled.members p from)) in
+    flags_in-append ranges 0 at (len - at) len at (omega (arith, filled.within)) (omega arith)
+    ∙ ap (λ xs. flags_in ranges 0 at ++ xs) (flags_in_all ranges at (len - at) false (λ p from to. filled.members p from)) in
     let so_far = filled.so_far in
     cc
 
@@ -107,16 +107,18 @@ contains-flags_in len low p ranges good =
     elim (cases_lt p len) [
       | inl less ↦ get_or-map-range_with_len (is_in_some ranges) 0 len p p false less (omega arith)
       | inr past ↦
-        get_or_past (flags_in ranges 0 len) p false (omega (arith, length-flags_in ranges 0 len))
-        ∙ sym (is_in_some-high len low p ranges good past)
+          get_or_past (flags_in ranges 0 len) p false (omega (arith, length-flags_in ranges 0 len))
+          ∙ sym (is_in_some-high len low p ranges good past)
     ]
 
 pub HasRanges-flags_in : (len : ℕ) (ranges : List (ℕ × ℕ)) → AreGood len 0 ranges → HasRanges len ranges (flags_in ranges 0 len)
 HasRanges-flags_in len ranges good = record {
   len = length-flags_in ranges 0 len;
-  members = λ p.
-    (λ is. any_range p ranges (sym (contains-flags_in len 0 p ranges good) ∙ is), λ any.
-      contains-flags_in len 0 p ranges good ∙ in_any_range p any.0 any.1 ranges any.2 any.3 any.4.0 any.4.1);
+  members = λ p. (
+    λ is. any_range p ranges (sym (contains-flags_in len 0 p ranges good) ∙ is),
+    λ any.
+        contains-flags_in len 0 p ranges good ∙ in_any_range p any.0 any.1 ranges any.2 any.3 any.4.0 any.4.1,
+  );
 }
 
 -- so are the runs of a subset
@@ -124,6 +126,6 @@ pub HasRanges-stored : (runs : List (ℕ × ℕ)) (len members : ℕ) (flags : L
 HasRanges-stored runs len members flags stored e = record {
   len = refl;
   members = λ p.
-    let same = contains-stored runs len members p flags stored e in
-    (λ is. any_range p runs (same ∙ is), λ any. sym same ∙ in_any_range p any.0 any.1 runs any.2 any.3 any.4.0 any.4.1);
+      let same = contains-stored runs len members p flags stored e in
+      (λ is. any_range p runs (same ∙ is), λ any. sym same ∙ in_any_range p any.0 any.1 runs any.2 any.3 any.4.0 any.4.1);
 }

@@ -1,8 +1,10 @@
 -- The transforms by position: where the i-th position outside `by` goes.
-use Rattle.std.proofs.Common.{◌≡◌, ℕ, ◌+◌, ◌<◌, ◌≤◌, Bool, true, false, not, List, [], ◌∷◌, length, take, Option, Some, None, refl, ap, sym, ◌∙◌, arith}
+use Rattle.std.proofs.Common.{◌≡◌, ℕ, ◌+◌, ◌<◌, ◌≤◌, Bool, true, false, not, List, [], ◌∷◌, length, take, Option, Result, Some, None, refl, ap, sym, ◌∙◌, arith}
 use Rattle.std.specs.Prelude.{suc, zero}
 use Rattle.std.specs.List.{slice_get}
+use Rattle.std.specs.Prelude.{IfOk}
 use Rattle.std.proofs.lemmas.Bool.{true≢false, false≢true}
+use Rattle.std.proofs.lemmas.Result.{IfOk-weaker}
 use Rattle.subset_runs.specs.Subset.{count, complement, expand_as, items_outside, shrink}
 use Rattle.subset_runs.specs.Renumbering.{Renumbers, Expands, Shrinks}
 use Rattle.subset_runs.proofs.FlagLemmas.{count_le_length}
@@ -43,6 +45,12 @@ Expands-expand_as inside flags by same = record {
   moved = λ i p at. expand_as_moved inside flags by i p same at.outside at.before;
   added = λ p in_by. expand_as_added inside flags by p in_by;
 }
+
+-- the clause of `expand` and `expand_in`
+pub IfOk-Expands : {Y : Type 0} (inside : Bool) (flags by : List Bool) (r : Result (List Bool) Y) → length flags + count by ≡ length by → IfOk r (λ s. s ≡ expand_as inside flags by) → IfOk r (Expands inside flags by)
+IfOk-Expands inside flags by r same is =
+    IfOk-weaker r (λ s. s ≡ expand_as inside flags by) (Expands inside flags by)
+    (λ s e. rw e (Expands-expand_as inside flags by same)) is
 
 -- what is left of a text has as many items as there are positions outside `by`
 pub length-items_outside : {X : Type 0} (by : List Bool) (xs : List X) → length xs ≡ length by → length (items_outside by xs) + count by ≡ length by

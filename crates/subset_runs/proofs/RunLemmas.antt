@@ -161,10 +161,10 @@ flags_in-grown runs len n end a w e =
 pub flags_in-added : (old new : List (ℕ × ℕ)) (len n end : ℕ) → AreRuns 0 old → next_start 0 old ≤ len + 1 → AddsRun 0 old new len end → end ≡ len + n → flags_in new 0 end ≡ flags_in old 0 len ++ replicate n true
 flags_in-added old new len n end a w adds e =
     let front : flags_in new 0 len ≡ flags_in old 0 len =
-      flags_in_same new old 0 len (λ p from to. adds.members p ∙ or_false _ _ (is_in-before p (len, end) (omega arith))) in
+    flags_in_same new old 0 len (λ p from to. adds.members p ∙ or_false _ _ (is_in-before p (len, end) (omega arith))) in
     let back : flags_in new len n ≡ replicate n true =
-      flags_in_all new len n true (λ p from to.
-        adds.members p ∙ or_right _ _ (is_in-true p (len, end) from (omega arith))) in
+    flags_in_all new len n true (λ p from to.
+    adds.members p ∙ or_right _ _ (is_in-true p (len, end) from (omega arith))) in
     flags_in-append new 0 len n end len e (omega arith) ∙ cc
 
 -- ---- a walk
@@ -216,9 +216,9 @@ pub IsFront-flags_in : (runs : List (ℕ × ℕ)) (at len n : ℕ) (b : Bool) �
 IsFront-flags_in runs at len n b some within all next = record {
   some = some;
   same =
-    flags_in-append runs at n (len - at - n) (len - at) (at + n) (omega arith) refl
-    ∙ (ap (λ front. front ++ flags_in runs (at + n) (len - at - n)) (flags_in_all runs at n b all)
-    ∙ ap (λ rest. replicate n b ++ rest) (sym (drop-flags_in runs at n (len - at) (at + n) (omega arith) refl)));
+      flags_in-append runs at n (len - at - n) (len - at) (at + n) (omega arith) refl
+      ∙ (ap (λ front. front ++ flags_in runs (at + n) (len - at - n)) (flags_in_all runs at n b all)
+      ∙ ap (λ rest. replicate n b ++ rest) (sym (drop-flags_in runs at n (len - at) (at + n) (omega arith) refl)));
   longest = λ e. differs runs at len n b within next (cases_lt (at + n) len) e;
 }
 
@@ -238,8 +238,8 @@ IsStored-grown runs len n members kept =
       apart = kept.apart;
       within = omega (arith, kept.within);
       counted =
-        kept.counted
-        ∙ sym (ap count flags ∙ (count-append (flags_in runs 0 len) (replicate n false) ∙ omega (arith, count-replicate_false n)));
+          kept.counted
+          ∙ sym (ap count flags ∙ (count-append (flags_in runs 0 len) (replicate n false) ∙ omega (arith, count-replicate_false n)));
     }
 
 pub IsStored-added : (old new : List (ℕ × ℕ)) (len n members : ℕ) → IsStored old len members → AddsRun 0 old new len (len + n) → IsStored new (len + n) (members + n)
@@ -249,7 +249,7 @@ IsStored-added old new len n members kept adds =
       apart = adds.apart;
       within = omega (arith, adds.within);
       counted =
-        omega (arith, kept.counted, ap count flags, count-append (flags_in old 0 len) (replicate n true), count-replicate_true n);
+          omega (arith, kept.counted, ap count flags, count-append (flags_in old 0 len) (replicate n true), count-replicate_true n);
     }
 
 -- ---- the front of a walk
@@ -261,9 +261,9 @@ IsFront-gap (r ∷ runs) at len first ahead e h =
     let before : at < r.0 = subst (λ (x : ℕ × ℕ). at < x.0) (sym same) h in
     let end = next_start-le (r.1 + 1) runs ahead.apart.2 in
     let front : IsFront (flags_in (r ∷ runs) at (len - at)) (record { len = r.0 - at; member = false }) =
-      IsFront-flags_in (r ∷ runs) at len (r.0 - at) false (omega arith) (omega (arith, ahead.within))
-      (λ p from to. or_from _ _ (is_in-before p r (omega arith)) (is_in_some-before (r.1 + 1) p runs ahead.apart.2 (omega arith)))
-      (λ more. or_left _ _ (is_in-true (at + (r.0 - at)) r (omega arith) (omega arith)))
+    IsFront-flags_in (r ∷ runs) at len (r.0 - at) false (omega arith) (omega (arith, ahead.within))
+    (λ p from to. or_from _ _ (is_in-before p r (omega arith)) (is_in_some-before (r.1 + 1) p runs ahead.apart.2 (omega arith)))
+    (λ more. or_left _ _ (is_in-true (at + (r.0 - at)) r (omega arith) (omega arith)))
     in
     subst (λ (x : ℕ × ℕ). IsFront (flags_in (r ∷ runs) at (len - at)) (record { len = x.0 - at; member = false })) same front
 
@@ -275,9 +275,9 @@ IsFront-run (r ∷ runs) at len first ahead e h =
     let here = ahead.ahead in
     let end = next_start-le (r.1 + 1) runs ahead.apart.2 in
     let front : IsFront (flags_in (r ∷ runs) at (len - at)) (record { len = r.1 - at; member = true }) =
-      IsFront-flags_in (r ∷ runs) at len (r.1 - at) true (omega arith) (omega (arith, ahead.within))
-      (λ p from to. or_left _ _ (is_in-true p r (omega arith) (omega arith)))
-      (λ more. or_from _ _ (is_in-after (at + (r.1 - at)) r (omega arith)) (is_in_some-before (r.1 + 1) (at + (r.1 - at)) runs ahead.apart.2 (omega arith)))
+    IsFront-flags_in (r ∷ runs) at len (r.1 - at) true (omega arith) (omega (arith, ahead.within))
+    (λ p from to. or_left _ _ (is_in-true p r (omega arith) (omega arith)))
+    (λ more. or_from _ _ (is_in-after (at + (r.1 - at)) r (omega arith)) (is_in_some-before (r.1 + 1) (at + (r.1 - at)) runs ahead.apart.2 (omega arith)))
     in
     subst (λ (x : ℕ × ℕ). IsFront (flags_in (r ∷ runs) at (len - at)) (record { len = x.1 - at; member = true })) same front
 
@@ -374,6 +374,6 @@ contains-stored runs len members i flags kept e =
     elim (cases_lt i len) [
       | inl less ↦ sym (ap (λ xs. contains xs i) (sym e) ∙ get_or-map-range_with_len (is_in_some runs) 0 len i i false less (omega arith))
       | inr past ↦
-        is_in_some-after 0 i runs kept.apart (omega (arith, kept.within))
-        ∙ sym (get_or_past flags i false (omega (arith, length_stored runs len flags e)))
+          is_in_some-after 0 i runs kept.apart (omega (arith, kept.within))
+          ∙ sym (get_or_past flags i false (omega (arith, length_stored runs len flags e)))
     ]

@@ -12,11 +12,11 @@ pub front_part : (flags : List Bool) (s : Stretch) (n : ℕ) → IsFront flags s
 front_part flags s n front h =
     let rest : List Bool = replicate (s.len - n) s.member ++ drop s.len flags in
     let two : replicate s.len s.member ≡ replicate n s.member ++ replicate (s.len - n) s.member =
-      ap (λ k. replicate k s.member) (omega arith) ∙ sym (replicate-append-replicate n (s.len - n) s.member) in
+    ap (λ k. replicate k s.member) (omega arith) ∙ sym (replicate-append-replicate n (s.len - n) s.member) in
     let parts : flags ≡ replicate n s.member ++ rest =
-      front.same ∙ (ap (λ xs. xs ++ drop s.len flags) two ∙ append_assoc (replicate n s.member) (replicate (s.len - n) s.member) (drop s.len flags)) in
+    front.same ∙ (ap (λ xs. xs ++ drop s.len flags) two ∙ append_assoc (replicate n s.member) (replicate (s.len - n) s.member) (drop s.len flags)) in
     let dropped : drop n flags ≡ rest =
-      ap (λ xs. drop n xs) parts ∙ drop_at (replicate n s.member) rest n (length-replicate n s.member) in
+    ap (λ xs. drop n xs) parts ∙ drop_at (replicate n s.member) rest n (length-replicate n s.member) in
     parts ∙ ap (λ xs. replicate n s.member ++ xs) (sym dropped)
 
 pub at_each-stretch : (f : Bool → Bool → Bool) (x y : Bool) (n : ℕ) (xs ys : List Bool) → at_each f (replicate n x ++ xs) (replicate n y ++ ys) ≡ replicate n (f x y) ++ at_each f xs ys
@@ -55,13 +55,13 @@ at_each_next f xs ys s t n one other h k =
 pub expand_as_added_next : (inside : Bool) (flags by : List Bool) (s : Stretch) → IsFront by s → s.member ≡ true → expand_as inside flags by ≡ replicate s.len inside ++ expand_as inside flags (drop s.len by)
 expand_as_added_next inside flags by s front is =
     let part : by ≡ replicate s.len true ++ drop s.len by =
-      front.same ∙ ap (λ b. replicate s.len b ++ drop s.len by) is in
+    front.same ∙ ap (λ b. replicate s.len b ++ drop s.len by) is in
     ap (λ zs. expand_as inside flags zs) part ∙ expand_as-added inside s.len flags (drop s.len by)
 
 pub expand_as_moved_next : (inside : Bool) (flags by : List Bool) (s t : Stretch) (n : ℕ) → IsFront flags s → IsFront by t → t.member ≡ false → n ≤ s.len → n ≤ t.len → expand_as inside flags by ≡ replicate n s.member ++ expand_as inside (drop n flags) (drop n by)
 expand_as_moved_next inside flags by s t n one other is h k =
     let part : by ≡ replicate n false ++ drop n by =
-      front_part by t n other k ∙ ap (λ b. replicate n b ++ drop n by) is in
+    front_part by t n other k ∙ ap (λ b. replicate n b ++ drop n by) is in
     ap (λ zs. expand_as inside zs by) (front_part flags s n one h)
     ∙ (ap (λ zs. expand_as inside (replicate n s.member ++ drop n flags) zs) part
     ∙ expand_as-moved inside s.member n (drop n flags) (drop n by))
@@ -69,13 +69,13 @@ expand_as_moved_next inside flags by s t n one other is h k =
 pub shrink_gone_next : (flags by : List Bool) (s : Stretch) → IsFront by s → s.member ≡ true → shrink flags by ≡ shrink (drop s.len flags) (drop s.len by)
 shrink_gone_next flags by s front is =
     let part : by ≡ replicate s.len true ++ drop s.len by =
-      front.same ∙ ap (λ b. replicate s.len b ++ drop s.len by) is in
+    front.same ∙ ap (λ b. replicate s.len b ++ drop s.len by) is in
     ap (λ zs. shrink flags zs) part ∙ items_outside-gone s.len (drop s.len by) flags
 
 pub shrink_kept_next : (flags by : List Bool) (s t : Stretch) (n : ℕ) → IsFront flags s → IsFront by t → t.member ≡ false → n ≤ s.len → n ≤ t.len → shrink flags by ≡ replicate n s.member ++ shrink (drop n flags) (drop n by)
 shrink_kept_next flags by s t n one other is h k =
     let part : by ≡ replicate n false ++ drop n by =
-      front_part by t n other k ∙ ap (λ b. replicate n b ++ drop n by) is in
+    front_part by t n other k ∙ ap (λ b. replicate n b ++ drop n by) is in
     ap (λ zs. shrink zs by) (front_part flags s n one h)
     ∙ (ap (λ zs. shrink (replicate n s.member ++ drop n flags) zs) part
     ∙ items_outside-kept n (drop n by) s.member (drop n flags))
@@ -85,13 +85,13 @@ shrink_kept_next flags by s t n one other is h k =
 pub count_added_next : (by : List Bool) (s : Stretch) → IsFront by s → s.member ≡ true → count by ≡ s.len + count (drop s.len by)
 count_added_next by s front is =
     let part : by ≡ replicate s.len true ++ drop s.len by =
-      front.same ∙ ap (λ b. replicate s.len b ++ drop s.len by) is in
+    front.same ∙ ap (λ b. replicate s.len b ++ drop s.len by) is in
     omega (arith, ap count part, count-append (replicate s.len true) (drop s.len by), count-replicate_true s.len)
 
 pub count_moved_next : (by : List Bool) (s : Stretch) (n : ℕ) → IsFront by s → s.member ≡ false → n ≤ s.len → count by ≡ count (drop n by)
 count_moved_next by s n front is h =
     let part : by ≡ replicate n false ++ drop n by =
-      front_part by s n front h ∙ ap (λ b. replicate n b ++ drop n by) is in
+    front_part by s n front h ∙ ap (λ b. replicate n b ++ drop n by) is in
     omega (arith, ap count part, count-append (replicate n false) (drop n by), count-replicate_false n)
 
 -- what is ahead is at least as long as the stretch

@@ -4,3 +4,4 @@ pub mod Runs
 pub mod Ranges
 pub mod Stretch
 pub mod Keep
+pub mod SubsetFault

@@ -14,9 +14,14 @@ pub enum SubsetFault {
 }
 
 impl fmt::Display for SubsetFault {
+    ghost use Rattle.std.specs.Prelude.{Some};
+    ghost use Rattle.subset_runs.specs.SubsetFault.{fault_text};
+
+    ghost output = { λ fault. Some (fault_text fault) };
+
     fn fmt<W: fmt::Write>(&self, f: &mut fmt::Formatter<W>) -> fmt::Result {
         match self {
-            SubsetFault::Bad(index) => write!(f, "the range with index {index} is at fault"),
+            SubsetFault::Bad(index) => write!(f, "range {index} is at fault"),
             SubsetFault::NoMemory => f.write_str("want of memory"),
         }
     }

@@ -13,8 +13,7 @@ pub fn members_and_length()
         → slice_index (members xs) k < length xs }
     ensures member { (xs : List Bool) (i : ℕ) → IsTrue (contains xs i) ↔ Contains (members xs) i }
     ensures counted { (xs : List Bool) → length (members xs) ≡ count xs }
-{
-}
+{}
 
 /// The positions of the text without `by` are those of the text outside `by`, one for one and in order, and `expand` takes each
 /// member where its position goes.
@@ -25,8 +24,7 @@ pub fn renumbering()
         → p < q → i < j }
     ensures members { (xs by : List Bool) (k : ℕ) → length xs + count by ≡ length by → k < count xs
         → Renumbers by (slice_index (members xs) k) (slice_index (members (expand xs by)) k) }
-{
-}
+{}
 
 /// How many members the transforms leave.
 pub fn counts()
@@ -39,8 +37,7 @@ pub fn counts()
         → count (expand_in xs by) ≡ count xs + count by }
     ensures shrink { (xs by : List Bool) → length xs ≡ length by
         → count (shrink xs by) ≡ count (minus xs by) }
-{
-}
+{}
 
 /// What `shrink` and `expand` give back of each other.
 pub fn shrink_and_expand()
@@ -52,8 +49,7 @@ pub fn shrink_and_expand()
         → expand_in (shrink xs by) by ≡ union xs by }
     ensures expand_in_union { (xs by : List Bool) → length xs + count by ≡ length by
         → expand_in xs by ≡ union (expand xs by) by }
-{
-}
+{}
 
 /// What comes or goes in two steps comes or goes in one.
 pub fn two_steps()
@@ -62,8 +58,7 @@ pub fn two_steps()
     ensures shrink_shrink { (xs by more : List Bool) → length by + count more ≡ length more
         → length xs ≡ length more
         → shrink (shrink xs more) by ≡ shrink xs (expand_in by more) }
-{
-}
+{}
 
 /// `complement` and `minus` as in the algebra of sets.
 pub fn complements()
@@ -71,8 +66,7 @@ pub fn complements()
     ensures minus { (xs ys : List Bool) → minus xs ys ≡ complement (union (complement xs) ys) }
     ensures expand { (xs by : List Bool) → length xs + count by ≡ length by
         → complement (expand xs by) ≡ expand_in (complement xs) by }
-{
-}
+{}
 
 /// `expand` and `shrink` go through `union` and `minus`.
 pub fn unions()
@@ -82,5 +76,4 @@ pub fn unions()
         → expand (minus xs ys) by ≡ minus (expand xs by) (expand ys by) }
     ensures shrink_union { (xs ys by : List Bool) → shrink (union xs ys) by ≡ union (shrink xs by) (shrink ys by) }
     ensures shrink_minus { (xs ys by : List Bool) → shrink (minus xs ys) by ≡ minus (shrink xs by) (shrink ys by) }
-{
-}
+{}

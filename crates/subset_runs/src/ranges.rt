@@ -20,7 +20,11 @@ pub(crate) fn first_fault(len: u64, ranges: &[(u64, u64)]) -> Option<usize>
     None
 }
 
-pub(crate) fn with_members_in(alloc: Global, len: u64, ranges: &[(u64, u64)]) -> Result<Subset, AllocError>
+pub(crate) fn with_members_in(
+    alloc: Global,
+    len: u64,
+    ranges: &[(u64, u64)],
+) -> Result<Subset, AllocError>
     requires { AreGood len 0 ranges.now }
     ensures { IfOk result (λ s. s ≡ flags_in ranges.now 0 len) }
 {

@@ -229,7 +229,12 @@ fn add_run(runs: &mut Vec<(u64, u64)>, start: u64, end: u64) -> Result<(), Alloc
     Ok(())
 }
 
-fn combined(alloc: Global, first: &Subset, second: &Subset, keep: Keep) -> Result<Subset, AllocError>
+fn combined(
+    alloc: Global,
+    first: &Subset,
+    second: &Subset,
+    keep: Keep,
+) -> Result<Subset, AllocError>
     requires { length first.now ≡ length second.now }
     ensures { IfOk result (λ s. s ≡ at_each (is_kept keep) first.now second.now) }
 {

@@ -31,20 +31,27 @@ fn has_flags(subset: &Subset, flags: &[bool]) -> bool {
 fn one_agrees(alloc: Global, flags: &[bool]) -> Result<bool, AllocError> {
     let subset = subset_of(alloc, flags)?;
     let opposite: Vec<bool> = flags.iter().map(|flag| !*flag).collect(alloc)?;
-    Ok(has_flags(&subset, flags)
-        && has_flags(&subset.complement(alloc)?, &opposite)
-        && has_flags(&subset.copy(alloc)?, flags))
+    Ok(
+        has_flags(&subset, flags)
+            && has_flags(&subset.complement(alloc)?, &opposite)
+            && has_flags(&subset.copy(alloc)?, flags),
+    )
 }
 
 fn ranges_agree(alloc: Global, flags: &[bool]) -> Result<bool, SubsetFault> {
     let mut ranges = Vec::new(alloc);
     for (i, flag) in (0u64..100).zip(flags) {
         if *flag {
-            ranges.push((i, i + 1)).map_err(AllocError::from)?;
+            ranges
+                .push((i, i.wrapping_add(1)))
+                .map_err(AllocError::from)?;
         }
     }
     let subset = Subset::of_ranges(alloc, flags.len() as u64, &ranges)?;
-    Ok(has_flags(&subset, flags) && subset == Subset::of_ranges(alloc, subset.len(), subset.runs())?)
+    Ok(
+        has_flags(&subset, flags)
+            && subset == Subset::of_ranges(alloc, subset.len(), subset.runs())?,
+    )
 }
 
 fn two_agree(alloc: Global, flags: &[bool], others: &[bool]) -> Result<bool, AllocError> {
@@ -53,11 +60,21 @@ fn two_agree(alloc: Global, flags: &[bool], others: &[bool]) -> Result<bool, All
     if one.len() != other.len() {
         return Ok(false);
     }
-    let either: Vec<bool> = flags.iter().zip(others).map(|(a, b)| *a || *b).collect(alloc)?;
-    let alone: Vec<bool> = flags.iter().zip(others).map(|(a, b)| *a && !*b).collect(alloc)?;
-    Ok(has_flags(&one.union(alloc, &other)?, &either)
-        && has_flags(&one.minus(alloc, &other)?, &alone)
-        && (one == other) == (flags == others))
+    let either: Vec<bool> = flags
+        .iter()
+        .zip(others)
+        .map(|(a, b)| *a || *b)
+        .collect(alloc)?;
+    let alone: Vec<bool> = flags
+        .iter()
+        .zip(others)
+        .map(|(a, b)| *a && !*b)
+        .collect(alloc)?;
+    Ok(
+        has_flags(&one.union(alloc, &other)?, &either)
+            && has_flags(&one.minus(alloc, &other)?, &alone)
+            && (one == other) == (flags == others),
+    )
 }
 
 fn shrinks(alloc: Global, flags: &[bool], by: &[bool]) -> Result<bool, AllocError> {
@@ -73,7 +90,12 @@ fn shrinks(alloc: Global, flags: &[bool], by: &[bool]) -> Result<bool, AllocErro
 }
 
 // The flags of the longer text, one by one.
-fn put_in(alloc: Global, flags: &[bool], by: &[bool], inside: bool) -> Result<Vec<bool>, AllocError> {
+fn put_in(
+    alloc: Global,
+    flags: &[bool],
+    by: &[bool],
+    inside: bool,
+) -> Result<Vec<bool>, AllocError> {
     let mut at = 0;
     let mut out = Vec::new(alloc);
     for added in by {
@@ -94,8 +116,15 @@ fn expands(alloc: Global, flags: &[bool], by: &[bool]) -> Result<bool, AllocErro
     if one.len() > 9 || added.count() > 9 || one.len() + added.count() != added.len() {
         return Ok(true);
     }
-    Ok(has_flags(&one.expand(alloc, &added)?, &put_in(alloc, flags, by, false)?)
-        && has_flags(&one.expand_in(alloc, &added)?, &put_in(alloc, flags, by, true)?))
+    Ok(
+        has_flags(
+            &one.expand(alloc, &added)?,
+            &put_in(alloc, flags, by, false)?,
+        ) && has_flags(
+            &one.expand_in(alloc, &added)?,
+            &put_in(alloc, flags, by, true)?,
+        ),
+    )
 }
 
 #[test]
@@ -104,7 +133,10 @@ fn every_call_agrees_with_lists_of_booleans(rt: HostRuntime) -> Result<(), Fail>
     for len in 0..6 {
         for mask in 0..1 << len {
             let flags = bits(alloc, len, mask)?;
-            assert!(rt; one_agrees(alloc, &flags)? && ranges_agree(alloc, &flags)?, "{flags:?}");
+            assert!(rt;
+                one_agrees(alloc, &flags)? && ranges_agree(alloc, &flags)?,
+                "{flags:?}"
+            );
             for other in 0..1 << len {
                 let others = bits(alloc, len, other)?;
                 let agree = two_agree(alloc, &flags, &others)? && shrinks(alloc, &flags, &others)?;
@@ -118,12 +150,14 @@ fn every_call_agrees_with_lists_of_booleans(rt: HostRuntime) -> Result<(), Fail>
 #[test]
 fn every_expansion_agrees_with_lists_of_booleans(rt: HostRuntime) -> Result<(), Fail> {
     let alloc = rt.alloc();
-    for (len, longer) in (0..36).map(|k| (k / 6, k % 6)) {
+    for len in 0..6 {
         for mask in 0..1 << len {
-            let flags = bits(alloc, len, mask)?;
-            for other in 0..1 << longer {
-                let by = bits(alloc, longer, other)?;
-                assert!(rt; expands(alloc, &flags, &by)?, "{flags:?} {by:?}");
+            let by = bits(alloc, len, mask)?;
+            for shorter in 0..6 {
+                for other in 0..1 << shorter {
+                    let flags = bits(alloc, shorter, other)?;
+                    assert!(rt; expands(alloc, &flags, &by)?, "{flags:?} {by:?}");
+                }
             }
         }
     }
@@ -141,7 +175,10 @@ fn the_first_range_at_fault_is_named(rt: HostRuntime) {
         (&[(0, 0), (5, 5), (5, 5), (4, 5)], 3),
     ];
     for (ranges, index) in rows {
-        assert_eq!(rt; Subset::of_ranges(rt.alloc(), 5, ranges), Err(SubsetFault::Bad(index)));
+        assert_eq!(rt;
+            Subset::of_ranges(rt.alloc(), 5, ranges),
+            Err(SubsetFault::Bad(index))
+        );
     }
 }
 
@@ -155,7 +192,10 @@ fn the_row_of_sets(rt: HostRuntime) -> Result<(), Fail> {
     assert!(rt; subset.len() == first.len() && subset.len() == second.len());
     assert_eq!(rt; subset.union(alloc, &first)?.runs(), [(0, 3)].as_slice());
     assert_eq!(rt; subset.minus(alloc, &second)?.runs(), [(2, 3)].as_slice());
-    assert_eq!(rt; subset.complement(alloc)?.runs(), [(0, 1), (3, 5)].as_slice());
+    assert_eq!(rt;
+        subset.complement(alloc)?.runs(),
+        [(0, 1), (3, 5)].as_slice()
+    );
     Ok(())
 }
 
@@ -166,7 +206,10 @@ fn the_row_of_two_texts(rt: HostRuntime) -> Result<(), Fail> {
     let by = Subset::of_ranges(alloc, 4, &[(0, 1), (2, 3)])?;
     assert!(rt; subset.len() == 2 && by.count() == 2 && by.len() == 4);
     assert_eq!(rt; subset.expand(alloc, &by)?.runs(), [(3, 4)].as_slice());
-    assert_eq!(rt; subset.expand_in(alloc, &by)?.runs(), [(0, 1), (2, 4)].as_slice());
+    assert_eq!(rt;
+        subset.expand_in(alloc, &by)?.runs(),
+        [(0, 1), (2, 4)].as_slice()
+    );
     let subset = Subset::of_ranges(alloc, 5, &[(1, 3)])?;
     let gone = Subset::of_ranges(alloc, 5, &[(1, 2)])?;
     assert!(rt; subset.len() == gone.len());

@@ -10,11 +10,11 @@ returns-then-range-low-clause-found c =
     let ranges = c.args.ranges.now in
     let index = c.loop-index.index in
     let bad : IsFault c.args.len c.loop-index.low (slice_index_or ranges index (0, 0)) =
-      elim c.then-range-low.branch [
-        | then-range-low-via-then-range-low w ↦ inr (inl w.if-range-low.true)
-        | then-range-low-via-else-range-low+then-range w ↦ inl w.if-range.true
-        | then-range-low-via-else-range-low+else-range+then-len-range w ↦ inr (inr w.if-len-range.true)
-      ] in
+    elim c.then-range-low.branch [
+      | then-range-low-via-then-range-low w ↦ inr (inl w.if-range-low.true)
+      | then-range-low-via-else-range-low+then-range w ↦ inl w.if-range.true
+      | then-range-low-via-else-range-low+else-range+then-len-range w ↦ inr (inr w.if-len-range.true)
+    ] in
     rw add-zero at (c.loop-index.invariant.fault 0 (fault_here _ _ index ranges (0, 0) c.loop-index-test.true bad))
 
 pub loop-index-preserved : goal.loop-index-preserved
@@ -23,7 +23,7 @@ loop-index-preserved c =
     let index = c.loop-index.index in
     record {
       fault = λ i bad.
-        let moved : index + suc i ≡ index + 1 + i = omega arith in
-        subst (λ (k : ℕ). IsFirstFault c.args.len 0 ranges k) moved (c.loop-index.invariant.fault (suc i) (fault_later _ _ index i ranges (0, 0) c.loop-index-test.true (c.if-range.false, c.if-range-low.false, c.if-len-range.false) bad));
+          let moved : index + suc i ≡ index + 1 + i = omega arith in
+          subst (λ (k : ℕ). IsFirstFault c.args.len 0 ranges k) moved (c.loop-index.invariant.fault (suc i) (fault_later _ _ index i ranges (0, 0) c.loop-index-test.true (c.if-range.false, c.if-range-low.false, c.if-len-range.false) bad));
       good = λ rest. c.loop-index.invariant.good (good_later _ _ index ranges (0, 0) c.loop-index-test.true (c.if-range.false, c.if-range-low.false, c.if-len-range.false) rest);
     }

@@ -14,7 +14,7 @@ returns-then-gap-clause-same_outside c =
 
 pub front-piece-requires : goal.front-piece-requires
 front-piece-requires c = λ none.
-  omega (arith, ap length none, count_moved_next c.args.by.now c.front-gap.result c.front-gap.result.len c.front-gap.ensures c.if-gap.false (omega arith), front_len c.args.by.now c.front-gap.result c.front-gap.ensures, c.front-gap.ensures.some, length-drop c.front-gap.result.len c.args.by.now, count_le_length)
+    omega (arith, ap length none, count_moved_next c.args.by.now c.front-gap.result c.front-gap.result.len c.front-gap.ensures c.if-gap.false (omega arith), front_len c.args.by.now c.front-gap.result c.front-gap.ensures, c.front-gap.ensures.some, length-drop c.front-gap.result.len c.args.by.now, count_le_length)
 
 pub returns-clause-next : goal.returns-clause-next
 returns-clause-next c =

@@ -13,6 +13,6 @@ returns-clause-flag c =
 pub returns-clause-member : goal.returns-clause-member
 returns-clause-member c =
     let flag : c.is_in_some.result ≡ contains c.args.self.now c.args.i =
-      c.is_in_some.ensures
-      ∙ (ap (λ runs. is_in_some runs c.args.i) c.deref.ensures.value ∙ contains-stored _ _ _ c.args.i _ c.self.invariant c.self.view_is) in
+    c.is_in_some.ensures
+    ∙ (ap (λ runs. is_in_some runs c.args.i) c.deref.ensures.value ∙ contains-stored _ _ _ c.args.i _ c.self.invariant c.self.view_is) in
     rw flag (member_iff c.args.self.now c.args.i)

@@ -10,11 +10,14 @@ returns-in_err-with_members_in-in-None-clause-bad c =
     rw (p.1, p.2) (λ i. (λ e. absurd cc, λ bad. absurd (no_fault_where_good _ _ _ _ c.in-None.ensures.none bad)))
 
 pub returns-in-Some-clause-bad : goal.returns-in-Some-clause-bad
-returns-in-Some-clause-bad c = λ i. (λ e.
-  let same : c.in-Some.index ≡ i = cc in
-  subst (λ (k : ℕ). IsFirstFault c.args.len 0 c.args.ranges.now k) same c.in-Some.ensures.found, λ bad.
-  let same = one_first_fault _ _ _ _ _ c.in-Some.ensures.found bad in
-  cc)
+returns-in-Some-clause-bad c = λ i. (
+  λ e.
+      let same : c.in-Some.index ≡ i = cc in
+      subst (λ (k : ℕ). IsFirstFault c.args.len 0 c.args.ranges.now k) same c.in-Some.ensures.found,
+  λ bad.
+      let same = one_first_fault _ _ _ _ _ c.in-Some.ensures.found bad in
+      cc,
+)
 
 pub returns-in_ok-with_members_in-in-None-clause-bad : goal.returns-in_ok-with_members_in-in-None-clause-bad
 returns-in_ok-with_members_in-in-None-clause-bad c = λ i. (λ e. absurd cc, λ bad. absurd (no_fault_where_good _ _ _ _ c.in-None.ensures.none bad))
