@@ -1,3 +1,4 @@
+pub mod Fault
 pub mod Proper
 pub mod Line
 pub mod Request

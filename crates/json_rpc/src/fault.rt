@@ -1,3 +1,6 @@
+ghost use Rattle.std.specs.Prelude.{Some};
+ghost use Rattle.json_rpc.specs.Fault.{fault_text};
+
 use std::alloc::AllocError;
 use std::error::Error;
 use std::fmt;
@@ -17,6 +20,8 @@ pub enum RpcFault {
 }
 
 impl fmt::Display for RpcFault {
+    ghost output = { λ fault. Some (fault_text fault) };
+
     fn fmt<W: fmt::Write>(&self, f: &mut fmt::Formatter<W>) -> fmt::Result {
         f.write_str(match self {
             RpcFault::Parse => "parse error",
