@@ -1,0 +1,6 @@
+-- Laws about tables of names.
+pub mod Pieces
+pub mod Wrong
+pub mod Laws
+pub mod Reading
+pub mod Search

@@ -1,0 +1,3 @@
+-- What a text of names means.
+pub mod Table
+pub mod Places
