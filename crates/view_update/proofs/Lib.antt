@@ -1,0 +1,4 @@
+pub mod Plain
+pub mod Made
+pub mod ReadBack
+pub mod Lines

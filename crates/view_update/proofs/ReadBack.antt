@@ -1,0 +1,81 @@
+-- What the values of an update are to their reader.
+use Rattle.std.proofs.Common.{◌≡◌, ℕ, ◌-◌, ◌<◌, ◌^◌, pos, negsuc, ◌≤ℤ◌, ℤ, List, [], ◌∷◌, map, length, true, cond, Option, Some, None, option_map, option_and_then, refl, ap, ◌∙◌, arith}
+use Rattle.std.specs.List.{AllByRecursion}
+use Rattle.std.specs.Str.{all_scalars}
+use Rattle.std.proofs.lemmas.Bool.{lt-ltb, eq-eqb}
+use Rattle.std.proofs.lemmas.Str.{chars-encodes}
+use Rattle.std.proofs.lemmas.Int.{ints}
+use Rattle.xi_plain.specs.declared.screen.Triple.{Triple}
+use Rattle.xi_plain.specs.declared.screen.Line.{Line}
+use Rattle.xi_plain.specs.declared.screen.Op.{Op}
+use Rattle.xi_plain.specs.declared.screen.Op.TheVariants.{Copy, Skip, Invalidate, Ins}
+use Rattle.xi_plain.specs.declared.screen.Update.{Update}
+use Rattle.serde_json.specs.Data.{Data, number}
+use Rattle.serde_json.specs.Find.{of_integer}
+use Rattle.serde_json.specs.View.{items_of}
+use Rattle.json_rpc.specs.Response.{text_data}
+use Rattle.view_update.specs.Written.{count_data, triple_items, line_data, op_data, ops_data, update_params}
+use Rattle.view_update.specs.Reading.{as_count, as_offset, as_chars, each_as, triple_from, triples_of, line_from, read_line_data, ins_from, read_op, update_from, read_update, view_update_from, read_params, scroll_from, read_scroll}
+use Rattle.view_update.specs.Notes.{scroll_params}
+use Rattle.view_update.specs.Fair.{IsCount, IsFairTriple, IsFairLine, IsFairOp, IsFairUpdate}
+
+pub as_chars-text_data : (text : List ℕ) → all_scalars text ≡ true → as_chars (text_data text) ≡ Some text
+as_chars-text_data text h = ap Some (chars-encodes text h)
+
+as_offset-of_integer : (z : ℤ) → z ≤ℤ pos (2 ^ 63 - 1) → as_offset (number (of_integer z)) ≡ Some z
+as_offset-of_integer (pos n) high =
+    let below : n < 2 ^ 63 = omega (arith, ints) in
+    ap (λ b. cond b (Some (pos n)) None) (lt-ltb n (2 ^ 63) below)
+as_offset-of_integer (negsuc n) high = refl
+
+pub each_as-map : {A : Type 0} (kind : Data → Option A) (f : A → Data) (P : A → Type 0) → ((x : A) → P x → kind (f x) ≡ Some x) → (xs : List A) → AllByRecursion P xs
+    → each_as kind (items_of (map f xs)) ≡ Some xs
+each_as-map kind f P h [] all = refl
+each_as-map kind f P h (x ∷ xs) all =
+    ap (option_and_then (λ y. option_map (λ ys. y ∷ ys) (each_as kind (items_of (map f xs))))) (h x all.0)
+    ∙ ap (option_map (λ ys. x ∷ ys)) (each_as-map kind f P h xs all.1)
+
+each_as-counts : (numbers : List ℕ) → AllByRecursion IsCount numbers → each_as as_count (items_of (map count_data numbers)) ≡ Some numbers
+each_as-counts numbers all = each_as-map as_count count_data IsCount (λ n h. refl) numbers all
+
+triples_of-triple_items : (triples : List Triple) → AllByRecursion IsFairTriple triples → triples_of (items_of (triple_items triples)) ≡ Some triples
+triples_of-triple_items [] all = refl
+triples_of-triple_items (t ∷ triples) all =
+    ap (λ start. option_and_then (λ u. option_map (λ us. u ∷ us) (triples_of (items_of (triple_items triples)))) (triple_from start (Some t.len) (Some t.id)))
+    (as_offset-of_integer t.start all.0.high)
+    ∙ ap (option_map (λ us. t ∷ us)) (triples_of-triple_items triples all.1)
+
+read_line_data-parts : (cursor : List ℕ) (ln : Option ℕ) (styles : List Triple) (text : List ℕ) → AllByRecursion IsCount cursor → AllByRecursion IsFairTriple styles → all_scalars text ≡ true
+    → read_line_data (line_data (record { text = text; ln = ln; cursor = cursor; styles = styles })) ≡ Some (record { text = text; ln = ln; cursor = cursor; styles = styles })
+read_line_data-parts cursor None styles text h k m =
+    let cs = each_as-counts cursor h in let ss = triples_of-triple_items styles k in let ts = as_chars-text_data text m in
+    λ i. line_from (cs i) (Some None) (ss i) (ts i)
+read_line_data-parts cursor (Some n) styles text h k m =
+    let cs = each_as-counts cursor h in let ss = triples_of-triple_items styles k in let ts = as_chars-text_data text m in
+    λ i. line_from (cs i) (Some (Some n)) (ss i) (ts i)
+
+pub read_line_data-line_data : (line : Line) → IsFairLine line → read_line_data (line_data line) ≡ Some line
+read_line_data-line_data line h = read_line_data-parts line.cursor line.ln line.styles line.text h.cursor h.styles h.text
+
+ins_from-lines : (lines : List Line) → ins_from (Some (length lines)) (Some lines) ≡ Some (Ins lines)
+ins_from-lines lines = ap (λ b. cond b (Some (Ins lines)) None) (eq-eqb (length lines) (length lines) refl)
+
+pub read_op-op_data : (op : Op) → IsFairOp op → read_op (op_data op) ≡ Some op
+read_op-op_data (Copy n None) h = refl
+read_op-op_data (Copy n (Some ln)) h = refl
+read_op-op_data (Skip n) h = refl
+read_op-op_data (Invalidate n) h = refl
+read_op-op_data (Ins lines) h =
+    ap (ins_from (Some (length lines))) (each_as-map read_line_data line_data IsFairLine read_line_data-line_data lines h.1)
+    ∙ ins_from-lines lines
+
+pub read_update-ops_data : (update : Update) → AllByRecursion IsFairOp update.ops → read_update (ops_data update) ≡ Some update
+read_update-ops_data update all = ap (λ ops. update_from ops (Some update.pristine)) (each_as-map read_op op_data IsFairOp read_op-op_data update.ops all)
+
+pub read_params-update_params : (view : List ℕ) (update : Update) → IsFairUpdate view update → read_params (update_params view update) ≡ Some (record { view = view; update = update })
+read_params-update_params view update h =
+    let vs = as_chars-text_data view h.id in let us = read_update-ops_data update h.ops in
+    λ i. view_update_from (vs i) (us i)
+
+pub read_scroll-scroll_params : (view : List ℕ) (line col : ℕ) → all_scalars view ≡ true → read_scroll (scroll_params view line col) ≡ Some (record { view = view; line = line; col = col })
+read_scroll-scroll_params view line col h = ap (λ v. scroll_from v (Some line) (Some col)) (as_chars-text_data view h)

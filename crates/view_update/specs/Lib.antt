@@ -1,0 +1,5 @@
+pub mod Written
+pub mod Reading
+pub mod Fair
+pub mod Notes
+pub mod Laws
