@@ -1,0 +1,4 @@
+pub mod FlagLemmas
+pub mod TagLemmas
+pub mod StepLemmas
+pub mod HistoryLemmas

@@ -1,0 +1,7 @@
+use Rattle.std.proofs.Common.{arith, ap, sym, ◌∙◌}
+use Rattle.rev_list.proofs.HistoryLemmas.{hidden_head-history_of}
+use Rattle.rev_list.proofs.list.RevList.dead.Goals as goal
+
+pub returns : goal.returns
+returns c =
+    rw (← c.self.view_is) (c.self.invariant.dead ∙ sym (hidden_head-history_of c.self.inside.len c.self.inside.edits.items c.self.invariant.in_turn))

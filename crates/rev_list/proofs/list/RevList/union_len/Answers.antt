@@ -1,0 +1,7 @@
+use Rattle.std.proofs.Common.{length, arith, ap, sym, ◌∙◌}
+use Rattle.rev_list.proofs.HistoryLemmas.{length-history_of}
+use Rattle.rev_list.proofs.list.RevList.union_len.Goals as goal
+
+pub returns : goal.returns
+returns c =
+    rw (← c.self.view_is) (c.len.ensures ∙ (ap length c.self.invariant.dead ∙ sym (length-history_of c.self.inside.len c.self.inside.edits.items c.self.invariant.in_turn)))

@@ -1,0 +1,48 @@
+-- What an edit adds to a history, where it says positions of the union.
+use Rattle.std.specs.Prelude.{◌≡◌, ℕ, ◌+◌, ◌-◌, ◌^◌, ◌<◌, ◌≤◌, Bool, true, false, if◌then◌else◌, List, [], ◌∷◌, ◌++◌, length}
+use Rattle.subset_runs.specs.Subset.{count}
+use Rattle.xi_plain.specs.Numbers.{has}
+use Rattle.xi_plain.specs.History.{Tagged, Revision, edit, History, head}
+use Rattle.xi_plain.specs.Edits.{deleted_by}
+use Rattle.rev_list.specs.declared.edit.RevEdit.{RevEdit}
+
+-- the revision of an edit
+abbrev pub revision_of : RevEdit → Revision
+revision_of e = edit e.base e.group e.priority e.author
+
+-- a character that the revision inserts
+abbrev pub new_by : ℕ → Tagged
+new_by rev = record { character = 0; inserted = rev; deleted = [] }
+
+-- the items of a longer list: `new` at the positions `by`, and the old ones in order at the others
+abbrev pub with_new : {X : Type 0} → X → List X → List Bool → List X
+with_new new xs [] = []
+with_new new xs (true ∷ by) = new ∷ with_new new xs by
+with_new new [] (false ∷ by) = []
+with_new new (x ∷ xs) (false ∷ by) = x ∷ with_new new xs by
+
+-- the characters, where one more revision deletes those at the positions `at`
+abbrev pub with_deleted : ℕ → List Tagged → List Bool → List Tagged
+with_deleted rev [] at = []
+with_deleted rev (tagged ∷ characters) [] = tagged ∷ characters
+with_deleted rev (tagged ∷ characters) (flag ∷ at) =
+    (if flag then deleted_by rev tagged else tagged) ∷ with_deleted rev characters at
+
+-- THE EDIT STEP, in positions of the union
+abbrev pub pushed : History → RevEdit → History
+pushed history e = record history {
+  characters = with_deleted (head history + 1) (with_new (new_by (head history + 1)) history.characters e.inserted) e.deleted;
+  revisions = history.revisions ++ revision_of e ∷ [];
+}
+
+-- the edit may come next
+pub record MayPush (history : History) (e : RevEdit) : Type 0 where
+  -- its subsets speak of the union after it
+  pub grown : length e.inserted ≡ length history.characters + count e.inserted
+  pub same_length : length e.deleted ≡ length e.inserted
+  -- its base is kept, and its group counts from 1 and is not collected
+  pub base_kept : history.floor ≤ e.base
+  pub base_known : e.base ≤ head history
+  pub group_counts : 1 ≤ e.group
+  pub group_kept : has history.collected e.group ≡ false
+  pub has_number : head history < 2 ^ 63 - 1

@@ -1,0 +1,62 @@
+-- What the positions of the union are at a revision.
+use Rattle.std.specs.Prelude.{◌≡◌, ℕ, ◌+◌, ◌<◌, ◌≤◌, Bool, true, false, not, nat_le, ◌==◌, List, length, map, Option, Some, None, slice_get}
+use Rattle.std.specs.List.{filter}
+use Rattle.xi_plain.specs.Numbers.{has}
+use Rattle.xi_plain.specs.History.{Tagged, Revision, edit, undo, History, head, revision_at, is_visible}
+use Rattle.rev_list.specs.declared.edit.RevEdit.{RevEdit}
+use Rattle.rev_list.specs.Edit.{revision_of}
+
+-- whether the character is not visible at the revision
+abbrev pub is_hidden : History → ℕ → Tagged → Bool
+is_hidden history rev tagged = not (is_visible history.revisions rev tagged)
+
+-- what of the present union is not visible at the revision
+abbrev pub hidden_at : History → ℕ → List Bool
+hidden_at history rev = map (is_hidden history rev) history.characters
+
+-- whether the character was inserted by then
+abbrev pub is_there : ℕ → Tagged → Bool
+is_there rev tagged = nat_le tagged.inserted rev
+
+-- the union as it was after the revision
+abbrev pub union_at : History → ℕ → List Tagged
+union_at history rev = filter (is_there rev) history.characters
+
+-- what of that union is not visible at the revision
+abbrev pub hidden_then : History → ℕ → List Bool
+hidden_then history rev = map (is_hidden history rev) (union_at history rev)
+
+-- which positions of its own union the revision inserted, and which it deleted
+abbrev pub insertions_of : History → ℕ → List Bool
+insertions_of history rev = map (λ tagged. tagged.inserted == rev) (union_at history rev)
+
+abbrev pub deletions_of : History → ℕ → List Bool
+deletions_of history rev = map (λ tagged. has tagged.deleted rev) (union_at history rev)
+
+-- the edit is that of the revision, in positions of its own union
+pub record IsEditAt (history : History) (rev : ℕ) (e : RevEdit) : Type 0 where
+  pub said : revision_at history.revisions rev ≡ Some (revision_of e)
+  pub inserted : e.inserted ≡ insertions_of history rev
+  pub deleted : e.deleted ≡ deletions_of history rev
+
+-- the edits are those of the revisions after the base, the oldest first
+pub record AreEditsAfter (history : History) (base : ℕ) (edits : List RevEdit) : Type 0 where
+  pub len : length edits + base ≡ head history
+  pub each : (k : ℕ) (e : RevEdit) → slice_get edits k ≡ Some e → IsEditAt history (base + 1 + k) e
+
+-- whether it is a revision that edits
+abbrev pub is_edit : Option Revision → Bool
+is_edit None = false
+is_edit (Some (edit base group priority author)) = true
+is_edit (Some (undo groups)) = false
+
+-- the revision is from the floor to the head
+abbrev pub IsKeptAt : History → ℕ → Type 0
+IsKeptAt history rev = (history.floor ≤ rev) × (rev ≤ head history)
+
+-- it is above the head, or below the floor
+abbrev pub IsUnknown : History → ℕ → ℕ → Type 0
+IsUnknown history rev last = (head history < rev) × (last ≡ head history)
+
+abbrev pub IsCollected : History → ℕ → ℕ → Type 0
+IsCollected history rev floor = (rev < history.floor) × (floor ≡ history.floor)

@@ -1,0 +1,48 @@
+-- What a list of revisions keeps: its edits, each in the positions of its own union.
+use Rattle.std.specs.Prelude.{◌≡◌, ℕ, ◌+◌, Bool, false, List, [], ◌∷◌, length, replicate}
+use Rattle.std.specs.List.{fold}
+use Rattle.subset_runs.specs.Subset.{count, expand, expand_in, union, minus}
+use Rattle.xi_plain.specs.History.{History, head, loaded}
+use Rattle.rev_list.specs.declared.edit.RevEdit.{RevEdit}
+use Rattle.rev_list.specs.declared.edit.ReadyEdit.{ReadyEdit}
+use Rattle.rev_list.specs.Edit.{pushed, MayPush}
+use Rattle.rev_list.specs.Hidden.{hidden_at}
+
+-- the history of edits over a loaded text of this length
+abbrev pub history_of : ℕ → List RevEdit → History
+history_of len edits = fold pushed (loaded (replicate len 0)) edits
+
+-- what is dead after an edit, where `dead` was before it
+abbrev pub dead_after : List Bool → RevEdit → List Bool
+dead_after dead e = union (expand dead e.inserted) e.deleted
+
+-- the same for a revision before the edit: what the edit inserts is dead there, and what it deletes is as before
+abbrev pub dead_later : List Bool → RevEdit → List Bool
+dead_later dead e = expand_in dead e.inserted
+
+-- which positions an edit hides: those that it deletes, where they were not dead before it
+abbrev pub hidden_by : List Bool → RevEdit → List Bool
+hidden_by dead e = minus e.deleted (expand dead e.inserted)
+
+-- the same for each of the edits
+abbrev pub hidden_by_each : List Bool → List RevEdit → List (List Bool)
+hidden_by_each dead [] = []
+hidden_by_each dead (e ∷ edits) = hidden_by dead e ∷ hidden_by_each (dead_after dead e) edits
+
+-- each edit speaks of the union before it with its insertions; `len` is the length of the first union
+abbrev pub AreInTurn : ℕ → List RevEdit → Type 0
+AreInTurn len [] = Unit {0}
+AreInTurn len (e ∷ edits) =
+    (length e.inserted ≡ len + count e.inserted) × (length e.deleted ≡ length e.inserted) × AreInTurn (length e.inserted) edits
+
+-- what a list keeps beside the edits: what each of them hid, and what is dead at the head
+pub record IsStored (len : ℕ) (edits : List RevEdit) (hid : List (List Bool)) (gone : List Bool) : Type 0 where
+  pub in_turn : AreInTurn len edits
+  pub hidden : hid ≡ hidden_by_each (replicate len false) edits
+  pub dead : gone ≡ fold dead_after (replicate len false) edits
+
+-- the edit is ready to come next
+pub record IsReady (history : History) (ready : ReadyEdit) : Type 0 where
+  pub may : MayPush history ready.edit
+  pub hidden : ready.hidden ≡ hidden_by (hidden_at history (head history)) ready.edit
+  pub dead : ready.dead ≡ hidden_at (pushed history ready.edit) (head history + 1)

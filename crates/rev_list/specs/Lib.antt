@@ -1,0 +1,4 @@
+pub mod Revisions
+pub mod Edit
+pub mod Hidden
+pub mod Kept

@@ -1,0 +1,37 @@
+ghost use Rattle.std.specs.Prelude.{◌≡◌};
+
+use std::alloc::AllocError;
+use std::error::Error;
+use std::fmt;
+
+/// Why a revision gives no answer.
+#[derive(Clone, Copy, Debug, PartialEq, Eq)]
+pub enum RevFault {
+    /// The revision is above this one, the head.
+    Unknown(u64),
+    /// The revision is below this one, the floor.
+    Collected(u64),
+    NoMemory,
+}
+
+impl fmt::Display for RevFault {
+    fn fmt<W: fmt::Write>(&self, f: &mut fmt::Formatter<W>) -> fmt::Result {
+        match self {
+            RevFault::Unknown(head) => write!(f, "the head is revision {head}"),
+            RevFault::Collected(floor) => write!(f, "the floor is revision {floor}"),
+            RevFault::NoMemory => f.write_str("out of memory"),
+        }
+    }
+}
+
+impl Error for RevFault {}
+
+impl From<AllocError> for RevFault {
+    ghost use Rattle.rev_list.specs.declared.fault.RevFault.TheVariants.{NoMemory};
+
+    ghost from_gives = { λ _ fault. fault ≡ NoMemory };
+
+    fn from(_: AllocError) -> Self {
+        RevFault::NoMemory
+    }
+}
