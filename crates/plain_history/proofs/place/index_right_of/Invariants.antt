@@ -1,0 +1,9 @@
+use Rattle.std.proofs.Common.{◌≡◌, ◌+◌, drop}
+use Rattle.xi_plain.specs.Woven.{nth_index}
+use Rattle.xi_plain.specs.History.{is_visible}
+use Rattle.plain_history.proofs.place.index_right_of.Given as goal
+
+abbrev pub invariant-loop-index : goal.invariant-loop-index
+invariant-loop-index l =
+    l.index + nth_index (is_visible l.revisions l.base) l.left (drop l.index l.characters) ≡
+    nth_index (is_visible l.revisions l.base) l.fn.gap l.characters

@@ -1,0 +1,29 @@
+//! The plain history: a slow program that is the definition.
+//!
+//! A history is the flat list of tagged characters, which never shrinks, and the list of revisions. Every call here answers what the
+//! definitions of `xi_plain` say, by the shortest way that anyone can read; no call is fast. A contract sees a [`PlainHistory`] as
+//! the record `History`, a [`Tagged`] as the record `Tagged`, and a [`Revision`] as the data `Revision` of those definitions.
+#![tactic(auto)]
+
+mod collection;
+mod deltas;
+mod edit;
+mod fault;
+mod history;
+mod merging;
+mod place;
+mod revision;
+mod tagged;
+#[cfg(test)]
+mod tests;
+mod undo;
+mod unit_edit;
+mod visible;
+
+pub use deltas::misfit;
+pub use fault::EditFault;
+pub use history::PlainHistory;
+pub use merging::merged;
+pub use revision::Revision;
+pub use tagged::Tagged;
+pub use unit_edit::UnitEdit;

@@ -1,0 +1,111 @@
+ghost use Rattle.std.specs.Prelude.{◌≡◌, Some, List, map};
+ghost use Rattle.std.specs.Option.{option_copied};
+ghost use Rattle.xi_plain.specs.History.{edit, undo, edit_group, edit_priority};
+ghost use Rattle.xi_plain.specs.Edits.{is_edit_of};
+ghost use Rattle.xi_plain.specs.Collection.{is_based_from};
+ghost use Rattle.plain_history.specs.Views.{undone_by};
+
+use std::marker::Model;
+use xi_plain::Listed;
+
+/// A revision: an edit against a base, or an undo, which says all groups that are undone from it on.
+#[derive(Drop)]
+pub struct Revision {
+    step: Step,
+}
+
+#[derive(Drop)]
+enum Step {
+    Edit {
+        base: u64,
+        group: u64,
+        priority: u64,
+        author: u64,
+    },
+    Undo {
+        groups: Listed<u64>,
+    },
+}
+
+impl Model for Revision {
+    ghost use Rattle.xi_plain.specs.History.{Revision as RevisionData};
+
+    ghost Value = { RevisionData };
+
+    ghost use Rattle.plain_history.specs.Views.{revision_of};
+
+    ghost view = { λ r. revision_of r.step };
+}
+
+impl Revision {
+    pub fn edit(base: u64, group: u64, priority: u64, author: u64) -> Revision
+        ensures { result ≡ edit base group priority author }
+    {
+        Revision {
+            step: Step::Edit {
+                base,
+                group,
+                priority,
+                author,
+            },
+        }
+    }
+
+    pub fn undo(groups: Listed<u64>) -> Revision
+        ensures { result ≡ undo groups }
+    {
+        Revision {
+            step: Step::Undo { groups },
+        }
+    }
+
+    /// The group of an edit, and 0 for an undo.
+    pub fn group(&self) -> u64
+        ensures { result ≡ edit_group (Some self.now) }
+    {
+        match &self.step {
+            Step::Edit { group, .. } => *group,
+            Step::Undo { .. } => 0,
+        }
+    }
+
+    /// The priority of an edit, and 0 for an undo.
+    pub fn priority(&self) -> u64
+        ensures { result ≡ edit_priority (Some self.now) }
+    {
+        match &self.step {
+            Step::Edit { priority, .. } => *priority,
+            Step::Undo { .. } => 0,
+        }
+    }
+
+    /// The groups that an undo says.
+    pub fn undone(&self) -> Option<&Listed<u64>>
+        ensures { option_copied result ≡ undone_by self.now }
+    {
+        match &self.step {
+            Step::Edit { .. } => None,
+            Step::Undo { groups } => Some(groups),
+        }
+    }
+
+    /// Whether it is an edit of this group.
+    pub fn is_edit_of(&self, group: u64) -> bool
+        ensures { result ≡ is_edit_of group self.now }
+    {
+        match &self.step {
+            Step::Edit { group: own, .. } => *own == group,
+            Step::Undo { .. } => false,
+        }
+    }
+
+    /// Whether it is no edit against a base below the floor.
+    pub fn is_based_from(&self, floor: u64) -> bool
+        ensures { result ≡ is_based_from floor self.now }
+    {
+        match &self.step {
+            Step::Edit { base, .. } => floor <= *base,
+            Step::Undo { .. } => true,
+        }
+    }
+}
