@@ -1,0 +1,12 @@
+-- What a front end's screen shows of a layout.
+use Rattle.std.specs.Prelude.{◌≡◌, ℕ, true, List, length, Some, slice_get, option_map}
+use Rattle.xi_plain.specs.declared.delta.Run.{Run}
+use Rattle.xi_plain.specs.declared.screen.Line.{Line}
+use Rattle.xi_plain.specs.Screen.{Screen}
+use Rattle.xi_plain.specs.Plan.{is_within}
+
+-- the screen has as many lines as the layout, each valid line of it is the layout's line, and each line of the window is valid
+pub record IsScreenOf (screen : Screen) (window : Run) (lines : List Line) : Type 0 where
+  pub length : length screen ≡ length lines
+  pub equal : (i : ℕ) (line : Line) → slice_get screen i ≡ Some (Some line) → slice_get lines i ≡ Some line
+  pub valid : (i : ℕ) → is_within window i ≡ true → slice_get screen i ≡ option_map Some (slice_get lines i)

@@ -1,0 +1,61 @@
+ghost use Rattle.std.specs.Prelude.{◌≡◌, [], IfOk, option_map, Some, None, if◌then◌else◌};
+ghost use Rattle.xi_plain.specs.Plan.{update_plan};
+ghost use Rattle.doc_session.specs.Document.{first_window, no_request};
+ghost use Rattle.doc_session.specs.Effects.{is_same_point};
+ghost use Rattle.doc_session.specs.PointView.{point_view};
+
+use crate::doc::Point;
+use std::alloc::Global;
+use xi_plain::{Copied, Line, Lines, NoMemory, Op, Ops, Update};
+
+/// How many lines the window of a view shows.
+const WINDOW: usize = 10;
+
+/// The update that sends the lines of the window and leaves the others invalid.
+pub(crate) fn update_of(alloc: Global, lines: &Lines, pristine: bool) -> Result<Update, NoMemory>
+    ensures ops { IfOk result (λ made. made.ops ≡ update_plan first_window no_request lines.now []) }
+    ensures pristine { IfOk result (λ made. made.pristine ≡ pristine) }
+{
+    let ops = ops_of(alloc, lines)?;
+    Ok(Update { ops, pristine })
+}
+
+fn ops_of(alloc: Global, lines: &Lines) -> Result<Ops, NoMemory>
+    ensures { IfOk result (λ ops. ops ≡ update_plan first_window no_request lines.now []) }
+{
+    let mut ops = Ops::new(alloc);
+    let all = lines.as_slice();
+    if all.is_empty() {
+        return Ok(ops);
+    }
+    if all.len() <= WINDOW {
+        let shown = copies(alloc, all)?;
+        ops.push(Op::Ins { lines: shown })?;
+        return Ok(ops);
+    }
+    let shown = copies(alloc, &all[..WINDOW])?;
+    ops.push(Op::Ins { lines: shown })?;
+    ops.push(Op::Invalidate {
+        n: (all.len() - WINDOW) as u64,
+    })?;
+    Ok(ops)
+}
+
+fn copies(alloc: Global, lines: &[Line]) -> Result<Lines, NoMemory>
+    ensures { IfOk result (λ made. made ≡ lines.now) }
+{
+    let mut made = Lines::new(alloc);
+    for line in lines {
+        made.push(line.copy(alloc)?)?;
+    }
+    Ok(made)
+}
+
+/// The place of the caret, where it is another than before.
+pub(crate) fn scroll_of(before: Point, after: Point) -> Option<Point>
+    ensures { option_map point_view result
+        ≡ (if is_same_point (point_view before) (point_view after) then None
+        else Some (point_view after)) }
+{
+    if before == after { None } else { Some(after) }
+}
