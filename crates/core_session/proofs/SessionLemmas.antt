@@ -1,0 +1,124 @@
+-- Lemmas on the plain session: one more entry.
+use Rattle.std.proofs.Common.{take_all, length-drop, length, ◌-◌, ◌≡◌, ℕ, zero, suc, ◌+◌, arith, zero-add, take, drop, List, [], ◌∷◌, ◌++◌, map, Option, Some, None, refl, ap, sym, ◌∙◌, subst, append_assoc, append-nil}
+use Rattle.std.proofs.lemmas.List.{map-append}
+use Rattle.std.specs.List.{concat, AllByRecursion}
+use Rattle.std.specs.Str.{encode_utf8_all}
+use Rattle.std.proofs.lemmas.Str.{encodes-append}
+use Rattle.std.proofs.lemmas.List.Folds.{concat-append}
+use Rattle.serde_json.specs.Data.{Data}
+use Rattle.json_rpc.specs.Line.{line_of, IsLineOf}
+use Rattle.xi_plain.specs.declared.command.Command.{Command}
+use Rattle.xi_plain.specs.declared.command.Entry.{Entry}
+use Rattle.doc_session.specs.Document.{Document}
+use Rattle.core_session.specs.Session.{messages, step, document_after, all_messages, lines_written, written, piece_of}
+use Rattle.core_session.specs.Core.{AreLinesOf, front_entry}
+use Rattle.core_session.specs.Journal.{closes, IsOpen}
+use Rattle.std.proofs.Math.Seq.{take-nil}
+use Rattle.std.specs.Prelude.{if◌then◌else◌, Bool, true, false, Result, Ok, Err}
+use Rattle.xi_plain.specs.declared.command.Act.TheVariants.{NewView}
+use Rattle.json_rpc.specs.declared.fault.RpcFault.{RpcFault}
+use Rattle.json_rpc.specs.Request.{Request, line_request}
+use Rattle.front_wire.specs.Front.{insert_from, not_built, edit_act, command_from, command_of}
+
+-- entries after entries
+pub document_after-append : (document : Option Document) (front back : List Entry) →
+    document_after document (front ++ back) ≡ document_after (document_after document front) back
+document_after-append document [] back = refl
+document_after-append document (entry ∷ front) back = document_after-append (step document entry.command) front back
+
+pub all_messages-append : (document : Option Document) (front back : List Entry) →
+    all_messages document (front ++ back) ≡ all_messages document front ++ all_messages (document_after document front) back
+all_messages-append document [] back = refl
+all_messages-append document (entry ∷ front) back =
+    ap (λ rest. messages document entry.command ++ rest) (all_messages-append (step document entry.command) front back) ∙
+    sym (append_assoc (messages document entry.command) (all_messages (step document entry.command) front)
+    (all_messages (document_after (step document entry.command) front) back))
+
+-- one more entry
+pub document_after-push : (journal : List Entry) (entry : Entry) →
+    document_after None (journal ++ entry ∷ []) ≡ step (document_after None journal) entry.command
+document_after-push journal entry = document_after-append None journal (entry ∷ [])
+
+pub all_messages-push : (journal : List Entry) (entry : Entry) →
+    all_messages None (journal ++ entry ∷ []) ≡ all_messages None journal ++ messages (document_after None journal) entry.command
+all_messages-push journal entry =
+    all_messages-append None journal (entry ∷ []) ∙
+    ap (λ rest. all_messages None journal ++ rest) (append-nil (messages (document_after None journal) entry.command))
+
+-- the lines of messages after messages
+pub lines_written-append : (front back : List Data) → lines_written (front ++ back) ≡ lines_written front ++ lines_written back
+lines_written-append front back = ap concat (map-append line_of front back) ∙ concat-append (map line_of front) (map line_of back)
+
+pub written-push : (journal : List Entry) (entry : Entry) →
+    written None (journal ++ entry ∷ []) ≡ written None journal ++ piece_of (document_after None journal) entry.command
+written-push journal entry =
+    ap lines_written (all_messages-push journal entry) ∙
+    lines_written-append (all_messages None journal) (messages (document_after None journal) entry.command)
+
+-- texts of lines, one after the other
+all_append : {X : Type 0} (P : X → Type 0) (xs ys : List X) → AllByRecursion P xs → AllByRecursion P ys → AllByRecursion P (xs ++ ys)
+all_append P [] ys front back = back
+all_append P (x ∷ xs) ys front back = (front.0, all_append P xs ys front.1 back)
+
+pub AreLinesOf-append : (front back : List Data) (xs ys : List ℕ) → AreLinesOf front xs → AreLinesOf back ys → AreLinesOf (front ++ back) (xs ++ ys)
+AreLinesOf-append front back xs ys first second = record {
+  joined =
+      ap (λ bytes. bytes ++ ys) first.joined ∙ ap (λ bytes. lines_written front ++ bytes) second.joined ∙
+      sym (lines_written-append front back);
+  each = all_append (λ m. IsLineOf m (line_of m)) front back first.each second.each;
+}
+
+-- the piece of an entry, from the texts of its three parts
+pub AreLinesOf-parts : (answer update scroll : List Data) (a u s piece more : List ℕ) →
+    AreLinesOf answer (encode_utf8_all a) → AreLinesOf update (encode_utf8_all u) → AreLinesOf scroll (encode_utf8_all s) →
+    more ≡ a ++ u → piece ≡ more ++ s → AreLinesOf (answer ++ (update ++ scroll)) (encode_utf8_all piece)
+AreLinesOf-parts answer update scroll a u s piece more first second third two three =
+    let At : List ℕ → Type 0 = λ bytes. AreLinesOf (answer ++ (update ++ scroll)) bytes in
+    let whole : encode_utf8_all a ++ (encode_utf8_all u ++ encode_utf8_all s) ≡ encode_utf8_all piece =
+    sym (append_assoc (encode_utf8_all a) (encode_utf8_all u) (encode_utf8_all s)) ∙
+    ap (λ bytes. bytes ++ encode_utf8_all s) (sym (encodes-append a u)) ∙ sym (encodes-append (a ++ u) s) ∙
+    ap encode_utf8_all (ap (λ text. text ++ s) (sym two) ∙ sym three) in
+    subst At whole
+    (AreLinesOf-append answer (update ++ scroll) _ _ first (AreLinesOf-append update scroll _ _ second third))
+
+-- no line closes the session
+asks_insert : (view : Option (List ℕ)) (inserts : Bool) (text : Option (List ℕ)) → closes (insert_from view inserts text) ≡ false
+asks_insert None inserts text = refl
+asks_insert (Some view) inserts None = refl
+asks_insert (Some view) true (Some text) = refl
+asks_insert (Some view) false (Some text) = refl
+
+asks_method : (opens edits file : Bool) (params : Data) →
+    closes (if opens then (if file then NewView None else not_built) else (if edits then edit_act params else not_built)) ≡ false
+asks_method true edits true params = refl
+asks_method true edits false params = refl
+asks_method false true file params = asks_insert _ _ _
+asks_method false false file params = refl
+
+asks_from : (read : Result Request RpcFault) → closes (command_from read).act ≡ false
+asks_from (Ok request) = asks_method _ _ _ request.params
+asks_from (Err fault) = refl
+
+pub closes-command_of : (line : List ℕ) → closes (command_of line).act ≡ false
+unfolding command_of
+closes-command_of line = asks_from (line_request line)
+
+-- the first bytes, in two parts
+pub take-plus : (m n : ℕ) (xs : List ℕ) → take (m + n) xs ≡ take m xs ++ take n (drop m xs)
+take-plus zero n xs = ap (λ k. take k xs) (zero-add n)
+take-plus (suc m) n [] = take-nil (suc m + n) ∙ sym (take-nil n)
+take-plus (suc m) n (x ∷ xs) =
+    let less : suc m + n ≡ suc (m + n) = omega arith in
+    ap (λ k. take k (x ∷ xs)) less ∙ ap (λ rest. x ∷ rest) (take-plus m n xs)
+
+-- one more entry that is open
+pub IsOpen-push : (journal : List Entry) (command : Command) → AllByRecursion IsOpen journal → closes command.act ≡ false →
+    AllByRecursion IsOpen (journal ++ front_entry command true ∷ [])
+IsOpen-push journal command sent asks = all_append IsOpen journal (front_entry command true ∷ []) sent ((refl, asks, refl), tt)
+
+-- the rest of a slice is what stands after its front
+take_rest : (m : ℕ) (xs : List ℕ) → take (length xs - m) (drop m xs) ≡ drop m xs
+take_rest m xs = take_all (length xs - m) (drop m xs) (omega (arith, length-drop m xs))
+
+pub take-plus_rest : (m n : ℕ) (xs : List ℕ) → take m xs ++ take n (take (length xs - m) (drop m xs)) ≡ take (m + n) xs
+take-plus_rest m n xs = ap (λ rest. take m xs ++ take n rest) (take_rest m xs) ∙ sym (take-plus m n xs)

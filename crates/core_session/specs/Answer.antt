@@ -1,0 +1,57 @@
+-- What an entry is answered.
+use Rattle.std.specs.Prelude.{ℕ, ℤ, pos, negsuc, List, [], ◌∷◌, ◌++◌, codes}
+use Rattle.serde_json.specs.Data.{Data, null}
+use Rattle.xi_plain.specs.declared.command.Id.{Id}
+use Rattle.xi_plain.specs.declared.command.Id.TheVariants.{NoId, Num, Word}
+use Rattle.xi_plain.specs.declared.command.Fault.{Fault}
+use Rattle.xi_plain.specs.declared.command.Fault.TheVariants.{Parse, Invalid, NoMethod, BadParams, NotBuilt}
+use Rattle.json_rpc.specs.Response.{reply_data, error_data}
+use Rattle.view_update.specs.Notes.{alert_data}
+
+-- the number of a fault, as JSON-RPC 2.0 has it, and as this core counts its own from 1 on
+abbrev pub code_of : Fault → ℤ
+code_of Parse = negsuc 32699
+code_of Invalid = negsuc 32599
+code_of (NoMethod name) = negsuc 32600
+code_of (BadParams member) = negsuc 32601
+code_of NotBuilt = pos 9
+
+-- what it says
+abbrev pub message_of : Fault → List ℕ
+message_of Parse = codes "parse error"
+message_of Invalid = codes "invalid request"
+message_of (NoMethod name) = codes "method not found: " ++ name
+message_of (BadParams member) = codes "invalid params: " ++ member
+message_of NotBuilt = codes "not built"
+
+-- what is to be answered: a result, a refusal, or nothing
+pub data Reply : Type 0 where
+  accepted : (result : Data) → Reply
+  refused : (fault : Fault) → Reply
+  silent : Reply
+
+-- the refusal of a request, by its id, or as an alert where it has none
+abbrev pub named_refusal : Id → Fault → Data
+named_refusal NoId fault = alert_data (message_of fault)
+named_refusal (Num n) fault = error_data (Num n) (code_of fault) (message_of fault)
+named_refusal (Word text) fault = error_data (Word text) (code_of fault) (message_of fault)
+
+-- the refusal of a line: what is no request has no id to be named
+abbrev pub refusal : Id → Fault → Data
+refusal id Parse = error_data NoId (code_of Parse) (message_of Parse)
+refusal id Invalid = error_data NoId (code_of Invalid) (message_of Invalid)
+refusal id (NoMethod name) = named_refusal id (NoMethod name)
+refusal id (BadParams member) = named_refusal id (BadParams member)
+refusal id NotBuilt = named_refusal id NotBuilt
+
+-- the result of a request, where it has an id
+abbrev pub result_messages : Id → Data → List Data
+result_messages NoId result = []
+result_messages (Num n) result = reply_data (Num n) result ∷ []
+result_messages (Word text) result = reply_data (Word text) result ∷ []
+
+-- THE ANSWER: the messages that answer an entry
+abbrev pub answers : Id → Reply → List Data
+answers id (accepted result) = result_messages id result
+answers id (refused fault) = refusal id fault ∷ []
+answers id silent = []

@@ -1,0 +1,105 @@
+-- What a session in memory keeps, and what a call does to it.
+use Rattle.std.specs.Prelude.{◌≡◌, ℕ, ◌<◌, ◌≤◌, Bool, true, false, List, [], ◌∷◌, ◌++◌, length, take, Option, Some, None, vec_len, vec_capacity, ⊤}
+use Rattle.std.specs.List.{AllByRecursion}
+use Rattle.std.specs.Str.{encode_utf8_all}
+use Rattle.serde_json.specs.Data.{Data}
+use Rattle.xi_plain.specs.declared.command.Command.{Command}
+use Rattle.xi_plain.specs.declared.command.Entry.{Entry}
+use Rattle.xi_plain.specs.declared.screen.Update.{Update}
+use Rattle.xi_plain.specs.Screen.{Screen}
+use Rattle.json_rpc.specs.Line.{line_of, IsLineOf}
+use Rattle.outside.specs.Faults.{Rose}
+use Rattle.outside.specs.Sink.{Gains}
+use Rattle.view_update.specs.Written.{update_data}
+use Rattle.view_update.specs.Reading.{line_update}
+use Rattle.doc_session.specs.declared.doc.Doc.{Doc}
+use Rattle.doc_session.specs.Document.{Document}
+use Rattle.doc_session.specs.Stands.{StandsFor}
+use Rattle.core_session.specs.declared.session.Core.{Core}
+use Rattle.core_session.specs.declared.session.Prepared.{Prepared}
+use Rattle.core_session.specs.Session.{view_id, outcome, messages, lines_written, piece_of, step, document_after, written}
+use Rattle.core_session.specs.Journal.{IsOpen}
+use Rattle.core_session.specs.Next.{next_or}
+use Rattle.core_session.specs.Shows.{ShowsEach, rebuilt}
+
+-- what the document in memory stands for, where there is one
+abbrev pub Stands : Option Doc → Option Document → Type 0
+Stands None None = ⊤
+Stands None (Some plain) = ⊥
+Stands (Some doc) None = ⊥
+Stands (Some doc) (Some plain) = StandsFor doc plain
+
+-- the bytes are the lines of the messages, and each of these lines reads as its message
+pub record AreLinesOf (messages : List Data) (bytes : List ℕ) : Type 0 where
+  pub joined : bytes ≡ lines_written messages
+  pub each : AllByRecursion (λ message. IsLineOf message (line_of message)) messages
+
+-- the update reads back as it was told, where there is one
+abbrev pub IsToldBack : Option Update → Type 0
+IsToldBack None = ⊤
+IsToldBack (Some update) = line_update (line_of (update_data view_id update)) ≡ Some (record { view = view_id; update = update })
+
+-- what a command comes to, before it is an entry: its piece and its document
+pub record IsPrepared (before : Option Doc) (plain : Option Document) (made : Prepared) : Type 0 where
+  pub lines : AreLinesOf (messages plain made.command) (encode_utf8_all made.piece)
+  pub told : IsToldBack (outcome plain made.command.act).update
+  pub stands : Stands (next_or made.next before) (step plain made.command)
+
+-- THE JOURNAL, the sink and the room of a session
+abbrev pub journal_of : {K : Type 0} → Core K → List Entry
+journal_of core = core.journal.items
+
+abbrev pub sink_of : {K : Type 0} → Core K → K
+sink_of core = core.sink
+
+-- there is room for the closing entry
+abbrev pub HasRoom : {K : Type 0} → Core K → Type 0
+HasRoom core = vec_len core.journal < vec_capacity core.journal
+
+-- the document that the journal defines, and the screen that its front end has
+abbrev pub plain_of : List Entry → Option Document
+plain_of journal = document_after None journal
+
+abbrev pub screen_of : Option Document → Screen
+screen_of None = []
+screen_of (Some document) = document.screen
+
+-- what the entries wrote shows them, and its updates come to the screen that the front end has
+pub record IsShowing (journal : List Entry) : Type 0 where
+  pub each : ShowsEach journal
+  pub screen : rebuilt (written None journal) ≡ Some (screen_of (plain_of journal))
+
+-- the session takes lines: all its entries were sent, what they wrote shows them, and its document is the one that they define
+pub record IsServing {K : Type 0} (core : Core K) : Type 0 where
+  pub room : HasRoom core
+  pub sent : AllByRecursion IsOpen (journal_of core)
+  pub showing : IsShowing (journal_of core)
+  pub stands : Stands core.document (plain_of (journal_of core))
+
+-- the entry of a command of the front end, and the piece that it writes after these entries
+abbrev pub front_entry : Command → Bool → Entry
+front_entry command sent = record { caller = 0; command = command; sent = sent }
+
+abbrev pub piece_after : List Entry → Command → List ℕ
+piece_after journal command = piece_of (plain_of journal) command
+
+-- the command is an entry, and the sink gained its piece
+pub record Takes {K : Type 0} (held : K → Option (List ℕ)) (faults : K → ℕ) (old new : Core K) (command : Command) : Type 0 where
+  pub serving : IsServing new
+  pub entry : journal_of new ≡ journal_of old ++ front_entry command true ∷ []
+  pub gains : Gains (held (sink_of old)) (held (sink_of new)) (piece_after (journal_of old) command)
+  pub faults_stay : faults (sink_of old) ≤ faults (sink_of new)
+
+-- the command is an entry that was not sent: the sink failed after it had gained the first n bytes of the piece, and not all
+pub record BreaksOff {K : Type 0} (held : K → Option (List ℕ)) (faults : K → ℕ) (old new : Core K) (command : Command) (n : ℕ) : Type 0 where
+  pub room : HasRoom new
+  pub entry : journal_of new ≡ journal_of old ++ front_entry command false ∷ []
+  pub part : n < length (piece_after (journal_of old) command)
+  pub gains : Gains (held (sink_of old)) (held (sink_of new)) (take n (piece_after (journal_of old) command))
+  pub rose : Rose (faults (sink_of old)) (faults (sink_of new))
+
+-- nothing changed
+pub record IsAsBefore {K : Type 0} (old new : Core K) : Type 0 where
+  pub serving : IsServing new
+  pub journal : journal_of new ≡ journal_of old
+  pub sink : sink_of new ≡ sink_of old

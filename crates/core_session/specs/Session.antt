@@ -1,0 +1,122 @@
+-- THE PLAIN SESSION: what the entries of a journal do, one after the other, and what each writes.
+use Rattle.std.specs.Prelude.{ℕ, Bool, if◌then◌else◌, List, [], ◌∷◌, ◌++◌, map, codes, Option, Some, None}
+use Rattle.std.specs.Str.{encode_utf8_all, bytes_eq}
+use Rattle.std.specs.List.{concat}
+use Rattle.serde_json.specs.Data.{Data, null}
+use Rattle.xi_plain.specs.declared.command.Id.{Id}
+use Rattle.xi_plain.specs.declared.command.Fault.{Fault}
+use Rattle.xi_plain.specs.declared.command.Fault.TheVariants.{NotBuilt}
+use Rattle.xi_plain.specs.declared.command.EditAct.{EditAct}
+use Rattle.xi_plain.specs.declared.command.EditAct.TheVariants.{Insert}
+use Rattle.xi_plain.specs.declared.command.Act.{Act}
+use Rattle.xi_plain.specs.declared.command.Act.TheVariants.{Bad, Nothing, NewView, Edit, Closing}
+use Rattle.xi_plain.specs.declared.command.Command.{Command}
+use Rattle.xi_plain.specs.declared.command.Entry.{Entry}
+use Rattle.xi_plain.specs.declared.screen.Update.{Update}
+use Rattle.xi_plain.specs.Layout.{Point}
+use Rattle.json_rpc.specs.Line.{line_of}
+use Rattle.json_rpc.specs.Response.{text_data}
+use Rattle.view_update.specs.Written.{update_data}
+use Rattle.view_update.specs.Notes.{scroll_data}
+use Rattle.doc_session.specs.Document.{Document}
+use Rattle.doc_session.specs.Effects.{opened, opening_update, insert_document, insert_update, insert_scroll}
+use Rattle.core_session.specs.Answer.{Reply, accepted, refused, silent, answers}
+
+-- the id of the first view
+abbrev pub view_id : List ℕ
+view_id = codes "view-id-1"
+
+-- what an act comes to: what it is answered, the document after it, and the update and the place to scroll to that the front end
+-- is told, if any
+pub record Outcome : Type 0 where
+  pub reply : Reply
+  pub document : Option Document
+  pub update : Option Update
+  pub scroll : Option Point
+
+-- the notes of an update and of a place to scroll to, where there are any
+abbrev pub update_notes : Option Update → List Data
+update_notes None = []
+update_notes (Some update) = update_data view_id update ∷ []
+
+abbrev pub scroll_notes : Option Point → List Data
+scroll_notes None = []
+scroll_notes (Some point) = scroll_data view_id point.line point.col ∷ []
+
+-- an act that is refused changes nothing
+abbrev pub refusing : Option Document → Fault → Outcome
+refusing document fault = record { reply = refused fault; document = document; update = None; scroll = None }
+
+-- the first view is opened on an empty text
+abbrev pub opening : Outcome
+opening = record {
+  reply = accepted (text_data view_id);
+  document = Some (opened []);
+  update = Some (opening_update []);
+  scroll = None;
+}
+
+-- characters are inserted
+abbrev pub inserting : Document → List ℕ → Outcome
+inserting document chars = record {
+  reply = accepted null;
+  document = Some (insert_document document chars);
+  update = insert_update document chars;
+  scroll = insert_scroll document chars;
+}
+
+-- whether the id is that of the first view, in bytes
+abbrev pub is_first_view : List ℕ → Bool
+is_first_view view = bytes_eq (encode_utf8_all view) view_id
+
+-- a view is edited, where it is there
+abbrev pub edit_outcome : Option Document → List ℕ → EditAct → Outcome
+edit_outcome None view act = refusing None NotBuilt
+edit_outcome (Some document) view (Insert chars) =
+    if is_first_view view then inserting document chars else refusing (Some document) NotBuilt
+
+-- a view is opened, where none was, on no file
+abbrev pub open_outcome : Option Document → Option (List ℕ) → Outcome
+open_outcome None None = opening
+open_outcome None (Some path) = refusing None NotBuilt
+open_outcome (Some document) path = refusing (Some document) NotBuilt
+
+-- THE OUTCOME of an act
+abbrev pub outcome : Option Document → Act → Outcome
+outcome document (Bad fault) = refusing document fault
+outcome document Nothing = record { reply = accepted null; document = document; update = None; scroll = None }
+outcome document (NewView path) = open_outcome document path
+outcome document (Edit view act) = edit_outcome document view act
+outcome document Closing = record { reply = silent; document = document; update = None; scroll = None }
+
+-- the messages of an outcome in their order
+abbrev pub outcome_messages : Id → Outcome → List Data
+outcome_messages id done = answers id done.reply ++ (update_notes done.update ++ scroll_notes done.scroll)
+
+-- the messages of an entry
+abbrev pub messages : Option Document → Command → List Data
+messages document command = outcome_messages command.id (outcome document command.act)
+
+-- the lines of messages, one after the other
+abbrev pub lines_written : List Data → List ℕ
+lines_written written = concat (map line_of written)
+
+-- THE PIECE of an entry: the lines of its messages
+abbrev pub piece_of : Option Document → Command → List ℕ
+piece_of document command = lines_written (messages document command)
+
+-- the document after an entry, and after entries
+abbrev pub step : Option Document → Command → Option Document
+step document command = (outcome document command.act).document
+
+abbrev pub document_after : Option Document → List Entry → Option Document
+document_after document [] = document
+document_after document (entry ∷ entries) = document_after (step document entry.command) entries
+
+-- the messages of entries, one after the other, and what they write
+abbrev pub all_messages : Option Document → List Entry → List Data
+all_messages document [] = []
+all_messages document (entry ∷ entries) = messages document entry.command ++ all_messages (step document entry.command) entries
+
+abbrev pub written : Option Document → List Entry → List ℕ
+written document entries = lines_written (all_messages document entries)

@@ -1,0 +1,14 @@
+//! A session: its journal, its documents and its sink.
+//!
+//! Each line of the front end becomes one entry of the journal and one piece of bytes, which is written before the next line is
+//! taken. `specs/Session.antt` has the plain session, which is a fold over the journal; `specs/Shows.antt` says what a front end can
+//! make of the bytes that were written.
+#![tactic(auto)]
+
+mod act;
+mod piece;
+mod prepare;
+mod session;
+mod write;
+
+pub use session::{Core, Entered};

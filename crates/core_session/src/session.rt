@@ -1,0 +1,161 @@
+ghost use Rattle.std.specs.Prelude.{◌≡◌, ◌≢◌, ◌+◌, ◌≤◌, ◌++◌, ◌∷◌, [], ℕ, Option, IfOk, IfErr, vec_len, vec_capacity, false};
+ghost use Rattle.xi_plain.specs.declared.command.Command.{Command};
+ghost use Rattle.front_wire.specs.Fair.{IsFair};
+ghost use Rattle.doc_session.specs.Document.{Document};
+ghost use Rattle.core_session.specs.Journal.{closing_entry, closes};
+ghost use Rattle.core_session.specs.Next.{next_or};
+ghost use Rattle.front_wire.specs.Front.{command_of};
+
+use crate::prepare::prepare;
+use crate::write::write_piece;
+use doc_session::Doc;
+use outside::Sink;
+use std::alloc::Global;
+use xi_plain::{Act, Command, Entry, Id, Text};
+
+/// What became of a line.
+#[derive(Clone, Copy, Debug, PartialEq, Eq)]
+pub enum Entered {
+    /// It is an entry, and its piece was written.
+    Taken,
+    /// It is an entry, of whose piece a part was written before the sink failed: the session takes no more lines.
+    SinkFault,
+    /// It is no entry, for want of memory, and nothing changed.
+    NoMemory,
+}
+
+/// What a line comes to, before it is an entry: the document is one in place of that before, where there is a new one.
+#[derive(Drop)]
+pub struct Prepared {
+    pub command: Command,
+    pub piece: Text,
+    pub next: Option<Doc>,
+}
+
+/// A session with its journal, its document and the sink that it writes to. There is always room for its closing entry.
+#[derive(Drop)]
+pub struct Core<K> {
+    journal: Vec<Entry>,
+    document: Option<Doc>,
+    sink: K,
+}
+
+impl<K: Sink> Core<K> {
+    ghost use Rattle.core_session.specs.Core.{IsServing, IsPrepared, Takes, BreaksOff, IsAsBefore, HasRoom, journal_of, sink_of, plain_of};
+
+    /// A session without entries. For want of memory the sink is given back.
+    pub fn make(alloc: Global, sink: K) -> Result<Core<K>, K>
+        ensures serving { IfOk result IsServing }
+        ensures empty { IfOk result (λ core. journal_of core ≡ []) }
+        ensures sink { IfOk result (λ core. sink_of core ≡ sink) }
+        ensures back { IfErr result (λ back. back ≡ sink) }
+    {
+        match Vec::with_capacity(alloc, 1) {
+            Ok(journal) => Ok(Core {
+                journal,
+                document: None,
+                sink,
+            }),
+            Err(_) => Err(sink),
+        }
+    }
+
+    /// Takes a line of the front end, with or without its LF: writes its piece, in one write where the sink takes it whole.
+    pub fn enter(&mut self, alloc: Global, line: &[u8]) -> Entered
+        requires { IsServing self.old }
+        ensures taken { result ≡ Entered.Taken
+            → Takes K.held K.faults self.old self.new (command_of line.now) }
+        ensures broken { result ≡ Entered.SinkFault
+            → (n : ℕ) × BreaksOff K.held K.faults self.old self.new (command_of line.now) n }
+        ensures no_memory { result ≡ Entered.NoMemory → IsAsBefore self.old self.new }
+    {
+        let Ok(made) = prepare(alloc, &self.document, line) else {
+            return Entered::NoMemory;
+        };
+        if self.journal.reserve(2).is_err() {
+            return Entered::NoMemory;
+        }
+        self.put(made)
+    }
+
+    /// Writes the piece, and makes the entry.
+    fn put(&mut self, made: Prepared) -> Entered
+        requires serving { IsServing self.old }
+        requires room { vec_len self.old.journal + 2 ≤ vec_capacity self.old.journal }
+        requires asks { closes made.command.act ≡ false }
+        requires prepared { IsPrepared self.old.document (plain_of (journal_of self.old)) made }
+        ensures taken { result ≡ Entered.Taken → Takes K.held K.faults self.old self.new made.command }
+        ensures broken { result ≡ Entered.SinkFault
+            → (n : ℕ) × BreaksOff K.held K.faults self.old self.new made.command n }
+        ensures made { result ≢ Entered.NoMemory }
+    {
+        let Prepared {
+            command,
+            piece,
+            next,
+        } = made;
+        let bytes = piece.as_str().as_bytes();
+        let taken = write_piece(&mut self.sink, bytes);
+        let sent = taken == bytes.len();
+        self.journal.push_reserved(front_entry(command, sent));
+        if !sent {
+            return Entered::SinkFault;
+        }
+        replace(&mut self.document, next);
+        Entered::Taken
+    }
+
+    /// Puts in the closing entry, which takes no memory.
+    pub fn close_down(&mut self)
+        requires { HasRoom self.old }
+        ensures entry { journal_of self.new ≡ journal_of self.old ++ closing_entry ∷ [] }
+        ensures sink { sink_of self.new ≡ sink_of self.old }
+    {
+        self.journal.push_reserved(closing());
+    }
+
+    /// The journal and the sink.
+    pub fn into_parts(self) -> (Vec<Entry>, K)
+        ensures journal { result.0.items ≡ journal_of self }
+        ensures sink { result.1 ≡ sink_of self }
+    {
+        let Core {
+            journal,
+            document: _,
+            sink,
+        } = self;
+        (journal, sink)
+    }
+}
+
+/// Puts the next document in place, where there is one.
+fn replace(document: &mut Option<Doc>, next: Option<Doc>)
+    ensures { document.new ≡ next_or next document.old }
+{
+    if next.is_some() {
+        *document = next;
+    }
+}
+
+fn front_entry(command: Command, sent: bool) -> Entry
+    ensures { result ≡ record { caller = 0; command = command; sent = sent } }
+{
+    Entry {
+        caller: 0,
+        command,
+        sent,
+    }
+}
+
+fn closing() -> Entry
+    ensures { result ≡ closing_entry }
+{
+    Entry {
+        caller: 0,
+        command: Command {
+            id: Id::NoId,
+            act: Act::Closing,
+        },
+        sent: true,
+    }
+}
