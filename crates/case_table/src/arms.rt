@@ -23,7 +23,7 @@ macro_rules! arms {
     (@ $row:expr, $other:expr, [$($done:tt)*] [$number:literal $($numbers:literal)*] $value:expr $(, $values:expr)*) => {
         $crate::arms!(@ $row, $other, [$($done)* $number => $value,] [$($numbers)*] $($values),*)
     };
-    ($row:expr => $($value:expr),+ ; else $other:expr) => {
+    ($row:expr => $($value:expr),+ $(,)?; else $other:expr) => {
         $crate::arms!(@ $row, $other, [] [
             0 1 2 3 4 5 6 7 8 9 10 11 12 13 14 15 16 17 18 19 20 21 22 23 24 25 26 27 28 29 30 31 32 33
             34 35 36 37 38 39 40 41 42 43 44 45 46 47 48 49 50 51 52 53 54 55 56 57 58 59 60 61 62 63 64
