@@ -1,14 +1,14 @@
 -- What a line asks, from what it reads as.
-use Rattle.std.proofs.Common.{◌≡◌, ◌≢◌, ℕ, List, Option, Some, None, Result, Ok, Err, IfOk, IfErr, IsUtf8, option_map, codes, get_or, sym, ap, ◌∙◌, arith}
+use Rattle.std.proofs.Common.{◌≡◌, ◌≢◌, ℕ, List, Option, Some, None, Result, Ok, Err, IfOk, IfErr, IsUtf8, option_map, codes, get_or, sym, ap, ◌∙◌, arith, [], ◌∷◌, ◌++◌}
 use Rattle.std.specs.Option.{ok_or}
 use Rattle.serde_json.specs.Data.{Data}
 use Rattle.serde_json.specs.Read.{read}
 use Rattle.json_rpc.specs.declared.fault.RpcFault.{RpcFault}
 use Rattle.json_rpc.specs.declared.fault.RpcFault.TheVariants.{Parse, Invalid, NoMemory}
 use Rattle.json_rpc.specs.declared.rpc.Rpc.{Rpc}
-use Rattle.json_rpc.specs.Line.{without_lf, text_value, reading}
+use Rattle.json_rpc.specs.Line.{HasNoLf, without_lf, text_value, reading}
 use Rattle.json_rpc.specs.Request.{Request, request, request_of, or_fault, value_request, line_request}
-use Rattle.json_rpc.proofs.Lines.{text_value-read, text_value-none}
+use Rattle.json_rpc.proofs.Lines.{reading-ended, text_value-read, text_value-none}
 
 pub line_request-read : (line text : List ℕ) (d : Data) → text ≡ without_lf line → IsUtf8 text × (read text ≡ Some d) → line_request line ≡ or_fault Invalid (request_of d)
 unfolding line_request reading
@@ -17,6 +17,11 @@ line_request-read line text d is h = ap (λ t. value_request (text_value t)) (sy
 pub line_request-unread : (line text : List ℕ) → text ≡ without_lf line → (IsUtf8 text → read text ≡ None) → line_request line ≡ Err Parse
 unfolding line_request reading
 line_request-unread line text is h = ap (λ t. value_request (text_value t)) (sym is) ∙ ap value_request (text_value-none text h)
+
+-- a line asks the same with its LF and without it
+pub line_request-ended : (bytes : List ℕ) → HasNoLf bytes → line_request (bytes ++ 10 ∷ []) ≡ line_request bytes
+unfolding line_request
+line_request-ended bytes h = ap value_request (reading-ended bytes h)
 
 pub asked : (r : Result Request RpcFault) (o : Option Rpc) → r ≡ or_fault Invalid (option_map request o) → IfOk (ok_or o Invalid) (λ rpc. r ≡ Ok (request rpc))
 asked r None e = tt

@@ -2,8 +2,10 @@
 //!
 //! A line is the bytes of one value of JSON, with or without the LF at its end. Its reading is that of `serde_json`: values nest at
 //! most 127 deep, a whole number of at most 64 bits stays whole, and of equal members the last stays. [`read_line`] gives the
-//! request that a line is, and the writers give the lines that answer it. A contract sees a value of JSON as its data, and says each
-//! line by [`line_of`](laws) of the data: `specs/` has what a line is, what it asks, and what it answers.
+//! request that a line is, and the writers give the lines that answer it.
+//!
+//! A contract sees a value of JSON as its data, and a line as bytes. `specs/` has what a line reads as, what it asks, and the line of
+//! a value; [`laws`] says of these alone that lines read back, come apart again, and ask only what can be answered.
 #![tactic(auto)]
 
 mod fault;

@@ -15,8 +15,9 @@ use xi_plain::{Id, Text};
 
 const LINE_FEED: u8 = b'\n';
 
-/// The request that a line is, with or without its LF, or why it is none. A numeric id is from -2^63 to 2^64 - 1. The cost is
-/// linear in the line: a text is copied out of it once, and then moved.
+/// The request that a line is, with or without its LF, or why it is none. A numeric id is from -2^63 to 2^64 - 1, and members other
+/// than `id`, `method` and `params` are passed over. The cost is linear in the line: a text is copied out of it once, without its
+/// escapes, and then moved.
 pub fn read_line(alloc: Global, line: &[u8]) -> Result<Rpc, RpcFault>
     ensures asks { IfOk result (λ rpc. line_request line.now ≡ Ok (request rpc)) }
     ensures refused { IfErr result (λ fault. fault ≢ RpcFault.NoMemory

@@ -16,7 +16,7 @@ use serde_json::{Map, Number, Value};
 use std::alloc::Global;
 use xi_plain::{Id, NoMemory, Text};
 
-/// The line that answers the request of this id with a result.
+/// The line that answers the request of this id with a result. The cost is linear in the line. `Err` is want of memory alone.
 pub fn write_reply(alloc: Global, id: &Id, value: Value) -> Result<Text, NoMemory>
     requires id_fits { IsWireId id.now }
     requires no_float { has_float (view value) ≡ false }
@@ -30,7 +30,7 @@ pub fn write_reply(alloc: Global, id: &Id, value: Value) -> Result<Text, NoMemor
     line(alloc, &pair(alloc, "id", id, "result", value)?)
 }
 
-/// The line that answers the request of this id with an error.
+/// The line that answers the request of this id with an error; where a line could not be read, the id is [`Id::NoId`].
 pub fn write_error(alloc: Global, id: &Id, code: i64, message: &Text) -> Result<Text, NoMemory>
     requires id_fits { IsWireId id.now }
     ensures line { IfOk result (λ text.
@@ -43,7 +43,7 @@ pub fn write_error(alloc: Global, id: &Id, code: i64, message: &Text) -> Result<
     line(alloc, &pair(alloc, "error", error, "id", id)?)
 }
 
-/// The line of a notification.
+/// The line of a notification, which has no id and gets no answer. The cost is linear in the line.
 pub fn write_note(alloc: Global, method: &Text, params: Value) -> Result<Text, NoMemory>
     requires no_float { has_float (view params) ≡ false }
     requires shallow { depth (view params) ≤ 126 }
