@@ -1,0 +1,9 @@
+pub mod PlaceLemmas
+pub mod BuilderLemmas
+pub mod WalkLemmas
+pub mod StepLemmas
+pub mod WireLemmas
+pub mod WireLaws
+pub mod UnitLemmas
+pub mod CarryLemmas
+pub mod SynthesisLemmas

@@ -1,0 +1,17 @@
+use denote.Shadow.{shadow}
+use denote.Text.{Utf8}
+use Rattle.std.proofs.Common.{length}
+use Rattle.std.specs.Str.{chars}
+use Rattle.xi_plain.specs.UnitDelta.{unit_adds, unit_keeps}
+use Rattle.delta_core.specs.Wire.{wire_from}
+use Rattle.delta_core.proofs.WireLemmas.{IsWiring}
+use Rattle.delta_core.proofs.wire_form.to_wire.Given as goal
+
+abbrev pub invariant-loop-rest : goal.invariant-loop-rest
+invariant-loop-rest l = record {
+  wiring : IsWiring l.wire l.at l.walk (chars l.rest) l.before (wire_from (unit_keeps l.units) (unit_adds l.units) 0 0 l.before);
+  utf8 : shadow (Utf8 l.rest);
+}
+
+abbrev pub decreases-loop-rest : goal.decreases-loop-rest
+decreases-loop-rest l = length l.walk

@@ -1,0 +1,9 @@
+pub mod Units
+pub mod Step
+pub mod Wire
+pub mod Factor
+pub mod Synthesis
+pub mod Carry
+pub mod Builder
+pub mod Walk
+pub mod WireBuilder

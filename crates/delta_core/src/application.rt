@@ -1,0 +1,32 @@
+ghost use Rattle.std.specs.Prelude.{◌≡◌, length, IfOk};
+ghost use Rattle.xi_plain.specs.UnitDelta.{IsUnitDelta};
+ghost use Rattle.delta_core.specs.Units.{text_after};
+
+use crate::part::Part;
+use crate::places::split_at_gap;
+use crate::unit_walk::UnitWalk;
+use std::alloc::Global;
+use xi_plain::{NoMemory, Text, UnitDelta};
+
+/// The text that the unit delta makes of a text. This costs the bytes of the two and the elements of the delta.
+pub fn apply(alloc: Global, text: &Text, units: &UnitDelta) -> Result<Text, NoMemory>
+    requires well_formed { IsUnitDelta units.now }
+    requires base { units.now.base ≡ length text.now }
+    ensures { IfOk result (λ made. made ≡ text_after units.now text.now) }
+{
+    let mut made = Text::new(alloc);
+    let mut rest = text.as_str();
+    let mut walk = UnitWalk::new(units);
+    while !walk.is_empty() {
+        match walk.next() {
+            Part::Keep(n) => {
+                let (front, back) = split_at_gap(rest, n);
+                made.push_str(front)?;
+                rest = back;
+            }
+            Part::Drop(n) => rest = split_at_gap(rest, n).1,
+            Part::Add(added) => made.push_text(added)?,
+        }
+    }
+    Ok(made)
+}

@@ -1,0 +1,79 @@
+ghost use Rattle.std.specs.Prelude.{◌≡◌, ◌≢◌, ◌+◌, ◌<◌, ◌^◌, [], ◌++◌, length, replicate, IfOk, OnOk};
+ghost use Rattle.std.specs.Str.{chars};
+ghost use Rattle.delta_core.specs.Synthesis.{IsBetween, IsGrown};
+
+use crate::places::split_at_gap;
+use crate::unit_builder::UnitBuilder;
+use std::alloc::Global;
+use subset_runs::{Subset, Walk};
+use xi_plain::{NoMemory, Text, UnitDelta};
+
+// Some characters in a row of a union, with one fate.
+#[derive(Clone, Copy)]
+struct Fate {
+    len: u64,
+    dead_before: bool,
+    dead_after: bool,
+}
+
+/// The unit delta from the characters of the union that are alive before to those that are alive after. This costs the bytes of the
+/// union and the runs of the two subsets.
+pub fn synthesize(alloc: Global, union: &Text, dead_before: &Subset, dead_after: &Subset) -> Result<UnitDelta, NoMemory>
+    requires before { length union.now ≡ length dead_before.now }
+    requires after { length union.now ≡ length dead_after.now }
+    ensures { IfOk result (IsBetween union.now dead_before.now dead_after.now) }
+{
+    let mut units = UnitBuilder::new(alloc);
+    let mut rest = union.as_str();
+    let mut before = dead_before.walk();
+    let mut after = dead_after.walk();
+    while !before.is_empty() {
+        let fate = next_fate(&mut before, &mut after);
+        let (front, back) = split_at_gap(rest, fate.len);
+        put_characters(&mut units, front, fate)?;
+        rest = back;
+    }
+    Ok(units.into_units()?)
+}
+
+fn next_fate(before: &mut Walk, after: &mut Walk) -> Fate
+    requires more { before.old ≢ [] }
+    requires same_length { length before.old ≡ length after.old }
+    ensures before { before.old ≡ replicate result.len result.dead_before ++ before.new }
+    ensures after { after.old ≡ replicate result.len result.dead_after ++ after.new }
+    ensures some { 0 < result.len }
+{
+    let first = before.front();
+    let second = after.front();
+    let len = first.len.min(second.len);
+    before.skip(len);
+    after.skip(len);
+    Fate {
+        len,
+        dead_before: first.member,
+        dead_after: second.member,
+    }
+}
+
+// Goes over characters of the union that have one fate.
+fn put_characters(units: &mut UnitBuilder, characters: &str, fate: Fate) -> Result<(), NoMemory>
+    requires all { length (chars characters.now) ≡ fate.len }
+    requires room { units.old.base + fate.len < 2 ^ 64 }
+    ensures { OnOk result (IsGrown (chars characters.now) fate.dead_before fate.dead_after units.old units.new) }
+{
+    match (fate.dead_before, fate.dead_after) {
+        (false, false) => {
+            units.keep(fate.len)?;
+            Ok(())
+        }
+        (false, true) => {
+            units.pass(fate.len)?;
+            Ok(())
+        }
+        (true, false) => {
+            units.add(characters)?;
+            Ok(())
+        }
+        (true, true) => Ok(()),
+    }
+}

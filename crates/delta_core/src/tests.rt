@@ -1,0 +1,166 @@
+use crate::{apply, carry_ins, factor, fits, synthesize, to_units, to_wire};
+use std::alloc::Global;
+use std::test::Fail;
+use subset_runs::Subset;
+use xi_plain::{Added, Adds, Delta, El, Els, Misfit, NoMemory, Run, Runs, Text, UnitDelta};
+
+// An element of a row: a copy, or an insertion with a copy that is not there.
+#[derive(Clone, Copy)]
+enum Row {
+    Copy(u64, u64),
+    Insert(&'static str),
+}
+
+use Row::{Copy, Insert};
+
+fn delta(alloc: Global, base_len: u64, rows: &[Row]) -> Result<Delta, NoMemory> {
+    let mut els = Els::new(alloc);
+    for row in rows {
+        els.push(match row {
+            Copy(a, b) => El::Copy { a: *a, b: *b },
+            Insert(text) => El::Insert {
+                text: Text::from_str(alloc, text)?,
+            },
+        })?;
+    }
+    Ok(Delta { els, base_len })
+}
+
+fn units(
+    alloc: Global,
+    base: u64,
+    runs: &[(u64, u64)],
+    additions: &[(u64, &str)],
+) -> Result<UnitDelta, NoMemory> {
+    let mut kept = Runs::new(alloc);
+    for run in runs {
+        kept.push(Run {
+            start: run.0,
+            end: run.1,
+        })?;
+    }
+    let mut added = Adds::new(alloc);
+    for addition in additions {
+        added.push(Added {
+            gap: addition.0,
+            text: Text::from_str(alloc, addition.1)?,
+        })?;
+    }
+    Ok(UnitDelta { base, kept, added })
+}
+
+#[test]
+fn a_delta_in_all_its_forms(rt: HostRuntime) -> Result<(), Fail> {
+    let alloc = rt.alloc();
+    for (text, els, runs, additions, wire, after) in [
+        (
+            "abc",
+            [Copy(0, 1), Insert("X"), Copy(2, 3)].as_slice(),
+            [(0, 1), (2, 3)].as_slice(),
+            [(1, "X")].as_slice(),
+            [Copy(0, 1), Insert("X"), Copy(2, 3)].as_slice(),
+            "aXc",
+        ),
+        // An empty copy fixes a gap inside a deleted range; the wire has no trace of it.
+        (
+            "aébc",
+            [Copy(0, 1), Copy(3, 3), Insert("X"), Copy(4, 5)].as_slice(),
+            [(0, 1), (3, 4)].as_slice(),
+            [(2, "X")].as_slice(),
+            [Copy(0, 1), Insert("X"), Copy(4, 5)].as_slice(),
+            "aXc",
+        ),
+        // Insertions before any copy, several at one gap, empty ones, and copies that touch.
+        (
+            "a𝄞b",
+            [Insert("X"), Insert(""), Insert("Y"), Copy(0, 1), Insert(""), Copy(1, 5), Insert("Z")].as_slice(),
+            [(0, 2)].as_slice(),
+            [(0, "XY"), (2, "Z")].as_slice(),
+            [Insert("XY"), Copy(0, 5), Insert("Z")].as_slice(),
+            "XYa𝄞Z",
+        ),
+        // An insertion between two kept neighbours parts them on the wire, and insertions round a dropped character are one.
+        (
+            "abcd",
+            [Copy(0, 1), Insert("X"), Copy(1, 2), Insert("Y"), Copy(3, 3), Insert("Z"), Copy(3, 4)].as_slice(),
+            [(0, 2), (3, 4)].as_slice(),
+            [(1, "X"), (2, "Y"), (3, "Z")].as_slice(),
+            [Copy(0, 1), Insert("X"), Copy(1, 2), Insert("YZ"), Copy(3, 4)].as_slice(),
+            "aXbYZd",
+        ),
+        ("", [].as_slice(), [].as_slice(), [].as_slice(), [].as_slice(), ""),
+        ("ab", [].as_slice(), [].as_slice(), [].as_slice(), [].as_slice(), ""),
+    ] {
+        let text = Text::from_str(alloc, text)?;
+        let given = delta(alloc, text.byte_len(), els)?;
+        assert_eq!(rt; fits(&text, &given), Ok(()));
+        let in_units = to_units(alloc, &text, &given)?;
+        assert_eq!(rt; in_units, units(alloc, text.len(), runs, additions)?);
+        assert_eq!(rt; to_wire(alloc, &text, &in_units)?, delta(alloc, text.byte_len(), wire)?);
+        assert_eq!(rt; apply(alloc, &text, &in_units)?, Text::from_str(alloc, after)?);
+    }
+    Ok(())
+}
+
+#[test]
+fn misfits_come_in_their_order(rt: HostRuntime) -> Result<(), Fail> {
+    let alloc = rt.alloc();
+    for (text, base_len, els, kind, at) in [
+        ("aé", 4, [Copy(0, 9)].as_slice(), 1, 4),
+        ("aé", 3, [Copy(0, 1), Copy(0, 3)].as_slice(), 2, 0),
+        ("aé", 3, [Copy(2, 1)].as_slice(), 2, 2),
+        ("aé", 3, [Copy(0, 4)].as_slice(), 3, 4),
+        ("aé", 3, [Copy(2, 4)].as_slice(), 3, 4),
+        ("aé", 3, [Copy(0, 2)].as_slice(), 4, 2),
+        ("aé", 3, [Copy(0, 1), Insert("X"), Copy(2, 2), Copy(9, 0)].as_slice(), 4, 2),
+        ("€", 3, [Copy(1, 2)].as_slice(), 4, 1),
+        ("€", 3, [Copy(0, 2)].as_slice(), 4, 2),
+        ("a𝄞", 5, [Copy(1, 2)].as_slice(), 4, 2),
+        ("a𝄞", 5, [Copy(3, 5)].as_slice(), 4, 3),
+        ("a𝄞", 5, [Copy(4, 4)].as_slice(), 4, 4),
+    ] {
+        let text = Text::from_str(alloc, text)?;
+        assert_eq!(rt; fits(&text, &delta(alloc, base_len, els)?), Err(Misfit { kind, at }));
+    }
+    Ok(())
+}
+
+#[test]
+fn subsets_of_a_delta(rt: HostRuntime) -> Result<(), Fail> {
+    let alloc = rt.alloc();
+    let (dropped, inserted) = factor(alloc, &units(alloc, 3, &[(0, 1), (2, 3)], &[(1, "X")])?)?;
+    assert_eq!(rt; (dropped.len(), dropped.runs()), (3, [(1, 2)].as_slice()));
+    assert_eq!(rt; (inserted.len(), inserted.runs()), (4, [(1, 2)].as_slice()));
+    for (union, before, after, runs, additions) in [
+        ("abc", (1, 2), (2, 3), [(0, 1)].as_slice(), [(1, "b")].as_slice()),
+        ("aébc", (0, 2), (3, 4), [(0, 1)].as_slice(), [(0, "aé")].as_slice()),
+        ("abc", (1, 2), (1, 2), [(0, 2)].as_slice(), [].as_slice()),
+    ] {
+        let union = Text::from_str(alloc, union)?;
+        let before = Subset::of_ranges(alloc, union.len(), &[before])?;
+        let after = Subset::of_ranges(alloc, union.len(), &[after])?;
+        let base = before.len() - before.count();
+        let made = synthesize(alloc, &union, &before, &after)?;
+        assert_eq!(rt; made, units(alloc, base, runs, additions)?);
+    }
+    Ok(())
+}
+
+#[test]
+fn ties_go_by_after(rt: HostRuntime) -> Result<(), Fail> {
+    let alloc = rt.alloc();
+    for (ins, later, after, len, runs) in [
+        ((2, 0, 1), (2, 0, 1), true, 3, [(1, 2)].as_slice()),
+        ((2, 0, 1), (2, 0, 1), false, 3, [(0, 1)].as_slice()),
+        ((4, 1, 3), (3, 0, 1), true, 5, [(2, 4)].as_slice()),
+        ((4, 1, 3), (3, 1, 2), false, 5, [(1, 3)].as_slice()),
+        ((4, 1, 3), (3, 1, 2), true, 5, [(2, 4)].as_slice()),
+        ((2, 2, 2), (3, 2, 3), true, 3, [].as_slice()),
+    ] {
+        let ins = Subset::of_ranges(alloc, ins.0, &[(ins.1, ins.2)])?;
+        let later = Subset::of_ranges(alloc, later.0, &[(later.1, later.2)])?;
+        let carried = carry_ins(alloc, &ins, &later, after)?;
+        assert_eq!(rt; (carried.len(), carried.runs()), (len, runs));
+    }
+    Ok(())
+}
