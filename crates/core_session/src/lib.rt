@@ -9,6 +9,8 @@ mod act;
 mod piece;
 mod prepare;
 mod session;
+#[cfg(test)]
+mod tests;
 mod write;
 
 pub use session::{Core, Entered};
