@@ -6,15 +6,10 @@ use Rattle.std.proofs.lemmas.List.{length-replicate}
 use Rattle.std.proofs.lemmas.List.Sums.{fold_more}
 use Rattle.std.proofs.lemmas.Grind.{common_steps}
 use Rattle.subset_runs.specs.Subset.{count, at_each, union, minus, expand_as, expand, expand_in, shrink, items_outside}
-use Rattle.subset_runs.proofs.TransformLaws.{items_outside-expand_as}
+use Rattle.subset_runs.proofs.TransformLaws.{length-at_each, items_outside-expand_as}
 use Rattle.subset_runs.proofs.RenumberingLemmas.{length-expand_as}
 use Rattle.rev_list.specs.declared.edit.RevEdit.{RevEdit}
-use Rattle.rev_list.specs.Kept.{AreInTurn, dead_after, dead_later, hidden_by, hidden_by_each, IsStored}
-
-pub length-at_each : (f : Bool → Bool → Bool) (xs ys : List Bool) → length xs ≡ length ys → length (at_each f xs ys) ≡ length xs
-length-at_each f [] ys h = refl
-length-at_each f (x ∷ xs) [] h = absurd (omega arith)
-length-at_each f (x ∷ xs) (y ∷ ys) h = omega (arith, length-at_each f xs ys (omega arith))
+use Rattle.rev_list.specs.Kept.{AreInTurn, dead_after, dead_later, hidden_by, hidden_by_each, HoldsEdits}
 
 pub length-dead_after : (dead : List Bool) (e : RevEdit) → length e.deleted ≡ length e.inserted → length (dead_after dead e) ≡ length e.inserted
 length-dead_after dead e h =
@@ -97,17 +92,17 @@ IsBack-turn before e turn =
       back = dead_before before e turn.grown turn.same_length;
     }
 
-pub back_at : (len : ℕ) (edits : List RevEdit) (hid : List (List Bool)) (gone dead : List Bool) (at i : ℕ) (e : RevEdit) (h : List Bool) → IsStored len edits hid gone → dead ≡ fold dead_after (replicate len false) (take at edits) → at ≡ i + 1 → i < length edits → e ≡ get_or edits i e → h ≡ get_or hid i h → IsBack dead e h (fold dead_after (replicate len false) (take i edits))
+pub back_at : (len : ℕ) (edits : List RevEdit) (hid : List (List Bool)) (gone dead : List Bool) (at i : ℕ) (e : RevEdit) (h : List Bool) → HoldsEdits len edits hid gone → dead ≡ fold dead_after (replicate len false) (take at edits) → at ≡ i + 1 → i < length edits → e ≡ get_or edits i e → h ≡ get_or hid i h → IsBack dead e h (fold dead_after (replicate len false) (take i edits))
 back_at len edits hid gone dead at i e h stored is at_is lt e_is h_is =
     let before : List Bool = fold dead_after (replicate len false) (take i edits) in
     let turns : AreInTurn (length (replicate len false)) edits = rw (length-replicate len false) stored.in_turn in
     let turn : IsTurn before e = rw e_is (turn_at (replicate len false) edits i e turns lt) in
     let dead_is : dead ≡ dead_after before e =
-      is ∙ (ap (λ n. fold dead_after (replicate len false) (take n edits)) at_is
-      ∙ (fold_more dead_after (replicate len false) edits i e lt ∙ ap (λ x. dead_after before x) (sym e_is))) in
+    is ∙ (ap (λ n. fold dead_after (replicate len false) (take n edits)) at_is
+    ∙ (fold_more dead_after (replicate len false) edits i e lt ∙ ap (λ x. dead_after before x) (sym e_is))) in
     let hid_is : h ≡ hidden_by before e =
-      h_is ∙ (ap (λ xs. get_or xs i h) stored.hidden
-      ∙ (hidden_at_index (replicate len false) edits i e h lt ∙ ap (λ x. hidden_by before x) (sym e_is))) in
+    h_is ∙ (ap (λ xs. get_or xs i h) stored.hidden
+    ∙ (hidden_at_index (replicate len false) edits i e h lt ∙ ap (λ x. hidden_by before x) (sym e_is))) in
     rw (dead_is, hid_is) (IsBack-turn before e turn)
 
 pub record IsFront (n : ℕ) (e : RevEdit) (edits : List RevEdit) : Type 0 where
@@ -126,5 +121,5 @@ turn_front n (f ∷ edits) (suc i) e turns lt is = rw (suc-add i 1) (turn_front 
 pub turns_loaded_from : (len : ℕ) (edits : List RevEdit) (i : ℕ) → AreInTurn len edits → i ≤ length edits → AreInTurn (length (fold dead_after (replicate len false) (take i edits))) (drop i edits)
 turns_loaded_from len edits i turns le = turns_from (replicate len false) edits i (rw (length-replicate len false) turns) le
 
-pub length-hidden : (len : ℕ) (edits : List RevEdit) (hid : List (List Bool)) (gone : List Bool) → IsStored len edits hid gone → length hid ≡ length edits
+pub length-hidden : (len : ℕ) (edits : List RevEdit) (hid : List (List Bool)) (gone : List Bool) → HoldsEdits len edits hid gone → length hid ≡ length edits
 length-hidden len edits hid gone stored = ap length stored.hidden ∙ length-hidden_by_each (replicate len false) edits

@@ -11,9 +11,9 @@ use Rattle.xi_plain.specs.History.{Tagged, Revision, History, head, loaded, revi
 use Rattle.xi_plain.specs.Edits.{deleted_by}
 use Rattle.rev_list.specs.declared.edit.RevEdit.{RevEdit}
 use Rattle.rev_list.specs.declared.edit.ReadyEdit.{ReadyEdit}
-use Rattle.rev_list.specs.Edit.{revision_of, new_by, with_new, with_deleted, pushed, MayPush}
+use Rattle.rev_list.specs.Edit.{revision_of, new_by, with_new, with_deleted, after_edit, MayPush}
 use Rattle.rev_list.specs.Hidden.{is_hidden, hidden_at, is_there, union_at, hidden_then, insertions_of, deletions_of, IsEditAt, AreEditsAfter}
-use Rattle.rev_list.specs.Kept.{AreInTurn, dead_after, dead_later, hidden_by, history_of, IsStored, IsReady}
+use Rattle.rev_list.specs.Kept.{AreInTurn, dead_after, dead_later, hidden_by, history_of, HoldsEdits, IsReady}
 use Rattle.rev_list.proofs.FlagLemmas.{length-dead_after, AreInTurn-append, hidden_by_each-append}
 use Rattle.rev_list.proofs.TagLemmas.{undone_after-edit, is_seen, is_visible-seen, seen_new_before, seen_new_now, seen_deleted_before, has_deleted_before, inserted_now}
 use Rattle.rev_list.proofs.StepLemmas.{length-with_new, map-with_new, map-with_deleted_same, filter-with_deleted_same, filter-with_new, filter-there, tagged_later, tagged-with_new, tagged-with_deleted, is_unseen, unseen-with_deleted, unseen_next, none_inserted_later, expand_in_none, none_deleted_by, deletions-with_deleted}
@@ -23,14 +23,14 @@ pub record IsPlain (history : History) : Type 0 where
   pub none : (rev : ℕ) → undone history.revisions rev ≡ []
   pub sound : IsSound history
 
-pub head-pushed : (h : History) (e : RevEdit) → head (pushed h e) ≡ head h + 1
-head-pushed h e = length-append h.revisions (revision_of e ∷ [])
+pub head-after_edit : (h : History) (e : RevEdit) → head (after_edit h e) ≡ head h + 1
+head-after_edit h e = length-append h.revisions (revision_of e ∷ [])
 
-pub IsPlain-pushed : (h : History) (e : RevEdit) → IsPlain h → IsPlain (pushed h e)
-IsPlain-pushed h e plain = record {
+pub IsPlain-after_edit : (h : History) (e : RevEdit) → IsPlain h → IsPlain (after_edit h e)
+IsPlain-after_edit h e plain = record {
   none = λ rev. undone_after-edit [] h.revisions rev e ∙ plain.none rev;
   sound =
-      rw (head-pushed h e) (tagged-with_deleted (head h + 1) _ e.deleted (tagged-with_new (head h + 1) h.characters e.inserted (tagged_later (head h) (head h + 1) h.characters (omega arith) plain.sound)));
+      rw (head-after_edit h e) (tagged-with_deleted (head h + 1) _ e.deleted (tagged-with_new (head h + 1) h.characters e.inserted (tagged_later (head h) (head h + 1) h.characters (omega arith) plain.sound)));
 }
 
 map_same : {X : Type 0} (f g : X → Bool) → ((x : X) → f x ≡ g x) → (xs : List X) → map f xs ≡ map g xs
@@ -66,61 +66,61 @@ length-with_deleted rev [] at = refl
 length-with_deleted rev (x ∷ xs) [] = refl
 length-with_deleted rev (x ∷ xs) (flag ∷ at) = omega (arith, length-with_deleted rev xs at)
 
-pub length-pushed : (h : History) (e : RevEdit) → IsNext h e → length (pushed h e).characters ≡ length e.inserted
-length-pushed h e next =
+pub length-after_edit : (h : History) (e : RevEdit) → IsNext h e → length (after_edit h e).characters ≡ length e.inserted
+length-after_edit h e next =
     length-with_deleted (head h + 1) (with_new (new_by (head h + 1)) h.characters e.inserted) e.deleted ∙ length-with_new (new_by (head h + 1)) h.characters e.inserted next.grown
 
 -- at the revision of the edit
-pub hidden_at-now : (h : History) (e : RevEdit) → IsPlain h → IsNext h e → hidden_at (pushed h e) (head h + 1) ≡ dead_after (hidden_at h (head h)) e
+pub hidden_at-now : (h : History) (e : RevEdit) → IsPlain h → IsNext h e → hidden_at (after_edit h e) (head h + 1) ≡ dead_after (hidden_at h (head h)) e
 hidden_at-now h e plain next =
     let rev = head h + 1 in
     let longer : List Tagged = with_new (new_by rev) h.characters e.inserted in
     let flags : map (is_unseen rev) longer ≡ expand (map (is_unseen rev) h.characters) e.inserted =
-      map-with_new (is_unseen rev) (new_by rev) h.characters e.inserted next.grown
-      ∙ ap (λ b. expand_as (not b) (map (is_unseen rev) h.characters) e.inserted) (seen_new_now rev) in
+    map-with_new (is_unseen rev) (new_by rev) h.characters e.inserted next.grown
+    ∙ ap (λ b. expand_as (not b) (map (is_unseen rev) h.characters) e.inserted) (seen_new_now rev) in
     let before : map (is_unseen rev) h.characters ≡ hidden_at h (head h) =
-      unseen_next (head h) rev h.characters (omega arith) plain.sound ∙ sym (hidden_at-seen h (head h) plain) in
-    hidden_at-seen (pushed h e) rev (IsPlain-pushed h e plain)
+    unseen_next (head h) rev h.characters (omega arith) plain.sound ∙ sym (hidden_at-seen h (head h) plain) in
+    hidden_at-seen (after_edit h e) rev (IsPlain-after_edit h e plain)
     ∙ (unseen-with_deleted rev longer e.deleted (length-new h e next)
     ∙ (ap (λ xs. union xs e.deleted) flags ∙ ap (λ xs. dead_after xs e) before))
 
 -- at an earlier one
-pub hidden_at-later : (h : History) (e : RevEdit) (n : ℕ) → IsPlain h → IsNext h e → n ≤ head h → hidden_at (pushed h e) n ≡ dead_later (hidden_at h n) e
+pub hidden_at-later : (h : History) (e : RevEdit) (n : ℕ) → IsPlain h → IsNext h e → n ≤ head h → hidden_at (after_edit h e) n ≡ dead_later (hidden_at h n) e
 hidden_at-later h e n plain next h_n =
     let rev = head h + 1 in
     let lt : n < rev = omega arith in
     let longer : List Tagged = with_new (new_by rev) h.characters e.inserted in
-    hidden_at-seen (pushed h e) n (IsPlain-pushed h e plain)
+    hidden_at-seen (after_edit h e) n (IsPlain-after_edit h e plain)
     ∙ (map-with_deleted_same (is_unseen n) rev (λ t. ap not (seen_deleted_before rev n t lt)) longer e.deleted
     ∙ (map-with_new (is_unseen n) (new_by rev) h.characters e.inserted next.grown
     ∙ (ap (λ b. expand_as (not b) (map (is_unseen n) h.characters) e.inserted) (seen_new_before rev n lt)
     ∙ ap (λ xs. expand_in xs e.inserted) (sym (hidden_at-seen h n plain)))))
 
 -- what is said of the characters that were there
-union_same : (f : Tagged → Bool) (h : History) (e : RevEdit) (n : ℕ) → ((t : Tagged) → f (deleted_by (head h + 1) t) ≡ f t) → IsNext h e → n ≤ head h → map f (union_at (pushed h e) n) ≡ map f (union_at h n)
+union_same : (f : Tagged → Bool) (h : History) (e : RevEdit) (n : ℕ) → ((t : Tagged) → f (deleted_by (head h + 1) t) ≡ f t) → IsNext h e → n ≤ head h → map f (union_at (after_edit h e) n) ≡ map f (union_at h n)
 union_same f h e n same next h_n =
     filter-with_deleted_same f (head h + 1) n same (with_new (new_by (head h + 1)) h.characters e.inserted) e.deleted
     ∙ ap (λ xs. map f xs) (filter-with_new (head h + 1) n h.characters e.inserted (omega arith) next.grown)
 
-pub hidden_then-later : (h : History) (e : RevEdit) (n : ℕ) → IsPlain h → IsNext h e → n ≤ head h → hidden_then (pushed h e) n ≡ hidden_then h n
+pub hidden_then-later : (h : History) (e : RevEdit) (n : ℕ) → IsPlain h → IsNext h e → n ≤ head h → hidden_then (after_edit h e) n ≡ hidden_then h n
 hidden_then-later h e n plain next h_n =
-    hidden_then-seen (pushed h e) n (IsPlain-pushed h e plain)
+    hidden_then-seen (after_edit h e) n (IsPlain-after_edit h e plain)
     ∙ (union_same (is_unseen n) h e n (λ t. ap not (seen_deleted_before (head h + 1) n t (omega arith))) next h_n
     ∙ sym (hidden_then-seen h n plain))
 
-pub insertions_of-later : (h : History) (e : RevEdit) (n : ℕ) → IsNext h e → n ≤ head h → insertions_of (pushed h e) n ≡ insertions_of h n
+pub insertions_of-later : (h : History) (e : RevEdit) (n : ℕ) → IsNext h e → n ≤ head h → insertions_of (after_edit h e) n ≡ insertions_of h n
 insertions_of-later h e n next h_n = union_same (λ t. t.inserted == n) h e n (λ t. refl) next h_n
 
-pub deletions_of-later : (h : History) (e : RevEdit) (n : ℕ) → IsNext h e → n ≤ head h → deletions_of (pushed h e) n ≡ deletions_of h n
+pub deletions_of-later : (h : History) (e : RevEdit) (n : ℕ) → IsNext h e → n ≤ head h → deletions_of (after_edit h e) n ≡ deletions_of h n
 deletions_of-later h e n next h_n =
     union_same (λ t. has t.deleted n) h e n (λ t. has_deleted_before (head h + 1) n t (omega arith)) next h_n
 
-all_there : (h : History) (e : RevEdit) → IsPlain h → union_at (pushed h e) (head h + 1) ≡ (pushed h e).characters
+all_there : (h : History) (e : RevEdit) → IsPlain h → union_at (after_edit h e) (head h + 1) ≡ (after_edit h e).characters
 all_there h e plain =
-    let Sound : ℕ → Type 0 = λ n. AllByRecursion (IsTaggedBy n) (pushed h e).characters in
-    filter-there (head h + 1) (pushed h e).characters (subst Sound (head-pushed h e) (IsPlain-pushed h e plain).sound)
+    let Sound : ℕ → Type 0 = λ n. AllByRecursion (IsTaggedBy n) (after_edit h e).characters in
+    filter-there (head h + 1) (after_edit h e).characters (subst Sound (head-after_edit h e) (IsPlain-after_edit h e plain).sound)
 
-pub insertions_of-now : (h : History) (e : RevEdit) → IsPlain h → IsNext h e → insertions_of (pushed h e) (head h + 1) ≡ e.inserted
+pub insertions_of-now : (h : History) (e : RevEdit) → IsPlain h → IsNext h e → insertions_of (after_edit h e) (head h + 1) ≡ e.inserted
 insertions_of-now h e plain next =
     let rev = head h + 1 in
     let f : Tagged → Bool = λ t. t.inserted == rev in
@@ -131,7 +131,7 @@ insertions_of-now h e plain next =
     ∙ (ap (λ xs. expand_as true xs e.inserted) (none_inserted_later (head h) rev h.characters (omega arith) plain.sound)
     ∙ expand_in_none (length h.characters) e.inserted next.grown))))
 
-pub deletions_of-now : (h : History) (e : RevEdit) → IsPlain h → IsNext h e → deletions_of (pushed h e) (head h + 1) ≡ e.deleted
+pub deletions_of-now : (h : History) (e : RevEdit) → IsPlain h → IsNext h e → deletions_of (after_edit h e) (head h + 1) ≡ e.deleted
 deletions_of-now h e plain next =
     let rev = head h + 1 in
     ap (λ xs. map (λ t. has t.deleted rev) xs) (all_there h e plain)
@@ -142,59 +142,59 @@ deletions_of-now h e plain next =
 IsNext-turn : (h : History) (e : RevEdit) (edits : List RevEdit) → AreInTurn (length h.characters) (e ∷ edits) → IsNext h e
 IsNext-turn h e edits turns = record { grown = turns.0; same_length = turns.1 }
 
-turns_next : (h : History) (e : RevEdit) (edits : List RevEdit) → AreInTurn (length h.characters) (e ∷ edits) → AreInTurn (length (pushed h e).characters) edits
-turns_next h e edits turns = rw (length-pushed h e (IsNext-turn h e edits turns)) turns.2
+turns_next : (h : History) (e : RevEdit) (edits : List RevEdit) → AreInTurn (length h.characters) (e ∷ edits) → AreInTurn (length (after_edit h e).characters) edits
+turns_next h e edits turns = rw (length-after_edit h e (IsNext-turn h e edits turns)) turns.2
 
-pub head-fold : (h : History) (edits : List RevEdit) → head (fold pushed h edits) ≡ head h + length edits
+pub head-fold : (h : History) (edits : List RevEdit) → head (fold after_edit h edits) ≡ head h + length edits
 head-fold h [] = omega arith
-head-fold h (e ∷ edits) = omega (arith, head-fold (pushed h e) edits, head-pushed h e)
+head-fold h (e ∷ edits) = omega (arith, head-fold (after_edit h e) edits, head-after_edit h e)
 
-pub floor-fold : (h : History) (edits : List RevEdit) → (fold pushed h edits).floor ≡ h.floor
+pub floor-fold : (h : History) (edits : List RevEdit) → (fold after_edit h edits).floor ≡ h.floor
 floor-fold h [] = refl
-floor-fold h (e ∷ edits) = floor-fold (pushed h e) edits
+floor-fold h (e ∷ edits) = floor-fold (after_edit h e) edits
 
-pub collected-fold : (h : History) (edits : List RevEdit) → (fold pushed h edits).collected ≡ h.collected
+pub collected-fold : (h : History) (edits : List RevEdit) → (fold after_edit h edits).collected ≡ h.collected
 collected-fold h [] = refl
-collected-fold h (e ∷ edits) = collected-fold (pushed h e) edits
+collected-fold h (e ∷ edits) = collected-fold (after_edit h e) edits
 
-IsPlain-fold : (h : History) (edits : List RevEdit) → IsPlain h → IsPlain (fold pushed h edits)
+IsPlain-fold : (h : History) (edits : List RevEdit) → IsPlain h → IsPlain (fold after_edit h edits)
 IsPlain-fold h [] plain = plain
-IsPlain-fold h (e ∷ edits) plain = IsPlain-fold (pushed h e) edits (IsPlain-pushed h e plain)
+IsPlain-fold h (e ∷ edits) plain = IsPlain-fold (after_edit h e) edits (IsPlain-after_edit h e plain)
 
-hidden_at-fold : (h : History) (edits : List RevEdit) (n : ℕ) → IsPlain h → AreInTurn (length h.characters) edits → n ≤ head h → hidden_at (fold pushed h edits) n ≡ fold dead_later (hidden_at h n) edits
+hidden_at-fold : (h : History) (edits : List RevEdit) (n : ℕ) → IsPlain h → AreInTurn (length h.characters) edits → n ≤ head h → hidden_at (fold after_edit h edits) n ≡ fold dead_later (hidden_at h n) edits
 hidden_at-fold h [] n plain turns h_n = refl
 hidden_at-fold h (e ∷ edits) n plain turns h_n =
-    hidden_at-fold (pushed h e) edits n (IsPlain-pushed h e plain) (turns_next h e edits turns) (omega (arith, head-pushed h e))
+    hidden_at-fold (after_edit h e) edits n (IsPlain-after_edit h e plain) (turns_next h e edits turns) (omega (arith, head-after_edit h e))
     ∙ ap (λ xs. fold dead_later xs edits) (hidden_at-later h e n plain (IsNext-turn h e edits turns) h_n)
 
-hidden_then-fold : (h : History) (edits : List RevEdit) (n : ℕ) → IsPlain h → AreInTurn (length h.characters) edits → n ≤ head h → hidden_then (fold pushed h edits) n ≡ hidden_then h n
+hidden_then-fold : (h : History) (edits : List RevEdit) (n : ℕ) → IsPlain h → AreInTurn (length h.characters) edits → n ≤ head h → hidden_then (fold after_edit h edits) n ≡ hidden_then h n
 hidden_then-fold h [] n plain turns h_n = refl
 hidden_then-fold h (e ∷ edits) n plain turns h_n =
-    hidden_then-fold (pushed h e) edits n (IsPlain-pushed h e plain) (turns_next h e edits turns) (omega (arith, head-pushed h e))
+    hidden_then-fold (after_edit h e) edits n (IsPlain-after_edit h e plain) (turns_next h e edits turns) (omega (arith, head-after_edit h e))
     ∙ hidden_then-later h e n plain (IsNext-turn h e edits turns) h_n
 
-hidden_head-pushed : (h : History) (e : RevEdit) → IsPlain h → IsNext h e → hidden_at (pushed h e) (head (pushed h e)) ≡ dead_after (hidden_at h (head h)) e
-hidden_head-pushed h e plain next = ap (λ n. hidden_at (pushed h e) n) (head-pushed h e) ∙ hidden_at-now h e plain next
+hidden_head-after_edit : (h : History) (e : RevEdit) → IsPlain h → IsNext h e → hidden_at (after_edit h e) (head (after_edit h e)) ≡ dead_after (hidden_at h (head h)) e
+hidden_head-after_edit h e plain next = ap (λ n. hidden_at (after_edit h e) n) (head-after_edit h e) ∙ hidden_at-now h e plain next
 
 -- at the revision after the first i edits
-hidden_at-fold_from : (h : History) (edits : List RevEdit) (i rev : ℕ) → IsPlain h → AreInTurn (length h.characters) edits → i ≤ length edits → rev ≡ head h + i → hidden_at (fold pushed h edits) rev ≡ fold dead_later (fold dead_after (hidden_at h (head h)) (take i edits)) (drop i edits)
+hidden_at-fold_from : (h : History) (edits : List RevEdit) (i rev : ℕ) → IsPlain h → AreInTurn (length h.characters) edits → i ≤ length edits → rev ≡ head h + i → hidden_at (fold after_edit h edits) rev ≡ fold dead_later (fold dead_after (hidden_at h (head h)) (take i edits)) (drop i edits)
 hidden_at-fold_from h edits zero rev plain turns le is =
     let same : rev ≡ head h = omega arith in
-    ap (λ n. hidden_at (fold pushed h edits) n) same ∙ hidden_at-fold h edits (head h) plain turns (omega arith)
+    ap (λ n. hidden_at (fold after_edit h edits) n) same ∙ hidden_at-fold h edits (head h) plain turns (omega arith)
 hidden_at-fold_from h [] (suc i) rev plain turns le is = absurd (omega arith)
 hidden_at-fold_from h (e ∷ edits) (suc i) rev plain turns le is =
-    hidden_at-fold_from (pushed h e) edits i rev (IsPlain-pushed h e plain) (turns_next h e edits turns) (omega arith) (omega (arith, head-pushed h e))
-    ∙ ap (λ xs. fold dead_later (fold dead_after xs (take i edits)) (drop i edits)) (hidden_head-pushed h e plain (IsNext-turn h e edits turns))
+    hidden_at-fold_from (after_edit h e) edits i rev (IsPlain-after_edit h e plain) (turns_next h e edits turns) (omega arith) (omega (arith, head-after_edit h e))
+    ∙ ap (λ xs. fold dead_later (fold dead_after xs (take i edits)) (drop i edits)) (hidden_head-after_edit h e plain (IsNext-turn h e edits turns))
 
-hidden_then-fold_from : (h : History) (edits : List RevEdit) (i rev : ℕ) → IsPlain h → AreInTurn (length h.characters) edits → i ≤ length edits → rev ≡ head h + i → hidden_then (fold pushed h edits) rev ≡ fold dead_after (hidden_at h (head h)) (take i edits)
+hidden_then-fold_from : (h : History) (edits : List RevEdit) (i rev : ℕ) → IsPlain h → AreInTurn (length h.characters) edits → i ≤ length edits → rev ≡ head h + i → hidden_then (fold after_edit h edits) rev ≡ fold dead_after (hidden_at h (head h)) (take i edits)
 hidden_then-fold_from h edits zero rev plain turns le is =
     let same : rev ≡ head h = omega arith in
-    ap (λ n. hidden_then (fold pushed h edits) n) same
+    ap (λ n. hidden_then (fold after_edit h edits) n) same
     ∙ (hidden_then-fold h edits (head h) plain turns (omega arith) ∙ hidden_then-head h plain)
 hidden_then-fold_from h [] (suc i) rev plain turns le is = absurd (omega arith)
 hidden_then-fold_from h (e ∷ edits) (suc i) rev plain turns le is =
-    hidden_then-fold_from (pushed h e) edits i rev (IsPlain-pushed h e plain) (turns_next h e edits turns) (omega arith) (omega (arith, head-pushed h e))
-    ∙ ap (λ xs. fold dead_after xs (take i edits)) (hidden_head-pushed h e plain (IsNext-turn h e edits turns))
+    hidden_then-fold_from (after_edit h e) edits i rev (IsPlain-after_edit h e plain) (turns_next h e edits turns) (omega arith) (omega (arith, head-after_edit h e))
+    ∙ ap (λ xs. fold dead_after xs (take i edits)) (hidden_head-after_edit h e plain (IsNext-turn h e edits turns))
 
 -- ---- the edit of a revision
 
@@ -217,33 +217,33 @@ revision_at-last revisions r (suc i) is =
     let same : i ≡ length revisions = omega arith in
     ap (λ n. slice_get (revisions ++ r ∷ []) n) same ∙ slice_get-last revisions r
 
-IsEditAt-later : (h : History) (e d : RevEdit) (rev : ℕ) → IsNext h e → rev ≤ head h → IsEditAt h rev d → IsEditAt (pushed h e) rev d
+IsEditAt-later : (h : History) (e d : RevEdit) (rev : ℕ) → IsNext h e → rev ≤ head h → IsEditAt h rev d → IsEditAt (after_edit h e) rev d
 IsEditAt-later h e d rev next le is = record {
   said = revision_at-before h.revisions (revision_of e) rev le ∙ is.said;
   inserted = is.inserted ∙ sym (insertions_of-later h e rev next le);
   deleted = is.deleted ∙ sym (deletions_of-later h e rev next le);
 }
 
-IsEditAt-now : (h : History) (e : RevEdit) → IsPlain h → IsNext h e → IsEditAt (pushed h e) (head h + 1) e
+IsEditAt-now : (h : History) (e : RevEdit) → IsPlain h → IsNext h e → IsEditAt (after_edit h e) (head h + 1) e
 IsEditAt-now h e plain next = record {
   said = revision_at-last h.revisions (revision_of e) (head h + 1) refl;
   inserted = sym (insertions_of-now h e plain next);
   deleted = sym (deletions_of-now h e plain next);
 }
 
-IsEditAt-fold : (h : History) (edits : List RevEdit) (d : RevEdit) (rev : ℕ) → AreInTurn (length h.characters) edits → rev ≤ head h → IsEditAt h rev d → IsEditAt (fold pushed h edits) rev d
+IsEditAt-fold : (h : History) (edits : List RevEdit) (d : RevEdit) (rev : ℕ) → AreInTurn (length h.characters) edits → rev ≤ head h → IsEditAt h rev d → IsEditAt (fold after_edit h edits) rev d
 IsEditAt-fold h [] d rev turns le is = is
 IsEditAt-fold h (e ∷ edits) d rev turns le is =
-    IsEditAt-fold (pushed h e) edits d rev (turns_next h e edits turns) (omega (arith, head-pushed h e)) (IsEditAt-later h e d rev (IsNext-turn h e edits turns) le is)
+    IsEditAt-fold (after_edit h e) edits d rev (turns_next h e edits turns) (omega (arith, head-after_edit h e)) (IsEditAt-later h e d rev (IsNext-turn h e edits turns) le is)
 
-IsEditAt-fold_at : (h : History) (edits : List RevEdit) (i : ℕ) (d : RevEdit) (rev : ℕ) → IsPlain h → AreInTurn (length h.characters) edits → slice_get edits i ≡ Some d → rev ≡ head h + 1 + i → IsEditAt (fold pushed h edits) rev d
+IsEditAt-fold_at : (h : History) (edits : List RevEdit) (i : ℕ) (d : RevEdit) (rev : ℕ) → IsPlain h → AreInTurn (length h.characters) edits → slice_get edits i ≡ Some d → rev ≡ head h + 1 + i → IsEditAt (fold after_edit h edits) rev d
 IsEditAt-fold_at h [] i d rev plain turns at is = absurd cc
 IsEditAt-fold_at h (e ∷ edits) zero d rev plain turns at is =
     let same : rev ≡ head h + 1 = omega arith in
     let one : e ≡ d = cc in
-    rw (same, ← one) (IsEditAt-fold (pushed h e) edits e (head h + 1) (turns_next h e edits turns) (omega (arith, head-pushed h e)) (IsEditAt-now h e plain (IsNext-turn h e edits turns)))
+    rw (same, ← one) (IsEditAt-fold (after_edit h e) edits e (head h + 1) (turns_next h e edits turns) (omega (arith, head-after_edit h e)) (IsEditAt-now h e plain (IsNext-turn h e edits turns)))
 IsEditAt-fold_at h (e ∷ edits) (suc i) d rev plain turns at is =
-    IsEditAt-fold_at (pushed h e) edits i d rev (IsPlain-pushed h e plain) (turns_next h e edits turns) at (omega (arith, head-pushed h e))
+    IsEditAt-fold_at (after_edit h e) edits i d rev (IsPlain-after_edit h e plain) (turns_next h e edits turns) at (omega (arith, head-after_edit h e))
 
 -- ---- a list of revisions
 
@@ -321,7 +321,7 @@ AreEditsAfter-history_of len edits after base turns le is = record {
 pub IsNext-history_of : (len : ℕ) (edits : List RevEdit) (e : RevEdit) → MayPush (history_of len edits) e → IsNext (history_of len edits) e
 IsNext-history_of len edits e may = record { grown = may.grown; same_length = may.same_length }
 
-pub IsReady-made : (len : ℕ) (edits : List RevEdit) (hid : List (List Bool)) (gone : List Bool) (e : RevEdit) (ready : ReadyEdit) → IsStored len edits hid gone → MayPush (history_of len edits) e → ready.edit ≡ e → ready.hidden ≡ hidden_by gone e → ready.dead ≡ dead_after gone e → IsReady (history_of len edits) ready
+pub IsReady-made : (len : ℕ) (edits : List RevEdit) (hid : List (List Bool)) (gone : List Bool) (e : RevEdit) (ready : ReadyEdit) → HoldsEdits len edits hid gone → MayPush (history_of len edits) e → ready.edit ≡ e → ready.hidden ≡ hidden_by gone e → ready.dead ≡ dead_after gone e → IsReady (history_of len edits) ready
 IsReady-made len edits hid gone e ready stored may e_is hid_is dead_is =
     let h = history_of len edits in
     let plain = IsPlain-fold (loaded (replicate len 0)) edits (IsPlain-loaded len) in
@@ -331,11 +331,11 @@ IsReady-made len edits hid gone e ready stored may e_is hid_is dead_is =
       hidden = hid_is ∙ (ap (λ xs. hidden_by xs e) gone_is ∙ ap (λ x. hidden_by (hidden_at h (head h)) x) (sym e_is));
       dead =
           dead_is ∙ (ap (λ xs. dead_after xs e) gone_is
-          ∙ (sym (hidden_at-now h e plain (IsNext-history_of len edits e may)) ∙ ap (λ x. hidden_at (pushed h x) (head h + 1)) (sym e_is)));
+          ∙ (sym (hidden_at-now h e plain (IsNext-history_of len edits e may)) ∙ ap (λ x. hidden_at (after_edit h x) (head h + 1)) (sym e_is)));
     }
 
-pub IsStored-pushed : (len : ℕ) (edits : List RevEdit) (hid : List (List Bool)) (gone : List Bool) (ready : ReadyEdit) → IsStored len edits hid gone → IsReady (history_of len edits) ready → IsStored len (edits ++ ready.edit ∷ []) (hid ++ ready.hidden ∷ []) ready.dead
-IsStored-pushed len edits hid gone ready stored is =
+pub HoldsEdits-after_edit : (len : ℕ) (edits : List RevEdit) (hid : List (List Bool)) (gone : List Bool) (ready : ReadyEdit) → HoldsEdits len edits hid gone → IsReady (history_of len edits) ready → HoldsEdits len (edits ++ ready.edit ∷ []) (hid ++ ready.hidden ∷ []) ready.dead
+HoldsEdits-after_edit len edits hid gone ready stored is =
     let h = history_of len edits in
     let e = ready.edit in
     let plain = IsPlain-fold (loaded (replicate len 0)) edits (IsPlain-loaded len) in
@@ -355,5 +355,5 @@ IsStored-pushed len edits hid gone ready stored is =
           ∙ (ap (λ xs. dead_after xs e) gone_is ∙ sym (fold-append dead_after first edits (e ∷ []))));
     }
 
-pub history_of-pushed : (len : ℕ) (edits : List RevEdit) (e : RevEdit) → history_of len (edits ++ e ∷ []) ≡ pushed (history_of len edits) e
-history_of-pushed len edits e = fold-append pushed (loaded (replicate len 0)) edits (e ∷ [])
+pub history_of-after_edit : (len : ℕ) (edits : List RevEdit) (e : RevEdit) → history_of len (edits ++ e ∷ []) ≡ after_edit (history_of len edits) e
+history_of-after_edit len edits e = fold-append after_edit (loaded (replicate len 0)) edits (e ∷ [])

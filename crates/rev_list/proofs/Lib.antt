@@ -2,3 +2,4 @@ pub mod FlagLemmas
 pub mod TagLemmas
 pub mod StepLemmas
 pub mod HistoryLemmas
+pub mod TextLemmas

@@ -29,8 +29,8 @@ with_deleted rev (tagged ∷ characters) (flag ∷ at) =
     (if flag then deleted_by rev tagged else tagged) ∷ with_deleted rev characters at
 
 -- THE EDIT STEP, in positions of the union
-abbrev pub pushed : History → RevEdit → History
-pushed history e = record history {
+abbrev pub after_edit : History → RevEdit → History
+after_edit history e = record history {
   characters = with_deleted (head history + 1) (with_new (new_by (head history + 1)) history.characters e.inserted) e.deleted;
   revisions = history.revisions ++ revision_of e ∷ [];
 }

@@ -54,9 +54,10 @@ is_edit (Some (undo groups)) = false
 abbrev pub IsKeptAt : History → ℕ → Type 0
 IsKeptAt history rev = (history.floor ≤ rev) × (rev ≤ head history)
 
--- it is above the head, or below the floor
+-- the revision is above the head, which is `last`
 abbrev pub IsUnknown : History → ℕ → ℕ → Type 0
 IsUnknown history rev last = (head history < rev) × (last ≡ head history)
 
+-- the revision is below the floor of the history, which is `floor`
 abbrev pub IsCollected : History → ℕ → ℕ → Type 0
 IsCollected history rev floor = (rev < history.floor) × (floor ≡ history.floor)

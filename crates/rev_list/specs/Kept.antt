@@ -5,12 +5,12 @@ use Rattle.subset_runs.specs.Subset.{count, expand, expand_in, union, minus}
 use Rattle.xi_plain.specs.History.{History, head, loaded}
 use Rattle.rev_list.specs.declared.edit.RevEdit.{RevEdit}
 use Rattle.rev_list.specs.declared.edit.ReadyEdit.{ReadyEdit}
-use Rattle.rev_list.specs.Edit.{pushed, MayPush}
+use Rattle.rev_list.specs.Edit.{after_edit, MayPush}
 use Rattle.rev_list.specs.Hidden.{hidden_at}
 
 -- the history of edits over a loaded text of this length
 abbrev pub history_of : ℕ → List RevEdit → History
-history_of len edits = fold pushed (loaded (replicate len 0)) edits
+history_of len edits = fold after_edit (loaded (replicate len 0)) edits
 
 -- what is dead after an edit, where `dead` was before it
 abbrev pub dead_after : List Bool → RevEdit → List Bool
@@ -36,7 +36,7 @@ AreInTurn len (e ∷ edits) =
     (length e.inserted ≡ len + count e.inserted) × (length e.deleted ≡ length e.inserted) × AreInTurn (length e.inserted) edits
 
 -- what a list keeps beside the edits: what each of them hid, and what is dead at the head
-pub record IsStored (len : ℕ) (edits : List RevEdit) (hid : List (List Bool)) (gone : List Bool) : Type 0 where
+pub record HoldsEdits (len : ℕ) (edits : List RevEdit) (hid : List (List Bool)) (gone : List Bool) : Type 0 where
   pub in_turn : AreInTurn len edits
   pub hidden : hid ≡ hidden_by_each (replicate len false) edits
   pub dead : gone ≡ fold dead_after (replicate len false) edits
@@ -45,4 +45,4 @@ pub record IsStored (len : ℕ) (edits : List RevEdit) (hid : List (List Bool)) 
 pub record IsReady (history : History) (ready : ReadyEdit) : Type 0 where
   pub may : MayPush history ready.edit
   pub hidden : ready.hidden ≡ hidden_by (hidden_at history (head history)) ready.edit
-  pub dead : ready.dead ≡ hidden_at (pushed history ready.edit) (head history + 1)
+  pub dead : ready.dead ≡ hidden_at (after_edit history ready.edit) (head history + 1)

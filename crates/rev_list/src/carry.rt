@@ -9,7 +9,11 @@ use std::alloc::{AllocError, Global};
 use subset_runs::Subset;
 
 // The edit, with what it hides and what is dead after it.
-pub(crate) fn made_ready(alloc: Global, dead: &Subset, edit: RevEdit) -> Result<ReadyEdit, AllocError>
+pub(crate) fn made_ready(
+    alloc: Global,
+    dead: &Subset,
+    edit: RevEdit,
+) -> Result<ReadyEdit, AllocError>
     requires grown { length edit.inserted ≡ length dead.now + count edit.inserted }
     requires same_length { length edit.deleted ≡ length edit.inserted }
     ensures edit { IfOk result (λ ready. ready.edit ≡ edit) }

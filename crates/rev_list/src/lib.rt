@@ -4,6 +4,8 @@
 //! a `RevList` is a record: `history`, the history of `xi_plain` in which every character is 0, and `room`, for how many further
 //! edits there is a place already. So what `xi_plain` says of a history (visible, undone, the insertion place) is said of the list.
 //!
+//! [`laws::edit_step`] says that a push is the edit step of a history, whatever its text.
+//!
 //! Each edit keeps its subsets in the positions of its own union, the one after it. A later edit touches none of them; they are
 //! carried forward when they are asked for.
 #![tactic(auto)]
@@ -11,6 +13,7 @@
 mod carry;
 mod edit;
 mod fault;
+pub mod laws;
 mod list;
 #[cfg(test)]
 mod tests;

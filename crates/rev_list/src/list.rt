@@ -1,7 +1,7 @@
 ghost use Rattle.std.specs.Prelude.{◌≡◌, ◌≢◌, ℕ, ◌+◌, ◌-◌, ◌<◌, ◌≤◌, ◌↔◌, false, length, replicate, IfOk, IfSome, IfNone, OnOk, OnErr};
 ghost use Rattle.xi_plain.specs.Numbers.{has};
 ghost use Rattle.xi_plain.specs.History.{head, loaded, revision_at};
-ghost use Rattle.rev_list.specs.Edit.{pushed, MayPush};
+ghost use Rattle.rev_list.specs.Edit.{after_edit, MayPush};
 ghost use Rattle.rev_list.specs.Hidden.{AreEditsAfter, IsCollected, IsEditAt, IsKeptAt, IsUnknown, hidden_at, hidden_then, is_edit};
 ghost use Rattle.rev_list.specs.Kept.{IsReady};
 
@@ -32,14 +32,14 @@ impl Model for RevList {
 
     ghost Value = { Revisions };
 
-    ghost use Rattle.rev_list.specs.Kept.{IsStored, history_of};
+    ghost use Rattle.rev_list.specs.Kept.{HoldsEdits, history_of};
 
     ghost view = { λ s. record {
-        history = history_of s.len s.edits.items;
-        room = min (vec_capacity s.edits - vec_len s.edits) (vec_capacity s.hidden - vec_len s.hidden);
+      history = history_of s.len s.edits.items;
+      room = min (vec_capacity s.edits - vec_len s.edits) (vec_capacity s.hidden - vec_len s.hidden);
     } };
 
-    ghost invariant = { λ s. IsStored s.len s.edits.items s.hidden.items s.dead };
+    ghost invariant = { λ s. HoldsEdits s.len s.edits.items s.hidden.items s.dead };
 }
 
 impl RevList {
@@ -199,15 +199,11 @@ impl RevList {
     pub fn put(&mut self, ready: ReadyEdit) -> u64
         requires ready { IsReady self.old.history ready }
         requires room { 0 < self.old.room }
-        ensures pushed { self.new.history ≡ pushed self.old.history ready.edit }
+        ensures step { self.new.history ≡ after_edit self.old.history ready.edit }
         ensures number { result ≡ head self.old.history + 1 }
         ensures room { self.new.room + 1 ≡ self.old.room }
     {
-        let ReadyEdit {
-            edit,
-            hidden,
-            dead,
-        } = ready;
+        let ReadyEdit { edit, hidden, dead } = ready;
         self.edits.push_reserved(edit);
         self.hidden.push_reserved(hidden);
         self.dead = dead;
@@ -218,7 +214,7 @@ impl RevList {
     /// as before.
     pub fn push_edit(&mut self, alloc: Global, edit: RevEdit) -> Result<u64, NoMemory>
         requires { MayPush self.old.history edit }
-        ensures ok { OnOk result (self.new.history ≡ pushed self.old.history edit) }
+        ensures ok { OnOk result (self.new.history ≡ after_edit self.old.history edit) }
         ensures err { OnErr result (self.new.history ≡ self.old.history) }
         ensures number { IfOk result (λ rev. rev ≡ head self.old.history + 1) }
     {

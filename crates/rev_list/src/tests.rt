@@ -6,16 +6,32 @@ use subset_runs::{Subset, SubsetFault};
 type Ranges<'a> = &'a [(u64, u64)];
 
 // Pushes the edit that inserts and deletes the positions in the ranges, of `len` positions after it; none where it may not come.
-fn pushed(alloc: Global, revs: &mut RevList, base: u64, len: u64, inserted: Ranges<'_>, deleted: Ranges<'_>) -> Result<Option<u64>, SubsetFault> {
+fn push(
+    alloc: Global,
+    revs: &mut RevList,
+    base: u64,
+    len: u64,
+    inserted: Ranges<'_>,
+    deleted: Ranges<'_>,
+) -> Result<Option<u64>, SubsetFault> {
     let inserted = Subset::of_ranges(alloc, len, inserted)?;
     let deleted = Subset::of_ranges(alloc, len, deleted)?;
-    if revs.union_len().checked_add(inserted.count()) != Some(inserted.len()) || deleted.len() != inserted.len() {
+    if revs.union_len().checked_add(inserted.count()) != Some(inserted.len())
+        || deleted.len() != inserted.len()
+    {
         return Ok(None);
     }
     if base < revs.floor() || revs.head() < base || revs.head() > 1000 || revs.is_collected(1) {
         return Ok(None);
     }
-    let edit = RevEdit { base, priority: 7, group: 1, author: 0, inserted, deleted };
+    let edit = RevEdit {
+        base,
+        priority: 7,
+        group: 1,
+        author: 0,
+        inserted,
+        deleted,
+    };
     match revs.push_edit(alloc, edit) {
         Ok(rev) => Ok(Some(rev)),
         Err(_) => Err(SubsetFault::NoMemory),
@@ -26,7 +42,10 @@ fn pushed(alloc: Global, revs: &mut RevList, base: u64, len: u64, inserted: Rang
 fn row_of_rev_list(rt: HostRuntime) -> Result<(), Fail> {
     let alloc = rt.alloc();
     let mut revs = RevList::start(alloc, 2)?;
-    assert_eq!(rt; pushed(alloc, &mut revs, 0, 3, &[(1, 2)], &[(2, 3)])?, Some(1));
+    assert_eq!(rt;
+        push(alloc, &mut revs, 0, 3, &[(1, 2)], &[(2, 3)])?,
+        Some(1)
+    );
     assert_eq!(rt; revs.dead_at(alloc, 0)?.runs(), [(1, 2)].as_slice());
     assert_eq!(rt; revs.dead_at(alloc, 1)?.runs(), [(2, 3)].as_slice());
     Ok(())
@@ -41,7 +60,7 @@ fn each_revision_has_its_dead(rt: HostRuntime) -> Result<(), Fail> {
         (1, 6, [(0, 1), (5, 6)].as_slice(), [(1, 2)].as_slice()),
         (0, 6, [].as_slice(), [(1, 3)].as_slice()),
     ] {
-        assert!(rt; pushed(alloc, &mut revs, base, len, inserted, deleted)?.is_some());
+        assert!(rt; push(alloc, &mut revs, base, len, inserted, deleted)?.is_some());
     }
     for (rev, dead, then) in [
         (0, [(0, 1), (2, 3), (5, 6)].as_slice(), [].as_slice()),

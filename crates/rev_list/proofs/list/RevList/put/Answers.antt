@@ -1,11 +1,11 @@
 use Rattle.std.proofs.Common.{◌≡◌, arith, sym, ap, ◌∙◌}
-use Rattle.rev_list.proofs.HistoryLemmas.{head-history_of, IsStored-pushed}
+use Rattle.rev_list.proofs.HistoryLemmas.{head-history_of, HoldsEdits-after_edit}
 use Rattle.rev_list.proofs.list.RevList.put.Goals as goal
 
 pub invariant_of-self : goal.invariant_of-self
 invariant_of-self c =
     let ready = rw (← c.self.view_is) at c.requires.ready in
-    rw (c.push_reserved.ensures.items, c.push_reserved-2.ensures.items) (IsStored-pushed _ _ _ _ c.args.ready c.self.invariant ready)
+    rw (c.push_reserved.ensures.items, c.push_reserved-2.ensures.items) (HoldsEdits-after_edit _ _ _ _ c.args.ready c.self.invariant ready)
 
 pub returns-clause-number : goal.returns-clause-number
 returns-clause-number c =

@@ -1,0 +1,33 @@
+-- The history of positions behind a history of characters, and the edit of positions behind an edit of text.
+use Rattle.std.specs.Prelude.{ℕ, ◌+◌, Bool, true, false, List, [], ◌∷◌, map}
+use Rattle.xi_plain.specs.Woven.{woven}
+use Rattle.xi_plain.specs.History.{Tagged, History}
+use Rattle.xi_plain.specs.Edits.{PlainEdit, inserted_at, is_dropped_by}
+use Rattle.rev_list.specs.declared.edit.RevEdit.{RevEdit}
+
+-- the character, without saying which
+abbrev pub without_character : Tagged → Tagged
+without_character tagged = record tagged { character = 0 }
+
+-- the history with no text
+abbrev pub without_text : History → History
+without_text history = record history { characters = map without_character history.characters }
+
+-- which positions of the longer union the edit inserts, and which it deletes
+abbrev pub inserted_flags : History → PlainEdit → List Bool
+inserted_flags history e = woven (λ index. map (λ _. true) (inserted_at history e index)) (λ _ _. false ∷ []) 0 history.characters
+
+abbrev pub deleted_flags : History → PlainEdit → List Bool
+deleted_flags history e =
+    woven (λ index. map (λ _. false) (inserted_at history e index)) (λ index tagged. is_dropped_by history e index tagged ∷ []) 0 history.characters
+
+-- the edit, in positions of the longer union
+abbrev pub in_positions : History → PlainEdit → RevEdit
+in_positions history e = record {
+  base = e.base;
+  priority = e.priority;
+  group = e.group;
+  author = e.author;
+  inserted = inserted_flags history e;
+  deleted = deleted_flags history e;
+}
