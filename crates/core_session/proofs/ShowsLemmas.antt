@@ -38,7 +38,7 @@ use Rattle.doc_session.proofs.ScreenLemmas.{IsScreenOf-shown}
 use Rattle.doc_session.specs.Document.{Document, layout_of, no_request, loaded_document, inserted}
 use Rattle.doc_session.specs.Effects.{ops_of, update_of, told, wants_update, opened}
 use Rattle.core_session.specs.Answer.{Reply, accepted, refused, silent, answers, result_messages, refusal, named_refusal, code_of, message_of}
-use Rattle.core_session.specs.Session.{view_id, Outcome, outcome, opening, inserting, refusing, is_first_view, outcome_messages, update_notes, scroll_notes, messages, step, document_after, all_messages, lines_written, written, piece_of}
+use Rattle.core_session.specs.Session.{view_id, Outcome, outcome, opening_outcome, insert_outcome, refusing, is_first_view, outcome_messages, update_notes, scroll_notes, messages, step, document_after, all_messages, lines_written, written, piece_of}
 use Rattle.core_session.specs.Shows.{updates_in, screen_told, rebuilt_from, rebuilt, IsShown, SendsWithin, SendWindow, ShowsEach}
 use Rattle.core_session.specs.Core.{Stands, IsToldBack, AreLinesOf, screen_of, plain_of, IsShowing, front_entry}
 use Rattle.core_session.specs.Next.{next_or}
@@ -224,7 +224,7 @@ unfolding told_list
 settles_if true before after same = told_screen before after same
 settles_if false before after same = ap Some (sym same)
 
-settles_inserting : (document : Document) (chars : List ℕ) → Settles (Some document) (inserting document chars)
+settles_inserting : (document : Document) (chars : List ℕ) → Settles (Some document) (insert_outcome document chars)
 unfolding Settles
 settles_inserting document chars =
     settles_if (wants_update document (inserted document chars)) document (inserted document chars) (inserted_screen document chars)
@@ -233,12 +233,12 @@ settles_refusing : (plain : Option Document) (fault : Fault) → Settles plain (
 unfolding Settles told_list
 settles_refusing plain fault = refl
 
-settles_opening : Settles None opening
+settles_opening : Settles None opening_outcome
 unfolding Settles
 settles_opening = told_screen (record (loaded_document []) { screen = [] }) (loaded_document []) refl
 
 settles_view : (here : Bool) (document : Document) (chars : List ℕ) →
-    Settles (Some document) (if here then inserting document chars else refusing (Some document) NotBuilt)
+    Settles (Some document) (if here then insert_outcome document chars else refusing (Some document) NotBuilt)
 settles_view true document chars = settles_inserting document chars
 settles_view false document chars = settles_refusing (Some document) NotBuilt
 
@@ -313,7 +313,7 @@ sends_if true after = (sends-plan_from after.window (layout_of after) 0 0, tt)
 sends_if false after = tt
 
 sends_view : (here : Bool) (document : Document) (chars : List ℕ) →
-    Sends (if here then inserting document chars else refusing (Some document) NotBuilt)
+    Sends (if here then insert_outcome document chars else refusing (Some document) NotBuilt)
 unfolding Sends told_list
 sends_view true document chars = sends_if (wants_update document (inserted document chars)) (inserted document chars)
 sends_view false document chars = tt

@@ -45,21 +45,23 @@ pub record IsPrepared (before : Option Doc) (plain : Option Document) (made : Pr
   pub told : IsToldBack (outcome plain made.command.act).update
   pub stands : Stands (next_or made.next before) (step plain made.command)
 
--- THE JOURNAL, the sink and the room of a session
+-- THE JOURNAL of a session
 abbrev pub journal_of : {K : Type 0} → Core K → List Entry
 journal_of core = core.journal.items
 
+-- its sink
 abbrev pub sink_of : {K : Type 0} → Core K → K
 sink_of core = core.sink
 
--- there is room for the closing entry
+-- its room: there is some for the closing entry
 abbrev pub HasRoom : {K : Type 0} → Core K → Type 0
 HasRoom core = vec_len core.journal < vec_capacity core.journal
 
--- the document that the journal defines, and the screen that its front end has
+-- the document that the journal defines
 abbrev pub plain_of : List Entry → Option Document
 plain_of journal = document_after None journal
 
+-- the screen that the front end has of it
 abbrev pub screen_of : Option Document → Screen
 screen_of None = []
 screen_of (Some document) = document.screen
@@ -76,10 +78,11 @@ pub record IsServing {K : Type 0} (core : Core K) : Type 0 where
   pub showing : IsShowing (journal_of core)
   pub stands : Stands core.document (plain_of (journal_of core))
 
--- the entry of a command of the front end, and the piece that it writes after these entries
+-- the entry of a command of the front end
 abbrev pub front_entry : Command → Bool → Entry
 front_entry command sent = record { caller = 0; command = command; sent = sent }
 
+-- the piece that a command writes after these entries
 abbrev pub piece_after : List Entry → Command → List ℕ
 piece_after journal command = piece_of (plain_of journal) command
 

@@ -48,8 +48,8 @@ abbrev pub refusing : Option Document → Fault → Outcome
 refusing document fault = record { reply = refused fault; document = document; update = None; scroll = None }
 
 -- the first view is opened on an empty text
-abbrev pub opening : Outcome
-opening = record {
+abbrev pub opening_outcome : Outcome
+opening_outcome = record {
   reply = accepted (text_data view_id);
   document = Some (opened []);
   update = Some (opening_update []);
@@ -57,8 +57,8 @@ opening = record {
 }
 
 -- characters are inserted
-abbrev pub inserting : Document → List ℕ → Outcome
-inserting document chars = record {
+abbrev pub insert_outcome : Document → List ℕ → Outcome
+insert_outcome document chars = record {
   reply = accepted null;
   document = Some (insert_document document chars);
   update = insert_update document chars;
@@ -73,11 +73,11 @@ is_first_view view = bytes_eq (encode_utf8_all view) view_id
 abbrev pub edit_outcome : Option Document → List ℕ → EditAct → Outcome
 edit_outcome None view act = refusing None NotBuilt
 edit_outcome (Some document) view (Insert chars) =
-    if is_first_view view then inserting document chars else refusing (Some document) NotBuilt
+    if is_first_view view then insert_outcome document chars else refusing (Some document) NotBuilt
 
 -- a view is opened, where none was, on no file
 abbrev pub open_outcome : Option Document → Option (List ℕ) → Outcome
-open_outcome None None = opening
+open_outcome None None = opening_outcome
 open_outcome None (Some path) = refusing None NotBuilt
 open_outcome (Some document) path = refusing (Some document) NotBuilt
 

@@ -3,7 +3,7 @@ ghost use Rattle.xi_plain.specs.declared.command.Act.{Act};
 ghost use Rattle.doc_session.specs.Document.{Document};
 ghost use Rattle.doc_session.specs.Stands.{StandsFor};
 ghost use Rattle.core_session.specs.Core.{Stands};
-ghost use Rattle.core_session.specs.Session.{outcome, edit_outcome, open_outcome, is_first_view, inserting, refusing};
+ghost use Rattle.core_session.specs.Session.{outcome, edit_outcome, open_outcome, is_first_view, insert_outcome, refusing};
 ghost use Rattle.core_session.specs.Done.{IsOutcome};
 
 use doc_session::{Doc, Inserted, Point};
@@ -103,7 +103,7 @@ fn is_first_view(view: &Text) -> bool
 
 fn insert(alloc: Global, doc: &Doc, chars: &Text) -> Result<Done, NoMemory>
     ensures { (plain : Document) → StandsFor doc.now plain
-        → IfOk result (IsOutcome (Some doc.now) (inserting plain chars.now)) }
+        → IfOk result (IsOutcome (Some doc.now) (insert_outcome plain chars.now)) }
 {
     let Inserted {
         doc,

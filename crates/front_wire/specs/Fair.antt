@@ -14,6 +14,7 @@ use Rattle.json_rpc.specs.Request.{IsWireId, IsTextId}
 abbrev pub IsText : List ℕ → Type 0
 IsText text = all_scalars text ≡ true
 
+-- the same of a text that may be left out
 abbrev pub IsTextIfAny : Option (List ℕ) → Type 0
 IsTextIfAny None = Unit {0}
 IsTextIfAny (Some text) = IsText text
