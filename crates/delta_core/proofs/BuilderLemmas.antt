@@ -1,15 +1,12 @@
 -- Lemmas on a unit delta in the making.
-use Rattle.std.proofs.Common.{◌≡◌, ◌≢◌, ℕ, zero, suc, true, false, Bool, ◌+◌, ◌<◌, ◌≤◌, List, [], ◌∷◌, ◌++◌, append-nil, append_assoc, refl, ap, sym, ◌∙◌, arith}
+use Rattle.std.proofs.Common.{◌≡◌, ◌≢◌, ℕ, true, false, Bool, ◌+◌, ◌<◌, ◌≤◌, List, [], ◌∷◌, ◌++◌, append-nil, append_assoc, refl, ap, sym, ◌∙◌, arith}
 use Rattle.std.specs.Prelude.{if◌then◌else◌, nat_lt, nat_le, ◌==◌, ◌||◌, ◌&&◌, Result, Ok, Err, OnOk, OnErr}
-use Rattle.std.specs.List.{list_any, flat_map}
 use Rattle.std.proofs.lemmas.Bool.{ltb-false, ltb-true}
 use Rattle.std.proofs.lemmas.Bool.Decides.{nat_tests}
-use Rattle.std.proofs.lemmas.List.Concat.{flat_map-append}
 use Rattle.xi_plain.specs.declared.delta.Run.{Run}
 use Rattle.xi_plain.specs.declared.delta.Added.{Added}
-use Rattle.xi_plain.specs.declared.delta.UnitDelta.{UnitDelta}
 use Rattle.xi_plain.specs.Delta.{is_in_runs, text_at_gap}
-use Rattle.xi_plain.specs.UnitDelta.{AreRuns, AreAdds, AreApart, IsUnitDelta, IsCanonical}
+use Rattle.xi_plain.specs.UnitDelta.{AreRuns, AreAdds, AreApart, IsCanonical}
 use Rattle.delta_core.specs.Builder.{run_to, IsOpen, with_added, with_run}
 
 -- one more addition would be at this gap

@@ -1,10 +1,10 @@
 -- Lemmas on insertions that are carried over other ones.
-use Rattle.std.proofs.Common.{◌≡◌, ◌≢◌, ℕ, zero, suc, true, false, Bool, not, ◌+◌, ◌-◌, ◌<◌, ◌≤◌, ◌⊎◌, inl, inr, List, [], ◌∷◌, ◌++◌, length, drop, replicate, append-nil, add-one, refl, ap, sym, ◌∙◌, arith, subst, ⊎_elim, length-append, length-drop}
+use Rattle.std.proofs.Common.{◌≡◌, ◌≢◌, ℕ, zero, suc, true, false, Bool, not, ◌+◌, ◌<◌, ◌≤◌, ◌⊎◌, inl, inr, List, [], ◌∷◌, ◌++◌, length, drop, replicate, append-nil, add-one, refl, ap, sym, ◌∙◌, arith, length-drop}
 use Rattle.std.specs.Prelude.{slice_get, Some}
 use Rattle.std.proofs.lemmas.Bool.{false≢true, true≢false}
 use Rattle.subset_runs.specs.declared.stretch.Stretch.{Stretch}
 use Rattle.subset_runs.specs.Stretch.{IsFront}
-use Rattle.subset_runs.specs.Subset.{count, expand, expand_as}
+use Rattle.subset_runs.specs.Subset.{count, expand}
 use Rattle.subset_runs.proofs.FlagLemmas.{count_le_length, count-append, count-replicate_true, count-replicate_false}
 use Rattle.subset_runs.proofs.StretchLemmas.{front_part, front_len}
 use Rattle.delta_core.specs.Carry.{here, carried, IsCarried, IsNext}
@@ -85,9 +85,10 @@ base_steps (suc n) after ins later =
 
 counts_run : (n : ℕ) (flags : List Bool) → flags ≡ replicate n true ++ drop n flags → n ≤ length flags →
     (count flags ≡ n + count (drop n flags)) × (length flags ≡ n + length (drop n flags))
-counts_run n flags same within =
-    (ap count same ∙ count-append (replicate n true) (drop n flags) ∙ ap (λ k. k + count (drop n flags)) (count-replicate_true n),
-    omega (arith, length-drop n flags))
+counts_run n flags same within = (
+  ap count same ∙ count-append (replicate n true) (drop n flags) ∙ ap (λ k. k + count (drop n flags)) (count-replicate_true n),
+  omega (arith, length-drop n flags),
+)
 
 counts_base : (n : ℕ) (flags : List Bool) → flags ≡ replicate n false ++ drop n flags → n ≤ length flags →
     (count flags ≡ count (drop n flags)) × (length flags ≡ n + length (drop n flags))
@@ -128,9 +129,9 @@ pub IsNext-base : (after : Bool) (own other : List Bool) (s t : Stretch) (n : �
     IsNext after own other (drop n own) (drop n other) n false
 IsNext-base after own other s t n base no_own no_other front back one two some =
     let first : own ≡ replicate n false ++ drop n own =
-      front_part own s n front one ∙ ap (λ b. replicate n b ++ drop n own) (all_base own s front no_own) in
+    front_part own s n front one ∙ ap (λ b. replicate n b ++ drop n own) (all_base own s front no_own) in
     let second : other ≡ replicate n false ++ drop n other =
-      front_part other t n back two ∙ ap (λ b. replicate n b ++ drop n other) (all_base other t back no_other) in
+    front_part other t n back two ∙ ap (λ b. replicate n b ++ drop n other) (all_base other t back no_other) in
     let counts = counts_base n own first (omega (arith, front_len own s front)) in
     let others = counts_base n other second (omega (arith, front_len other t back)) in
     record {
@@ -185,5 +186,5 @@ pub IsCarried-all : (after : Bool) (ins later result own other : List Bool) → 
     result ++ carried after own other ≡ carried after ins later → own ≡ [] → other ≡ [] → IsCarried after ins later result
 IsCarried-all after ins later result own other base so_far no_own no_other =
     let is : result ≡ carried after ins later =
-      sym (append-nil result) ∙ ap (λ xs. result ++ xs) (sym (ap (λ xs. carried after xs other) no_own ∙ ap (λ xs. carried after [] xs) no_other)) ∙ so_far in
+    sym (append-nil result) ∙ ap (λ xs. result ++ xs) (sym (ap (λ xs. carried after xs other) no_own ∙ ap (λ xs. carried after [] xs) no_other)) ∙ so_far in
     record { is = is; renumbered = is ∙ renumbered (length ins + length later) after ins later (omega arith) base }

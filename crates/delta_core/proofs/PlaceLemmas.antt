@@ -1,5 +1,5 @@
 -- Lemmas on the places of a text.
-use Rattle.std.proofs.Common.{◌≡◌, ◌≢◌, ℕ, zero, suc, true, false, Bool, ◌+◌, ◌-◌, ◌<◌, ◌≤◌, List, Some, None, take, drop, [], ◌∷◌, ◌++◌, length, refl, ap, sym, ◌∙◌, arith, subst, length-append, take-append-drop, length-take-le, length-drop, ⊎_elim, IsTrue, zero-add, Option}
+use Rattle.std.proofs.Common.{◌≡◌, ◌≢◌, ℕ, zero, suc, true, false, Bool, ◌+◌, ◌-◌, ◌<◌, ◌≤◌, List, Some, None, take, drop, [], ◌∷◌, ◌++◌, length, refl, ap, sym, ◌∙◌, arith, subst, take-append-drop, length-take-le, length-drop, ⊎_elim, zero-add, Option}
 use Rattle.std.proofs.lemmas.Bool.{false≢true}
 use Rattle.std.proofs.lemmas.Bool.{ltb-false, cases_lt}
 use Rattle.std.specs.Prelude.{if◌then◌else◌, nat_lt, ◌==◌, is_some, unwrap_or, slice_range}
@@ -8,7 +8,7 @@ use Rattle.std.specs.Char.{len_utf8}
 use Rattle.std.proofs.lemmas.Str.{len_utf8_bounds, encodes_same, encodes-append, encodes-chars, scalars-chars, IsUtf8-take, IsUtf8-drop, chars-encodes}
 use Rattle.std.proofs.Math.Seq.{drop-append_seam}
 use Rattle.std.proofs.lemmas.Bool.Decides.{nat_tests}
-use Rattle.xi_plain.specs.Text.{byte_len, gap_from, gap_at, gap_of, is_place, place_of}
+use Rattle.xi_plain.specs.Text.{byte_len, gap_from, gap_of, is_place, place_of}
 use Rattle.xi_plain.proofs.TextLemmas.{IsCharBoundary-place, length-encodes, length-encodes-take, chars-between, take-place, all_scalars-take, all_scalars-drop}
 
 -- a gap whose place is the offset
@@ -66,9 +66,9 @@ is_place-boundary text at each boundary =
     let front = IsUtf8-take bs at is_text boundary in
     let back = IsUtf8-drop bs at is_text boundary in
     let joined : front.0 ++ back.0 ≡ text =
-      encodes_same (front.0 ++ back.0) text (encodes-append front.0 back.0 ∙ cc (front.1.1, back.1.1, take-append-drop at bs)) in
+    encodes_same (front.0 ++ back.0) text (encodes-append front.0 back.0 ∙ cc (front.1.1, back.1.1, take-append-drop at bs)) in
     let long : byte_len front.0 ≡ at =
-      sym (length-encodes front.0) ∙ ap length front.1.1 ∙ length-take-le at bs boundary.0 in
+    sym (length-encodes front.0) ∙ ap length front.1.1 ∙ length-take-le at bs boundary.0 in
     subst (λ (t : List ℕ). is_place t at ≡ true) joined
     (subst (λ (k : ℕ). is_place (front.0 ++ back.0) k ≡ true) long (ap is_some (gap_from-seam 0 front.0 back.0)))
 
@@ -98,7 +98,7 @@ pub between_places : (bs : List ℕ) (from to gap more : ℕ) → IsUtf8 bs → 
 between_places bs from to gap more is_text one other below =
     let rise = gaps_rise (chars bs) from to gap more one other below in
     let part : chars (slice_range bs from to) ≡ take (more - gap) (drop gap (chars bs)) =
-      rw (← one.place, ← other.place) (chars-between bs gap more is_text rise) in
+    rw (← one.place, ← other.place) (chars-between bs gap more is_text rise) in
     rw (part, one.of, other.of)
     (omega (arith, other.within, length-take-le (more - gap) (drop gap (chars bs)) (omega (arith, length-drop gap (chars bs), other.within))))
 

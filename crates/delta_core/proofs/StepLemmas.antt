@@ -1,16 +1,14 @@
 -- Lemmas on what the steps of a unit delta make of a text, and of which subsets they are.
-use Rattle.std.proofs.Common.{◌≡◌, ◌≢◌, ℕ, zero, suc, true, false, Bool, not, ◌+◌, ◌-◌, ◌<◌, ◌≤◌, List, [], ◌∷◌, ◌++◌, length, take, drop, map, replicate, append-nil, append_assoc, length-append, length-drop, refl, ap, sym, ◌∙◌, arith, subst}
+use Rattle.std.proofs.Common.{◌≡◌, ℕ, zero, suc, true, false, Bool, not, ◌+◌, ◌≤◌, List, [], ◌∷◌, ◌++◌, length, take, drop, map, replicate, append-nil, append_assoc, length-append, length-drop, refl, ap, sym, ◌∙◌, arith}
 use Rattle.std.specs.Prelude.{if◌then◌else◌}
 use Rattle.std.specs.List.{range_with_len}
-use Rattle.std.proofs.lemmas.List.FromFn.{length-range_with_len}
 use Rattle.xi_plain.specs.declared.delta.UnitDelta.{UnitDelta}
 use Rattle.xi_plain.specs.Woven.{woven}
-use Rattle.xi_plain.specs.Delta.{applied}
 use Rattle.xi_plain.specs.UnitDelta.{unit_keeps, unit_adds}
-use Rattle.subset_runs.specs.Subset.{items_outside, expand, expand_as}
+use Rattle.subset_runs.specs.Subset.{items_outside, expand}
 use Rattle.delta_core.specs.Units.{text_after}
 use Rattle.delta_core.specs.Factor.{dropped_flags, inserted_flags, union_text, IsFactored}
-use Rattle.delta_core.specs.Step.{Step, Kept, Dropped, New, fate_of, steps_from, steps_of, base_count, outcome, drops, news}
+use Rattle.delta_core.specs.Step.{Step, Kept, Dropped, New, step_of, steps_from, steps_of, base_count, outcome, drops, news}
 
 pub outcome-kept : (n : ℕ) (steps : List Step) (text : List ℕ) → n ≤ length text → outcome (replicate n Kept ++ steps) text ≡ take n text ++ outcome steps (drop n text)
 outcome-kept zero steps text within = refl
@@ -38,9 +36,9 @@ pub base_count-added : (more : List ℕ) (steps : List Step) → base_count (map
 base_count-added [] steps = refl
 base_count-added (c ∷ more) steps = base_count-added more steps
 
-base_count-fate : (b : Bool) (steps : List Step) → base_count (fate_of b ∷ steps) ≡ base_count steps + 1
-base_count-fate true steps = refl
-base_count-fate false steps = refl
+base_count-step : (b : Bool) (steps : List Step) → base_count (step_of b ∷ steps) ≡ base_count steps + 1
+base_count-step true steps = refl
+base_count-step false steps = refl
 
 base_count-news : (text : List ℕ) → base_count (map New text) ≡ 0
 base_count-news [] = refl
@@ -49,11 +47,11 @@ base_count-news (c ∷ text) = base_count-news text
 pub base_count-steps : (k : ℕ → Bool) (f : ℕ → List ℕ) (gap n : ℕ) → base_count (steps_from k f gap n) ≡ n
 base_count-steps k f gap zero = base_count-news (f gap)
 base_count-steps k f gap (suc n) =
-    omega (arith, base_count-added (f gap) (fate_of (k gap) ∷ steps_from k f (gap + 1) n), base_count-fate (k gap) (steps_from k f (gap + 1) n), base_count-steps k f (gap + 1) n)
+    omega (arith, base_count-added (f gap) (step_of (k gap) ∷ steps_from k f (gap + 1) n), base_count-step (k gap) (steps_from k f (gap + 1) n), base_count-steps k f (gap + 1) n)
 
-outcome-fate : (b : Bool) (steps : List Step) (c : ℕ) (text : List ℕ) → outcome (fate_of b ∷ steps) (c ∷ text) ≡ (if b then c ∷ [] else []) ++ outcome steps text
-outcome-fate true steps c text = refl
-outcome-fate false steps c text = refl
+outcome-step : (b : Bool) (steps : List Step) (c : ℕ) (text : List ℕ) → outcome (step_of b ∷ steps) (c ∷ text) ≡ (if b then c ∷ [] else []) ++ outcome steps text
+outcome-step true steps c text = refl
+outcome-step false steps c text = refl
 
 outcome-news : (more text : List ℕ) → outcome (map New more) text ≡ more
 outcome-news [] text = refl
@@ -63,9 +61,9 @@ pub outcome-steps : (k : ℕ → Bool) (f : ℕ → List ℕ) (gap : ℕ) (text 
     outcome (steps_from k f gap (length text)) text ≡ woven f (λ index c. if k index then c ∷ [] else []) gap text
 outcome-steps k f gap [] = outcome-news (f gap) []
 outcome-steps k f gap (c ∷ text) =
-    outcome-added (f gap) (fate_of (k gap) ∷ steps_from k f (gap + 1) (length text)) (c ∷ text) ∙
+    outcome-added (f gap) (step_of (k gap) ∷ steps_from k f (gap + 1) (length text)) (c ∷ text) ∙
     ap (λ t. f gap ++ t)
-    (outcome-fate (k gap) (steps_from k f (gap + 1) (length text)) c text ∙
+    (outcome-step (k gap) (steps_from k f (gap + 1) (length text)) c text ∙
     ap (λ t. (if k gap then c ∷ [] else []) ++ t) (outcome-steps k f (gap + 1) text))
 
 pub outcome-text_after : (units : UnitDelta) (text : List ℕ) → units.base ≡ length text → outcome (steps_of units) text ≡ text_after units text
@@ -81,13 +79,13 @@ pub news-added : (more : List ℕ) (steps : List Step) → news (map New more ++
 news-added [] steps = refl
 news-added (c ∷ more) steps = ap (λ flags. true ∷ flags) (news-added more steps)
 
-drops-fate : (b : Bool) (steps : List Step) → drops (fate_of b ∷ steps) ≡ not b ∷ drops steps
-drops-fate true steps = refl
-drops-fate false steps = refl
+drops-step : (b : Bool) (steps : List Step) → drops (step_of b ∷ steps) ≡ not b ∷ drops steps
+drops-step true steps = refl
+drops-step false steps = refl
 
-news-fate : (b : Bool) (steps : List Step) → news (fate_of b ∷ steps) ≡ false ∷ news steps
-news-fate true steps = refl
-news-fate false steps = refl
+news-step : (b : Bool) (steps : List Step) → news (step_of b ∷ steps) ≡ false ∷ news steps
+news-step true steps = refl
+news-step false steps = refl
 
 drops-news : (more : List ℕ) → drops (map New more) ≡ []
 drops-news [] = refl
@@ -100,16 +98,16 @@ news-news (c ∷ more) = ap (λ flags. true ∷ flags) (news-news more)
 drops-steps : (k : ℕ → Bool) (f : ℕ → List ℕ) (gap n : ℕ) → drops (steps_from k f gap n) ≡ map (λ index. not (k index)) (range_with_len gap n)
 drops-steps k f gap zero = drops-news (f gap)
 drops-steps k f gap (suc n) =
-    drops-added (f gap) (fate_of (k gap) ∷ steps_from k f (gap + 1) n) ∙ drops-fate (k gap) (steps_from k f (gap + 1) n) ∙
+    drops-added (f gap) (step_of (k gap) ∷ steps_from k f (gap + 1) n) ∙ drops-step (k gap) (steps_from k f (gap + 1) n) ∙
     ap (λ flags. not (k gap) ∷ flags) (drops-steps k f (gap + 1) n)
 
 news-steps : (k : ℕ → Bool) (f : ℕ → List ℕ) (gap n : ℕ) →
     news (steps_from k f gap n) ≡ woven (λ g. replicate (length (f g)) true) (λ index _. false ∷ []) gap (range_with_len gap n)
 news-steps k f gap zero = news-news (f gap)
 news-steps k f gap (suc n) =
-    news-added (f gap) (fate_of (k gap) ∷ steps_from k f (gap + 1) n) ∙
+    news-added (f gap) (step_of (k gap) ∷ steps_from k f (gap + 1) n) ∙
     ap (λ flags. replicate (length (f gap)) true ++ flags)
-    (news-fate (k gap) (steps_from k f (gap + 1) n) ∙ ap (λ flags. false ∷ flags) (news-steps k f (gap + 1) n))
+    (news-step (k gap) (steps_from k f (gap + 1) n) ∙ ap (λ flags. false ∷ flags) (news-steps k f (gap + 1) n))
 
 pub drops-steps_of : (units : UnitDelta) → drops (steps_of units) ≡ dropped_flags units
 drops-steps_of units = drops-steps (unit_keeps units) (unit_adds units) 0 units.base
@@ -207,9 +205,9 @@ pub splitting_room : (dropped inserted : List Bool) (steps part more all : List 
     (length dropped + base_count part ≤ base_count all) × (length inserted + length part ≤ length all)
 splitting_room dropped inserted steps part more all so_far next =
     let drop_len : length dropped + (base_count part + base_count more) ≡ base_count all =
-      rw (← length-drops part, ← length-drops more, ← length-drops all, ← length-append (drops part) (drops more), ← drops-append part more, ← next, ← length-append dropped (drops steps), so_far.drop) refl in
+    rw (← length-drops part, ← length-drops more, ← length-drops all, ← length-append (drops part) (drops more), ← drops-append part more, ← next, ← length-append dropped (drops steps), so_far.drop) refl in
     let new_len : length inserted + (length part + length more) ≡ length all =
-      rw (← length-news part, ← length-news more, ← length-news all, ← length-append (news part) (news more), ← news-append part more, ← next, ← length-append inserted (news steps), so_far.new) refl in
+    rw (← length-news part, ← length-news more, ← length-news all, ← length-append (news part) (news more), ← news-append part more, ← next, ← length-append inserted (news steps), so_far.new) refl in
     (omega arith, omega arith)
 
 -- the steps' characters with those of the text
@@ -229,16 +227,16 @@ union_of-news : (more text : List ℕ) → union_of (map New more) text ≡ more
 union_of-news [] text = refl
 union_of-news (c ∷ more) text = ap (λ t. c ∷ t) (union_of-news more text)
 
-union_of-fate : (b : Bool) (steps : List Step) (c : ℕ) (text : List ℕ) → union_of (fate_of b ∷ steps) (c ∷ text) ≡ c ∷ union_of steps text
-union_of-fate true steps c text = refl
-union_of-fate false steps c text = refl
+union_of-step : (b : Bool) (steps : List Step) (c : ℕ) (text : List ℕ) → union_of (step_of b ∷ steps) (c ∷ text) ≡ c ∷ union_of steps text
+union_of-step true steps c text = refl
+union_of-step false steps c text = refl
 
 union_of-steps : (k : ℕ → Bool) (f : ℕ → List ℕ) (gap : ℕ) (text : List ℕ) → union_of (steps_from k f gap (length text)) text ≡ woven f (λ index c. c ∷ []) gap text
 union_of-steps k f gap [] = union_of-news (f gap) []
 union_of-steps k f gap (c ∷ text) =
-    union_of-added (f gap) (fate_of (k gap) ∷ steps_from k f (gap + 1) (length text)) (c ∷ text) ∙
+    union_of-added (f gap) (step_of (k gap) ∷ steps_from k f (gap + 1) (length text)) (c ∷ text) ∙
     ap (λ t. f gap ++ t)
-    (union_of-fate (k gap) (steps_from k f (gap + 1) (length text)) c text ∙ ap (λ t. c ∷ t) (union_of-steps k f (gap + 1) text))
+    (union_of-step (k gap) (steps_from k f (gap + 1) (length text)) c text ∙ ap (λ t. c ∷ t) (union_of-steps k f (gap + 1) text))
 
 outside_news : (steps : List Step) (text : List ℕ) → base_count steps ≡ length text → items_outside (news steps) (union_of steps text) ≡ text
 outside_news [] [] same = refl
@@ -268,10 +266,10 @@ IsFactored-all units dropped inserted steps none done =
       dropped_is = drop_is ∙ drops-steps_of units;
       inserted_is = new_is ∙ news-steps_of units;
       before = λ text same.
-        rw (new_is, ← union_of-text units text same)
-        (outside_news (steps_of units) text (base_count-steps (unit_keeps units) (unit_adds units) 0 units.base ∙ sym same));
+          rw (new_is, ← union_of-text units text same)
+          (outside_news (steps_of units) text (base_count-steps (unit_keeps units) (unit_adds units) 0 units.base ∙ sym same));
       after = λ text same.
-        rw (drop_is, new_is, ← union_of-text units text same) (outside_dropped (steps_of units) text ∙ outcome-text_after units text (sym same));
+          rw (drop_is, new_is, ← union_of-text units text same) (outside_dropped (steps_of units) text ∙ outcome-text_after units text (sym same));
     }
 
 pub length-steps_of : (units : UnitDelta) → length (steps_of units) ≡ length (inserted_flags units)

@@ -1,20 +1,19 @@
 -- Lemmas on the unit delta between two visible lists of one union.
-use Rattle.std.proofs.Common.{◌≡◌, ◌≢◌, ℕ, zero, suc, true, false, Bool, not, ◌+◌, ◌-◌, ◌<◌, ◌≤◌, List, [], ◌∷◌, ◌++◌, length, take, drop, replicate, append-nil, append_assoc, take-append-drop, refl, ap, sym, ◌∙◌, arith, subst, length-append, length-drop, length-take-le, zero-add, add-zero}
+use Rattle.std.proofs.Common.{◌≡◌, ℕ, zero, suc, true, false, Bool, not, ◌+◌, ◌-◌, ◌<◌, ◌≤◌, List, [], ◌∷◌, ◌++◌, length, take, drop, replicate, append-nil, append_assoc, take-append-drop, refl, ap, sym, ◌∙◌, arith, length-append, length-drop, length-take-le}
 use Rattle.std.proofs.lemmas.List.{length-replicate}
-use Rattle.std.specs.Prelude.{if◌then◌else◌, nat_lt, nat_le, ◌==◌, ◌||◌, ◌&&◌}
+use Rattle.std.specs.Prelude.{if◌then◌else◌, ◌==◌, ◌||◌, ◌&&◌}
 use Rattle.std.proofs.lemmas.Bool.Decides.{nat_tests}
 use Rattle.std.proofs.Math.Bool.{or_assoc}
 use Rattle.xi_plain.specs.declared.delta.UnitDelta.{UnitDelta}
 use Rattle.xi_plain.specs.Woven.{woven}
-use Rattle.xi_plain.specs.Delta.{is_in_runs, applied}
+use Rattle.xi_plain.specs.Delta.{is_in_runs}
 use Rattle.xi_plain.specs.UnitDelta.{IsCanonical, unit_keeps, unit_adds}
 use Rattle.subset_runs.specs.Subset.{contains, complement, items_outside, shrink}
 use Rattle.delta_core.specs.Builder.{run_to}
-use Rattle.delta_core.specs.Units.{text_after}
 use Rattle.delta_core.specs.Synthesis.{appearing, member_from, IsBetween, IsGrown}
 use Rattle.delta_core.proofs.UnitLemmas.{applied-same}
 
--- ---- flags and characters of one fate
+-- ---- flags and characters that are alike alive or dead
 
 shrink_alive : (n : ℕ) (dead : Bool) (before after : List Bool) →
     shrink (complement (replicate n dead ++ after)) (replicate n false ++ before) ≡ replicate n (not dead) ++ shrink (complement after) before
@@ -76,10 +75,10 @@ pub IsGrown-kept : (cs : List ℕ) (old new : UnitDelta) (n : ℕ) → length cs
 IsGrown-kept cs old new n same base kept added = record {
   base = omega arith;
   kept = λ before after index.
-    rw (kept index, shrink_alive (length cs) false before after, member_from-all (length cs) old.base new.base index (shrink (complement after) before) (omega arith), base)
-    (or_assoc (unit_keeps old index) (is_in_runs (run_to old.base (old.base + n) ∷ []) index) (member_from (old.base + n) (shrink (complement after) before) index));
+      rw (kept index, shrink_alive (length cs) false before after, member_from-all (length cs) old.base new.base index (shrink (complement after) before) (omega arith), base)
+      (or_assoc (unit_keeps old index) (is_in_runs (run_to old.base (old.base + n) ∷ []) index) (member_from (old.base + n) (shrink (complement after) before) index));
   added = λ union before after gap.
-    rw (added gap, appearing_alive cs union before after false old.base new.base gap (omega arith)) refl;
+      rw (added gap, appearing_alive cs union before after false old.base new.base gap (omega arith)) refl;
 }
 
 pub IsGrown-passed : (cs : List ℕ) (old new : UnitDelta) (n : ℕ) → length cs ≡ n → new.base ≡ old.base + n →
@@ -87,9 +86,9 @@ pub IsGrown-passed : (cs : List ℕ) (old new : UnitDelta) (n : ℕ) → length 
 IsGrown-passed cs old new n same base kept added = record {
   base = omega arith;
   kept = λ before after index.
-    rw (kept index, shrink_alive (length cs) true before after, member_from-none (length cs) old.base new.base index (shrink (complement after) before) (omega arith)) refl;
+      rw (kept index, shrink_alive (length cs) true before after, member_from-none (length cs) old.base new.base index (shrink (complement after) before) (omega arith)) refl;
   added = λ union before after gap.
-    rw (added gap, appearing_alive cs union before after true old.base new.base gap (omega arith)) refl;
+      rw (added gap, appearing_alive cs union before after true old.base new.base gap (omega arith)) refl;
 }
 
 pub IsGrown-added : (cs : List ℕ) (old new : UnitDelta) → new.base ≡ old.base → ((index : ℕ) → unit_keeps new index ≡ unit_keeps old index) →
@@ -98,8 +97,8 @@ IsGrown-added cs old new base kept added = record {
   base = omega arith;
   kept = λ before after index. rw (kept index, base, shrink_dead (length cs) false before after) refl;
   added = λ union before after gap.
-    rw (added gap, base, appearing_new cs union before after old.base gap)
-    (append_assoc (unit_adds old gap) (if old.base == gap then cs else []) (appearing old.base union before after gap));
+      rw (added gap, base, appearing_new cs union before after old.base gap)
+      (append_assoc (unit_adds old gap) (if old.base == gap then cs else []) (appearing old.base union before after gap));
 }
 
 pub IsGrown-none : (cs : List ℕ) (units : UnitDelta) → IsGrown cs true true units units
@@ -184,7 +183,7 @@ IsReading-next union all_before all_after units new rest front back before after
     let left : length back ≡ length rest - n = ap length back_is ∙ length-drop n rest in
     let whole : front ++ back ≡ rest = rw (front_is, back_is) (take-append-drop n rest) in
     let outside : length (items_outside before rest) ≡ (if dead_before then 0 else n) + length (items_outside own back) =
-      rw (own_is, back_is) (outside_front n dead_before own rest fits) in
+    rw (own_is, back_is) (outside_front n dead_before own rest fits) in
     let base : new.base ≡ units.base + (if dead_before then 0 else n) = grown.base ∙ ap (λ k. units.base + (if dead_before then 0 else k)) width in
     record {
       same_before = omega (arith, reading.same_before);
@@ -192,9 +191,9 @@ IsReading-next union all_before all_after units new rest front back before after
       within = omega (arith, reading.within, if_zero dead_before n);
       base = omega (arith, reading.base, outside, base);
       kept = λ index.
-        grown.kept own other index ∙ rw (width, ← own_is, ← other_is) (reading.kept index);
+          grown.kept own other index ∙ rw (width, ← own_is, ← other_is) (reading.kept index);
       added = λ gap.
-        grown.added back own other gap ∙ rw (width, ← own_is, ← other_is, whole) (reading.added gap);
+          grown.added back own other gap ∙ rw (width, ← own_is, ← other_is, whole) (reading.added gap);
     }
 
 pub reading_room : (union : List ℕ) (all_before all_after : List Bool) (units : UnitDelta) (rest : List ℕ) (before after own : List Bool) (n : ℕ) (dead : Bool) →
@@ -283,21 +282,21 @@ IsBetween-all union all_before all_after units result rest before after reading 
     let no_rest : rest ≡ [] = no_characters rest (omega (arith, reading.same_before, ap length done)) in
     let no_after : after ≡ [] = no_characters after (omega (arith, reading.same_after, ap length no_rest)) in
     let keeps_is : (index : ℕ) → unit_keeps result index ≡ contains (shrink (complement all_after) all_before) index =
-      λ index. kept index ∙ sym (or_false (unit_keeps units index)) ∙
-        ap (λ b. unit_keeps units index || member_from units.base (shrink (complement after) b) index) (sym done) ∙ reading.kept index in
+    λ index. kept index ∙ sym (or_false (unit_keeps units index)) ∙
+    ap (λ b. unit_keeps units index || member_from units.base (shrink (complement after) b) index) (sym done) ∙ reading.kept index in
     let adds_is : (gap : ℕ) → unit_adds result gap ≡ appearing 0 union all_before all_after gap =
-      λ gap. added gap ∙ sym (append-nil (unit_adds units gap)) ∙
-        ap (λ t. unit_adds units gap ++ appearing units.base t before after gap) (sym no_rest) ∙ reading.added gap in
+    λ gap. added gap ∙ sym (append-nil (unit_adds units gap)) ∙
+    ap (λ t. unit_adds units gap ++ appearing units.base t before after gap) (sym no_rest) ∙ reading.added gap in
     record {
       canonical = canonical;
       base = omega (arith, base, reading.base, ap (λ t. length (items_outside before t)) no_rest, none_outside before);
       kept = keeps_is;
       added = adds_is;
       leads =
-        applied-same (unit_keeps result) (member_from 0 (shrink (complement all_after) all_before)) (unit_adds result) (appearing 0 union all_before all_after)
-        (items_outside all_before union)
-        (λ index. keeps_is index ∙ sym (member_from-contains (shrink (complement all_after) all_before) 0 index index (omega arith))) adds_is ∙
-        leads_on union all_before all_after 0 one two;
+          applied-same (unit_keeps result) (member_from 0 (shrink (complement all_after) all_before)) (unit_adds result) (appearing 0 union all_before all_after)
+          (items_outside all_before union)
+          (λ index. keeps_is index ∙ sym (member_from-contains (shrink (complement all_after) all_before) 0 index index (omega arith))) adds_is ∙
+          leads_on union all_before all_after 0 one two;
     }
   where
     none_outside : (flags : List Bool) → length (items_outside {X = ℕ} flags []) ≡ 0

@@ -1,11 +1,8 @@
 -- Lemmas on a delta as it becomes a unit delta, element by element.
-use Rattle.std.proofs.Common.{◌≡◌, ◌≢◌, ℕ, zero, suc, true, false, Bool, not, ◌+◌, ◌-◌, ◌<◌, ◌≤◌, List, Option, Some, None, [], ◌∷◌, ◌++◌, length, drop, get_or, append-nil, append_assoc, refl, ap, sym, ◌∙◌, arith, subst, zero-add}
-use Rattle.std.specs.Prelude.{if◌then◌else◌, nat_lt, ◌==◌, ◌||◌, IsTrue, unwrap_or, is_some, nat_le, ◌&&◌}
-use Rattle.std.specs.Char.{len_utf8}
+use Rattle.std.proofs.Common.{◌≡◌, ℕ, zero, suc, true, false, Bool, not, ◌+◌, ◌≤◌, List, Option, Some, None, [], ◌∷◌, ◌++◌, length, append-nil, append_assoc, refl, ap, sym, ◌∙◌, arith, zero-add}
+use Rattle.std.specs.Prelude.{if◌then◌else◌, nat_lt, ◌==◌, ◌||◌, unwrap_or, is_some, nat_le, ◌&&◌}
 use Rattle.std.proofs.lemmas.Str.{len_utf8_bounds}
 use Rattle.std.proofs.lemmas.Bool.{ltb-false, false≢true}
-use Rattle.std.proofs.lemmas.Bool.Decides.{nat_tests}
-use Rattle.std.proofs.Math.Bool.{or_assoc}
 use Rattle.xi_plain.specs.declared.delta.Run.{Run}
 use Rattle.xi_plain.specs.declared.delta.Misfit.{Misfit}
 use Rattle.xi_plain.specs.declared.delta.El.{El}
@@ -13,12 +10,12 @@ use Rattle.xi_plain.specs.declared.delta.El.TheVariants.{Copy, Insert}
 use Rattle.xi_plain.specs.declared.delta.Delta.{Delta}
 use Rattle.xi_plain.specs.declared.delta.UnitDelta.{UnitDelta}
 use Rattle.xi_plain.specs.Text.{byte_len, gap_at, gap_of, is_place, place_of}
-use Rattle.xi_plain.specs.Delta.{copy_misfit, copies_misfit, or_later, is_in_runs, text_at_gap, kept_runs, insertions, keeps, adds, applied, Fits, misfit_of}
+use Rattle.xi_plain.specs.Delta.{copy_misfit, copies_misfit, or_later, is_in_runs, text_at_gap, kept_runs, insertions, keeps, adds, applied, Fits}
 use Rattle.xi_plain.specs.UnitDelta.{unit_keeps, unit_adds, IsCanonical}
 use Rattle.xi_plain.specs.Woven.{woven}
 use Rattle.delta_core.specs.Builder.{run_to}
-use Rattle.delta_core.specs.Units.{IsPut, IsUnitsOf, text_after}
-use Rattle.delta_core.proofs.PlaceLemmas.{IsPlaced, IsPlaced-from, gap_from-seam, gaps_rise}
+use Rattle.delta_core.specs.Units.{IsPut, IsUnitsOf}
+use Rattle.delta_core.proofs.PlaceLemmas.{IsPlaced-from, gap_from-seam}
 
 if_none : (b : Bool) (misfit : Misfit) (later : Option Misfit) → (if b then Some misfit else later) ≡ None → (b ≡ false) × (later ≡ None)
 if_none true misfit later none = absurd cc
@@ -51,14 +48,16 @@ CopyFits-from text end a b els none =
     let far = if_none (nat_lt (byte_len text) b) _ _ order.1 in
     let one = if_none (not (is_place text a)) _ _ far.1 in
     let other = if_none (not (is_place text b)) _ _ one.1 in
-    let tests = or_none (nat_lt b a) (nat_lt a end) order.0 in
-    (record {
-      after = ltb-false a end tests.1;
-      rises = ltb-false b a tests.0;
-      within = ltb-false (byte_len text) b far.0;
-      start = not_false (is_place text a) one.0;
-      stop = not_false (is_place text b) other.0;
-    }, parts.1)
+    let tests = or_none (nat_lt b a) (nat_lt a end) order.0 in (
+      record {
+        after = ltb-false a end tests.1;
+        rises = ltb-false b a tests.0;
+        within = ltb-false (byte_len text) b far.0;
+        start = not_false (is_place text a) one.0;
+        stop = not_false (is_place text b) other.0;
+      },
+      parts.1,
+    )
 
 gap_le_place : (text : List ℕ) (gap : ℕ) → gap ≤ length text → gap ≤ place_of text gap
 gap_le_place text zero within = omega arith
@@ -83,9 +82,9 @@ IsPut-copy text at a b old passed new n m base good over through passed_base pas
       base = omega arith;
       fits = λ els none. (CopyFits-from text at a b els none).1;
       kept = λ els index.
-        let here : unit_keeps new index ≡ (unit_keeps old index || is_in_runs (run_to (gap_of text a) (gap_of text b) ∷ []) index) =
+          let here : unit_keeps new index ≡ (unit_keeps old index || is_in_runs (run_to (gap_of text a) (gap_of text b) ∷ []) index) =
           rw (← first, ← last, ← passed_kept index) (new_kept index) in
-        ap (λ x. x || is_in_runs (kept_runs text els) index) here ∙ one_run (unit_keeps old index) (gap_of text a) (gap_of text b) (kept_runs text els) index;
+          ap (λ x. x || is_in_runs (kept_runs text els) index) here ∙ one_run (unit_keeps old index) (gap_of text a) (gap_of text b) (kept_runs text els) index;
       added = λ els gap. ap (λ t. t ++ text_at_gap (insertions text (gap_of text b) els) gap) (new_added gap ∙ passed_added gap);
     }
   where
@@ -107,8 +106,8 @@ IsPut-insert text more at old new place base new_base new_kept new_added = recor
   fits = λ els none. none;
   kept = λ els index. ap (λ x. x || is_in_runs (kept_runs text els) index) (new_kept index);
   added = λ els gap.
-    ap (λ t. t ++ text_at_gap (insertions text (gap_of text at) els) gap) (new_added gap ∙ ap (λ k. unit_adds old gap ++ (if k == gap then more else [])) base) ∙
-    append_assoc (unit_adds old gap) (if gap_of text at == gap then more else []) (text_at_gap (insertions text (gap_of text at) els) gap);
+      ap (λ t. t ++ text_at_gap (insertions text (gap_of text at) els) gap) (new_added gap ∙ ap (λ k. unit_adds old gap ++ (if k == gap then more else [])) base) ∙
+      append_assoc (unit_adds old gap) (if gap_of text at == gap then more else []) (text_at_gap (insertions text (gap_of text at) els) gap);
 }
 
 -- ---- the elements so far
@@ -133,9 +132,11 @@ IsReading-start text delta units good base none_kept none_added = record {
     starts : (t : List ℕ) → is_place t 0 ≡ true
     starts [] = refl
     starts (c ∷ t) = refl
+
     start_gap : (t : List ℕ) → gap_of t 0 ≡ 0
     start_gap [] = refl
     start_gap (c ∷ t) = refl
+
     if_fits : (b : Bool) → (if b then copies_misfit text 0 delta.els else Some (record { kind = 1; at = delta.base_len })) ≡ None → copies_misfit text 0 delta.els ≡ None
     if_fits true none = none
     if_fits false none = absurd cc
@@ -191,11 +192,11 @@ pub IsUnitsOf-all : (text : List ℕ) (delta : Delta) (units passed result : Uni
     ((index : ℕ) → unit_keeps result index ≡ unit_keeps passed index) → ((gap : ℕ) → unit_adds result gap ≡ unit_adds passed gap) → IsUnitsOf text delta result
 IsUnitsOf-all text delta units passed result at n rest reading none over p_base p_kept p_added canonical r_base r_kept r_added =
     let kept : (index : ℕ) → unit_keeps result index ≡ keeps text delta index =
-      λ index. r_kept index ∙ p_kept index ∙ sym (or_false (unit_keeps units index)) ∙
-        ap (λ xs. unit_keeps units index || is_in_runs (kept_runs text xs) index) (sym none) ∙ reading.kept index in
+    λ index. r_kept index ∙ p_kept index ∙ sym (or_false (unit_keeps units index)) ∙
+    ap (λ xs. unit_keeps units index || is_in_runs (kept_runs text xs) index) (sym none) ∙ reading.kept index in
     let added : (gap : ℕ) → unit_adds result gap ≡ adds text delta gap =
-      λ gap. r_added gap ∙ p_added gap ∙ sym (append-nil (unit_adds units gap)) ∙
-        ap (λ xs. unit_adds units gap ++ text_at_gap (insertions text (gap_of text at) xs) gap) (sym none) ∙ reading.added gap in
+    λ gap. r_added gap ∙ p_added gap ∙ sym (append-nil (unit_adds units gap)) ∙
+    ap (λ xs. unit_adds units gap ++ text_at_gap (insertions text (gap_of text at) xs) gap) (sym none) ∙ reading.added gap in
     record {
       canonical = canonical;
       base = omega (arith, r_base, p_base, reading.base, over, gap_of-end text);

@@ -1,14 +1,14 @@
 -- Lemmas on the steps of a unit delta, and on a walk over them.
-use Rattle.std.proofs.Common.{◌≡◌, ◌≢◌, ℕ, zero, suc, true, false, Bool, ◌+◌, ◌-◌, ◌<◌, ◌≤◌, List, [], ◌∷◌, ◌++◌, length, get_or, drop, map, replicate, append-nil, append_assoc, refl, ap, sym, ◌∙◌, arith, subst, ⊎_elim}
+use Rattle.std.proofs.Common.{◌≡◌, ◌≢◌, ℕ, zero, suc, true, false, Bool, ◌+◌, ◌-◌, ◌<◌, ◌≤◌, List, [], ◌∷◌, ◌++◌, length, get_or, drop, map, replicate, append_assoc, refl, ap, sym, ◌∙◌, arith, subst, ⊎_elim}
 use Rattle.std.proofs.lemmas.Bool.{cases_lt}
-use Rattle.std.specs.Prelude.{if◌then◌else◌, nat_lt, nat_le, ◌==◌, ◌||◌, ◌&&◌, slice_get, min, Some, IsTrue}
+use Rattle.std.specs.Prelude.{nat_lt, nat_le, ◌==◌, ◌&&◌, slice_get, min, Some, IsTrue}
 use Rattle.std.proofs.lemmas.Bool.Decides.{nat_tests}
 use Rattle.xi_plain.specs.declared.delta.Run.{Run}
 use Rattle.xi_plain.specs.declared.delta.Added.{Added}
 use Rattle.xi_plain.specs.declared.delta.UnitDelta.{UnitDelta}
 use Rattle.xi_plain.specs.Delta.{is_in_runs, text_at_gap}
 use Rattle.xi_plain.specs.UnitDelta.{AreRuns, AreAdds, IsUnitDelta}
-use Rattle.delta_core.specs.Step.{Step, Kept, Dropped, New, fate_of, steps_from, steps_of}
+use Rattle.delta_core.specs.Step.{Step, New, step_of, steps_from, steps_of}
 use Rattle.delta_core.specs.Walk.{Rise, EndsAfter, next_stop, IsAhead, IsRest, IsStretch}
 
 Rise-weaker : (low from : ℕ) (runs : List Run) → low ≤ from → Rise from runs → Rise low runs
@@ -47,9 +47,9 @@ IsRest-next runs [] at d is some past = absurd (omega arith)
 IsRest-next runs (run ∷ rest) at d is some past = record {
   rise = λ r. let all = is.rise r in Rise-weaker 0 run.end rest (omega arith) all.2;
   kept = λ index from.
-    let same = is.kept index from in
-    let out : (nat_le run.start index && nat_lt index run.end) ≡ false = grind (arith, nat_tests) in
-    rw out at same;
+      let same = is.kept index from in
+      let out : (nat_le run.start index && nat_lt index run.end) ≡ false = grind (arith, nat_tests) in
+      rw out at same;
 }
 
 -- ---- the additions
@@ -91,12 +91,12 @@ steps_added : (k : ℕ → Bool) (f f' : ℕ → List ℕ) (text : List ℕ) (ga
 steps_added k f f' text gap zero here later = ap (λ t. map New t) here ∙ map_new-append text (f' gap)
 steps_added k f f' text gap (suc n) here later =
     let rest = steps_from-same k k f f' (gap + 1) n (λ j less. refl) later in
-    rw (here, rest) (ap (λ t. t ++ fate_of (k gap) ∷ steps_from k f' (gap + 1) n) (map_new-append text (f' gap)) ∙
-    append_assoc (map New text) (map New (f' gap)) (fate_of (k gap) ∷ steps_from k f' (gap + 1) n))
+    rw (here, rest) (ap (λ t. t ++ step_of (k gap) ∷ steps_from k f' (gap + 1) n) (map_new-append text (f' gap)) ∙
+    append_assoc (map New text) (map New (f' gap)) (step_of (k gap) ∷ steps_from k f' (gap + 1) n))
 
 pub steps_stretch : (k : ℕ → Bool) (f : ℕ → List ℕ) (b : Bool) (gap n total end rest : ℕ) → total ≡ n + rest → end ≡ gap + n →
     ((j : ℕ) → gap ≤ j → j < end → k j ≡ b) → ((j : ℕ) → gap ≤ j → j < end → f j ≡ []) →
-    steps_from k f gap total ≡ replicate n (fate_of b) ++ steps_from k f end rest
+    steps_from k f gap total ≡ replicate n (step_of b) ++ steps_from k f end rest
 steps_stretch k f b gap zero total end rest all far same none =
     let here : end ≡ gap = omega arith in
     let whole : total ≡ rest = omega arith in
@@ -179,13 +179,13 @@ more_ahead base at kept (added ∷ adds) ahead some none =
 pub stretch_next : (base at end : ℕ) (kept rest : List Run) (adds : List Added) (b : Bool) → IsAhead base at kept adds →
     IsStretch kept at (next_stop base adds) end b → IsRest kept rest end →
     steps_from (is_in_runs kept) (text_at_gap adds) at (base - at) ≡
-    replicate (end - at) (fate_of b) ++ steps_from (is_in_runs rest) (text_at_gap adds) end (base - end)
+    replicate (end - at) (step_of b) ++ steps_from (is_in_runs rest) (text_at_gap adds) end (base - end)
 stretch_next base at end kept rest adds b ahead stretch left =
     let bounds = next_stop-bounds base at adds ahead.reached ahead.adds in
     steps_stretch (is_in_runs kept) (text_at_gap adds) b at (end - at) (base - at) end (base - end)
     (omega (arith, stretch.ahead, stretch.within, bounds.1)) (omega (arith, stretch.ahead)) (λ j low high. stretch.same j low high)
     (λ j low high. no_additions base at j adds ahead.adds (omega (arith, stretch.within))) ∙
-    ap (λ steps. replicate (end - at) (fate_of b) ++ steps)
+    ap (λ steps. replicate (end - at) (step_of b) ++ steps)
     (steps_from-same (is_in_runs kept) (is_in_runs rest) (text_at_gap adds) (text_at_gap adds) end (base - end) (λ j low. sym (left.kept j low)) (λ j low. refl))
 
 pub IsAhead-stretch : (base at end : ℕ) (kept rest : List Run) (adds : List Added) (b : Bool) → IsAhead base at kept adds →
@@ -216,12 +216,12 @@ steps_of-start units rest left =
     let all : units.base - 0 ≡ units.base = omega arith in
     rw all (steps_from-same (is_in_runs rest) (is_in_runs units.kept) (text_at_gap units.added) (text_at_gap units.added) 0 units.base (λ j low. left.kept j low) (λ j low. refl))
 
-
 pub empty_iff : (k : ℕ → Bool) (base at : ℕ) (adds : List Added) (self : List Step) (result : Bool) → AreAdds base at adds →
     steps_from k (text_at_gap adds) at (base - at) ≡ self → result ≡ (length adds == 0) → at ≡ base → (IsTrue result → self ≡ []) × (self ≡ [] → IsTrue result)
-empty_iff k base at adds self result good is test here =
-    (λ yes. sym is ∙ steps_none k adds at (base - at) (omega arith) (no_items adds (sym test ∙ yes)),
-    λ none. test ∙ ap (λ xs. length xs == 0) (steps_some k base adds at (base - at) (omega arith) good (is ∙ none)).1)
+empty_iff k base at adds self result good is test here = (
+  λ yes. sym is ∙ steps_none k adds at (base - at) (omega arith) (no_items adds (sym test ∙ yes)),
+  λ none. test ∙ ap (λ xs. length xs == 0) (steps_some k base adds at (base - at) (omega arith) good (is ∙ none)).1,
+)
   where
     no_items : (xs : List Added) → (length xs == 0) ≡ true → xs ≡ []
     no_items [] e = refl

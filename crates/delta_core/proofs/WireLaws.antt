@@ -1,23 +1,21 @@
 -- The delta of the notices fits, and leads to the same text.
-use Rattle.std.proofs.Common.{◌≡◌, ◌≢◌, ℕ, zero, suc, true, false, Bool, ◌+◌, ◌-◌, ◌<◌, ◌≤◌, List, Some, None, [], ◌∷◌, ◌++◌, length, take, drop, map, replicate, append-nil, append_assoc, refl, ap, sym, ◌∙◌, arith, subst, ⊎_elim, length-append, length-drop, length-take-le, take-append-drop, zero-add}
-use Rattle.std.specs.Prelude.{if◌then◌else◌, nat_lt, nat_le, ◌==◌, ◌||◌, ◌&&◌, not, is_some, unwrap_or}
+use Rattle.std.proofs.Common.{◌≡◌, ◌≢◌, ℕ, zero, suc, true, false, Bool, ◌+◌, ◌-◌, ◌<◌, ◌≤◌, List, None, [], ◌∷◌, ◌++◌, length, take, drop, replicate, append-nil, append_assoc, refl, ap, sym, ◌∙◌, arith, subst, ⊎_elim, length-append, length-drop, zero-add}
+use Rattle.std.specs.Prelude.{if◌then◌else◌, nat_lt, nat_le, ◌==◌, ◌||◌, ◌&&◌, is_some, unwrap_or}
 use Rattle.std.specs.Char.{len_utf8}
 use Rattle.std.proofs.lemmas.Str.{len_utf8_bounds}
 use Rattle.std.proofs.lemmas.Bool.{le-ltb, cases_eq}
 use Rattle.std.proofs.lemmas.Bool.Decides.{nat_tests}
 use Rattle.xi_plain.specs.declared.delta.Run.{Run}
-use Rattle.xi_plain.specs.declared.delta.Added.{Added}
 use Rattle.xi_plain.specs.declared.delta.El.{El}
 use Rattle.xi_plain.specs.declared.delta.El.TheVariants.{Copy, Insert}
 use Rattle.xi_plain.specs.declared.delta.UnitDelta.{UnitDelta}
 use Rattle.xi_plain.specs.Woven.{woven}
-use Rattle.xi_plain.specs.Text.{byte_len, gap_of, is_place, place_of}
-use Rattle.xi_plain.specs.Delta.{copies_misfit, is_in_runs, text_at_gap, kept_runs, insertions, keeps, adds, applied, Fits}
+use Rattle.xi_plain.specs.Text.{byte_len, gap_of, is_place}
+use Rattle.xi_plain.specs.Delta.{copies_misfit, is_in_runs, text_at_gap, kept_runs, insertions, applied, Fits}
 use Rattle.xi_plain.specs.UnitDelta.{unit_keeps, unit_adds}
 use Rattle.delta_core.specs.Builder.{run_to}
 use Rattle.delta_core.specs.Walk.{Rise}
-use Rattle.delta_core.specs.Step.{Step, Kept, Dropped, New, fate_of, steps_from, outcome}
-use Rattle.delta_core.specs.Units.{text_after}
+use Rattle.delta_core.specs.Step.{Step, Kept, Dropped, steps_from, outcome}
 use Rattle.delta_core.specs.Wire.{copy_before, text_before, wire_from, wire_of, IsWireOf}
 use Rattle.delta_core.proofs.PlaceLemmas.{IsPlaced, IsPlaced-from, gap_from-seam, gaps_rise}
 use Rattle.delta_core.proofs.UnitLemmas.{CopyFits, CopyFits-from}
@@ -52,23 +50,23 @@ moved text end a b low good = record { after = low; rises = good.rises; within =
 
 FitFrom-copy : (text : List ℕ) (a b : ℕ) (els : List El) → a ≢ b → CopyFits text a a b → FitFrom text b els → FitFrom text a (copy_before a b els)
 FitFrom-copy text a b [] some good fit = λ end low.
-  rw (copy_before-nil a b some) (CopyFits-to text end a b [] (moved text end a b low good) refl)
+    rw (copy_before-nil a b some) (CopyFits-to text end a b [] (moved text end a b low good) refl)
 FitFrom-copy text a b (Insert more ∷ els) some good fit = λ end low.
-  rw (copy_before-text a b more els some) (CopyFits-to text end a b (Insert more ∷ els) (moved text end a b low good) (fit b (omega arith)))
+    rw (copy_before-text a b more els some) (CopyFits-to text end a b (Insert more ∷ els) (moved text end a b low good) (fit b (omega arith)))
 FitFrom-copy text a b (Copy c d ∷ els) some good fit =
     ⊎_elim (λ (same : b ≡ c). λ (end : ℕ) (low : end ≤ a).
-      let next = CopyFits-from text b b d els (ap (λ k. copies_misfit text b (Copy k d ∷ els)) same ∙ fit b (omega arith)) in
-      ap (λ xs. copies_misfit text end xs) (ap (λ k. copy_before a b (Copy k d ∷ els)) (sym same) ∙ copy_before-touching a b d els some) ∙
-      CopyFits-to text end a d els (record {
-        after = low;
-        rises = omega (arith, good.rises, next.0.rises);
-        within = next.0.within;
-        start = good.start;
-        stop = next.0.stop;
-      }) next.1)
+    let next = CopyFits-from text b b d els (ap (λ k. copies_misfit text b (Copy k d ∷ els)) same ∙ fit b (omega arith)) in
+    ap (λ xs. copies_misfit text end xs) (ap (λ k. copy_before a b (Copy k d ∷ els)) (sym same) ∙ copy_before-touching a b d els some) ∙
+    CopyFits-to text end a d els (record {
+      after = low;
+      rises = omega (arith, good.rises, next.0.rises);
+      within = next.0.within;
+      start = good.start;
+      stop = next.0.stop;
+    }) next.1)
     (λ (apart : b ≢ c). λ (end : ℕ) (low : end ≤ a).
-      ap (λ xs. copies_misfit text end xs) (copy_before-apart a b c d els some apart) ∙
-      CopyFits-to text end a b (Copy c d ∷ els) (moved text end a b low good) (fit b (omega arith))) (cases_eq b c)
+    ap (λ xs. copies_misfit text end xs) (copy_before-apart a b c d els some apart) ∙
+    CopyFits-to text end a b (Copy c d ∷ els) (moved text end a b low good) (fit b (omega arith))) (cases_eq b c)
 
 byte_len-append : (front back : List ℕ) → byte_len (front ++ back) ≡ byte_len front + byte_len back
 byte_len-append [] back = omega arith
@@ -172,12 +170,12 @@ shown-copy text a b [] some good fit = ap (λ xs. shown text xs) (copy_before-ni
 shown-copy text a b (Insert more ∷ els) some good fit = ap (λ xs. shown text xs) (copy_before-text a b more els some)
 shown-copy text a b (Copy c d ∷ els) some good fit =
     ⊎_elim (λ (same : b ≡ c).
-      let next = CopyFits-from text b b d els (ap (λ k. copies_misfit text b (Copy k d ∷ els)) same ∙ fit b (omega arith)) in
-      ap (λ xs. shown text xs) (ap (λ k. copy_before a b (Copy k d ∷ els)) (sym same) ∙ copy_before-touching a b d els some) ∙
-      ap (λ t. t ++ shown text els)
-      (parts_joined text (gap_of text a) (gap_of text b) (gap_of text d) (rises text a b good.start good.stop good.rises) (rises text b d good.stop next.0.stop next.0.rises)) ∙
-      append_assoc (take (gap_of text b - gap_of text a) (drop (gap_of text a) text)) (take (gap_of text d - gap_of text b) (drop (gap_of text b) text)) (shown text els) ∙
-      ap (λ k. take (gap_of text b - gap_of text a) (drop (gap_of text a) text) ++ shown text (Copy k d ∷ els)) same)
+    let next = CopyFits-from text b b d els (ap (λ k. copies_misfit text b (Copy k d ∷ els)) same ∙ fit b (omega arith)) in
+    ap (λ xs. shown text xs) (ap (λ k. copy_before a b (Copy k d ∷ els)) (sym same) ∙ copy_before-touching a b d els some) ∙
+    ap (λ t. t ++ shown text els)
+    (parts_joined text (gap_of text a) (gap_of text b) (gap_of text d) (rises text a b good.start good.stop good.rises) (rises text b d good.stop next.0.stop next.0.rises)) ∙
+    append_assoc (take (gap_of text b - gap_of text a) (drop (gap_of text a) text)) (take (gap_of text d - gap_of text b) (drop (gap_of text b) text)) (shown text els) ∙
+    ap (λ k. take (gap_of text b - gap_of text a) (drop (gap_of text a) text) ++ shown text (Copy k d ∷ els)) same)
     (λ (apart : b ≢ c). ap (λ xs. shown text xs) (copy_before-apart a b c d els some apart)) (cases_eq b c)
 
 one_character : (front back : List ℕ) (c : ℕ) → take 1 (drop (length front) (front ++ c ∷ back)) ≡ c ∷ []
@@ -198,9 +196,9 @@ shown-wire k f text front (c ∷ back) gap at cut =
     let wide = (len_utf8_bounds c).0 in
     let long : length (front ++ c ∷ []) ≡ length front + 1 = length-append front (c ∷ []) in
     let count : gap_of text (at + len_utf8 c) - gap_of text at ≡ 1 =
-      omega (arith, gap_of-cut text front (c ∷ back) at cut, gap_of-cut text (front ++ c ∷ []) back (at + len_utf8 c) next, long) in
+    omega (arith, gap_of-cut text front (c ∷ back) at cut, gap_of-cut text (front ++ c ∷ []) back (at + len_utf8 c) next, long) in
     let one : take (gap_of text (at + len_utf8 c) - gap_of text at) (drop (gap_of text at) text) ≡ c ∷ [] =
-      rw (count, gap_of-cut text front (c ∷ back) at cut) (ap (λ t. take 1 (drop (length front) t)) cut.whole ∙ one_character front back c) in
+    rw (count, gap_of-cut text front (c ∷ back) at cut) (ap (λ t. take 1 (drop (length front) t)) cut.whole ∙ one_character front back c) in
     shown-text text (f gap) _ ∙
     ap (λ t. f gap ++ t)
     (shown-either (k gap) text c at (at + len_utf8 c) (wire_from k f (gap + 1) (at + len_utf8 c) back) (omega arith) (CopyFits-cut text front back c at cut)
@@ -278,15 +276,15 @@ gives_shown text end (Copy a b ∷ els) place fit =
     let len_a : length (drop ga text) ≡ length text - ga = length-drop ga text in
     let len_b : length (drop gb text) ≡ length text - gb = length-drop gb text in
     let first : steps_from K F g (length (drop g text)) ≡ replicate (ga - g) Dropped ++ steps_from K F ga (length (drop ga text)) =
-      steps_stretch K F false g (ga - g) (length (drop g text)) ga (length (drop ga text)) (omega arith) (omega arith)
-      (λ j low high. left_of_run ga gb j runs high ∙ is_in_runs-before gb j runs rise (omega arith))
-      (λ j low high. nothing_before text b j els good.0.stop good.1 (omega arith)) in
+    steps_stretch K F false g (ga - g) (length (drop g text)) ga (length (drop ga text)) (omega arith) (omega arith)
+    (λ j low high. left_of_run ga gb j runs high ∙ is_in_runs-before gb j runs rise (omega arith))
+    (λ j low high. nothing_before text b j els good.0.stop good.1 (omega arith)) in
     let second : steps_from K F ga (length (drop ga text)) ≡ replicate (gb - ga) Kept ++ steps_from K F gb (length (drop gb text)) =
-      steps_stretch K F true ga (gb - ga) (length (drop ga text)) gb (length (drop gb text)) (omega arith) (omega arith)
-      (λ j low high. in_run ga gb j runs low high)
-      (λ j low high. nothing_before text b j els good.0.stop good.1 high) in
+    steps_stretch K F true ga (gb - ga) (length (drop ga text)) gb (length (drop gb text)) (omega arith) (omega arith)
+    (λ j low high. in_run ga gb j runs low high)
+    (λ j low high. nothing_before text b j els good.0.stop good.1 high) in
     let third : steps_from K F gb (length (drop gb text)) ≡ steps_from (is_in_runs runs) F gb (length (drop gb text)) =
-      steps_from-same K (is_in_runs runs) F F gb (length (drop gb text)) (λ j low. right_of_run ga gb j runs low) (λ j low. refl) in
+    steps_from-same K (is_in_runs runs) F F gb (length (drop gb text)) (λ j low. right_of_run ga gb j runs low) (λ j low. refl) in
     ap (λ s. outcome s (drop g text)) first ∙ outcome-dropped (ga - g) _ (drop g text) (omega arith) ∙
     ap (λ t. outcome (steps_from K F ga (length (drop ga text))) t) (drop_sum g (ga - g) ga text (omega arith)) ∙
     ap (λ s. outcome s (drop ga text)) second ∙ outcome-kept (gb - ga) _ (drop ga text) (omega arith) ∙
@@ -311,8 +309,8 @@ IsWireOf-wire_of text units same = record {
   is = refl;
   fits = Fits-wire_of text units;
   leads =
-    applied-shown text (wire_of text units).els (FitFrom-wire (unit_keeps units) (unit_adds units) text [] text 0 0 (IsCut-start text) 0 (omega arith)) ∙
-    shown-wire (unit_keeps units) (unit_adds units) text [] text 0 0 (IsCut-start text);
+      applied-shown text (wire_of text units).els (FitFrom-wire (unit_keeps units) (unit_adds units) text [] text 0 0 (IsCut-start text) 0 (omega arith)) ∙
+      shown-wire (unit_keeps units) (unit_adds units) text [] text 0 0 (IsCut-start text);
 }
 
 pub IsWireOf-all : (w : Gathered) (units : UnitDelta) (at base_len : ℕ) (steps : List Step) (text before : List ℕ) (els : List El) → IsUnitDelta units →

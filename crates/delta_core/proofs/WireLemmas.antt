@@ -1,18 +1,17 @@
 -- Lemmas on the delta of the notices.
-use Rattle.std.proofs.Common.{◌≡◌, ◌≢◌, ℕ, zero, suc, true, false, Bool, ◌+◌, ◌-◌, ◌<◌, ◌≤◌, List, [], ◌∷◌, ◌++◌, length, take, drop, map, replicate, append-nil, append_assoc, length-drop, refl, ap, sym, ◌∙◌, arith, subst, ⊎_elim}
+use Rattle.std.proofs.Common.{◌≡◌, ◌≢◌, ℕ, zero, suc, true, false, Bool, ◌+◌, ◌<◌, ◌≤◌, List, [], ◌∷◌, ◌++◌, length, drop, map, replicate, append-nil, append_assoc, length-drop, refl, ap, sym, ◌∙◌, arith, ⊎_elim}
 use Rattle.std.specs.Prelude.{if◌then◌else◌, ◌==◌}
 use Rattle.std.specs.Char.{len_utf8}
-use Rattle.std.proofs.lemmas.Str.{len_utf8_bounds}
 use Rattle.std.proofs.lemmas.Bool.{cases_eq}
 use Rattle.std.proofs.lemmas.Bool.Decides.{nat_tests}
 use Rattle.xi_plain.specs.declared.delta.El.{El}
 use Rattle.xi_plain.specs.declared.delta.El.TheVariants.{Copy, Insert}
 use Rattle.xi_plain.specs.declared.delta.UnitDelta.{UnitDelta}
 use Rattle.xi_plain.specs.Text.{byte_len, place_of}
-use Rattle.xi_plain.specs.UnitDelta.{IsUnitDelta, unit_keeps, unit_adds}
+use Rattle.xi_plain.specs.UnitDelta.{unit_keeps, unit_adds}
 use Rattle.delta_core.proofs.PlaceLemmas.{place_of-rises_strictly}
-use Rattle.delta_core.specs.Step.{Step, Kept, Dropped, New, fate_of, steps_from, steps_of, base_count}
-use Rattle.delta_core.specs.Wire.{copy_before, text_before, wire_from, wire_of, IsWireOf}
+use Rattle.delta_core.specs.Step.{Step, Kept, Dropped, New, step_of, steps_from, steps_of, base_count}
+use Rattle.delta_core.specs.Wire.{copy_before, text_before, wire_from}
 use Rattle.delta_core.specs.WireBuilder.{Gathered, whole}
 use Rattle.delta_core.proofs.StepLemmas.{base_count-kept, base_count-dropped, base_count-added, base_count-steps}
 
@@ -104,19 +103,19 @@ wire_steps-news : (at : ℕ) (more text : List ℕ) → wire_steps at (map New m
 wire_steps-news at [] text = refl
 wire_steps-news at (c ∷ more) text = ap (λ els. text_before (c ∷ []) els) (wire_steps-news at more text) ∙ text_before-joined (c ∷ []) more []
 
-wire_steps-fate : (at : ℕ) (b : Bool) (steps : List Step) (c : ℕ) (text : List ℕ) →
-    wire_steps at (fate_of b ∷ steps) (c ∷ text) ≡
+wire_steps-step : (at : ℕ) (b : Bool) (steps : List Step) (c : ℕ) (text : List ℕ) →
+    wire_steps at (step_of b ∷ steps) (c ∷ text) ≡
     (if b then copy_before at (at + len_utf8 c) (wire_steps (at + len_utf8 c) steps text) else wire_steps (at + len_utf8 c) steps text)
-wire_steps-fate at true steps c text = refl
-wire_steps-fate at false steps c text = refl
+wire_steps-step at true steps c text = refl
+wire_steps-step at false steps c text = refl
 
 pub wire_steps-from : (k : ℕ → Bool) (f : ℕ → List ℕ) (gap at : ℕ) (text : List ℕ) → wire_steps at (steps_from k f gap (length text)) text ≡ wire_from k f gap at text
 wire_steps-from k f gap at [] = wire_steps-news at (f gap) []
 wire_steps-from k f gap at (c ∷ text) =
     let rest = wire_steps-from k f (gap + 1) (at + len_utf8 c) text in
-    wire_steps-added at (f gap) (fate_of (k gap) ∷ steps_from k f (gap + 1) (length text)) (c ∷ text) ∙
+    wire_steps-added at (f gap) (step_of (k gap) ∷ steps_from k f (gap + 1) (length text)) (c ∷ text) ∙
     ap (λ els. text_before (f gap) els)
-    (wire_steps-fate at (k gap) (steps_from k f (gap + 1) (length text)) c text ∙
+    (wire_steps-step at (k gap) (steps_from k f (gap + 1) (length text)) c text ∙
     ap (λ els. if k gap then copy_before at (at + len_utf8 c) els else els) rest)
 
 -- ---- the delta of the notices, as far as the unit delta was walked
@@ -155,7 +154,7 @@ IsWiring-kept w new at end width n steps more text back before all wiring next b
     let within = wiring_kept n steps more text wiring.room next in
     record {
       so_far = rw back_is (put (wire_steps end more (drop n text)) ∙
-        ap (λ els. whole w els) (sym (ap (λ s. wire_steps at s text) next ∙ wire_steps-kept at end n more text within (omega arith))) ∙ wiring.so_far);
+          ap (λ els. whole w els) (sym (ap (λ s. wire_steps at s text) next ∙ wire_steps-kept at end n more text within (omega arith))) ∙ wiring.so_far);
       room = omega (arith, wiring.room, ap base_count next, base_count-kept n more, ap length back_is, length-drop n text);
       reached = omega (arith, wiring.reached, place_split text n, ap byte_len back_is);
     }

@@ -1,5 +1,5 @@
 -- What a unit delta in the making keeps.
-use Rattle.std.specs.Prelude.{◌≡◌, ℕ, ◌+◌, ◌≤◌, Bool, if◌then◌else◌, nat_lt, List, [], ◌∷◌, ◌++◌}
+use Rattle.std.specs.Prelude.{ℕ, ◌+◌, ◌≤◌, if◌then◌else◌, nat_lt, List, [], ◌∷◌, ◌++◌}
 use Rattle.xi_plain.specs.declared.delta.Run.{Run}
 use Rattle.xi_plain.specs.declared.delta.Added.{Added}
 use Rattle.xi_plain.specs.UnitDelta.{AreAdds, AreApart}

@@ -7,3 +7,4 @@ pub mod Carry
 pub mod Builder
 pub mod Walk
 pub mod WireBuilder
+pub mod Row

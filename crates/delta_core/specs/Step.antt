@@ -1,5 +1,5 @@
 -- A unit delta as steps from the left end of its base to the right.
-use Rattle.std.specs.Prelude.{ℕ, zero, suc, ◌+◌, ◌-◌, Bool, true, false, if◌then◌else◌, List, [], ◌∷◌, ◌++◌, map, replicate}
+use Rattle.std.specs.Prelude.{ℕ, zero, suc, ◌+◌, Bool, true, false, List, [], ◌∷◌, ◌++◌, map, replicate}
 use Rattle.xi_plain.specs.declared.delta.UnitDelta.{UnitDelta}
 use Rattle.xi_plain.specs.UnitDelta.{unit_keeps, unit_adds}
 use Rattle.delta_core.specs.declared.part.Part.{Part}
@@ -12,14 +12,14 @@ pub data Step : Type 0 where
   New : ℕ → Step
 
 -- what becomes of a character of the base
-abbrev pub fate_of : Bool → Step
-fate_of true = Kept
-fate_of false = Dropped
+abbrev pub step_of : Bool → Step
+step_of true = Kept
+step_of false = Dropped
 
 -- the steps from a gap on, where that many characters of the base are right of it
 abbrev pub steps_from : (ℕ → Bool) → (ℕ → List ℕ) → ℕ → ℕ → List Step
 steps_from keeps adds gap zero = map New (adds gap)
-steps_from keeps adds gap (suc n) = map New (adds gap) ++ fate_of (keeps gap) ∷ steps_from keeps adds (gap + 1) n
+steps_from keeps adds gap (suc n) = map New (adds gap) ++ step_of (keeps gap) ∷ steps_from keeps adds (gap + 1) n
 
 -- the steps of a unit delta
 abbrev pub steps_of : UnitDelta → List Step

@@ -1,5 +1,5 @@
 -- The unit delta between two visible lists of one union.
-use Rattle.std.specs.Prelude.{◌≡◌, ℕ, ◌+◌, Bool, true, false, not, ◌&&◌, ◌||◌, if◌then◌else◌, ◌==◌, List, [], ◌∷◌, ◌++◌, length, replicate}
+use Rattle.std.specs.Prelude.{◌≡◌, ℕ, ◌+◌, Bool, true, false, ◌&&◌, ◌||◌, if◌then◌else◌, ◌==◌, List, [], ◌∷◌, ◌++◌, length, replicate}
 use Rattle.xi_plain.specs.declared.delta.UnitDelta.{UnitDelta}
 use Rattle.xi_plain.specs.UnitDelta.{IsCanonical, unit_keeps, unit_adds}
 use Rattle.subset_runs.specs.Subset.{contains, complement, items_outside, shrink}
@@ -28,7 +28,7 @@ abbrev pub member_from : ℕ → List Bool → ℕ → Bool
 member_from at [] index = false
 member_from at (flag ∷ flags) index = (flag && at == index) || member_from (at + 1) flags index
 
--- characters of one fate were put into a unit delta in the making: what it comes to with the rest of a union is as before
+-- characters that are alike alive or dead were put into a unit delta in the making: what it comes to with the rest of a union is as before
 pub record IsGrown (characters : List ℕ) (dead_before dead_after : Bool) (old new : UnitDelta) : Type 0 where
   pub base : new.base ≡ old.base + (if dead_before then 0 else length characters)
   pub kept : (before after : List Bool) (index : ℕ) →

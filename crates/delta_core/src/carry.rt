@@ -16,7 +16,12 @@ enum Turn {
 
 /// The insertions `ins` into a base in the coordinates that hold the insertions `later` into it too. At one gap `ins` goes after
 /// `later` exactly where `after`. This costs the runs of the two.
-pub fn carry_ins(alloc: Global, ins: &Subset, later: &Subset, after: bool) -> Result<Subset, NoMemory>
+pub fn carry_ins(
+    alloc: Global,
+    ins: &Subset,
+    later: &Subset,
+    after: bool,
+) -> Result<Subset, NoMemory>
     requires base { length ins.now + count later.now ≡ length later.now + count ins.now }
     requires bound { length ins.now + count later.now < 2 ^ 64 }
     ensures { IfOk result (IsCarried after ins.now later.now) }

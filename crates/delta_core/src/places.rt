@@ -31,7 +31,6 @@ pub(crate) fn split_at_gap(text: &str, gap: u64) -> (&str, &str)
     ensures bytes { length result.0.now ≡ place_of (chars text.now) gap }
 {
     text.split_at(place_in(text, gap))
-
 }
 
 // How many bytes the first `gap` characters take.

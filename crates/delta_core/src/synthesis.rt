@@ -8,9 +8,9 @@ use std::alloc::Global;
 use subset_runs::{Subset, Walk};
 use xi_plain::{NoMemory, Text, UnitDelta};
 
-// Some characters in a row of a union, with one fate.
+// Some characters in a row of a union that are alike alive or dead.
 #[derive(Clone, Copy)]
-struct Fate {
+struct Block {
     len: u64,
     dead_before: bool,
     dead_after: bool,
@@ -18,7 +18,12 @@ struct Fate {
 
 /// The unit delta from the characters of the union that are alive before to those that are alive after. This costs the bytes of the
 /// union and the runs of the two subsets.
-pub fn synthesize(alloc: Global, union: &Text, dead_before: &Subset, dead_after: &Subset) -> Result<UnitDelta, NoMemory>
+pub fn synthesize(
+    alloc: Global,
+    union: &Text,
+    dead_before: &Subset,
+    dead_after: &Subset,
+) -> Result<UnitDelta, NoMemory>
     requires before { length union.now ≡ length dead_before.now }
     requires after { length union.now ≡ length dead_after.now }
     ensures { IfOk result (IsBetween union.now dead_before.now dead_after.now) }
@@ -28,15 +33,15 @@ pub fn synthesize(alloc: Global, union: &Text, dead_before: &Subset, dead_after:
     let mut before = dead_before.walk();
     let mut after = dead_after.walk();
     while !before.is_empty() {
-        let fate = next_fate(&mut before, &mut after);
-        let (front, back) = split_at_gap(rest, fate.len);
-        put_characters(&mut units, front, fate)?;
+        let block = next_block(&mut before, &mut after);
+        let (front, back) = split_at_gap(rest, block.len);
+        put_characters(&mut units, front, block)?;
         rest = back;
     }
     Ok(units.into_units()?)
 }
 
-fn next_fate(before: &mut Walk, after: &mut Walk) -> Fate
+fn next_block(before: &mut Walk, after: &mut Walk) -> Block
     requires more { before.old ≢ [] }
     requires same_length { length before.old ≡ length after.old }
     ensures before { before.old ≡ replicate result.len result.dead_before ++ before.new }
@@ -48,26 +53,26 @@ fn next_fate(before: &mut Walk, after: &mut Walk) -> Fate
     let len = first.len.min(second.len);
     before.skip(len);
     after.skip(len);
-    Fate {
+    Block {
         len,
         dead_before: first.member,
         dead_after: second.member,
     }
 }
 
-// Goes over characters of the union that have one fate.
-fn put_characters(units: &mut UnitBuilder, characters: &str, fate: Fate) -> Result<(), NoMemory>
-    requires all { length (chars characters.now) ≡ fate.len }
-    requires room { units.old.base + fate.len < 2 ^ 64 }
-    ensures { OnOk result (IsGrown (chars characters.now) fate.dead_before fate.dead_after units.old units.new) }
+// Goes over characters of the union that are alike alive or dead.
+fn put_characters(units: &mut UnitBuilder, characters: &str, block: Block) -> Result<(), NoMemory>
+    requires all { length (chars characters.now) ≡ block.len }
+    requires room { units.old.base + block.len < 2 ^ 64 }
+    ensures { OnOk result (IsGrown (chars characters.now) block.dead_before block.dead_after units.old units.new) }
 {
-    match (fate.dead_before, fate.dead_after) {
+    match (block.dead_before, block.dead_after) {
         (false, false) => {
-            units.keep(fate.len)?;
+            units.keep(block.len)?;
             Ok(())
         }
         (false, true) => {
-            units.pass(fate.len)?;
+            units.pass(block.len)?;
             Ok(())
         }
         (true, false) => {

@@ -1,17 +1,45 @@
+ghost use Rattle.std.specs.Prelude.{◌≡◌, IfOk};
+ghost use Rattle.delta_core.specs.Row.{edit_of_abc};
+
 use crate::{apply, carry_ins, factor, fits, synthesize, to_units, to_wire};
 use std::alloc::Global;
 use std::test::Fail;
 use subset_runs::Subset;
 use xi_plain::{Added, Adds, Delta, El, Els, Misfit, NoMemory, Run, Runs, Text, UnitDelta};
 
-// An element of a row: a copy, or an insertion with a copy that is not there.
+// An element of a row: a copy, or an insertion of one of the texts.
 #[derive(Clone, Copy)]
 enum Row {
     Copy(u64, u64),
-    Insert(&'static str),
+    Insert(Word),
+}
+
+// A text of a row.
+#[derive(Clone, Copy)]
+enum Word {
+    Empty,
+    X,
+    Y,
+    Z,
+    XY,
+    YZ,
 }
 
 use Row::{Copy, Insert};
+
+fn text_of(alloc: Global, word: Word) -> Result<Text, NoMemory> {
+    Text::from_str(
+        alloc,
+        match word {
+            Word::Empty => "",
+            Word::X => "X",
+            Word::Y => "Y",
+            Word::Z => "Z",
+            Word::XY => "XY",
+            Word::YZ => "YZ",
+        },
+    )
+}
 
 fn delta(alloc: Global, base_len: u64, rows: &[Row]) -> Result<Delta, NoMemory> {
     let mut els = Els::new(alloc);
@@ -19,7 +47,7 @@ fn delta(alloc: Global, base_len: u64, rows: &[Row]) -> Result<Delta, NoMemory> 
         els.push(match row {
             Copy(a, b) => El::Copy { a: *a, b: *b },
             Insert(text) => El::Insert {
-                text: Text::from_str(alloc, text)?,
+                text: text_of(alloc, *text)?,
             },
         })?;
     }
@@ -30,7 +58,7 @@ fn units(
     alloc: Global,
     base: u64,
     runs: &[(u64, u64)],
-    additions: &[(u64, &str)],
+    additions: &[(u64, Word)],
 ) -> Result<UnitDelta, NoMemory> {
     let mut kept = Runs::new(alloc);
     for run in runs {
@@ -43,7 +71,7 @@ fn units(
     for addition in additions {
         added.push(Added {
             gap: addition.0,
-            text: Text::from_str(alloc, addition.1)?,
+            text: text_of(alloc, addition.1)?,
         })?;
     }
     Ok(UnitDelta { base, kept, added })
@@ -55,49 +83,86 @@ fn a_delta_in_all_its_forms(rt: HostRuntime) -> Result<(), Fail> {
     for (text, els, runs, additions, wire, after) in [
         (
             "abc",
-            [Copy(0, 1), Insert("X"), Copy(2, 3)].as_slice(),
+            [Copy(0, 1), Insert(Word::X), Copy(2, 3)].as_slice(),
             [(0, 1), (2, 3)].as_slice(),
-            [(1, "X")].as_slice(),
-            [Copy(0, 1), Insert("X"), Copy(2, 3)].as_slice(),
+            [(1, Word::X)].as_slice(),
+            [Copy(0, 1), Insert(Word::X), Copy(2, 3)].as_slice(),
             "aXc",
         ),
         // An empty copy fixes a gap inside a deleted range; the wire has no trace of it.
         (
             "aébc",
-            [Copy(0, 1), Copy(3, 3), Insert("X"), Copy(4, 5)].as_slice(),
+            [Copy(0, 1), Copy(3, 3), Insert(Word::X), Copy(4, 5)].as_slice(),
             [(0, 1), (3, 4)].as_slice(),
-            [(2, "X")].as_slice(),
-            [Copy(0, 1), Insert("X"), Copy(4, 5)].as_slice(),
+            [(2, Word::X)].as_slice(),
+            [Copy(0, 1), Insert(Word::X), Copy(4, 5)].as_slice(),
             "aXc",
         ),
         // Insertions before any copy, several at one gap, empty ones, and copies that touch.
         (
             "a𝄞b",
-            [Insert("X"), Insert(""), Insert("Y"), Copy(0, 1), Insert(""), Copy(1, 5), Insert("Z")].as_slice(),
+            [
+                Insert(Word::X),
+                Insert(Word::Empty),
+                Insert(Word::Y),
+                Copy(0, 1),
+                Insert(Word::Empty),
+                Copy(1, 5),
+                Insert(Word::Z),
+            ]
+            .as_slice(),
             [(0, 2)].as_slice(),
-            [(0, "XY"), (2, "Z")].as_slice(),
-            [Insert("XY"), Copy(0, 5), Insert("Z")].as_slice(),
+            [(0, Word::XY), (2, Word::Z)].as_slice(),
+            [Insert(Word::XY), Copy(0, 5), Insert(Word::Z)].as_slice(),
             "XYa𝄞Z",
         ),
         // An insertion between two kept neighbours parts them on the wire, and insertions round a dropped character are one.
         (
             "abcd",
-            [Copy(0, 1), Insert("X"), Copy(1, 2), Insert("Y"), Copy(3, 3), Insert("Z"), Copy(3, 4)].as_slice(),
+            [
+                Copy(0, 1),
+                Insert(Word::X),
+                Copy(1, 2),
+                Insert(Word::Y),
+                Copy(3, 3),
+                Insert(Word::Z),
+                Copy(3, 4),
+            ]
+            .as_slice(),
             [(0, 2), (3, 4)].as_slice(),
-            [(1, "X"), (2, "Y"), (3, "Z")].as_slice(),
-            [Copy(0, 1), Insert("X"), Copy(1, 2), Insert("YZ"), Copy(3, 4)].as_slice(),
+            [(1, Word::X), (2, Word::Y), (3, Word::Z)].as_slice(),
+            [
+                Copy(0, 1),
+                Insert(Word::X),
+                Copy(1, 2),
+                Insert(Word::YZ),
+                Copy(3, 4),
+            ]
+            .as_slice(),
             "aXbYZd",
         ),
-        ("", [].as_slice(), [].as_slice(), [].as_slice(), [].as_slice(), ""),
-        ("ab", [].as_slice(), [].as_slice(), [].as_slice(), [].as_slice(), ""),
+        (
+            "ab",
+            [].as_slice(),
+            [].as_slice(),
+            [].as_slice(),
+            [].as_slice(),
+            "",
+        ),
     ] {
         let text = Text::from_str(alloc, text)?;
         let given = delta(alloc, text.byte_len(), els)?;
         assert_eq!(rt; fits(&text, &given), Ok(()));
         let in_units = to_units(alloc, &text, &given)?;
         assert_eq!(rt; in_units, units(alloc, text.len(), runs, additions)?);
-        assert_eq!(rt; to_wire(alloc, &text, &in_units)?, delta(alloc, text.byte_len(), wire)?);
-        assert_eq!(rt; apply(alloc, &text, &in_units)?, Text::from_str(alloc, after)?);
+        assert_eq!(rt;
+            to_wire(alloc, &text, &in_units)?,
+            delta(alloc, text.byte_len(), wire)?
+        );
+        assert_eq!(rt;
+            apply(alloc, &text, &in_units)?,
+            Text::from_str(alloc, after)?
+        );
     }
     Ok(())
 }
@@ -112,7 +177,13 @@ fn misfits_come_in_their_order(rt: HostRuntime) -> Result<(), Fail> {
         ("aé", 3, [Copy(0, 4)].as_slice(), 3, 4),
         ("aé", 3, [Copy(2, 4)].as_slice(), 3, 4),
         ("aé", 3, [Copy(0, 2)].as_slice(), 4, 2),
-        ("aé", 3, [Copy(0, 1), Insert("X"), Copy(2, 2), Copy(9, 0)].as_slice(), 4, 2),
+        (
+            "aé",
+            3,
+            [Copy(0, 1), Insert(Word::X), Copy(2, 2), Copy(9, 0)].as_slice(),
+            4,
+            2,
+        ),
         ("€", 3, [Copy(1, 2)].as_slice(), 4, 1),
         ("€", 3, [Copy(0, 2)].as_slice(), 4, 2),
         ("a𝄞", 5, [Copy(1, 2)].as_slice(), 4, 2),
@@ -120,28 +191,67 @@ fn misfits_come_in_their_order(rt: HostRuntime) -> Result<(), Fail> {
         ("a𝄞", 5, [Copy(4, 4)].as_slice(), 4, 4),
     ] {
         let text = Text::from_str(alloc, text)?;
-        assert_eq!(rt; fits(&text, &delta(alloc, base_len, els)?), Err(Misfit { kind, at }));
+        assert_eq!(rt;
+            fits(&text, &delta(alloc, base_len, els)?),
+            Err(Misfit { kind, at })
+        );
     }
     Ok(())
 }
 
+// The edit of `abc` that has `X` in the place of `b`.
+fn edit_of_abc(alloc: Global) -> Result<UnitDelta, NoMemory>
+    ensures { IfOk result (λ units. units ≡ edit_of_abc) }
+{
+    let mut kept = Runs::new(alloc);
+    kept.push(Run { start: 0, end: 1 })?;
+    kept.push(Run { start: 2, end: 3 })?;
+    let mut text = Text::new(alloc);
+    text.push('X')?;
+    let mut added = Adds::new(alloc);
+    added.push(Added { gap: 1, text })?;
+    Ok(UnitDelta {
+        base: 3,
+        kept,
+        added,
+    })
+}
+
 #[test]
-fn subsets_of_a_delta(rt: HostRuntime) -> Result<(), Fail> {
+fn a_unit_delta_as_two_subsets(rt: HostRuntime) -> Result<(), Fail> {
     let alloc = rt.alloc();
-    let (dropped, inserted) = factor(alloc, &units(alloc, 3, &[(0, 1), (2, 3)], &[(1, "X")])?)?;
+    let (dropped, inserted) = factor(alloc, &edit_of_abc(alloc)?)?;
     assert_eq!(rt; (dropped.len(), dropped.runs()), (3, [(1, 2)].as_slice()));
     assert_eq!(rt; (inserted.len(), inserted.runs()), (4, [(1, 2)].as_slice()));
+    Ok(())
+}
+
+#[test]
+fn two_subsets_as_a_unit_delta(rt: HostRuntime) -> Result<(), Fail> {
+    let alloc = rt.alloc();
     for (union, before, after, runs, additions) in [
-        ("abc", (1, 2), (2, 3), [(0, 1)].as_slice(), [(1, "b")].as_slice()),
-        ("aébc", (0, 2), (3, 4), [(0, 1)].as_slice(), [(0, "aé")].as_slice()),
+        (
+            "XYZ",
+            (1, 2),
+            (2, 3),
+            [(0, 1)].as_slice(),
+            [(1, Word::Y)].as_slice(),
+        ),
+        (
+            "XYéb",
+            (0, 2),
+            (3, 4),
+            [(0, 1)].as_slice(),
+            [(0, Word::XY)].as_slice(),
+        ),
         ("abc", (1, 2), (1, 2), [(0, 2)].as_slice(), [].as_slice()),
     ] {
         let union = Text::from_str(alloc, union)?;
         let before = Subset::of_ranges(alloc, union.len(), &[before])?;
         let after = Subset::of_ranges(alloc, union.len(), &[after])?;
-        let base = before.len() - before.count();
         let made = synthesize(alloc, &union, &before, &after)?;
-        assert_eq!(rt; made, units(alloc, base, runs, additions)?);
+        assert_eq!(rt; made.base, union.len().saturating_sub(before.count()));
+        assert_eq!(rt; made, units(alloc, made.base, runs, additions)?);
     }
     Ok(())
 }
@@ -159,6 +269,10 @@ fn ties_go_by_after(rt: HostRuntime) -> Result<(), Fail> {
     ] {
         let ins = Subset::of_ranges(alloc, ins.0, &[(ins.1, ins.2)])?;
         let later = Subset::of_ranges(alloc, later.0, &[(later.1, later.2)])?;
+        let (long, more) = (ins.len(), later.count());
+        let (other, some) = (later.len(), ins.count());
+        assert!(rt; long < 10 && more < 10 && other < 10 && some < 10);
+        assert!(rt; long + more == other + some);
         let carried = carry_ins(alloc, &ins, &later, after)?;
         assert_eq!(rt; (carried.len(), carried.runs()), (len, runs));
     }

@@ -80,13 +80,13 @@ impl UnitBuilder {
         if n == 0 {
             return Ok(());
         }
-        let gap = self.base;
+        let end = self.base;
         let start = self.from;
         let text = mem::replace(&mut self.here, Text::new(self.alloc));
         self.base += n;
         self.from = self.base;
-        push_run(&mut self.kept, start, gap)?;
-        push_added(&mut self.added, gap, text)
+        push_run(&mut self.kept, start, end)?;
+        push_added(&mut self.added, end, text)
     }
 
     // Adds a text at the end of the base so far.

@@ -1,4 +1,3 @@
-use Rattle.std.proofs.Common.{ap, sym, ◌∙◌}
 use Rattle.delta_core.proofs.StepLemmas.{IsMaking-start, IsMaking-kept, IsMaking-dropped, IsMaking-added, room_kept, room_dropped}
 use Rattle.delta_core.proofs.application.apply.Goals as goal
 
@@ -14,8 +13,8 @@ split_at_gap-requires c = room_kept _ _ _ _ c.in-Keep.n _ c.loop-rest.invariant.
 pub loop-rest-preserved-in-Keep : goal.loop-rest-preserved-in-Keep
 loop-rest-preserved-in-Keep c = record {
   making =
-    IsMaking-kept c.loop-rest.made _ c.loop-rest.walk _ _ _ _ c.in-Keep.n _ c.loop-rest.invariant.making c.in-Keep.ensures.next c.split_at_gap.ensures.front
-    c.split_at_gap.ensures.back c.in_ok-push_str-in-Keep.ensures.pushed;
+      IsMaking-kept c.loop-rest.made _ c.loop-rest.walk _ _ _ _ c.in-Keep.n _ c.loop-rest.invariant.making c.in-Keep.ensures.next c.split_at_gap.ensures.front
+      c.split_at_gap.ensures.back c.in_ok-push_str-in-Keep.ensures.pushed;
   utf8 = c.split_at_gap.ensures.utf8;
 }
 
@@ -25,15 +24,15 @@ split_at_gap-requires-in-Drop c = room_dropped _ _ _ _ c.in-Drop.n _ c.loop-rest
 pub loop-rest-preserved-in-Drop : goal.loop-rest-preserved-in-Drop
 loop-rest-preserved-in-Drop c = record {
   making =
-    IsMaking-dropped c.loop-rest.made c.loop-rest.walk _ _ _ c.in-Drop.n _ c.loop-rest.invariant.making c.in-Drop.ensures.next
-    c.split_at_gap-in-Drop.ensures.back;
+      IsMaking-dropped c.loop-rest.made c.loop-rest.walk _ _ _ c.in-Drop.n _ c.loop-rest.invariant.making c.in-Drop.ensures.next
+      c.split_at_gap-in-Drop.ensures.back;
   utf8 = c.split_at_gap-in-Drop.ensures.utf8;
 }
 
 pub loop-rest-preserved : goal.loop-rest-preserved
 loop-rest-preserved c = record {
   making =
-    IsMaking-added c.loop-rest.made _ c.loop-rest.walk _ _ c.in-Add.added.now _ c.loop-rest.invariant.making c.in-Add.ensures.next
-    c.in_ok-push_text-in-Add.ensures.pushed;
+      IsMaking-added c.loop-rest.made _ c.loop-rest.walk _ _ c.in-Add.added.now _ c.loop-rest.invariant.making c.in-Add.ensures.next
+      c.in_ok-push_text-in-Add.ensures.pushed;
   utf8 = c.loop-rest.invariant.utf8;
 }

@@ -1,4 +1,3 @@
-use Rattle.std.proofs.Common.{◌≡◌, []}
 use Rattle.delta_core.proofs.CarryLemmas.{IsCarried-all}
 use Rattle.delta_core.proofs.carry.carry_ins.Goals as goal
 

@@ -1,7 +1,6 @@
-use Rattle.std.proofs.Common.{ap, sym, ◌∙◌, ◌++◌, List, Bool, arith}
-use Rattle.xi_plain.specs.UnitDelta.{unit_keeps, unit_adds}
+use Rattle.std.proofs.Common.{arith}
 use Rattle.delta_core.specs.Step.{part_steps, steps_of}
-use Rattle.delta_core.proofs.StepLemmas.{IsSplitting-next, splitting_room, IsFactored-all, length-steps_of, base_count-le_length, drops-steps_of}
+use Rattle.delta_core.proofs.StepLemmas.{IsSplitting-next, splitting_room, IsFactored-all, length-steps_of, base_count-le_length}
 use Rattle.delta_core.proofs.factoring.factor.Goals as goal
 
 pub put_part-requires-clause-base_room : goal.put_part-requires-clause-base_room

@@ -11,11 +11,11 @@ returns-in_ok-add-in-true-false c =
 pub returns-in_ok-pass-in-false-true : goal.returns-in_ok-pass-in-false-true
 returns-in_ok-pass-in-false-true c =
     rw (c.in-false-true.is-0, c.in-false-true.is-1)
-    (IsGrown-passed _ _ _ c.args.fate.len c.requires.all c.in_ok-pass-in-false-true.ensures.base c.in_ok-pass-in-false-true.ensures.kept
+    (IsGrown-passed _ _ _ c.args.block.len c.requires.all c.in_ok-pass-in-false-true.ensures.base c.in_ok-pass-in-false-true.ensures.kept
     c.in_ok-pass-in-false-true.ensures.added)
 
 pub returns-in_ok-keep-in-false-false : goal.returns-in_ok-keep-in-false-false
 returns-in_ok-keep-in-false-false c =
     rw (c.in-false-false.is-0, c.in-false-false.is-1)
-    (IsGrown-kept _ _ _ c.args.fate.len c.requires.all c.in_ok-keep-in-false-false.ensures.base c.in_ok-keep-in-false-false.ensures.kept
+    (IsGrown-kept _ _ _ c.args.block.len c.requires.all c.in_ok-keep-in-false-false.ensures.base c.in_ok-keep-in-false-false.ensures.kept
     c.in_ok-keep-in-false-false.ensures.added)

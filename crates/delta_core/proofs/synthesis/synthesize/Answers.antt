@@ -4,17 +4,17 @@ use Rattle.delta_core.proofs.synthesis.synthesize.Goals as goal
 pub loop-rest-init : goal.loop-rest-init
 loop-rest-init c = record {
   reading =
-    IsReading-start _ _ _ _ _ _ c.new-units.result c.requires.before c.requires.after c.as_str-rest.ensures.characters c.walk-before.ensures.all c.walk-after.ensures.all
-    c.new-units.ensures.base c.new-units.ensures.kept c.new-units.ensures.added;
+      IsReading-start _ _ _ _ _ _ c.new-units.result c.requires.before c.requires.after c.as_str-rest.ensures.characters c.walk-before.ensures.all c.walk-after.ensures.all
+      c.new-units.ensures.base c.new-units.ensures.kept c.new-units.ensures.added;
   utf8 = c.as_str-rest.utf8;
 }
 
 pub loop-rest-preserved : goal.loop-rest-preserved
 loop-rest-preserved c = record {
   reading =
-    IsReading-next _ _ _ c.loop-rest.units c.put_characters.new.units _ _ _ c.loop-rest.before c.loop-rest.after _ _ c.next_fate-fate.result.len
-    c.next_fate-fate.result.dead_before c.next_fate-fate.result.dead_after c.loop-rest.invariant.reading c.next_fate-fate.ensures.before
-    c.next_fate-fate.ensures.after c.split_at_gap.ensures.front c.split_at_gap.ensures.back c.in_ok-put_characters.ensures;
+      IsReading-next _ _ _ c.loop-rest.units c.put_characters.new.units _ _ _ c.loop-rest.before c.loop-rest.after _ _ c.next_block-block.result.len
+      c.next_block-block.result.dead_before c.next_block-block.result.dead_after c.loop-rest.invariant.reading c.next_block-block.ensures.before
+      c.next_block-block.ensures.after c.split_at_gap.ensures.front c.split_at_gap.ensures.back c.in_ok-put_characters.ensures;
   utf8 = c.split_at_gap.ensures.utf8;
 }
 

@@ -1,5 +1,5 @@
-use Rattle.std.proofs.Common.{◌≡◌, ◌≤◌, ◌+◌, ℕ, [], drop, length, ap, true, arith, sym, subst, refl}
-use Rattle.xi_plain.specs.Text.{byte_len, gap_of, is_place}
+use Rattle.std.proofs.Common.{◌≡◌, ◌+◌, ℕ, [], drop, length, ap, true, arith, sym, subst}
+use Rattle.xi_plain.specs.Text.{gap_of, is_place}
 use Rattle.std.proofs.lemmas.List.{drop_all}
 use Rattle.delta_core.proofs.UnitLemmas.{IsReading-start, IsUnitsOf-all, place_within, is_place-end, gap_of-le}
 use Rattle.delta_core.proofs.unit_form.to_units.Goals as goal
@@ -25,7 +25,7 @@ returns c =
     let text = c.args.text.now in
     let delta = c.args.delta.now in
     let done : drop c.loop-el.el-index delta.els ≡ [] =
-      drop_all c.loop-el.el-index delta.els (omega (arith, c.loop-el-test.false, ap length c.as_slice-el-items.ensures)) in
+    drop_all c.loop-el.el-index delta.els (omega (arith, c.loop-el-test.false, ap length c.as_slice-el-items.ensures)) in
     IsUnitsOf-all text delta c.loop-el.units c.pass.new.self c.in_ok-into_units.field-0 c.loop-el.at c.gaps_between.result _ c.loop-el.invariant done
     (subst (λ (k : ℕ). gap_of text c.loop-el.at + c.gaps_between.result ≡ gap_of text k) c.byte_len.ensures c.gaps_between.ensures) c.in_ok-pass.ensures.base
     c.in_ok-pass.ensures.kept c.in_ok-pass.ensures.added c.in_ok-into_units.ensures.canonical c.in_ok-into_units.ensures.base c.in_ok-into_units.ensures.kept

@@ -1,5 +1,4 @@
-use Rattle.std.proofs.Common.{◌<◌, Bor, sym, subst}
-use Rattle.xi_plain.specs.declared.delta.Run.{Run}
+use Rattle.std.proofs.Common.{sym}
 use Rattle.delta_core.proofs.WalkLemmas.{IsStretch-gap}
 use Rattle.delta_core.proofs.unit_walk.next_stretch.Goals as goal
 

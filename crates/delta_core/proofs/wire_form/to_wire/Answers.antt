@@ -1,5 +1,5 @@
-use Rattle.std.proofs.Common.{ap, sym, refl, ◌∙◌, arith}
-use Rattle.delta_core.proofs.WireLemmas.{IsWiring-start, IsWiring-kept, IsWiring-dropped, IsWiring-added, wiring_kept, wiring_dropped, wiring_bound, wiring_ahead}
+use Rattle.std.proofs.Common.{refl, arith}
+use Rattle.delta_core.proofs.WireLemmas.{IsWiring-start, IsWiring-kept, IsWiring-dropped, IsWiring-added, wiring_kept, wiring_dropped, wiring_bound}
 use Rattle.delta_core.proofs.WireLaws.{IsWireOf-all}
 use Rattle.delta_core.proofs.wire_form.to_wire.Goals as goal
 
@@ -18,8 +18,8 @@ overflow_add-end c = omega (arith, wiring_bound _ _ _ _ _ _ c.in-Keep.n _ c.loop
 pub loop-rest-preserved-in-Keep : goal.loop-rest-preserved-in-Keep
 loop-rest-preserved-in-Keep c = record {
   wiring =
-    IsWiring-kept c.loop-rest.wire _ c.loop-rest.at _ _ c.in-Keep.n c.loop-rest.walk _ _ _ _ _ c.loop-rest.invariant.wiring c.in-Keep.ensures.next
-    c.split_at_gap.ensures.back c.split_at_gap.ensures.bytes refl c.in_ok-keep-in-Keep.ensures;
+      IsWiring-kept c.loop-rest.wire _ c.loop-rest.at _ _ c.in-Keep.n c.loop-rest.walk _ _ _ _ _ c.loop-rest.invariant.wiring c.in-Keep.ensures.next
+      c.split_at_gap.ensures.back c.split_at_gap.ensures.bytes refl c.in_ok-keep-in-Keep.ensures;
   utf8 = c.split_at_gap.ensures.utf8;
 }
 
@@ -32,16 +32,16 @@ overflow_add-at c = omega (arith, wiring_bound _ _ _ _ _ _ c.in-Drop.n _ c.loop-
 pub loop-rest-preserved-in-Drop : goal.loop-rest-preserved-in-Drop
 loop-rest-preserved-in-Drop c = record {
   wiring =
-    IsWiring-dropped c.loop-rest.wire c.loop-rest.at _ _ c.in-Drop.n c.loop-rest.walk _ _ _ _ _ c.loop-rest.invariant.wiring c.in-Drop.ensures.next
-    c.split_at_gap-in-Drop.ensures.back c.split_at_gap-in-Drop.ensures.bytes refl;
+      IsWiring-dropped c.loop-rest.wire c.loop-rest.at _ _ c.in-Drop.n c.loop-rest.walk _ _ _ _ _ c.loop-rest.invariant.wiring c.in-Drop.ensures.next
+      c.split_at_gap-in-Drop.ensures.back c.split_at_gap-in-Drop.ensures.bytes refl;
   utf8 = c.split_at_gap-in-Drop.ensures.utf8;
 }
 
 pub loop-rest-preserved : goal.loop-rest-preserved
 loop-rest-preserved c = record {
   wiring =
-    IsWiring-added c.loop-rest.wire _ c.loop-rest.at c.loop-rest.walk _ c.in-Add.text.now _ _ _ c.loop-rest.invariant.wiring c.in-Add.ensures.next
-    c.in_ok-add-in-Add.ensures;
+      IsWiring-added c.loop-rest.wire _ c.loop-rest.at c.loop-rest.walk _ c.in-Add.text.now _ _ _ c.loop-rest.invariant.wiring c.in-Add.ensures.next
+      c.in_ok-add-in-Add.ensures;
   utf8 = c.loop-rest.invariant.utf8;
 }
 

@@ -1,6 +1,6 @@
 use Rattle.std.proofs.Common.{◌≡◌, ◌-◌, ◌++◌, ℕ, Bool, List, drop, replicate, sym, ap, subst, ◌∙◌}
 use Rattle.std.proofs.lemmas.List.{take_rest}
-use Rattle.delta_core.specs.Step.{Step, fate_of, part_steps, steps_from}
+use Rattle.delta_core.specs.Step.{Step, step_of, part_steps, steps_from}
 use Rattle.xi_plain.specs.Delta.{is_in_runs, text_at_gap}
 use Rattle.delta_core.specs.Walk.{IsStretch}
 use Rattle.delta_core.proofs.WalkLemmas.{added_next, stretch_next}
@@ -21,11 +21,11 @@ returns-after-kept-clause-next c =
     let kept = c.next_stretch-kept.result.0 in
     let rest = c.runs_after-self-inside.result.now in
     let stretch = subst (λ (stop : ℕ). IsStretch w.kept.now w.at stop end kept) c.next_gap.ensures c.next_stretch-kept.ensures in
-    let part : part_steps c.if-kept.result ≡ replicate (end - w.at) (fate_of kept) =
-      elim c.if-kept.branch [
-        | then-kept b ↦ ap part_steps b.result-is ∙ ap (λ (x : Bool). replicate (end - w.at) (fate_of x)) (sym b.if-kept.true)
-        | else-kept b ↦ ap part_steps b.result-is ∙ ap (λ (x : Bool). replicate (end - w.at) (fate_of x)) (sym b.if-kept.false)
-      ] in
+    let part : part_steps c.if-kept.result ≡ replicate (end - w.at) (step_of kept) =
+    elim c.if-kept.branch [
+      | then-kept b ↦ ap part_steps b.result-is ∙ ap (λ (x : Bool). replicate (end - w.at) (step_of x)) (sym b.if-kept.true)
+      | else-kept b ↦ ap part_steps b.result-is ∙ ap (λ (x : Bool). replicate (end - w.at) (step_of x)) (sym b.if-kept.false)
+    ] in
     sym c.self.view_is ∙
     stretch_next w.base w.at end w.kept.now rest w.added.now kept c.self.invariant stretch c.runs_after-self-inside.ensures.rest ∙
     ap (λ (steps : List Step). steps ++ steps_from (is_in_runs rest) (text_at_gap w.added.now) end (w.base - end)) (sym part)

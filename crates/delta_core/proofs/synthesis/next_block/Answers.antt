@@ -1,6 +1,6 @@
 use Rattle.std.proofs.Common.{List, Bool, ◌++◌, replicate, arith, sym, ap, ◌∙◌}
 use Rattle.subset_runs.proofs.StretchLemmas.{front_part}
-use Rattle.delta_core.proofs.synthesis.next_fate.Goals as goal
+use Rattle.delta_core.proofs.synthesis.next_block.Goals as goal
 
 pub returns-clause-before : goal.returns-clause-before
 returns-clause-before c =

@@ -1,0 +1,8 @@
+-- A worked row.
+use Rattle.std.specs.Prelude.{[], ◌∷◌}
+use Rattle.xi_plain.specs.declared.delta.UnitDelta.{UnitDelta}
+use Rattle.delta_core.specs.Builder.{run_to}
+
+-- the edit of `abc` that has `X` in the place of `b`
+abbrev pub edit_of_abc : UnitDelta
+edit_of_abc = record { base = 3; kept = run_to 0 1 ∷ run_to 2 3 ∷ []; added = (record { gap = 1; text = 88 ∷ [] }) ∷ [] }
