@@ -1,15 +1,14 @@
 -- What is dead before and after edits, as flags.
-use Rattle.std.proofs.Common.{◌≡◌, ℕ, ◌+◌, ◌<◌, ◌≤◌, Bool, true, false, not, ◌||◌, ◌&&◌, List, [], ◌∷◌, ◌++◌, length, take, drop, map, get_or, refl, ap, sym, ◌∙◌, arith, suc-add}
+use Rattle.std.proofs.Common.{◌≡◌, ℕ, ◌+◌, ◌<◌, ◌≤◌, Bool, true, false, not, ◌||◌, ◌&&◌, List, [], ◌∷◌, ◌++◌, length, take, drop, get_or, refl, ap, sym, ◌∙◌, arith, suc-add}
 use Rattle.std.specs.Prelude.{suc, zero, replicate}
 use Rattle.std.specs.List.{fold}
 use Rattle.std.proofs.lemmas.List.{length-replicate}
 use Rattle.std.proofs.lemmas.List.Sums.{fold_more}
-use Rattle.std.proofs.lemmas.Grind.{common_steps}
-use Rattle.subset_runs.specs.Subset.{count, at_each, union, minus, expand_as, expand, expand_in, shrink, items_outside}
+use Rattle.subset_runs.specs.Subset.{count, union, minus, expand, shrink}
 use Rattle.subset_runs.proofs.TransformLaws.{length-at_each, items_outside-expand_as}
 use Rattle.subset_runs.proofs.RenumberingLemmas.{length-expand_as}
 use Rattle.rev_list.specs.declared.edit.RevEdit.{RevEdit}
-use Rattle.rev_list.specs.Kept.{AreInTurn, dead_after, dead_later, hidden_by, hidden_by_each, HoldsEdits}
+use Rattle.rev_list.specs.Kept.{AreInTurn, dead_after, hidden_by, hidden_by_each, HoldsEdits}
 
 pub length-dead_after : (dead : List Bool) (e : RevEdit) → length e.deleted ≡ length e.inserted → length (dead_after dead e) ≡ length e.inserted
 length-dead_after dead e h =

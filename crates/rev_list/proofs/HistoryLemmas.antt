@@ -1,21 +1,21 @@
 -- What edits hide, from one revision to the next.
-use Rattle.std.proofs.Common.{◌≡◌, ℕ, ◌+◌, ◌<◌, ◌≤◌, Bool, true, false, not, List, [], ◌∷◌, ◌++◌, length, take, drop, map, get_or, Option, Some, None, refl, ap, sym, ◌∙◌, subst, arith, length-append, suc-add}
+use Rattle.std.proofs.Common.{◌≡◌, ℕ, ◌+◌, ◌<◌, ◌≤◌, Bool, true, false, not, List, [], ◌∷◌, ◌++◌, length, take, drop, map, Some, refl, ap, sym, ◌∙◌, subst, arith, length-append, suc-add}
 use Rattle.std.specs.Prelude.{suc, zero, replicate, ◌==◌, slice_get}
-use Rattle.std.specs.List.{fold, filter, AllByRecursion}
+use Rattle.std.specs.List.{fold, AllByRecursion}
 use Rattle.std.proofs.lemmas.List.{length-map, length-drop, length-replicate, take_all}
 use Rattle.std.proofs.lemmas.List.Sums.{fold-append}
 use Rattle.std.proofs.lemmas.Option.{slice_get_past}
 use Rattle.subset_runs.specs.Subset.{count, union, expand, expand_in, expand_as}
 use Rattle.xi_plain.specs.Numbers.{has}
-use Rattle.xi_plain.specs.History.{Tagged, Revision, History, head, loaded, revision_at, undone, is_visible, IsTaggedBy, IsSound}
+use Rattle.xi_plain.specs.History.{Tagged, Revision, History, head, loaded, revision_at, undone, IsTaggedBy, IsSound}
 use Rattle.xi_plain.specs.Edits.{deleted_by}
 use Rattle.rev_list.specs.declared.edit.RevEdit.{RevEdit}
 use Rattle.rev_list.specs.declared.edit.ReadyEdit.{ReadyEdit}
 use Rattle.rev_list.specs.Edit.{revision_of, new_by, with_new, with_deleted, after_edit, MayPush}
-use Rattle.rev_list.specs.Hidden.{is_hidden, hidden_at, is_there, union_at, hidden_then, insertions_of, deletions_of, IsEditAt, AreEditsAfter}
+use Rattle.rev_list.specs.Hidden.{is_hidden, hidden_at, union_at, hidden_then, insertions_of, deletions_of, IsEditAt, AreEditsAfter}
 use Rattle.rev_list.specs.Kept.{AreInTurn, dead_after, dead_later, hidden_by, history_of, HoldsEdits, IsReady}
-use Rattle.rev_list.proofs.FlagLemmas.{length-dead_after, AreInTurn-append, hidden_by_each-append}
-use Rattle.rev_list.proofs.TagLemmas.{undone_after-edit, is_seen, is_visible-seen, seen_new_before, seen_new_now, seen_deleted_before, has_deleted_before, inserted_now}
+use Rattle.rev_list.proofs.FlagLemmas.{AreInTurn-append, hidden_by_each-append}
+use Rattle.rev_list.proofs.TagLemmas.{undone_after-edit, is_visible-seen, seen_new_before, seen_new_now, seen_deleted_before, has_deleted_before, inserted_now}
 use Rattle.rev_list.proofs.StepLemmas.{length-with_new, map-with_new, map-with_deleted_same, filter-with_deleted_same, filter-with_new, filter-there, tagged_later, tagged-with_new, tagged-with_deleted, is_unseen, unseen-with_deleted, unseen_next, none_inserted_later, expand_in_none, none_deleted_by, deletions-with_deleted}
 
 -- a history without undos

@@ -1,15 +1,15 @@
 -- What one more edit does to the characters, item by item.
-use Rattle.std.proofs.Common.{◌≡◌, ℕ, ◌+◌, ◌<◌, ◌≤◌, Bool, true, false, not, cond, ◌||◌, ◌&&◌, List, [], ◌∷◌, ◌++◌, length, map, refl, ap, sym, ◌∙◌, arith}
-use Rattle.std.specs.Prelude.{suc, zero, replicate, nat_le, ◌==◌}
+use Rattle.std.proofs.Common.{◌≡◌, ℕ, ◌+◌, ◌<◌, ◌≤◌, Bool, true, false, not, cond, ◌||◌, List, [], ◌∷◌, ◌++◌, length, map, refl, ap, sym, ◌∙◌, arith}
+use Rattle.std.specs.Prelude.{suc, zero, replicate, ◌==◌}
 use Rattle.std.specs.List.{filter, AllByRecursion}
-use Rattle.subset_runs.specs.Subset.{count, at_each, union, expand_as, expand, expand_in}
+use Rattle.subset_runs.specs.Subset.{count, union, expand_as}
 use Rattle.subset_runs.proofs.FlagLemmas.{count_le_length}
 use Rattle.xi_plain.specs.Numbers.{has}
 use Rattle.xi_plain.specs.History.{Tagged, IsTaggedBy}
 use Rattle.xi_plain.specs.Edits.{deleted_by}
 use Rattle.rev_list.specs.Edit.{new_by, with_new, with_deleted}
 use Rattle.rev_list.specs.Hidden.{is_there}
-use Rattle.rev_list.proofs.TagLemmas.{is_seen, there_new_before, there_by, seen_new_before, seen_new_now, seen_deleted_before, seen_deleted_now, seen_next, not_inserted_later, inserted_now, has_deleted_now, has_deleted_before, has_no_later}
+use Rattle.rev_list.proofs.TagLemmas.{is_seen, there_new_before, there_by, seen_deleted_now, seen_next, not_inserted_later, has_deleted_now, has_no_later}
 
 pub length-with_new : {X : Type 0} (new : X) (xs : List X) (by : List Bool) → length by ≡ length xs + count by → length (with_new new xs by) ≡ length by
 length-with_new new [] [] h = refl

@@ -1,12 +1,12 @@
 -- The edit step of a history of characters, in positions.
-use Rattle.std.proofs.Common.{◌≡◌, ℕ, ◌+◌, Bool, true, false, cond, List, [], ◌∷◌, ◌++◌, length, map, refl, ap, sym, ◌∙◌, arith, length-append, append_assoc}
-use Rattle.std.specs.Prelude.{suc, zero, replicate, ◌==◌, if◌then◌else◌}
+use Rattle.std.proofs.Common.{◌≡◌, ℕ, ◌+◌, Bool, true, false, List, [], ◌∷◌, ◌++◌, length, map, refl, ap, sym, ◌∙◌, arith, length-append}
+use Rattle.std.specs.Prelude.{replicate, ◌==◌, if◌then◌else◌}
 use Rattle.std.specs.List.{flat_map, range_with_len}
 use Rattle.std.proofs.lemmas.List.{map-append, length-map, replicate-append-replicate}
 use Rattle.subset_runs.specs.Subset.{count}
 use Rattle.subset_runs.proofs.FlagLemmas.{count-append}
 use Rattle.xi_plain.specs.Woven.{woven}
-use Rattle.xi_plain.specs.History.{Tagged, History, head, is_visible}
+use Rattle.xi_plain.specs.History.{Tagged, History, head}
 use Rattle.xi_plain.specs.Place.{insertion_place}
 use Rattle.xi_plain.specs.Edits.{PlainEdit, gap_count, inserted_at, is_dropped_by, deleted_by, edited}
 use Rattle.rev_list.specs.Edit.{new_by, with_new, with_deleted, after_edit}

@@ -1,5 +1,5 @@
 -- The history of positions behind a history of characters, and the edit of positions behind an edit of text.
-use Rattle.std.specs.Prelude.{ℕ, ◌+◌, Bool, true, false, List, [], ◌∷◌, map}
+use Rattle.std.specs.Prelude.{Bool, true, false, List, [], ◌∷◌, map}
 use Rattle.xi_plain.specs.Woven.{woven}
 use Rattle.xi_plain.specs.History.{Tagged, History}
 use Rattle.xi_plain.specs.Edits.{PlainEdit, inserted_at, is_dropped_by}

@@ -1,4 +1,4 @@
-use Rattle.std.proofs.Common.{arith, ap, sym, ◌∙◌}
+use Rattle.std.proofs.Common.{sym, ◌∙◌}
 use Rattle.rev_list.proofs.HistoryLemmas.{hidden_head-history_of}
 use Rattle.rev_list.proofs.list.RevList.dead.Goals as goal
 

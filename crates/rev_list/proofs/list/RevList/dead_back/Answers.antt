@@ -1,9 +1,9 @@
-use Rattle.std.proofs.Common.{◌≡◌, ◌<◌, ◌≤◌, ◌-◌, ◌+◌, List, Bool, false, length, take, arith, sym, ap, ◌∙◌}
+use Rattle.std.proofs.Common.{◌≡◌, ◌-◌, false, length, arith, sym, ap, ◌∙◌}
 use Rattle.std.proofs.lemmas.List.{take_all}
 use Rattle.std.specs.Prelude.{replicate}
 use Rattle.std.specs.List.{fold}
 use Rattle.rev_list.specs.Kept.{dead_after}
-use Rattle.rev_list.proofs.FlagLemmas.{IsBack, back_at, length-hidden}
+use Rattle.rev_list.proofs.FlagLemmas.{back_at, length-hidden}
 use Rattle.rev_list.proofs.HistoryLemmas.{head-history_of, hidden_then-history_of}
 use Rattle.rev_list.proofs.list.RevList.dead_back.Goals as goal
 

@@ -1,9 +1,4 @@
-use Rattle.std.proofs.Common.{◌≡◌, ◌≤◌, List, length, drop, take, false, arith, ap, sym, ◌∙◌}
-use Rattle.std.specs.Prelude.{replicate}
-use Rattle.std.specs.List.{fold}
-use Rattle.std.proofs.lemmas.Result.{IfOk-weaker}
-use Rattle.rev_list.specs.Kept.{AreInTurn, dead_after, dead_later}
-use Rattle.rev_list.specs.Hidden.{hidden_at}
+use Rattle.std.proofs.Common.{◌≤◌, length, arith, ap, ◌∙◌}
 use Rattle.rev_list.proofs.FlagLemmas.{turns_loaded_from}
 use Rattle.rev_list.proofs.HistoryLemmas.{head-history_of, hidden_then-history_of, hidden_at-history_of}
 use Rattle.rev_list.proofs.list.RevList.dead_forward.Goals as goal

@@ -1,7 +1,5 @@
-use Rattle.std.proofs.Common.{◌≡◌, ◌<◌, ◌≤◌, ◌-◌, length, arith, sym}
+use Rattle.std.proofs.Common.{◌<◌, ◌-◌, length, arith}
 use Rattle.std.proofs.lemmas.Option.{slice_get_read}
-use Rattle.xi_plain.specs.History.{head}
-use Rattle.rev_list.specs.Kept.{history_of}
 use Rattle.rev_list.proofs.HistoryLemmas.{head-history_of, IsEditAt-history_of}
 use Rattle.rev_list.proofs.list.RevList.edit.Goals as goal
 

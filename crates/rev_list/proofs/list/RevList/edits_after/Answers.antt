@@ -1,4 +1,4 @@
-use Rattle.std.proofs.Common.{arith, ap, sym, ◌∙◌, drop}
+use Rattle.std.proofs.Common.{arith, ap, ◌∙◌, drop}
 use Rattle.rev_list.proofs.HistoryLemmas.{head-history_of, AreEditsAfter-history_of}
 use Rattle.rev_list.proofs.list.RevList.edits_after.Goals as goal
 

@@ -1,5 +1,4 @@
-use Rattle.std.proofs.Common.{arith, ap, sym, ◌∙◌}
-use Rattle.xi_plain.specs.History.{head}
+use Rattle.std.proofs.Common.{arith}
 use Rattle.rev_list.proofs.HistoryLemmas.{head-history_of}
 use Rattle.rev_list.proofs.list.RevList.head.Goals as goal
 

@@ -1,4 +1,4 @@
-use Rattle.std.proofs.Common.{◌≡◌, arith, sym, ap, ◌∙◌}
+use Rattle.std.proofs.Common.{arith}
 use Rattle.rev_list.proofs.HistoryLemmas.{head-history_of, HoldsEdits-after_edit}
 use Rattle.rev_list.proofs.list.RevList.put.Goals as goal
 

@@ -1,4 +1,4 @@
-use Rattle.std.proofs.Common.{◌≡◌, length, arith, sym, ap, ◌∙◌}
+use Rattle.std.proofs.Common.{length, arith, ap}
 use Rattle.rev_list.proofs.HistoryLemmas.{length-history_of, IsReady-made}
 use Rattle.rev_list.proofs.list.RevList.ready_edit.Goals as goal
 

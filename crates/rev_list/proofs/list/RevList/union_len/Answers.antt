@@ -1,4 +1,4 @@
-use Rattle.std.proofs.Common.{length, arith, ap, sym, ◌∙◌}
+use Rattle.std.proofs.Common.{length, ap, sym, ◌∙◌}
 use Rattle.rev_list.proofs.HistoryLemmas.{length-history_of}
 use Rattle.rev_list.proofs.list.RevList.union_len.Goals as goal
 
