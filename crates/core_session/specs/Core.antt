@@ -99,6 +99,7 @@ pub record BreaksOff {K : Type 0} (held : K → Option (List ℕ)) (faults : K �
   pub entry : journal_of new ≡ journal_of old ++ front_entry command false ∷ []
   pub part : n < length (piece_after (journal_of old) command)
   pub gains : Gains (held (sink_of old)) (held (sink_of new)) (take n (piece_after (journal_of old) command))
+  pub faults_stay : faults (sink_of old) ≤ faults (sink_of new)
   pub rose : Rose (faults (sink_of old)) (faults (sink_of new))
 
 -- nothing changed
