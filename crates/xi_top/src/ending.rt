@@ -1,0 +1,16 @@
+/// How a run ended.
+#[derive(Clone, Copy, Debug, PartialEq, Eq)]
+pub enum Ending {
+    /// The input was read to its end.
+    Finished,
+    /// There was no memory for a line.
+    NoMemory,
+    /// The source failed.
+    SourceFault,
+    /// The sink failed.
+    SinkFault,
+    /// As many lines were taken as a run takes.
+    TooMany,
+    /// A line had as many bytes without LF as none may have.
+    TooLong,
+}

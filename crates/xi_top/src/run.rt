@@ -1,0 +1,101 @@
+ghost use Rattle.std.specs.Prelude.{◌≡◌, ◌↔◌, [], IsTrue, codes};
+ghost use Rattle.xi_top.specs.Ending.{status_of};
+ghost use Rattle.xi_top.specs.Run.{RunsAlone, IsAlone, told_by};
+
+use crate::ending::Ending;
+use crate::serve::serve;
+use core_session::Core;
+use outside::{Sink, Source};
+use std::alloc::Global;
+use xi_plain::{Entry, Text};
+
+/// What a run came to.
+#[derive(Drop)]
+pub struct Report<K> {
+    /// 0 where the input was read to its end; 2 where the words are not the one word `alone`, and nothing was read or written; 3 for
+    /// want of memory; 4 where the source failed, and 5 where the sink failed; 6 where 2^40 lines were taken; 7 where a line had
+    /// 2^24 bytes without LF.
+    pub status: u8,
+    /// The entries, of which the last is the closing entry; empty with status 2, and where the core was never made.
+    pub journal: Vec<Entry>,
+    pub sink: K,
+}
+
+/// Does what the program does: with the one word `alone` it is [`run_alone`].
+pub fn xi_main<S: Source, K: Sink>(
+    alloc: Global,
+    words: &[Text],
+    source: &mut S,
+    sink: K,
+) -> Report<K>
+    ensures alone { IsAlone words.now → RunsAlone
+        (told_by S.left S.faults K.held K.faults source.old sink)
+        (told_by S.left S.faults K.held K.faults source.new result.sink)
+        result.journal.items result.status }
+    ensures other { (IsAlone words.now → ⊥)
+        → (result.journal.items ≡ []) × (result.sink ≡ sink) × (source.new ≡ source.old) }
+    ensures usage { (result.status ≡ 2) ↔ (IsAlone words.now → ⊥) }
+{
+    if is_alone(words) {
+        return run_alone(alloc, source, sink);
+    }
+    Report {
+        status: 2,
+        journal: Vec::new(alloc),
+        sink,
+    }
+}
+
+fn is_alone(words: &[Text]) -> bool
+    ensures { IsTrue result ↔ IsAlone words.now }
+{
+    match words {
+        [word] => is_alone_word(word),
+        _ => false,
+    }
+}
+
+fn is_alone_word(word: &Text) -> bool
+    ensures { IsTrue result ↔ (word.now ≡ codes "alone") }
+{
+    word.as_str() == "alone"
+}
+
+/// Serves one front end on the calling thread, from its first byte to the closing entry.
+pub fn run_alone<S: Source, K: Sink>(alloc: Global, source: &mut S, sink: K) -> Report<K>
+    ensures headline { RunsAlone
+        (told_by S.left S.faults K.held K.faults source.old sink)
+        (told_by S.left S.faults K.held K.faults source.new result.sink)
+        result.journal.items result.status }
+{
+    match Core::make(alloc, sink) {
+        Ok(mut core) => {
+            let ending = serve(alloc, source, &mut core);
+            core.close_down();
+            let (journal, sink) = core.into_parts();
+            Report {
+                status: status_of(ending),
+                journal,
+                sink,
+            }
+        }
+        Err(sink) => Report {
+            status: 3,
+            journal: Vec::new(alloc),
+            sink,
+        },
+    }
+}
+
+fn status_of(ending: Ending) -> u8
+    ensures { result ≡ status_of ending }
+{
+    match ending {
+        Ending::Finished => 0,
+        Ending::NoMemory => 3,
+        Ending::SourceFault => 4,
+        Ending::SinkFault => 5,
+        Ending::TooMany => 6,
+        Ending::TooLong => 7,
+    }
+}

@@ -1,0 +1,33 @@
+ghost use Rattle.std.specs.Prelude.{◌≡◌, []};
+ghost use Rattle.core_session.specs.Core.{IsServing, journal_of};
+ghost use Rattle.xi_top.specs.Intake.{IsServed};
+
+use crate::ending::Ending;
+use crate::feed::Intake;
+use core_session::Core;
+use outside::{Pulled, Sink, Source};
+use std::alloc::Global;
+
+/// How many bytes a read may give.
+const BUFFER: usize = 4096;
+
+/// Takes lines from the source until it ends, or the run does.
+pub fn serve<S: Source, K: Sink>(alloc: Global, source: &mut S, core: &mut Core<K>) -> Ending
+    requires serving { IsServing core.old }
+    requires empty { journal_of core.old ≡ [] }
+    ensures { IsServed S.left S.faults K.held K.faults source.old source.new core.old core.new result }
+{
+    let mut buffer = [0; BUFFER];
+    let mut intake = Intake::new(alloc);
+    loop {
+        match source.read(&mut buffer) {
+            Pulled::Failed => return Ending::SourceFault,
+            Pulled::End => return intake.finish(alloc, core),
+            Pulled::Got(n) => {
+                if let Some(ending) = intake.feed(alloc, core, &buffer[..n]) {
+                    return ending;
+                }
+            }
+        }
+    }
+}
