@@ -1,0 +1,63 @@
+ghost use Rattle.std.specs.Prelude.{◌≡◌, ◌↔◌, [], ◌∷◌, IsTrue, IfOk, codes};
+
+use std::alloc::Global;
+use std::rt::Env;
+use std::{env, io};
+use xi_plain::{Listed, NoMemory, Text, Texts};
+
+/// What the words ask of the program.
+#[derive(Clone, Copy, Debug, PartialEq, Eq)]
+pub enum Invocation {
+    Help,
+    Version,
+    Run,
+}
+
+/// The words after the program's name; one empty word where they can't be read as text.
+pub fn words<R: Env + AllocGlobal>(rt: &R) -> Result<Texts, NoMemory> {
+    match env::args(rt) {
+        Ok(args) => after_name(rt.alloc(), args),
+        Err(error) if error.kind() == io::ErrorKind::InvalidData => one_empty(rt.alloc()),
+        Err(_) => Err(NoMemory),
+    }
+}
+
+fn after_name(alloc: Global, args: env::Args) -> Result<Texts, NoMemory> {
+    let mut words = Listed::new(alloc);
+    for word in args.skip(1) {
+        words.push(Text::from_string(word))?;
+    }
+    Ok(words)
+}
+
+fn one_empty(alloc: Global) -> Result<Texts, NoMemory>
+    ensures { IfOk result (λ words. words ≡ [] ∷ []) }
+{
+    let mut words = Listed::new(alloc);
+    words.push(Text::new(alloc))?;
+    Ok(words)
+}
+
+/// Whether the only word asks for help or for the version.
+pub fn invocation_of(words: &[Text]) -> Invocation
+    ensures help { (result ≡ Invocation.Help) ↔ (words.now ≡ codes "--help" ∷ []) }
+    ensures version { (result ≡ Invocation.Version) ↔ (words.now ≡ codes "--version" ∷ []) }
+{
+    match words {
+        [word] if is_help(word) => Invocation::Help,
+        [word] if is_version(word) => Invocation::Version,
+        _ => Invocation::Run,
+    }
+}
+
+fn is_help(word: &Text) -> bool
+    ensures { IsTrue result ↔ (word.now ≡ codes "--help") }
+{
+    word.as_str() == "--help"
+}
+
+fn is_version(word: &Text) -> bool
+    ensures { IsTrue result ↔ (word.now ≡ codes "--version") }
+{
+    word.as_str() == "--version"
+}
