@@ -1,6 +1,8 @@
 //! The program: the core of the xi editor over standard input and output.
 #![tactic(auto)]
 
+#[cfg(test)]
+mod tests;
 mod words;
 
 use crate::words::{Invocation, invocation_of, words};

@@ -139,6 +139,7 @@ pub record IsKept (old new : Begun) (bytes : List ℕ) : Type 0 where
   pub count : new.count ≡ old.count
   pub room : length (old.bytes ++ bytes) < too_long
 
+-- the bytes were put after those of the line that was begun, or the run ended
 abbrev pub Keeps : Begun → Begun → List ℕ → Option Ending → Type 0
 Keeps old new bytes outcome = MatchOption outcome (IsKept old new bytes) (λ ending. KeepsNot (old.bytes ++ bytes) ending)
 
@@ -155,7 +156,9 @@ abbrev pub HasNoEnd : List ℕ → Type 0
 HasNoEnd bytes = AllByRecursion (λ b. b ≡ 10 → ⊥) bytes
 
 -- a source was served from here to where the run stopped
-pub record IsServed {S K : Type 0} (left : S → Option (List ℕ)) (source_faults : S → ℕ) (held : K → Option (List ℕ)) (sink_faults : K → ℕ) (before after : S) (old new : Core K) (ending : Ending) : Type 0 where
+pub record IsServed {S K : Type 0} (left : S → Option (List ℕ)) (source_faults : S → ℕ)
+    (held : K → Option (List ℕ)) (sink_faults : K → ℕ)
+    (before after : S) (old new : Core K) (ending : Ending) : Type 0 where
   pub taken : List ℕ
   pub gives : Gives (left before) (left after) taken
   pub stops : Stops held sink_faults (record { held = held (sink_of old); faults = sink_faults (sink_of old) }) taken new ending

@@ -57,6 +57,7 @@ pub record Told : Type 0 where
   pub held : Option (List ℕ)
   pub sink_faults : ℕ
 
+-- what this source and this sink tell
 abbrev pub told_by : {S K : Type 0} → (S → Option (List ℕ)) → (S → ℕ) → (K → Option (List ℕ)) → (K → ℕ) → S → K → Told
 told_by left source_faults held sink_faults source sink = record {
   left = left source;
