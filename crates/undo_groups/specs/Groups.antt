@@ -1,0 +1,83 @@
+-- The undo groups of a document: what a new group, an undo, a redo and a forgotten group make of them.
+use Rattle.std.specs.Prelude.{ℕ, ◌+◌, ◌-◌, ◌≤◌, ◌<◌, ◌==◌, if◌then◌else◌, Bool, ◌||◌, List, [], ◌∷◌, ◌++◌, length, take, drop, slice_index}
+use Rattle.std.specs.List.{fold}
+use Rattle.xi_plain.specs.Numbers.{has}
+use Rattle.undo_groups.specs.Numbers.{with_group, without_group, IsRising}
+
+-- the undo groups, as the stack of them stands
+pub record Groups : Type 0 where
+  -- the groups that an undo or a redo can reach, and how many of them, from the front, are not undone
+  pub live : List ℕ
+  pub index : ℕ
+  -- the groups that no undo and no redo reaches any more, but those that are forgotten, in order
+  pub retired : List ℕ
+  -- all groups that are undone, the forgotten ones too, in order
+  pub undone : List ℕ
+  -- how many groups were given out; the last one has this number
+  pub given : ℕ
+
+-- before the first group
+abbrev pub no_groups : Groups
+no_groups = record { live = []; index = 0; retired = []; undone = []; given = 0 }
+
+-- the live groups up to the index, and a new one
+abbrev pub grown : Groups → List ℕ
+grown s = take s.index s.live ++ (s.given + 1) ∷ []
+
+-- how many of these are too many: at most twenty stay
+abbrev pub excess : List ℕ → ℕ
+excess live = length live - 20
+
+-- the groups that a new one retires: those that it cuts off at the index, and the oldest of more than twenty
+abbrev pub retiring : Groups → List ℕ
+retiring s = drop s.index s.live ++ take (excess (grown s)) (grown s)
+
+-- after a new group; what was undone stays so
+abbrev pub opened : Groups → Groups
+opened s = record {
+  live = drop (excess (grown s)) (grown s);
+  index = length (drop (excess (grown s)) (grown s));
+  retired = fold with_group s.retired (retiring s);
+  undone = s.undone;
+  given = s.given + 1;
+}
+
+-- after an undo, which does nothing where no live group is left to undo
+abbrev pub undone_one : Groups → Groups
+undone_one s = if s.index == 0 then s else record {
+  live = s.live;
+  index = s.index - 1;
+  retired = s.retired;
+  undone = with_group s.undone (slice_index s.live (s.index - 1));
+  given = s.given;
+}
+
+-- after a redo, which does nothing where no live group is undone
+abbrev pub redone_one : Groups → Groups
+redone_one s = if s.index == length s.live then s else record {
+  live = s.live;
+  index = s.index + 1;
+  retired = s.retired;
+  undone = without_group s.undone (slice_index s.live s.index);
+  given = s.given;
+}
+
+-- after a retired group is forgotten: where it was undone, it stays so
+abbrev pub forgotten : Groups → ℕ → Groups
+forgotten s group = record {
+  live = s.live;
+  index = s.index;
+  retired = without_group s.retired group;
+  undone = s.undone;
+  given = s.given;
+}
+
+-- whether the group was given out and is not forgotten
+abbrev pub is_known : Groups → ℕ → Bool
+is_known s group = has s.live group || has s.retired group
+
+-- what is true of the groups of every stack
+pub record IsStack (live : List ℕ) (index : ℕ) (retired : List ℕ) : Type 0 where
+  pub few : length live ≤ 20
+  pub reached : index ≤ length live
+  pub rising : IsRising retired
