@@ -8,7 +8,7 @@ use Rattle.std.proofs.lemmas.List.{append_assoc, append-nil, length-append, get_
 use Rattle.std.proofs.lemmas.List.Splits.{join_with_byte-slice_split, slice_split_at}
 use Rattle.std.proofs.Math.Seq.{take-append_seam, drop-append_seam}
 use Rattle.std.proofs.lemmas.Bool.Decides.{nat_tests}
-use Rattle.case_table.specs.Table.{pieces, names_of, written, piece_at, IsRising, is_good, bad_case}
+use Rattle.case_table.specs.Table.{pieces, names_of, text_of_names, piece_at, NamesRise, is_good, bad_case}
 use Rattle.case_table.proofs.Wrong.{bad_case-right, bad_case-none, is_good-true, is_good-says, is_right-below, is_right-end, is_over-none}
 
 -- a name has no space
@@ -29,7 +29,7 @@ names_of-count n text none =
     rw len (length-take-le n (pieces text) (omega arith))
 
 -- they rise
-pub names_of-rising : (n : ℕ) (text : List ℕ) → bad_case n text ≡ None → IsRising (names_of text)
+pub names_of-rising : (n : ℕ) (text : List ℕ) → bad_case n text ≡ None → NamesRise (names_of text)
 names_of-rising n text none row within =
     let all = pieces text in
     let count = names_of-count n text none in
@@ -44,14 +44,14 @@ names_of-rising n text none row within =
     rw (one, two) (rw back at above)
 
 -- names joined by spaces, with nothing after the last
-join-end : (names : List (List ℕ)) → join_with_byte 32 (names ++ [] ∷ []) ≡ written names
+join-end : (names : List (List ℕ)) → join_with_byte 32 (names ++ [] ∷ []) ≡ text_of_names names
 join-end [] = refl
 join-end (x ∷ []) = sym (append-nil (x ++ 32 ∷ []))
-join-end (x ∷ y ∷ ys) = ap (λ rest. x ++ (32 ∷ rest)) (join-end (y ∷ ys)) ∙ sym (append_assoc x (32 ∷ []) (written (y ∷ ys)))
+join-end (x ∷ y ∷ ys) = ap (λ rest. x ++ (32 ∷ rest)) (join-end (y ∷ ys)) ∙ sym (append_assoc x (32 ∷ []) (text_of_names (y ∷ ys)))
 
 -- the text is its names, each followed by one space
-pub written-names_of : (n : ℕ) (text : List ℕ) → bad_case n text ≡ None → written (names_of text) ≡ text
-written-names_of n text none =
+pub text_of_names-names_of : (n : ℕ) (text : List ℕ) → bad_case n text ≡ None → text_of_names (names_of text) ≡ text
+text_of_names-names_of n text none =
     let all = pieces text in
     let end = over n text none in
     let last : length all - 1 ≡ n = omega (arith, end.0) in
@@ -63,27 +63,27 @@ written-names_of n text none =
     rw last (sym (join-end (take n all)) ∙ ap (join_with_byte 32) whole ∙ join_with_byte-slice_split 32 text)
 
 -- names without a space are the pieces of their text
-pub pieces-written : (names : List (List ℕ)) → AllByRecursion IsClean names → pieces (written names) ≡ names ++ [] ∷ []
-pieces-written [] clean = refl
-pieces-written (x ∷ xs) clean =
-    let cut = append_assoc x (32 ∷ []) (written xs) in
-    let first = slice_split_at (λ byte. eqb byte 32) x 32 (written xs) clean.0 refl in
-    ap pieces cut ∙ first ∙ ap (λ rest. x ∷ rest) (pieces-written xs clean.1)
+pub pieces-text_of_names : (names : List (List ℕ)) → AllByRecursion IsClean names → pieces (text_of_names names) ≡ names ++ [] ∷ []
+pieces-text_of_names [] clean = refl
+pieces-text_of_names (x ∷ xs) clean =
+    let cut = append_assoc x (32 ∷ []) (text_of_names xs) in
+    let first = slice_split_at (λ byte. eqb byte 32) x 32 (text_of_names xs) clean.0 refl in
+    ap pieces cut ∙ first ∙ ap (λ rest. x ∷ rest) (pieces-text_of_names xs clean.1)
 
 -- so their text gives them back
-pub names_of-written : (names : List (List ℕ)) → AllByRecursion IsClean names → names_of (written names) ≡ names
-names_of-written names clean =
-    let all = pieces-written names clean in
+pub names_of-text_of_names : (names : List (List ℕ)) → AllByRecursion IsClean names → names_of (text_of_names names) ≡ names
+names_of-text_of_names names clean =
+    let all = pieces-text_of_names names clean in
     let len = length-append names ([] ∷ []) in
-    let count : length (pieces (written names)) - 1 ≡ length names = omega (arith, ap length all, len) in
+    let count : length (pieces (text_of_names names)) - 1 ≡ length names = omega (arith, ap length all, len) in
     rw (count, all) (take-append_seam names ([] ∷ []))
 
 -- and is a table, where they rise
-pub bad_case-written : (names : List (List ℕ)) → AllByRecursion IsClean names → IsRising names → bad_case (length names) (written names) ≡ None
-bad_case-written names clean rising =
-    let text = written names in
+pub bad_case-text_of_names : (names : List (List ℕ)) → AllByRecursion IsClean names → NamesRise names → bad_case (length names) (text_of_names names) ≡ None
+bad_case-text_of_names names clean rising =
+    let text = text_of_names names in
     let n = length names in
-    let all = pieces-written names clean in
+    let all = pieces-text_of_names names clean in
     let end : drop n (pieces text) ≡ [] ∷ [] = ap (drop n) all ∙ drop-append_seam names ([] ∷ []) in
     let len : length (pieces text) ≡ n + 1 = ap length all ∙ length-append names ([] ∷ []) in
     let rises : (k : ℕ) → k < n → 0 < k → slice_cmp nat_cmp (piece_at (pieces text) (k - 1)) (piece_at (pieces text) k) ≡ Less = λ k h later.

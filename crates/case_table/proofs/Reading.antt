@@ -10,7 +10,7 @@ use Rattle.std.proofs.Math.Seq.{take-append_seam, get_or-append_seam, drop-appen
 use Rattle.std.proofs.Math.Nat.{sub_self}
 use Rattle.std.proofs.lemmas.Str.{IsCharBoundary-from_drop, IsCharBoundary-before_ascii}
 use Rattle.case_table.specs.Table.{pieces, piece_at, is_good, bad_case}
-use Rattle.case_table.specs.Places.{Shows, ShowsBelow, IsTable}
+use Rattle.case_table.specs.Places.{ShowsPiece, ShowsBelow, IsTable}
 use Rattle.case_table.proofs.Pieces.{drop-at, pieces-some}
 use Rattle.case_table.proofs.Wrong.{bad_case-at, bad_case-none, is_good-true, is_good-missing, is_good-falls, is_right-below, is_right-end, is_over-left, is_over-none}
 use Rattle.case_table.proofs.Laws.{names_of-count, names_of-rising}
@@ -49,8 +49,8 @@ after-place text rest name after place fits whole =
     )
 
 -- the span of a name shows it
-Shows-name : (text rest name after : List ℕ) → drop (length text - length rest) text ≡ rest → length rest ≤ length text → rest ≡ name ++ 32 ∷ after → IsUtf8 rest → Shows text (length text - length rest) (length text - length rest + length name) name
-Shows-name text rest name after place fits whole utf8 =
+ShowsPiece-name : (text rest name after : List ℕ) → drop (length text - length rest) text ≡ rest → length rest ≤ length text → rest ≡ name ++ 32 ∷ after → IsUtf8 rest → ShowsPiece text (length text - length rest) (length text - length rest + length name) name
+ShowsPiece-name text rest name after place fits whole utf8 =
     let start = length text - length rest in
     let moved = after-place text rest name after place fits whole in
     let gone : start + length name - start ≡ length name = omega arith in
@@ -78,7 +78,7 @@ IsRead-step n text rest before name after spans row read within cut whole utf8 a
       left = at.2;
       last = λ _. rw back (sym at.1);
       good = below_more _ _ read.good (is_good-true (pieces text) row (omega (arith, at.0, some)) (λ later. rw (← read.last later, at.1) (above later)));
-      shown = below_more _ _ (λ k h. rw (get_or-set_other spans row k span (0, 0) (omega arith)) (read.shown k h)) (rw (same, at.1) (Shows-name text rest name after read.place read.fits whole utf8));
+      shown = below_more _ _ (λ k h. rw (get_or-set_other spans row k span (0, 0) (omega arith)) (read.shown k h)) (rw (same, at.1) (ShowsPiece-name text rest name after read.place read.fits whole utf8));
       room = length-set spans row span ∙ read.room;
     }
 

@@ -10,7 +10,7 @@ use Rattle.std.proofs.lemmas.Cmp.{nat_list_cmp_total, tied_itself}
 use Rattle.std.proofs.lemmas.Map.Keys.{sorted_from_all_adjacent, Less-from_sorted}
 use Rattle.std.proofs.lemmas.Option.{get_or_from_slice_get, slice_get_within}
 use Rattle.std.proofs.lemmas.Bool.{cases_order}
-use Rattle.case_table.specs.Table.{piece_at, IsRising}
+use Rattle.case_table.specs.Table.{piece_at, NamesRise}
 
 -- each place at which the name stands is from low up to high, and high is within the n names
 pub record IsNarrowed (names : List (List ℕ)) (name : List ℕ) (n low high : ℕ) : Type 0 where
@@ -20,12 +20,12 @@ pub record IsNarrowed (names : List (List ℕ)) (name : List ℕ) (n low high : 
   pub ordered : low ≤ high
 
 -- a name is below each later one
-pub rising-apart : (names : List (List ℕ)) (i j : ℕ) → IsRising names → i < j → j < length names → slice_cmp nat_cmp (piece_at names i) (piece_at names j) ≡ Less
+pub rising-apart : (names : List (List ℕ)) (i j : ℕ) → NamesRise names → i < j → j < length names → slice_cmp nat_cmp (piece_at names i) (piece_at names j) ≡ Less
 rising-apart names i j rising less within =
     Less-from_sorted (slice_cmp nat_cmp) names i j [] (sorted_from_all_adjacent nat_list_cmp_total names [] rising) less within
 
 -- the same of names and not of places
-pub names-apart : (names : List (List ℕ)) (a b : List ℕ) (i j : ℕ) → IsRising names → slice_get names i ≡ Some a → slice_get names j ≡ Some b → i < j → slice_cmp nat_cmp a b ≡ Less
+pub names-apart : (names : List (List ℕ)) (a b : List ℕ) (i j : ℕ) → NamesRise names → slice_get names i ≡ Some a → slice_get names j ≡ Some b → i < j → slice_cmp nat_cmp a b ≡ Less
 names-apart names a b i j rising at_i at_j less =
     let p = get_or_from_slice_get names i a [] at_i in
     let q = get_or_from_slice_get names j b [] at_j in
@@ -41,7 +41,7 @@ pub equal_names : (a b : List ℕ) → slice_cmp nat_cmp a b ≡ Equal → a ≡
 equal_names a b e = slice_cmp-IsAntisymmetric nat_cmp-IsAntisymmetric a b e
 
 -- a name stands in one row
-pub one_row : (names : List (List ℕ)) (name : List ℕ) (i j : ℕ) → IsRising names → slice_get names i ≡ Some name → slice_get names j ≡ Some name → i ≡ j
+pub one_row : (names : List (List ℕ)) (name : List ℕ) (i j : ℕ) → NamesRise names → slice_get names i ≡ Some name → slice_get names j ≡ Some name → i ≡ j
 one_row names name i j rising at_i at_j =
     let tied = tied_itself nat_list_cmp_total name in
     ⊎_elim (λ same. same) (⊎_elim
@@ -49,14 +49,14 @@ one_row names name i j rising at_i at_j =
     (λ more. let apart = names-apart names name name j i rising at_j at_i more in cc)) (cases_order i j)
 
 -- a name below the one that is sought stands before it
-pub before_sought : (names : List (List ℕ)) (name it : List ℕ) (middle row : ℕ) → IsRising names → slice_get names middle ≡ Some it → slice_cmp nat_cmp it name ≡ Less → slice_get names row ≡ Some name → middle < row
+pub before_sought : (names : List (List ℕ)) (name it : List ℕ) (middle row : ℕ) → NamesRise names → slice_get names middle ≡ Some it → slice_cmp nat_cmp it name ≡ Less → slice_get names row ≡ Some name → middle < row
 before_sought names name it middle row rising at less found =
     let tied = tied_itself nat_list_cmp_total it in
     ⊎_elim (λ same. let e : slice_get names middle ≡ slice_get names row = ap (slice_get names) same in cc) (⊎_elim (λ before. before)
     (λ after. let apart = turned name it (names-apart names name it row middle rising found at after) in cc)) (cases_order middle row)
 
 -- a name above the one that is sought stands after it
-pub after_sought : (names : List (List ℕ)) (name it : List ℕ) (middle row : ℕ) → IsRising names → slice_get names middle ≡ Some it → slice_cmp nat_cmp it name ≡ Greater → slice_get names row ≡ Some name → row < middle
+pub after_sought : (names : List (List ℕ)) (name it : List ℕ) (middle row : ℕ) → NamesRise names → slice_get names middle ≡ Some it → slice_cmp nat_cmp it name ≡ Greater → slice_get names row ≡ Some name → row < middle
 after_sought names name it middle row rising at greater found =
     let tied = tied_itself nat_list_cmp_total it in
     ⊎_elim (λ same. let e : slice_get names middle ≡ slice_get names row = ap (slice_get names) same in cc) (⊎_elim

@@ -14,16 +14,16 @@ abbrev pub names_of : List ℕ → List (List ℕ)
 names_of text = take (length (pieces text) - 1) (pieces text)
 
 -- the text of some names, each followed by one space
-abbrev pub written : List (List ℕ) → List ℕ
-written names = flat_map (λ name. name ++ 32 ∷ []) names
+abbrev pub text_of_names : List (List ℕ) → List ℕ
+text_of_names names = flat_map (λ name. name ++ 32 ∷ []) names
 
 -- the piece at an index
 abbrev pub piece_at : List (List ℕ) → ℕ → List ℕ
 piece_at all index = slice_index_or all index []
 
 -- each name is above the one before it, by their bytes
-abbrev pub IsRising : List (List ℕ) → Type 0
-IsRising names =
+abbrev pub NamesRise : List (List ℕ) → Type 0
+NamesRise names =
     (row : ℕ) → row + 1 < length names → slice_cmp nat_cmp (piece_at names row) (piece_at names (row + 1)) ≡ Less
 
 -- a name stands at this index, above the one before it

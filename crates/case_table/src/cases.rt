@@ -31,16 +31,16 @@ impl<'a, const N: usize> Model for Cases<'a, N> {
 }
 
 impl<'a, const N: usize> Cases<'a, N> {
-    ghost use Rattle.case_table.specs.Table.{names_of, written, bad_case, IsRising};
+    ghost use Rattle.case_table.specs.Table.{names_of, text_of_names, bad_case, NamesRise};
 
     /// Reads a table from its text: `N` names that rise by their bytes, each followed by one space.
     pub fn new(text: &'a str) -> Result<Self, BadCase>
         ensures ok { IfOk result (λ _. bad_case N text.now ≡ None) }
         ensures bad { IfErr result (λ bad. bad_case N text.now ≡ Some bad.0) }
         ensures names { IfOk result (λ cases. cases ≡ names_of text.now) }
-        ensures text { IfOk result (λ cases. text.now ≡ written cases) }
+        ensures text { IfOk result (λ cases. text.now ≡ text_of_names cases) }
         ensures count { IfOk result (λ cases. length cases ≡ N) }
-        ensures rising { IfOk result IsRising }
+        ensures rising { IfOk result NamesRise }
     {
         let mut places = Places::new();
         let mut rest = text;
@@ -104,7 +104,7 @@ impl<'a, const N: usize> Cases<'a, N> {
         requires { row < N }
         ensures name { slice_get self.now row ≡ Some result.now }
         ensures count { length self.now ≡ N }
-        ensures rising { IsRising self.now }
+        ensures rising { NamesRise self.now }
     {
         let (start, end) = self.places.get(row);
         &self.text[start..end]

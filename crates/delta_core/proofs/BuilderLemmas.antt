@@ -7,7 +7,7 @@ use Rattle.xi_plain.specs.declared.delta.Run.{Run}
 use Rattle.xi_plain.specs.declared.delta.Added.{Added}
 use Rattle.xi_plain.specs.Delta.{is_in_runs, text_at_gap}
 use Rattle.xi_plain.specs.UnitDelta.{AreRuns, AreAdds, AreApart, IsCanonical}
-use Rattle.delta_core.specs.Builder.{run_to, IsOpen, with_added, with_run}
+use Rattle.delta_core.specs.Builder.{run_to, IsUnfinished, with_added, with_run}
 
 -- one more addition would be at this gap
 abbrev at_gap : ℕ → Added
@@ -70,30 +70,30 @@ runs_closed b low from base (run ∷ runs) reached good =
 
 -- ---- how a unit delta grows
 
-pub IsOpen-kept : (base next from : ℕ) (kept : List Run) (added : List Added) (text : List ℕ) → base < next → IsOpen base from kept added →
-    IsOpen next from kept (with_added added base text)
-IsOpen-kept base next from kept added text less is_open = record {
+pub IsUnfinished-kept : (base next from : ℕ) (kept : List Run) (added : List Added) (text : List ℕ) → base < next → IsUnfinished base from kept added →
+    IsUnfinished next from kept (with_added added base text)
+IsUnfinished-kept base next from kept added text less is_open = record {
   reached = omega (arith, is_open.reached);
   apart = is_open.apart;
   adds = AreAdds-next base next 0 added text less is_open.adds;
 }
 
-pub IsOpen-waiting : (base next : ℕ) (from : ℕ) (kept : List Run) (added : List Added) → base < next → IsOpen base from kept added → IsOpen next next kept added
-IsOpen-waiting base next from kept added less is_open = record {
+pub IsUnfinished-waiting : (base next : ℕ) (from : ℕ) (kept : List Run) (added : List Added) → base < next → IsUnfinished base from kept added → IsUnfinished next next kept added
+IsUnfinished-waiting base next from kept added less is_open = record {
   reached = omega arith;
   apart = AreApart-later 0 from next kept (omega (arith, is_open.reached)) is_open.apart;
   adds = AreAdds-next base next 0 added [] less is_open.adds;
 }
 
-pub IsOpen-passed : (base next from : ℕ) (kept : List Run) (added : List Added) (text : List ℕ) → base < next → IsOpen base from kept added →
-    IsOpen next next (with_run kept from base) (with_added added base text)
-IsOpen-passed base next from kept added text less is_open = record {
+pub IsUnfinished-passed : (base next from : ℕ) (kept : List Run) (added : List Added) (text : List ℕ) → base < next → IsUnfinished base from kept added →
+    IsUnfinished next next (with_run kept from base) (with_added added base text)
+IsUnfinished-passed base next from kept added text less is_open = record {
   reached = omega arith;
   apart = apart_next (nat_lt from base) 0 from base next kept (ltb-true from base) is_open.reached less is_open.apart;
   adds = AreAdds-next base next 0 added text less is_open.adds;
 }
 
-pub IsCanonical-closed : (base from : ℕ) (kept : List Run) (added : List Added) (text : List ℕ) → IsOpen base from kept added →
+pub IsCanonical-closed : (base from : ℕ) (kept : List Run) (added : List Added) (text : List ℕ) → IsUnfinished base from kept added →
     IsCanonical (record { base = base; kept = with_run kept from base; added = with_added added base text })
 IsCanonical-closed base from kept added text is_open = record {
   well_formed = record {
@@ -200,12 +200,12 @@ adds_more added gap at text more =
 
 -- ---- whether or not there was memory for the addition
 
-pub IsOpen-kept_either : {A E : Type 0} (r : Result A E) (base next from : ℕ) (kept : List Run) (added new : List Added) (text : List ℕ) → base < next →
-    IsOpen base from kept added → OnOk r (new ≡ with_added added base text) → OnErr r (new ≡ added) → IsOpen next from kept new
-IsOpen-kept_either (Ok x) base next from kept added new text less is_open ok err = rw ok (IsOpen-kept base next from kept added text less is_open)
-IsOpen-kept_either (Err e) base next from kept added new text less is_open ok err = rw err (IsOpen-kept base next from kept added [] less is_open)
+pub IsUnfinished-kept_either : {A E : Type 0} (r : Result A E) (base next from : ℕ) (kept : List Run) (added new : List Added) (text : List ℕ) → base < next →
+    IsUnfinished base from kept added → OnOk r (new ≡ with_added added base text) → OnErr r (new ≡ added) → IsUnfinished next from kept new
+IsUnfinished-kept_either (Ok x) base next from kept added new text less is_open ok err = rw ok (IsUnfinished-kept base next from kept added text less is_open)
+IsUnfinished-kept_either (Err e) base next from kept added new text less is_open ok err = rw err (IsUnfinished-kept base next from kept added [] less is_open)
 
-pub IsOpen-passed_either : {A E : Type 0} (r : Result A E) (base next from : ℕ) (kept runs : List Run) (added new : List Added) (text : List ℕ) → base < next →
-    IsOpen base from kept added → runs ≡ with_run kept from base → OnOk r (new ≡ with_added added base text) → OnErr r (new ≡ added) → IsOpen next next runs new
-IsOpen-passed_either (Ok x) base next from kept runs added new text less is_open run ok err = rw (run, ok) (IsOpen-passed base next from kept added text less is_open)
-IsOpen-passed_either (Err e) base next from kept runs added new text less is_open run ok err = rw (run, err) (IsOpen-passed base next from kept added [] less is_open)
+pub IsUnfinished-passed_either : {A E : Type 0} (r : Result A E) (base next from : ℕ) (kept runs : List Run) (added new : List Added) (text : List ℕ) → base < next →
+    IsUnfinished base from kept added → runs ≡ with_run kept from base → OnOk r (new ≡ with_added added base text) → OnErr r (new ≡ added) → IsUnfinished next next runs new
+IsUnfinished-passed_either (Ok x) base next from kept runs added new text less is_open run ok err = rw (run, ok) (IsUnfinished-passed base next from kept added text less is_open)
+IsUnfinished-passed_either (Err e) base next from kept runs added new text less is_open run ok err = rw (run, err) (IsUnfinished-passed base next from kept added [] less is_open)

@@ -8,21 +8,21 @@ use Rattle.xi_plain.specs.UnitDelta.{unit_keeps, unit_adds}
 use Rattle.subset_runs.specs.Subset.{items_outside, expand}
 use Rattle.delta_core.specs.Units.{text_after}
 use Rattle.delta_core.specs.Factor.{dropped_flags, inserted_flags, union_text, IsFactored}
-use Rattle.delta_core.specs.Step.{Step, Kept, Dropped, New, step_of, steps_from, steps_of, base_count, outcome, drops, news}
+use Rattle.delta_core.specs.Step.{Step, Kept, Dropped, New, step_of, steps_from, steps_of, base_count, text_of_steps, drops, news}
 
-pub outcome-kept : (n : ℕ) (steps : List Step) (text : List ℕ) → n ≤ length text → outcome (replicate n Kept ++ steps) text ≡ take n text ++ outcome steps (drop n text)
-outcome-kept zero steps text within = refl
-outcome-kept (suc n) steps [] within = absurd (omega arith)
-outcome-kept (suc n) steps (c ∷ text) within = ap (λ t. c ∷ t) (outcome-kept n steps text (omega arith))
+pub text_of_steps-kept : (n : ℕ) (steps : List Step) (text : List ℕ) → n ≤ length text → text_of_steps (replicate n Kept ++ steps) text ≡ take n text ++ text_of_steps steps (drop n text)
+text_of_steps-kept zero steps text within = refl
+text_of_steps-kept (suc n) steps [] within = absurd (omega arith)
+text_of_steps-kept (suc n) steps (c ∷ text) within = ap (λ t. c ∷ t) (text_of_steps-kept n steps text (omega arith))
 
-pub outcome-dropped : (n : ℕ) (steps : List Step) (text : List ℕ) → n ≤ length text → outcome (replicate n Dropped ++ steps) text ≡ outcome steps (drop n text)
-outcome-dropped zero steps text within = refl
-outcome-dropped (suc n) steps [] within = absurd (omega arith)
-outcome-dropped (suc n) steps (c ∷ text) within = outcome-dropped n steps text (omega arith)
+pub text_of_steps-dropped : (n : ℕ) (steps : List Step) (text : List ℕ) → n ≤ length text → text_of_steps (replicate n Dropped ++ steps) text ≡ text_of_steps steps (drop n text)
+text_of_steps-dropped zero steps text within = refl
+text_of_steps-dropped (suc n) steps [] within = absurd (omega arith)
+text_of_steps-dropped (suc n) steps (c ∷ text) within = text_of_steps-dropped n steps text (omega arith)
 
-pub outcome-added : (more : List ℕ) (steps : List Step) (text : List ℕ) → outcome (map New more ++ steps) text ≡ more ++ outcome steps text
-outcome-added [] steps text = refl
-outcome-added (c ∷ more) steps text = ap (λ t. c ∷ t) (outcome-added more steps text)
+pub text_of_steps-added : (more : List ℕ) (steps : List Step) (text : List ℕ) → text_of_steps (map New more ++ steps) text ≡ more ++ text_of_steps steps text
+text_of_steps-added [] steps text = refl
+text_of_steps-added (c ∷ more) steps text = ap (λ t. c ∷ t) (text_of_steps-added more steps text)
 
 pub base_count-kept : (n : ℕ) (steps : List Step) → base_count (replicate n Kept ++ steps) ≡ n + base_count steps
 base_count-kept zero steps = omega arith
@@ -49,25 +49,25 @@ base_count-steps k f gap zero = base_count-news (f gap)
 base_count-steps k f gap (suc n) =
     omega (arith, base_count-added (f gap) (step_of (k gap) ∷ steps_from k f (gap + 1) n), base_count-step (k gap) (steps_from k f (gap + 1) n), base_count-steps k f (gap + 1) n)
 
-outcome-step : (b : Bool) (steps : List Step) (c : ℕ) (text : List ℕ) → outcome (step_of b ∷ steps) (c ∷ text) ≡ (if b then c ∷ [] else []) ++ outcome steps text
-outcome-step true steps c text = refl
-outcome-step false steps c text = refl
+text_of_steps-step : (b : Bool) (steps : List Step) (c : ℕ) (text : List ℕ) → text_of_steps (step_of b ∷ steps) (c ∷ text) ≡ (if b then c ∷ [] else []) ++ text_of_steps steps text
+text_of_steps-step true steps c text = refl
+text_of_steps-step false steps c text = refl
 
-outcome-news : (more text : List ℕ) → outcome (map New more) text ≡ more
-outcome-news [] text = refl
-outcome-news (c ∷ more) text = ap (λ t. c ∷ t) (outcome-news more text)
+text_of_steps-news : (more text : List ℕ) → text_of_steps (map New more) text ≡ more
+text_of_steps-news [] text = refl
+text_of_steps-news (c ∷ more) text = ap (λ t. c ∷ t) (text_of_steps-news more text)
 
-pub outcome-steps : (k : ℕ → Bool) (f : ℕ → List ℕ) (gap : ℕ) (text : List ℕ) →
-    outcome (steps_from k f gap (length text)) text ≡ woven f (λ index c. if k index then c ∷ [] else []) gap text
-outcome-steps k f gap [] = outcome-news (f gap) []
-outcome-steps k f gap (c ∷ text) =
-    outcome-added (f gap) (step_of (k gap) ∷ steps_from k f (gap + 1) (length text)) (c ∷ text) ∙
+pub text_of_steps-steps : (k : ℕ → Bool) (f : ℕ → List ℕ) (gap : ℕ) (text : List ℕ) →
+    text_of_steps (steps_from k f gap (length text)) text ≡ woven f (λ index c. if k index then c ∷ [] else []) gap text
+text_of_steps-steps k f gap [] = text_of_steps-news (f gap) []
+text_of_steps-steps k f gap (c ∷ text) =
+    text_of_steps-added (f gap) (step_of (k gap) ∷ steps_from k f (gap + 1) (length text)) (c ∷ text) ∙
     ap (λ t. f gap ++ t)
-    (outcome-step (k gap) (steps_from k f (gap + 1) (length text)) c text ∙
-    ap (λ t. (if k gap then c ∷ [] else []) ++ t) (outcome-steps k f (gap + 1) text))
+    (text_of_steps-step (k gap) (steps_from k f (gap + 1) (length text)) c text ∙
+    ap (λ t. (if k gap then c ∷ [] else []) ++ t) (text_of_steps-steps k f (gap + 1) text))
 
-pub outcome-text_after : (units : UnitDelta) (text : List ℕ) → units.base ≡ length text → outcome (steps_of units) text ≡ text_after units text
-outcome-text_after units text same = rw same (outcome-steps (unit_keeps units) (unit_adds units) 0 text)
+pub text_of_steps-text_after : (units : UnitDelta) (text : List ℕ) → units.base ≡ length text → text_of_steps (steps_of units) text ≡ text_after units text
+text_of_steps-text_after units text same = rw same (text_of_steps-steps (unit_keeps units) (unit_adds units) 0 text)
 
 -- ---- the two subsets
 
@@ -247,7 +247,7 @@ outside_news (Kept ∷ steps) (c ∷ text) same = ap (λ t. c ∷ t) (outside_ne
 outside_news (Dropped ∷ steps) [] same = refl
 outside_news (Dropped ∷ steps) (c ∷ text) same = ap (λ t. c ∷ t) (outside_news steps text (omega arith))
 
-outside_dropped : (steps : List Step) (text : List ℕ) → items_outside (expand (drops steps) (news steps)) (union_of steps text) ≡ outcome steps text
+outside_dropped : (steps : List Step) (text : List ℕ) → items_outside (expand (drops steps) (news steps)) (union_of steps text) ≡ text_of_steps steps text
 outside_dropped [] text = refl
 outside_dropped (New c ∷ steps) text = ap (λ t. c ∷ t) (outside_dropped steps text)
 outside_dropped (Kept ∷ steps) [] = refl
@@ -269,7 +269,7 @@ IsFactored-all units dropped inserted steps none done =
           rw (new_is, ← union_of-text units text same)
           (outside_news (steps_of units) text (base_count-steps (unit_keeps units) (unit_adds units) 0 units.base ∙ sym same));
       after = λ text same.
-          rw (drop_is, new_is, ← union_of-text units text same) (outside_dropped (steps_of units) text ∙ outcome-text_after units text (sym same));
+          rw (drop_is, new_is, ← union_of-text units text same) (outside_dropped (steps_of units) text ∙ text_of_steps-text_after units text (sym same));
     }
 
 pub length-steps_of : (units : UnitDelta) → length (steps_of units) ≡ length (inserted_flags units)
@@ -278,13 +278,13 @@ length-steps_of units = sym (length-news (steps_of units)) ∙ ap length (news-s
 -- ---- a unit delta that is applied, as far as it was walked
 
 pub record IsMaking (made : List ℕ) (steps : List Step) (text all : List ℕ) : Type 0 where
-  pub so_far : made ++ outcome steps text ≡ all
+  pub so_far : made ++ text_of_steps steps text ≡ all
   pub room : base_count steps ≡ length text
 
 pub IsMaking-start : (units : UnitDelta) (steps : List Step) (text rest : List ℕ) → units.base ≡ length text → steps ≡ steps_of units → rest ≡ text →
     IsMaking [] steps rest (text_after units text)
 IsMaking-start units steps text rest same is here = record {
-  so_far = rw (is, here) (outcome-text_after units text same);
+  so_far = rw (is, here) (text_of_steps-text_after units text same);
   room = rw (is, here) (base_count-steps (unit_keeps units) (unit_adds units) 0 units.base ∙ same);
 }
 
@@ -299,7 +299,7 @@ pub IsMaking-kept : (made new : List ℕ) (steps : List Step) (text all front ba
 IsMaking-kept made new steps text all front back n more making next front_is back_is new_is =
     let within = room_kept made steps text all n more making next in
     record {
-      so_far = rw (new_is, append_assoc made front (outcome more back), front_is, back_is, ← outcome-kept n more text within, ← next) making.so_far;
+      so_far = rw (new_is, append_assoc made front (text_of_steps more back), front_is, back_is, ← text_of_steps-kept n more text within, ← next) making.so_far;
       room = omega (arith, making.room, ap base_count next, base_count-kept n more, ap length back_is, length-drop n text);
     }
 
@@ -308,13 +308,13 @@ pub IsMaking-dropped : (made : List ℕ) (steps : List Step) (text all back : Li
 IsMaking-dropped made steps text all back n more making next back_is =
     let within = room_dropped made steps text all n more making next in
     record {
-      so_far = rw (back_is, ← outcome-dropped n more text within, ← next) making.so_far;
+      so_far = rw (back_is, ← text_of_steps-dropped n more text within, ← next) making.so_far;
       room = omega (arith, making.room, ap base_count next, base_count-dropped n more, ap length back_is, length-drop n text);
     }
 
 pub IsMaking-added : (made new : List ℕ) (steps : List Step) (text all added : List ℕ) (more : List Step) → IsMaking made steps text all →
     steps ≡ map New added ++ more → new ≡ made ++ added → IsMaking new more text all
 IsMaking-added made new steps text all added more making next new_is = record {
-  so_far = rw (new_is, append_assoc made added (outcome more text), ← outcome-added added more text, ← next) making.so_far;
+  so_far = rw (new_is, append_assoc made added (text_of_steps more text), ← text_of_steps-added added more text, ← next) making.so_far;
   room = omega (arith, making.room, ap base_count next, base_count-added added more);
 }

@@ -9,7 +9,7 @@ use Rattle.xi_plain.specs.declared.delta.UnitDelta.{UnitDelta}
 use Rattle.xi_plain.specs.Delta.{is_in_runs, text_at_gap}
 use Rattle.xi_plain.specs.UnitDelta.{AreRuns, AreAdds, IsUnitDelta}
 use Rattle.delta_core.specs.Step.{Step, New, step_of, steps_from, steps_of}
-use Rattle.delta_core.specs.Walk.{Rise, EndsAfter, next_stop, IsAhead, IsRest, IsStretch}
+use Rattle.delta_core.specs.Walk.{Rise, ReachesPast, next_stop, IsToCome, IsRestOfKept, IsStretch}
 
 Rise-weaker : (low from : ℕ) (runs : List Run) → low ≤ from → Rise from runs → Rise low runs
 Rise-weaker low from [] less rise = tt
@@ -39,12 +39,12 @@ IsStretch-gap (x ∷ runs) at stop end run rise first before more is =
       same = λ index from to. is_in_runs-before run.start index (x ∷ runs) (omega (arith, ap (λ (r : Run). r.start) same), rise.1, rise.2) (omega arith);
     }
 
-IsRest-here : (runs : List Run) (at : ℕ) → IsRest runs runs at
-IsRest-here runs at = record { rise = λ r. r; kept = λ index from. refl }
+IsRestOfKept-here : (runs : List Run) (at : ℕ) → IsRestOfKept runs runs at
+IsRestOfKept-here runs at = record { rise = λ r. r; kept = λ index from. refl }
 
-pub IsRest-next : (runs rest : List Run) (at : ℕ) (d : Run) → IsRest runs rest at → 0 < length rest → (get_or rest 0 d).end ≤ at → IsRest runs (drop 1 rest) at
-IsRest-next runs [] at d is some past = absurd (omega arith)
-IsRest-next runs (run ∷ rest) at d is some past = record {
+pub IsRestOfKept-next : (runs rest : List Run) (at : ℕ) (d : Run) → IsRestOfKept runs rest at → 0 < length rest → (get_or rest 0 d).end ≤ at → IsRestOfKept runs (drop 1 rest) at
+IsRestOfKept-next runs [] at d is some past = absurd (omega arith)
+IsRestOfKept-next runs (run ∷ rest) at d is some past = record {
   rise = λ r. let all = is.rise r in Rise-weaker 0 run.end rest (omega arith) all.2;
   kept = λ index from.
       let same = is.kept index from in
@@ -124,9 +124,9 @@ pub added_next : (k : ℕ → Bool) (base at n : ℕ) (text : List ℕ) (adds re
 added_next k base at n text adds rest is =
     rw is (steps_added k (text_at_gap ((record { gap = at; text = text }) ∷ rest)) (text_at_gap rest) text at n (here_addition at text rest) (one_addition base at text rest))
 
-pub IsAhead-added : (base at : ℕ) (kept : List Run) (text : List ℕ) (adds rest : List Added) → IsAhead base at kept adds →
-    adds ≡ (record { gap = at; text = text }) ∷ rest → IsAhead base at kept rest
-IsAhead-added base at kept text adds rest ahead is =
+pub IsToCome-added : (base at : ℕ) (kept : List Run) (text : List ℕ) (adds rest : List Added) → IsToCome base at kept adds →
+    adds ≡ (record { gap = at; text = text }) ∷ rest → IsToCome base at kept rest
+IsToCome-added base at kept text adds rest ahead is =
     let Good : List Added → Type 0 = λ xs. AreAdds base at xs in
     let good = subst Good is ahead.adds in
     record { reached = ahead.reached; runs = ahead.runs; ends = ahead.ends; adds = AreAdds-weaker base at (at + 1) rest (omega arith) good.3 }
@@ -163,7 +163,7 @@ steps_some k base (added ∷ adds) at zero far good none =
     let here : (added.gap == at) ≡ true = grind (arith, nat_tests) in
     absurd (text_not_empty added.text (text_at_gap adds at) good.2 (rw here at none))
 
-pub more_ahead : (base at : ℕ) (kept : List Run) (adds : List Added) → IsAhead base at kept adds →
+pub more_ahead : (base at : ℕ) (kept : List Run) (adds : List Added) → IsToCome base at kept adds →
     steps_from (is_in_runs kept) (text_at_gap adds) at (base - at) ≢ [] → ((b : ℕ) → next_stop b adds ≡ at → adds ≡ []) → at < next_stop base adds
 more_ahead base at kept [] ahead some none =
     ⊎_elim (λ (less : at < base). less)
@@ -176,8 +176,8 @@ more_ahead base at kept (added ∷ adds) ahead some none =
     not_nil : (x : Added) (xs : List Added) → x ∷ xs ≢ []
     not_nil x xs = λ e. cc
 
-pub stretch_next : (base at end : ℕ) (kept rest : List Run) (adds : List Added) (b : Bool) → IsAhead base at kept adds →
-    IsStretch kept at (next_stop base adds) end b → IsRest kept rest end →
+pub stretch_next : (base at end : ℕ) (kept rest : List Run) (adds : List Added) (b : Bool) → IsToCome base at kept adds →
+    IsStretch kept at (next_stop base adds) end b → IsRestOfKept kept rest end →
     steps_from (is_in_runs kept) (text_at_gap adds) at (base - at) ≡
     replicate (end - at) (step_of b) ++ steps_from (is_in_runs rest) (text_at_gap adds) end (base - end)
 stretch_next base at end kept rest adds b ahead stretch left =
@@ -188,9 +188,9 @@ stretch_next base at end kept rest adds b ahead stretch left =
     ap (λ steps. replicate (end - at) (step_of b) ++ steps)
     (steps_from-same (is_in_runs kept) (is_in_runs rest) (text_at_gap adds) (text_at_gap adds) end (base - end) (λ j low. sym (left.kept j low)) (λ j low. refl))
 
-pub IsAhead-stretch : (base at end : ℕ) (kept rest : List Run) (adds : List Added) (b : Bool) → IsAhead base at kept adds →
-    IsStretch kept at (next_stop base adds) end b → IsRest kept rest end → EndsAfter end rest → IsAhead base end rest adds
-IsAhead-stretch base at end kept rest adds b ahead stretch left ends =
+pub IsToCome-stretch : (base at end : ℕ) (kept rest : List Run) (adds : List Added) (b : Bool) → IsToCome base at kept adds →
+    IsStretch kept at (next_stop base adds) end b → IsRestOfKept kept rest end → ReachesPast end rest → IsToCome base end rest adds
+IsToCome-stretch base at end kept rest adds b ahead stretch left ends =
     let bounds = next_stop-bounds base at adds ahead.reached ahead.adds in
     record {
       reached = omega (arith, stretch.within, bounds.1);
@@ -203,15 +203,15 @@ IsAhead-stretch base at end kept rest adds b ahead stretch left ends =
     still b' at' end' [] good within = tt
     still b' at' end' (x ∷ xs) good within = (within, good.1, good.2, good.3)
 
-pub IsAhead-start : (units : UnitDelta) (rest : List Run) → IsUnitDelta units → IsRest units.kept rest 0 → EndsAfter 0 rest → IsAhead units.base 0 rest units.added
-IsAhead-start units rest good left ends = record {
+pub IsToCome-start : (units : UnitDelta) (rest : List Run) → IsUnitDelta units → IsRestOfKept units.kept rest 0 → ReachesPast 0 rest → IsToCome units.base 0 rest units.added
+IsToCome-start units rest good left ends = record {
   reached = omega arith;
   runs = left.rise (Rise-from_runs units.base 0 units.kept good.runs);
   ends = ends;
   adds = good.adds;
 }
 
-pub steps_of-start : (units : UnitDelta) (rest : List Run) → IsRest units.kept rest 0 → steps_from (is_in_runs rest) (text_at_gap units.added) 0 (units.base - 0) ≡ steps_of units
+pub steps_of-start : (units : UnitDelta) (rest : List Run) → IsRestOfKept units.kept rest 0 → steps_from (is_in_runs rest) (text_at_gap units.added) 0 (units.base - 0) ≡ steps_of units
 steps_of-start units rest left =
     let all : units.base - 0 ≡ units.base = omega arith in
     rw all (steps_from-same (is_in_runs rest) (is_in_runs units.kept) (text_at_gap units.added) (text_at_gap units.added) 0 units.base (λ j low. left.kept j low) (λ j low. refl))

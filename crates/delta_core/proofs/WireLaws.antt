@@ -15,7 +15,7 @@ use Rattle.xi_plain.specs.Delta.{copies_misfit, is_in_runs, text_at_gap, kept_ru
 use Rattle.xi_plain.specs.UnitDelta.{unit_keeps, unit_adds}
 use Rattle.delta_core.specs.Builder.{run_to}
 use Rattle.delta_core.specs.Walk.{Rise}
-use Rattle.delta_core.specs.Step.{Step, Kept, Dropped, steps_from, outcome}
+use Rattle.delta_core.specs.Step.{Step, Kept, Dropped, steps_from, text_of_steps}
 use Rattle.delta_core.specs.Wire.{copy_before, text_before, wire_from, wire_of, IsWireOf}
 use Rattle.delta_core.proofs.PlaceLemmas.{IsPlaced, IsPlaced-from, gap_from-seam, gaps_rise}
 use Rattle.delta_core.proofs.UnitLemmas.{CopyFits, CopyFits-from}
@@ -24,7 +24,7 @@ use Rattle.std.proofs.Math.Seq.{take-nil, drop-nil}
 use Rattle.xi_plain.specs.UnitDelta.{IsUnitDelta}
 use Rattle.delta_core.specs.WireBuilder.{Gathered, whole}
 use Rattle.delta_core.proofs.WireLemmas.{copy_before-nil, copy_before-touching, copy_before-apart, copy_before-text, IsWiring, wire_steps}
-use Rattle.delta_core.proofs.StepLemmas.{outcome-kept, outcome-dropped, outcome-added, outcome-steps}
+use Rattle.delta_core.proofs.StepLemmas.{text_of_steps-kept, text_of_steps-dropped, text_of_steps-added, text_of_steps-steps}
 
 -- ---- fitting
 
@@ -226,10 +226,10 @@ nothing_before text end gap (Copy a b ∷ els) place fit less =
     let two = rises text a b good.0.start good.0.stop good.0.rises in
     nothing_before text b gap els good.0.stop good.1 (omega arith)
 
-all_dropped : (gap n : ℕ) (text : List ℕ) → n ≡ length text → outcome (steps_from (is_in_runs []) (text_at_gap []) gap n) text ≡ []
+all_dropped : (gap n : ℕ) (text : List ℕ) → n ≡ length text → text_of_steps (steps_from (is_in_runs []) (text_at_gap []) gap n) text ≡ []
 all_dropped gap n text all =
-    ap (λ s. outcome s text) (steps_stretch (is_in_runs []) (text_at_gap []) false gap n n (gap + n) 0 (omega arith) refl (λ j low high. refl) (λ j low high. refl)) ∙
-    outcome-dropped n [] text (omega arith)
+    ap (λ s. text_of_steps s text) (steps_stretch (is_in_runs []) (text_at_gap []) false gap n n (gap + n) 0 (omega arith) refl (λ j low high. refl) (λ j low high. refl)) ∙
+    text_of_steps-dropped n [] text (omega arith)
 
 in_run : (from to index : ℕ) (runs : List Run) → from ≤ index → index < to → is_in_runs (run_to from to ∷ runs) index ≡ true
 in_run from to index runs low high =
@@ -252,14 +252,14 @@ right_of_run from to index runs high =
     and_false false rest = refl
 
 gives_shown : (text : List ℕ) (end : ℕ) (els : List El) → is_place text end ≡ true → copies_misfit text end els ≡ None →
-    outcome (steps_from (is_in_runs (kept_runs text els)) (text_at_gap (insertions text (gap_of text end) els)) (gap_of text end) (length (drop (gap_of text end) text)))
+    text_of_steps (steps_from (is_in_runs (kept_runs text els)) (text_at_gap (insertions text (gap_of text end) els)) (gap_of text end) (length (drop (gap_of text end) text)))
     (drop (gap_of text end) text) ≡ shown text els
 gives_shown text end [] place fit = all_dropped (gap_of text end) (length (drop (gap_of text end) text)) (drop (gap_of text end) text) refl
 gives_shown text end (Insert more ∷ els) place fit =
     let g = gap_of text end in
-    ap (λ s. outcome s (drop g text))
+    ap (λ s. text_of_steps s (drop g text))
     (added_next (is_in_runs (kept_runs text els)) g g (length (drop g text)) more (insertions text g (Insert more ∷ els)) (insertions text g els) refl) ∙
-    outcome-added more _ (drop g text) ∙ ap (λ t. more ++ t) (gives_shown text end els place fit)
+    text_of_steps-added more _ (drop g text) ∙ ap (λ t. more ++ t) (gives_shown text end els place fit)
 gives_shown text end (Copy a b ∷ els) place fit =
     let good = CopyFits-from text end a b els fit in
     let g = gap_of text end in
@@ -285,12 +285,12 @@ gives_shown text end (Copy a b ∷ els) place fit =
     (λ j low high. nothing_before text b j els good.0.stop good.1 high) in
     let third : steps_from K F gb (length (drop gb text)) ≡ steps_from (is_in_runs runs) F gb (length (drop gb text)) =
     steps_from-same K (is_in_runs runs) F F gb (length (drop gb text)) (λ j low. right_of_run ga gb j runs low) (λ j low. refl) in
-    ap (λ s. outcome s (drop g text)) first ∙ outcome-dropped (ga - g) _ (drop g text) (omega arith) ∙
-    ap (λ t. outcome (steps_from K F ga (length (drop ga text))) t) (drop_sum g (ga - g) ga text (omega arith)) ∙
-    ap (λ s. outcome s (drop ga text)) second ∙ outcome-kept (gb - ga) _ (drop ga text) (omega arith) ∙
+    ap (λ s. text_of_steps s (drop g text)) first ∙ text_of_steps-dropped (ga - g) _ (drop g text) (omega arith) ∙
+    ap (λ t. text_of_steps (steps_from K F ga (length (drop ga text))) t) (drop_sum g (ga - g) ga text (omega arith)) ∙
+    ap (λ s. text_of_steps s (drop ga text)) second ∙ text_of_steps-kept (gb - ga) _ (drop ga text) (omega arith) ∙
     ap (λ t. take (gb - ga) (drop ga text) ++ t)
-    (ap (λ t. outcome (steps_from K F gb (length (drop gb text))) t) (drop_sum ga (gb - ga) gb text (omega arith)) ∙
-    ap (λ s. outcome s (drop gb text)) third ∙ gives_shown text b els good.0.stop good.1)
+    (ap (λ t. text_of_steps (steps_from K F gb (length (drop gb text))) t) (drop_sum ga (gb - ga) gb text (omega arith)) ∙
+    ap (λ s. text_of_steps s (drop gb text)) third ∙ gives_shown text b els good.0.stop good.1)
 
 starts : (text : List ℕ) → (is_place text 0 ≡ true) × (gap_of text 0 ≡ 0)
 starts [] = (refl, refl)
@@ -302,7 +302,7 @@ pub applied-shown : (text : List ℕ) (els : List El) → copies_misfit text 0 e
 applied-shown text els fit =
     let start = starts text in
     let all = gives_shown text 0 els start.0 fit in
-    sym (outcome-steps (is_in_runs (kept_runs text els)) (text_at_gap (insertions text 0 els)) 0 text) ∙ rw start.1 at all
+    sym (text_of_steps-steps (is_in_runs (kept_runs text els)) (text_at_gap (insertions text 0 els)) 0 text) ∙ rw start.1 at all
 
 pub IsWireOf-wire_of : (text : List ℕ) (units : UnitDelta) → units.base ≡ length text → IsWireOf text units (wire_of text units)
 IsWireOf-wire_of text units same = record {

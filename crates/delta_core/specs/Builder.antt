@@ -9,7 +9,7 @@ abbrev pub run_to : ℕ → ℕ → Run
 run_to from to = record { start = from; end = to }
 
 -- the runs are apart, and so would be one more at `from`; the additions are in order, and so would be one more at `base`
-pub record IsOpen (base from : ℕ) (kept : List Run) (added : List Added) : Type 0 where
+pub record IsUnfinished (base from : ℕ) (kept : List Run) (added : List Added) : Type 0 where
   pub reached : from ≤ base
   pub apart : AreApart 0 (kept ++ run_to from (from + 1) ∷ [])
   pub adds : AreAdds base 0 (added ++ (record { gap = base; text = 0 ∷ [] }) ∷ [])

@@ -39,13 +39,13 @@ base_count (Dropped ∷ steps) = base_count steps + 1
 base_count (New c ∷ steps) = base_count steps
 
 -- what the steps make of a text
-abbrev pub outcome : List Step → List ℕ → List ℕ
-outcome [] text = []
-outcome (New c ∷ steps) text = c ∷ outcome steps text
-outcome (Kept ∷ steps) [] = []
-outcome (Kept ∷ steps) (c ∷ text) = c ∷ outcome steps text
-outcome (Dropped ∷ steps) [] = []
-outcome (Dropped ∷ steps) (c ∷ text) = outcome steps text
+abbrev pub text_of_steps : List Step → List ℕ → List ℕ
+text_of_steps [] text = []
+text_of_steps (New c ∷ steps) text = c ∷ text_of_steps steps text
+text_of_steps (Kept ∷ steps) [] = []
+text_of_steps (Kept ∷ steps) (c ∷ text) = c ∷ text_of_steps steps text
+text_of_steps (Dropped ∷ steps) [] = []
+text_of_steps (Dropped ∷ steps) (c ∷ text) = text_of_steps steps text
 
 -- for each character of the base whether it is dropped
 abbrev pub drops : List Step → List Bool

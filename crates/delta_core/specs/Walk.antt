@@ -11,9 +11,9 @@ Rise from [] = Unit {0}
 Rise from (run ∷ runs) = (from ≤ run.start) × (run.start ≤ run.end) × Rise run.end runs
 
 -- the first run ends after `at`
-abbrev pub EndsAfter : ℕ → List Run → Type 0
-EndsAfter at [] = Unit {0}
-EndsAfter at (run ∷ runs) = at < run.end
+abbrev pub ReachesPast : ℕ → List Run → Type 0
+ReachesPast at [] = Unit {0}
+ReachesPast at (run ∷ runs) = at < run.end
 
 -- the gap of the first addition, or the end of the base
 abbrev pub next_stop : ℕ → List Added → ℕ
@@ -21,14 +21,14 @@ next_stop base [] = base
 next_stop base (added ∷ adds) = added.gap
 
 -- the runs that are left end after `at`, and the additions that are left are at `at` or right of it
-pub record IsAhead (base at : ℕ) (kept : List Run) (added : List Added) : Type 0 where
+pub record IsToCome (base at : ℕ) (kept : List Run) (added : List Added) : Type 0 where
   pub reached : at ≤ base
   pub runs : Rise 0 kept
-  pub ends : EndsAfter at kept
+  pub ends : ReachesPast at kept
   pub adds : AreAdds base at added
 
 -- the rest of the runs keeps what the runs keep from `at` on, and its first run ends after `at`
-pub record IsRest (runs rest : List Run) (at : ℕ) : Type 0 where
+pub record IsRestOfKept (runs rest : List Run) (at : ℕ) : Type 0 where
   pub rise : Rise 0 runs → Rise 0 rest
   pub kept : (index : ℕ) → at ≤ index → is_in_runs rest index ≡ is_in_runs runs index
 

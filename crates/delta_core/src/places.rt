@@ -3,7 +3,7 @@ ghost use Rattle.std.specs.Prelude.{◌≡◌, ◌+◌, ◌≤◌, IsTrue, lengt
 ghost use Rattle.std.specs.Str.{IsUtf8, chars};
 ghost use Rattle.xi_plain.specs.Text.{gap_of, is_place, place_of};
 
-use xi_plain::Text;
+use xi_plain::{Text, place_in};
 
 // Whether the offset is a place; this costs nothing.
 pub(crate) fn is_place(text: &Text, at: u64) -> bool
@@ -30,21 +30,5 @@ pub(crate) fn split_at_gap(text: &str, gap: u64) -> (&str, &str)
     ensures utf8 { IsUtf8 result.1.now }
     ensures bytes { length result.0.now ≡ place_of (chars text.now) gap }
 {
-    text.split_at(place_in(text, gap))
-}
-
-// How many bytes the first `gap` characters take.
-fn place_in(text: &str, gap: u64) -> usize
-    ensures { result ≡ place_of (chars text.now) gap }
-{
-    let mut place = 0;
-    let mut left = gap;
-    for c in text.chars() {
-        if left == 0 {
-            break;
-        }
-        place += c.len_utf8();
-        left -= 1;
-    }
-    place
+    text.split_at(place_in(text, gap) as usize)
 }

@@ -30,11 +30,11 @@ impl Model for UnitBuilder {
 
     ghost Value = { UnitDelta };
 
-    ghost use Rattle.delta_core.specs.Builder.{IsOpen, run_to};
+    ghost use Rattle.delta_core.specs.Builder.{IsUnfinished, run_to};
 
     ghost view = { λ b. record { base = b.base; kept = b.kept ++ run_to b.from b.base ∷ []; added = b.added ++ (record { gap = b.base; text = b.here }) ∷ [] } };
 
-    ghost invariant = { λ b. IsOpen b.base b.from b.kept b.added };
+    ghost invariant = { λ b. IsUnfinished b.base b.from b.kept b.added };
 }
 
 impl UnitBuilder {

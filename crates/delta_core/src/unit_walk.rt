@@ -1,7 +1,7 @@
 ghost use Rattle.std.specs.Prelude.{◌≡◌, ◌≢◌, ◌<◌, ◌≤◌, ◌↔◌, ℕ, [], ◌∷◌, ◌++◌, length, drop, IsTrue, IfSome, IfNone};
 ghost use Rattle.xi_plain.specs.UnitDelta.{IsUnitDelta};
 ghost use Rattle.delta_core.specs.Step.{steps_of, part_steps};
-ghost use Rattle.delta_core.specs.Walk.{EndsAfter, IsRest, IsStretch, Rise, next_stop};
+ghost use Rattle.delta_core.specs.Walk.{ReachesPast, IsRestOfKept, IsStretch, Rise, next_stop};
 
 use crate::part::Part;
 use std::marker::Model;
@@ -22,13 +22,13 @@ impl<'a> Model for UnitWalk<'a> {
     ghost use Rattle.std.specs.Prelude.{◌-◌, List};
     ghost use Rattle.xi_plain.specs.Delta.{is_in_runs, text_at_gap};
     ghost use Rattle.delta_core.specs.Step.{Step, steps_from};
-    ghost use Rattle.delta_core.specs.Walk.{IsAhead};
+    ghost use Rattle.delta_core.specs.Walk.{IsToCome};
 
     ghost Value = { List Step };
 
     ghost view = { λ w. steps_from (is_in_runs w.kept.now) (text_at_gap w.added.now) w.at (w.base - w.at) };
 
-    ghost invariant = { λ w. IsAhead w.base w.at w.kept.now w.added.now };
+    ghost invariant = { λ w. IsToCome w.base w.at w.kept.now w.added.now };
 }
 
 impl<'a> UnitWalk<'a> {
@@ -95,7 +95,7 @@ fn next_gap(added: &[Added], base: u64) -> u64
 // Whether the next characters are kept, and where that ends.
 fn next_stretch(kept: &[Run], at: u64, stop: u64) -> (bool, u64)
     requires rise { Rise 0 kept.now }
-    requires ends { EndsAfter at kept.now }
+    requires ends { ReachesPast at kept.now }
     requires more { at < stop }
     ensures { IsStretch kept.now at stop result.1 result.0 }
 {
@@ -108,8 +108,8 @@ fn next_stretch(kept: &[Run], at: u64, stop: u64) -> (bool, u64)
 
 // The runs that end after `at`.
 fn runs_after(runs: &[Run], at: u64) -> &[Run]
-    ensures rest { IsRest runs.now result.now at }
-    ensures ends { EndsAfter at result.now }
+    ensures rest { IsRestOfKept runs.now result.now at }
+    ensures ends { ReachesPast at result.now }
 {
     let mut rest = runs;
     while !rest.is_empty() && rest[0].end <= at {

@@ -1,5 +1,5 @@
 ghost use Rattle.std.specs.Prelude.{Some};
-ghost use Rattle.json_rpc.specs.Fault.{fault_text};
+ghost use Rattle.json_rpc.specs.Fault.{refusal_text};
 
 use std::alloc::AllocError;
 use std::error::Error;
@@ -20,7 +20,7 @@ pub enum RpcFault {
 }
 
 impl fmt::Display for RpcFault {
-    ghost output = { λ fault. Some (fault_text fault) };
+    ghost output = { λ fault. Some (refusal_text fault) };
 
     fn fmt<W: fmt::Write>(&self, f: &mut fmt::Formatter<W>) -> fmt::Result {
         f.write_str(match self {

@@ -1,5 +1,6 @@
 -- What a fault of an edit says in the words of the definitions.
-use Rattle.std.specs.Prelude.{◌≡◌, ◌≢◌, Option, Some, None}
+use Rattle.std.specs.Prelude.{◌≡◌, ◌≢◌, ℕ, Option, Some, None, List, ◌++◌, codes}
+use Rattle.std.specs.Fmt.{decimal}
 use Rattle.xi_plain.specs.Edits.{Refusal, unknown, collected, misfit, spent}
 use Rattle.plain_history.specs.declared.fault.EditFault.{EditFault}
 use Rattle.plain_history.specs.declared.fault.EditFault.TheVariants.{Unknown, Collected, Unfit, Spent, NoMemory}
@@ -15,3 +16,11 @@ refusal_of NoMemory = None
 -- the fault is what the definitions say of the edit, or want of memory
 abbrev pub IsFault : Option Refusal → EditFault → Type 0
 IsFault refusal fault = fault ≢ NoMemory → refusal ≡ refusal_of fault
+
+-- what is printed of a fault
+abbrev pub edit_fault_text : EditFault → List ℕ
+edit_fault_text (Unknown head) = codes "unknown base: the head is " ++ decimal head
+edit_fault_text (Collected floor) = codes "collected base: the floor is " ++ decimal floor
+edit_fault_text (Unfit first) = codes "misfit of kind " ++ decimal first.kind ++ codes " at " ++ decimal first.at
+edit_fault_text (Spent total) = codes "spent: " ++ decimal total ++ codes " characters in all"
+edit_fault_text NoMemory = codes "out of memory"

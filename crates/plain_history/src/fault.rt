@@ -20,6 +20,11 @@ pub enum EditFault {
 }
 
 impl fmt::Display for EditFault {
+    ghost use Rattle.std.specs.Prelude.{Some};
+    ghost use Rattle.plain_history.specs.EditFault.{edit_fault_text};
+
+    ghost output = { λ fault. Some (edit_fault_text fault) };
+
     fn fmt<W: fmt::Write>(&self, f: &mut fmt::Formatter<W>) -> fmt::Result {
         match self {
             EditFault::Unknown { head } => write!(f, "unknown base: the head is {head}"),

@@ -11,7 +11,7 @@ use Rattle.xi_plain.specs.History.{Tagged, Revision, History, head, loaded, revi
 use Rattle.xi_plain.specs.Edits.{deleted_by}
 use Rattle.rev_list.specs.declared.edit.RevEdit.{RevEdit}
 use Rattle.rev_list.specs.declared.edit.ReadyEdit.{ReadyEdit}
-use Rattle.rev_list.specs.Edit.{revision_of, new_by, with_new, with_deleted, after_edit, MayPush}
+use Rattle.rev_list.specs.Edit.{edit_revision, new_by, with_new, with_deleted, after_edit, MayPush}
 use Rattle.rev_list.specs.Hidden.{is_hidden, hidden_at, union_at, hidden_then, insertions_of, deletions_of, IsEditAt, AreEditsAfter}
 use Rattle.rev_list.specs.Kept.{AreInTurn, dead_after, dead_later, hidden_by, history_of, HoldsEdits, IsReady}
 use Rattle.rev_list.proofs.FlagLemmas.{AreInTurn-append, hidden_by_each-append}
@@ -24,7 +24,7 @@ pub record IsPlain (history : History) : Type 0 where
   pub sound : IsSound history
 
 pub head-after_edit : (h : History) (e : RevEdit) → head (after_edit h e) ≡ head h + 1
-head-after_edit h e = length-append h.revisions (revision_of e ∷ [])
+head-after_edit h e = length-append h.revisions (edit_revision e ∷ [])
 
 pub IsPlain-after_edit : (h : History) (e : RevEdit) → IsPlain h → IsPlain (after_edit h e)
 IsPlain-after_edit h e plain = record {
@@ -219,14 +219,14 @@ revision_at-last revisions r (suc i) is =
 
 IsEditAt-later : (h : History) (e d : RevEdit) (rev : ℕ) → IsNext h e → rev ≤ head h → IsEditAt h rev d → IsEditAt (after_edit h e) rev d
 IsEditAt-later h e d rev next le is = record {
-  said = revision_at-before h.revisions (revision_of e) rev le ∙ is.said;
+  said = revision_at-before h.revisions (edit_revision e) rev le ∙ is.said;
   inserted = is.inserted ∙ sym (insertions_of-later h e rev next le);
   deleted = is.deleted ∙ sym (deletions_of-later h e rev next le);
 }
 
 IsEditAt-now : (h : History) (e : RevEdit) → IsPlain h → IsNext h e → IsEditAt (after_edit h e) (head h + 1) e
 IsEditAt-now h e plain next = record {
-  said = revision_at-last h.revisions (revision_of e) (head h + 1) refl;
+  said = revision_at-last h.revisions (edit_revision e) (head h + 1) refl;
   inserted = sym (insertions_of-now h e plain next);
   deleted = sym (deletions_of-now h e plain next);
 }

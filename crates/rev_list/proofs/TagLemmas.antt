@@ -8,10 +8,10 @@ use Rattle.xi_plain.specs.Numbers.{has}
 use Rattle.xi_plain.specs.History.{Tagged, Revision, edit, undo, undone, undone_after, group_of, is_undone, is_visible, IsTaggedBy}
 use Rattle.xi_plain.specs.Edits.{deleted_by}
 use Rattle.rev_list.specs.declared.edit.RevEdit.{RevEdit}
-use Rattle.rev_list.specs.Edit.{revision_of, new_by}
+use Rattle.rev_list.specs.Edit.{edit_revision, new_by}
 
 -- an edit undoes nothing
-pub undone_after-edit : (groups : List ℕ) (revisions : List Revision) (rev : ℕ) (e : RevEdit) → undone_after groups (take rev (revisions ++ revision_of e ∷ [])) ≡ undone_after groups (take rev revisions)
+pub undone_after-edit : (groups : List ℕ) (revisions : List Revision) (rev : ℕ) (e : RevEdit) → undone_after groups (take rev (revisions ++ edit_revision e ∷ [])) ≡ undone_after groups (take rev revisions)
 undone_after-edit groups [] zero e = refl
 undone_after-edit groups [] (suc zero) e = refl
 undone_after-edit groups [] (suc (suc rev)) e = refl

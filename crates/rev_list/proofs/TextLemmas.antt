@@ -11,7 +11,7 @@ use Rattle.xi_plain.specs.Place.{insertion_place}
 use Rattle.xi_plain.specs.Edits.{PlainEdit, gap_count, inserted_at, is_dropped_by, deleted_by, edited}
 use Rattle.rev_list.specs.Edit.{new_by, with_new, with_deleted, after_edit}
 use Rattle.rev_list.specs.Hidden.{is_hidden, hidden_at}
-use Rattle.rev_list.specs.WithoutText.{without_character, without_text, inserted_flags, deleted_flags, in_positions}
+use Rattle.rev_list.specs.WithoutText.{without_character, without_text, insertion_flags, deletion_flags, in_positions}
 
 -- all are characters that the revision inserts
 pub record AreNew (rev : ℕ) (xs : List Tagged) : Type 0 where
@@ -103,7 +103,7 @@ grown_woven between index (x ∷ xs) =
     let rest : List Bool = woven (λ i. map (λ _. true) (between i)) (λ _ _. false ∷ []) (index + 1) xs in
     omega (arith, grown_woven between (index + 1) xs, count-append (map (λ _. true) (between index)) (false ∷ rest), length-append (map (λ _. true) (between index)) (false ∷ rest), count-trues (between index), length-map (between index) (λ _. true))
 
-pub grown_flags : (h : History) (e : PlainEdit) → length (inserted_flags h e) ≡ length h.characters + count (inserted_flags h e)
+pub grown_flags : (h : History) (e : PlainEdit) → length (insertion_flags h e) ≡ length h.characters + count (insertion_flags h e)
 grown_flags h e = grown_woven (inserted_at h e) 0 h.characters
 
 same_woven : (between : ℕ → List Tagged) (drops : ℕ → Tagged → Bool) (index : ℕ) (xs : List Tagged) → length (woven (λ i. map (λ _. false) (between i)) (λ i t. drops i t ∷ []) index xs) ≡ length (woven (λ i. map (λ _. true) (between i)) (λ _ _. false ∷ []) index xs)
@@ -113,7 +113,7 @@ same_woven between drops index (x ∷ xs) =
     let del : List Bool = woven (λ i. map (λ _. false) (between i)) (λ i t. drops i t ∷ []) (index + 1) xs in
     omega (arith, same_woven between drops (index + 1) xs, length-append (map (λ _. true) (between index)) (false ∷ ins), length-append (map (λ _. false) (between index)) (drops index x ∷ del), length-map (between index) (λ _. true), length-map (between index) (λ _. false))
 
-pub same_flags : (h : History) (e : PlainEdit) → length (deleted_flags h e) ≡ length (inserted_flags h e)
+pub same_flags : (h : History) (e : PlainEdit) → length (deletion_flags h e) ≡ length (insertion_flags h e)
 same_flags h e = same_woven (inserted_at h e) (is_dropped_by h e) 0 h.characters
 
 -- ---- what is hidden

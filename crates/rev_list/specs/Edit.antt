@@ -7,8 +7,8 @@ use Rattle.xi_plain.specs.Edits.{deleted_by}
 use Rattle.rev_list.specs.declared.edit.RevEdit.{RevEdit}
 
 -- the revision of an edit
-abbrev pub revision_of : RevEdit → Revision
-revision_of e = edit e.base e.group e.priority e.author
+abbrev pub edit_revision : RevEdit → Revision
+edit_revision e = edit e.base e.group e.priority e.author
 
 -- a character that the revision inserts
 abbrev pub new_by : ℕ → Tagged
@@ -32,7 +32,7 @@ with_deleted rev (tagged ∷ characters) (flag ∷ at) =
 abbrev pub after_edit : History → RevEdit → History
 after_edit history e = record history {
   characters = with_deleted (head history + 1) (with_new (new_by (head history + 1)) history.characters e.inserted) e.deleted;
-  revisions = history.revisions ++ revision_of e ∷ [];
+  revisions = history.revisions ++ edit_revision e ∷ [];
 }
 
 -- the edit may come next

@@ -4,7 +4,7 @@ use Rattle.std.specs.List.{filter}
 use Rattle.xi_plain.specs.Numbers.{has}
 use Rattle.xi_plain.specs.History.{Tagged, Revision, edit, undo, History, head, revision_at, is_visible}
 use Rattle.rev_list.specs.declared.edit.RevEdit.{RevEdit}
-use Rattle.rev_list.specs.Edit.{revision_of}
+use Rattle.rev_list.specs.Edit.{edit_revision}
 
 -- whether the character is not visible at the revision
 abbrev pub is_hidden : History → ℕ → Tagged → Bool
@@ -35,7 +35,7 @@ deletions_of history rev = map (λ tagged. has tagged.deleted rev) (union_at his
 
 -- the edit is that of the revision, in positions of its own union
 pub record IsEditAt (history : History) (rev : ℕ) (e : RevEdit) : Type 0 where
-  pub said : revision_at history.revisions rev ≡ Some (revision_of e)
+  pub said : revision_at history.revisions rev ≡ Some (edit_revision e)
   pub inserted : e.inserted ≡ insertions_of history rev
   pub deleted : e.deleted ≡ deletions_of history rev
 

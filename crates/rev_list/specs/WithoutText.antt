@@ -14,11 +14,11 @@ abbrev pub without_text : History → History
 without_text history = record history { characters = map without_character history.characters }
 
 -- which positions of the longer union the edit inserts, and which it deletes
-abbrev pub inserted_flags : History → PlainEdit → List Bool
-inserted_flags history e = woven (λ index. map (λ _. true) (inserted_at history e index)) (λ _ _. false ∷ []) 0 history.characters
+abbrev pub insertion_flags : History → PlainEdit → List Bool
+insertion_flags history e = woven (λ index. map (λ _. true) (inserted_at history e index)) (λ _ _. false ∷ []) 0 history.characters
 
-abbrev pub deleted_flags : History → PlainEdit → List Bool
-deleted_flags history e =
+abbrev pub deletion_flags : History → PlainEdit → List Bool
+deletion_flags history e =
     woven (λ index. map (λ _. false) (inserted_at history e index)) (λ index tagged. is_dropped_by history e index tagged ∷ []) 0 history.characters
 
 -- the edit, in positions of the longer union
@@ -28,6 +28,6 @@ in_positions history e = record {
   priority = e.priority;
   group = e.group;
   author = e.author;
-  inserted = inserted_flags history e;
-  deleted = deleted_flags history e;
+  inserted = insertion_flags history e;
+  deleted = deletion_flags history e;
 }

@@ -15,6 +15,11 @@ pub enum RevFault {
 }
 
 impl fmt::Display for RevFault {
+    ghost use Rattle.std.specs.Prelude.{Some};
+    ghost use Rattle.rev_list.specs.RevFault.{rev_fault_text};
+
+    ghost output = { λ fault. Some (rev_fault_text fault) };
+
     fn fmt<W: fmt::Write>(&self, f: &mut fmt::Formatter<W>) -> fmt::Result {
         match self {
             RevFault::Unknown(head) => write!(f, "the head is revision {head}"),

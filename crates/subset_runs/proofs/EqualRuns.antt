@@ -6,7 +6,7 @@ use Rattle.std.specs.Cmp.{both_ways, booleans_Decides}
 use Rattle.std.specs.Cmp.Lexicographic.{pointwise, pointwise_decides}
 use Rattle.std.proofs.lemmas.Bool.{cases_lt, cases_order, or_from, or_left, true≢false, false≢true, and_parts, and_from, eqb-true, eq-eqb, lt-ltb, ne_eqb}
 use Rattle.std.proofs.lemmas.List.FromFn.{get_or-map-range_with_len}
-use Rattle.subset_runs.specs.Runs.{is_in, is_in_some, flags_in, AreRuns, next_start, IsStored}
+use Rattle.subset_runs.specs.Runs.{is_in, is_in_some, flags_in, AreSeparate, next_start, IsStored}
 use Rattle.subset_runs.proofs.RunLemmas.{is_in-true, is_in-before, is_in-after, is_in_some-before, is_in_some-after, length_stored, length-flags_in}
 
 abbrev HaveSame : List (ℕ × ℕ) → List (ℕ × ℕ) → Type 0
@@ -16,21 +16,21 @@ HaveSame xs ys = (p : ℕ) → is_in_some xs p ≡ is_in_some ys p
 in_first : (p : ℕ) (r : ℕ × ℕ) (xs : List (ℕ × ℕ)) → r.0 ≤ p → p < r.1 → is_in_some (r ∷ xs) p ≡ true
 in_first p r xs from to = or_left (is_in p r) (is_in_some xs p) (is_in-true p r from to)
 
-between : (p : ℕ) (r : ℕ × ℕ) (xs : List (ℕ × ℕ)) → AreRuns (r.1 + 1) xs → p ≡ r.1 → is_in_some (r ∷ xs) p ≡ false
+between : (p : ℕ) (r : ℕ × ℕ) (xs : List (ℕ × ℕ)) → AreSeparate (r.1 + 1) xs → p ≡ r.1 → is_in_some (r ∷ xs) p ≡ false
 between p r xs a at = or_from (is_in p r) (is_in_some xs p) (is_in-after p r (omega arith)) (is_in_some-before (r.1 + 1) p xs a (omega arith))
 
 apart : {x y : Bool} → x ≡ y → x ≡ true → y ≡ false → ⊥
 apart same one other = true≢false (sym one ∙ (same ∙ other))
 
-same_start : (low : ℕ) (r s : ℕ × ℕ) (xs ys : List (ℕ × ℕ)) → AreRuns low (r ∷ xs) → AreRuns low (s ∷ ys) → HaveSame (r ∷ xs) (s ∷ ys) → r.0 < s.0 → ⊥
+same_start : (low : ℕ) (r s : ℕ × ℕ) (xs ys : List (ℕ × ℕ)) → AreSeparate low (r ∷ xs) → AreSeparate low (s ∷ ys) → HaveSame (r ∷ xs) (s ∷ ys) → r.0 < s.0 → ⊥
 same_start low r s xs ys a b same less =
     apart (same r.0) (in_first r.0 r xs (omega arith) a.1) (is_in_some-before s.0 r.0 (s ∷ ys) (omega arith, b.1, b.2) less)
 
-same_end : (low : ℕ) (r s : ℕ × ℕ) (xs ys : List (ℕ × ℕ)) → AreRuns low (r ∷ xs) → AreRuns low (s ∷ ys) → HaveSame (r ∷ xs) (s ∷ ys) → s.0 ≤ r.1 → r.1 < s.1 → ⊥
+same_end : (low : ℕ) (r s : ℕ × ℕ) (xs ys : List (ℕ × ℕ)) → AreSeparate low (r ∷ xs) → AreSeparate low (s ∷ ys) → HaveSame (r ∷ xs) (s ∷ ys) → s.0 ≤ r.1 → r.1 < s.1 → ⊥
 same_end low r s xs ys a b same from less =
     apart (sym (same r.1)) (in_first r.1 s ys from less) (between r.1 r xs a.2 refl)
 
-same_rest : (r : ℕ × ℕ) (xs ys : List (ℕ × ℕ)) → AreRuns (r.1 + 1) xs → AreRuns (r.1 + 1) ys → HaveSame (r ∷ xs) (r ∷ ys) → HaveSame xs ys
+same_rest : (r : ℕ × ℕ) (xs ys : List (ℕ × ℕ)) → AreSeparate (r.1 + 1) xs → AreSeparate (r.1 + 1) ys → HaveSame (r ∷ xs) (r ∷ ys) → HaveSame xs ys
 same_rest r xs ys a b same = λ p. elim (cases_lt p (r.1 + 1)) [
   | inl before ↦ is_in_some-before (r.1 + 1) p xs a before ∙ sym (is_in_some-before (r.1 + 1) p ys b before)
   | inr past ↦
@@ -49,7 +49,7 @@ one_way m n up down =
       | inr (inr more) ↦ absurd (down more)
     ]
 
-runs_same : (low : ℕ) (xs ys : List (ℕ × ℕ)) → AreRuns low xs → AreRuns low ys → HaveSame xs ys → xs ≡ ys
+runs_same : (low : ℕ) (xs ys : List (ℕ × ℕ)) → AreSeparate low xs → AreSeparate low ys → HaveSame xs ys → xs ≡ ys
 runs_same low [] [] a b same = refl
 runs_same low [] (s ∷ ys) a b same = absurd (apart (sym (same s.0)) (in_first s.0 s ys (omega arith) b.1) refl)
 runs_same low (r ∷ xs) [] a b same = absurd (apart (same r.0) (in_first r.0 r xs (omega arith) a.1) refl)
@@ -58,7 +58,7 @@ runs_same low (r ∷ xs) (s ∷ ys) a b same =
     let start : r.0 ≡ s.0 = one_way _ _ (same_start low r s xs ys a b same) (same_start low s r ys xs b a back) in
     let end : r.1 ≡ s.1 = one_way _ _ (same_end low r s xs ys a b same (omega (arith, a.1))) (same_end low s r ys xs b a back (omega (arith, b.1))) in
     let first : s ≡ r = same_pair s r (sym start) (sym end) in
-    let b_rest : AreRuns (r.1 + 1) ys = subst (λ (k : ℕ). AreRuns (k + 1) ys) (sym end) b.2 in
+    let b_rest : AreSeparate (r.1 + 1) ys = subst (λ (k : ℕ). AreSeparate (k + 1) ys) (sym end) b.2 in
     let same_r : HaveSame (r ∷ xs) (r ∷ ys) = subst (λ (x : ℕ × ℕ). HaveSame (r ∷ xs) (x ∷ ys)) first same in
     let rest : xs ≡ ys = runs_same (r.1 + 1) xs ys a.2 b_rest (same_rest r xs ys a.2 b_rest same_r) in
     cc

@@ -4,14 +4,14 @@ use Rattle.std.specs.Prelude.{suc, zero, Any, IsTrue}
 use Rattle.std.proofs.lemmas.Bool.{cases_lt, or_from, or_left, or_right, or_cases, false≢true, and_parts, leb-true, ltb-true, true_from_ne_false}
 use Rattle.std.proofs.lemmas.List.{drop_more, length-append, length-replicate, get_or_past}
 use Rattle.std.proofs.lemmas.List.FromFn.{get_or-map-range_with_len}
-use Rattle.subset_runs.specs.Ranges.{IsGood, IsFault, IsFirstFault, AreGood, HasRanges}
+use Rattle.subset_runs.specs.Ranges.{IsGood, IsRangeFault, IsFirstFault, AreGood, HasRanges}
 use Rattle.subset_runs.specs.Runs.{is_in, is_in_some, flags_in, IsStored}
 use Rattle.subset_runs.specs.Subset.{contains}
 use Rattle.subset_runs.proofs.RunLemmas.{contains-stored, is_in-true, is_in-before, is_in-after, length-flags_in, flags_in-append, flags_in_all}
 
 -- ---- the first fault
 
-no_good_fault : (len low : ℕ) (r : ℕ × ℕ) → IsGood len low r → IsFault len low r → ⊥
+no_good_fault : (len low : ℕ) (r : ℕ × ℕ) → IsGood len low r → IsRangeFault len low r → ⊥
 no_good_fault len low r good (inl bad) = omega arith
 no_good_fault len low r good (inr (inl bad)) = omega arith
 no_good_fault len low r good (inr (inr bad)) = omega arith
@@ -28,7 +28,7 @@ one_first_fault len low zero (suc j) (r ∷ ranges) one other = absurd (no_good_
 one_first_fault len low (suc i) zero (r ∷ ranges) one other = absurd (no_good_fault len low r one.0 other)
 one_first_fault len low (suc i) (suc j) (r ∷ ranges) one other = omega (arith, one_first_fault len r.1 i j ranges one.1 other.1)
 
-pub fault_here : (len low index : ℕ) (ranges : List (ℕ × ℕ)) (d : ℕ × ℕ) → index < length ranges → IsFault len low (get_or ranges index d) → IsFirstFault len low (drop index ranges) 0
+pub fault_here : (len low index : ℕ) (ranges : List (ℕ × ℕ)) (d : ℕ × ℕ) → index < length ranges → IsRangeFault len low (get_or ranges index d) → IsFirstFault len low (drop index ranges) 0
 fault_here len low index ranges d h bad = rw (drop_more ranges index d h) bad
 
 pub fault_later : (len low index i : ℕ) (ranges : List (ℕ × ℕ)) (d : ℕ × ℕ) → index < length ranges → IsGood len low (get_or ranges index d) → IsFirstFault len (get_or ranges index d).1 (drop (index + 1) ranges) i → IsFirstFault len low (drop index ranges) (suc i)

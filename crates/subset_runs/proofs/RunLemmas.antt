@@ -10,7 +10,7 @@ use Rattle.std.proofs.lemmas.Option.{slice_get_past}
 use Rattle.std.proofs.lemmas.List.{drop_at, nil_from_length, get_or_past}
 use Rattle.std.proofs.lemmas.List.Folds.{list_any-append}
 use Rattle.std.proofs.lemmas.List.FromFn.{length-map-range_with_len, get_or-map-range_with_len}
-use Rattle.subset_runs.specs.Runs.{is_in, is_in_some, flags_in, AreRuns, next_start, EndsAfter, AddsRun, IsStored, IsAhead, IsRest}
+use Rattle.subset_runs.specs.Runs.{is_in, is_in_some, flags_in, AreSeparate, next_start, EndsAfter, AddsRun, IsStored, IsAhead, IsRest}
 use Rattle.subset_runs.specs.Subset.{count, contains}
 use Rattle.subset_runs.specs.Stretch.{IsFront}
 use Rattle.subset_runs.proofs.FlagLemmas.{count-append, count_le_length, count-replicate_true, count-replicate_false}
@@ -66,16 +66,16 @@ drop-flags_in xs at m n middle h e =
     rw (flags_in-append xs at m (n - m) n middle (omega arith) e) (drop_at (flags_in xs at m) _ m (length-flags_in xs at m))
 
 -- no run has a position below the first
-pub is_in_some-before : (low p : ℕ) (runs : List (ℕ × ℕ)) → AreRuns low runs → p < low → is_in_some runs p ≡ false
+pub is_in_some-before : (low p : ℕ) (runs : List (ℕ × ℕ)) → AreSeparate low runs → p < low → is_in_some runs p ≡ false
 is_in_some-before low p [] a h = refl
 is_in_some-before low p (r ∷ runs) a h = rw (is_in-before p r (omega arith)) (is_in_some-before (r.1 + 1) p runs a.2 (omega arith))
 
 -- nor one past the last
-pub next_start-le : (low : ℕ) (runs : List (ℕ × ℕ)) → AreRuns low runs → low ≤ next_start low runs
+pub next_start-le : (low : ℕ) (runs : List (ℕ × ℕ)) → AreSeparate low runs → low ≤ next_start low runs
 next_start-le low [] a = omega arith
 next_start-le low (r ∷ runs) a = omega (arith, next_start-le (r.1 + 1) runs a.2)
 
-pub is_in_some-after : (low p : ℕ) (runs : List (ℕ × ℕ)) → AreRuns low runs → next_start low runs ≤ p + 1 → is_in_some runs p ≡ false
+pub is_in_some-after : (low p : ℕ) (runs : List (ℕ × ℕ)) → AreSeparate low runs → next_start low runs ≤ p + 1 → is_in_some runs p ≡ false
 is_in_some-after low p [] a h = refl
 is_in_some-after low p (r ∷ runs) a h =
     let end = next_start-le (r.1 + 1) runs a.2 in
@@ -112,7 +112,7 @@ and_true true = refl
 and_true false = refl
 
 -- the last run, made longer
-pub AddsRun-longer : (low i : ℕ) (runs : List (ℕ × ℕ)) (last : ℕ × ℕ) (end : ℕ) → AreRuns low runs → i + 1 ≡ length runs → get_or runs i last ≡ last → last.1 < end → AddsRun low runs (set runs i (last.0, end)) last.1 end
+pub AddsRun-longer : (low i : ℕ) (runs : List (ℕ × ℕ)) (last : ℕ × ℕ) (end : ℕ) → AreSeparate low runs → i + 1 ≡ length runs → get_or runs i last ≡ last → last.1 < end → AddsRun low runs (set runs i (last.0, end)) last.1 end
 AddsRun-longer low i [] last end a e g h = absurd (omega arith)
 AddsRun-longer low zero (r ∷ []) last end a e g h =
     let further : r.1 < end = subst (λ (x : ℕ × ℕ). x.1 < end) (sym g) h in
@@ -132,7 +132,7 @@ AddsRun-longer low (suc i) (r ∷ runs) last end a e g h =
     }
 
 -- a run at the end
-pub AddsRun-push : (low : ℕ) (runs : List (ℕ × ℕ)) (start end : ℕ) → AreRuns low runs → next_start low runs ≤ start → start < end → AddsRun low runs (runs ++ (start, end) ∷ []) start end
+pub AddsRun-push : (low : ℕ) (runs : List (ℕ × ℕ)) (start end : ℕ) → AreSeparate low runs → next_start low runs ≤ start → start < end → AddsRun low runs (runs ++ (start, end) ∷ []) start end
 AddsRun-push low [] start end a n h = record {
   apart = (n, h, tt);
   within = refl;
@@ -152,13 +152,13 @@ pub flags_in-none : (at n : ℕ) → flags_in [] at n ≡ replicate n false
 flags_in-none at n = flags_in_all [] at n false (λ p a b. refl)
 
 -- positions past the runs are no members
-pub flags_in-grown : (runs : List (ℕ × ℕ)) (len n end : ℕ) → AreRuns 0 runs → next_start 0 runs ≤ len + 1 → end ≡ len + n → flags_in runs 0 end ≡ flags_in runs 0 len ++ replicate n false
+pub flags_in-grown : (runs : List (ℕ × ℕ)) (len n end : ℕ) → AreSeparate 0 runs → next_start 0 runs ≤ len + 1 → end ≡ len + n → flags_in runs 0 end ≡ flags_in runs 0 len ++ replicate n false
 flags_in-grown runs len n end a w e =
     flags_in-append runs 0 len n end len e (omega arith)
     ∙ ap (λ rest. flags_in runs 0 len ++ rest) (flags_in_all runs len n false (λ p from to. is_in_some-after 0 p runs a (omega arith)))
 
 -- the positions of the run added are
-pub flags_in-added : (old new : List (ℕ × ℕ)) (len n end : ℕ) → AreRuns 0 old → next_start 0 old ≤ len + 1 → AddsRun 0 old new len end → end ≡ len + n → flags_in new 0 end ≡ flags_in old 0 len ++ replicate n true
+pub flags_in-added : (old new : List (ℕ × ℕ)) (len n end : ℕ) → AreSeparate 0 old → next_start 0 old ≤ len + 1 → AddsRun 0 old new len end → end ≡ len + n → flags_in new 0 end ≡ flags_in old 0 len ++ replicate n true
 flags_in-added old new len n end a w adds e =
     let front : flags_in new 0 len ≡ flags_in old 0 len =
     flags_in_same new old 0 len (λ p from to. adds.members p ∙ or_false _ _ (is_in-before p (len, end) (omega arith))) in
@@ -175,7 +175,7 @@ same_some_range e = cc
 no_some_range : {x : ℕ × ℕ} (o : Option (ℕ × ℕ)) → o ≡ None → o ≡ Some x → ⊥
 no_some_range o none some = cc
 
-AreRuns_weaker : (low high : ℕ) (runs : List (ℕ × ℕ)) → AreRuns high runs → low ≤ high → AreRuns low runs
+AreRuns_weaker : (low high : ℕ) (runs : List (ℕ × ℕ)) → AreSeparate high runs → low ≤ high → AreSeparate low runs
 AreRuns_weaker low high [] a h = tt
 AreRuns_weaker low high (r ∷ runs) a h = (omega arith, a.1, a.2)
 
@@ -339,7 +339,7 @@ skipped runs rest at len n flags ahead e h is =
 -- ---- a position looked up
 
 -- at the first run that ends after the position
-pub is_in_some-at : (low i k : ℕ) (runs : List (ℕ × ℕ)) (d : ℕ × ℕ) → AreRuns low runs → k < length runs → ((j : ℕ) → j < k → (get_or runs j d).1 ≤ i) → i < (get_or runs k d).1 → is_in_some runs i ≡ leb (get_or runs k d).0 i
+pub is_in_some-at : (low i k : ℕ) (runs : List (ℕ × ℕ)) (d : ℕ × ℕ) → AreSeparate low runs → k < length runs → ((j : ℕ) → j < k → (get_or runs j d).1 ≤ i) → i < (get_or runs k d).1 → is_in_some runs i ≡ leb (get_or runs k d).0 i
 is_in_some-at low i k [] d a h before after = absurd (omega arith)
 is_in_some-at low i zero (r ∷ runs) d a h before after =
     let rest = is_in_some-before (r.1 + 1) i runs a.2 (omega arith) in
@@ -353,12 +353,12 @@ is_in_some-past i [] d before = refl
 is_in_some-past i (r ∷ runs) d before =
     rw (is_in-after i r (before 0 (omega arith))) (is_in_some-past i runs d (λ j less. before (suc j) (omega arith)))
 
-ends_low : (low j : ℕ) (runs : List (ℕ × ℕ)) (d : ℕ × ℕ) → AreRuns low runs → j < length runs → low ≤ (get_or runs j d).1
+ends_low : (low j : ℕ) (runs : List (ℕ × ℕ)) (d : ℕ × ℕ) → AreSeparate low runs → j < length runs → low ≤ (get_or runs j d).1
 ends_low low j [] d a h = absurd (omega arith)
 ends_low low zero (r ∷ runs) d a h = omega arith
 ends_low low (suc j) (r ∷ runs) d a h = omega (arith, ends_low (r.1 + 1) j runs d a.2 (omega arith))
 
-ends_rise_at : (low i j : ℕ) (runs : List (ℕ × ℕ)) (d : ℕ × ℕ) → AreRuns low runs → i ≤ j → j < length runs → (get_or runs i d).1 ≤ (get_or runs j d).1
+ends_rise_at : (low i j : ℕ) (runs : List (ℕ × ℕ)) (d : ℕ × ℕ) → AreSeparate low runs → i ≤ j → j < length runs → (get_or runs i d).1 ≤ (get_or runs j d).1
 ends_rise_at low i j [] d a le h = absurd (omega arith)
 ends_rise_at low zero zero (r ∷ runs) d a le h = omega arith
 ends_rise_at low zero (suc j) (r ∷ runs) d a le h = omega (arith, ends_low (r.1 + 1) j runs d a.2 (omega arith))
@@ -366,7 +366,7 @@ ends_rise_at low (suc i) zero (r ∷ runs) d a le h = absurd (omega arith)
 ends_rise_at low (suc i) (suc j) (r ∷ runs) d a le h = ends_rise_at (r.1 + 1) i j runs d a.2 (omega arith) (omega arith)
 
 -- the ends of runs rise
-pub ends_rise : (low : ℕ) (runs : List (ℕ × ℕ)) → AreRuns low runs → IsNonDecreasingBy (λ (r : ℕ × ℕ). r.1) runs
+pub ends_rise : (low : ℕ) (runs : List (ℕ × ℕ)) → AreSeparate low runs → IsNonDecreasingBy (λ (r : ℕ × ℕ). r.1) runs
 ends_rise low runs a = λ i j d le less. ends_rise_at low i j runs d a le less
 
 pub contains-stored : (runs : List (ℕ × ℕ)) (len members i : ℕ) (flags : List Bool) → IsStored runs len members → flags_in runs 0 len ≡ flags → is_in_some runs i ≡ contains flags i

@@ -7,13 +7,13 @@ abbrev pub IsGood : ℕ → ℕ → ℕ × ℕ → Type 0
 IsGood len low r = (r.0 ≤ r.1) × (low ≤ r.0) × (r.1 ≤ len)
 
 -- the range has its start above its end, or begins below `low`, or ends past `len`
-abbrev pub IsFault : ℕ → ℕ → ℕ × ℕ → Type 0
-IsFault len low r = (r.1 < r.0) ⊎ ((r.0 < low) ⊎ (len < r.1))
+abbrev pub IsRangeFault : ℕ → ℕ → ℕ × ℕ → Type 0
+IsRangeFault len low r = (r.1 < r.0) ⊎ ((r.0 < low) ⊎ (len < r.1))
 
 -- the range with index i is the first at fault, where each has to begin at the end of the one before or later
 abbrev pub IsFirstFault : ℕ → ℕ → List (ℕ × ℕ) → ℕ → Type 0
 IsFirstFault len low [] i = ⊥
-IsFirstFault len low (r ∷ ranges) zero = IsFault len low r
+IsFirstFault len low (r ∷ ranges) zero = IsRangeFault len low r
 IsFirstFault len low (r ∷ ranges) (suc i) = IsGood len low r × IsFirstFault len r.1 ranges i
 
 -- no range is at fault

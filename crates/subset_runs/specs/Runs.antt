@@ -16,9 +16,9 @@ abbrev pub flags_in : List (ℕ × ℕ) → ℕ → ℕ → List Bool
 flags_in ranges at n = map (is_in_some ranges) (range_with_len at n)
 
 -- the ranges begin at `low` or later, ascend, are not empty, and no two touch
-abbrev pub AreRuns : ℕ → List (ℕ × ℕ) → Type 0
-AreRuns low [] = Unit {0}
-AreRuns low (run ∷ runs) = (low ≤ run.0) × (run.0 < run.1) × AreRuns (run.1 + 1) runs
+abbrev pub AreSeparate : ℕ → List (ℕ × ℕ) → Type 0
+AreSeparate low [] = Unit {0}
+AreSeparate low (run ∷ runs) = (low ≤ run.0) × (run.0 < run.1) × AreSeparate (run.1 + 1) runs
 
 -- the least start of a further run
 abbrev pub next_start : ℕ → List (ℕ × ℕ) → ℕ
@@ -32,25 +32,25 @@ EndsAfter at (run ∷ runs) = at < run.1
 
 -- what a subset keeps: its runs, which end within its length, and how many members they have
 pub record IsStored (runs : List (ℕ × ℕ)) (len members : ℕ) : Type 0 where
-  pub apart : AreRuns 0 runs
+  pub apart : AreSeparate 0 runs
   pub within : next_start 0 runs ≤ len + 1
   pub counted : members ≡ count (flags_in runs 0 len)
 
 -- what a walk keeps: the runs that end after `at`, and within the length
 pub record IsAhead (runs : List (ℕ × ℕ)) (at len : ℕ) : Type 0 where
-  pub apart : AreRuns 0 runs
+  pub apart : AreSeparate 0 runs
   pub ahead : EndsAfter at runs
   pub within : next_start 0 runs ≤ len + 1
   pub reached : at ≤ len
 
 -- the new runs have the positions from start to end beside those of the old ones
 pub record AddsRun (low : ℕ) (old new : List (ℕ × ℕ)) (start end : ℕ) : Type 0 where
-  pub apart : AreRuns low new
+  pub apart : AreSeparate low new
   pub within : next_start low new ≡ end + 1
   pub members : (p : ℕ) → is_in_some new p ≡ (is_in_some old p || is_in p (start, end))
 
 -- the rest of the runs has each position from `at` on that the runs have, and its first run ends after `at`
 pub record IsRest (runs rest : List (ℕ × ℕ)) (at : ℕ) : Type 0 where
-  pub apart : AreRuns 0 rest
+  pub apart : AreSeparate 0 rest
   pub within : (len : ℕ) → next_start 0 runs ≤ len + 1 → next_start 0 rest ≤ len + 1
   pub members : (p : ℕ) → at ≤ p → is_in_some rest p ≡ is_in_some runs p

@@ -3,7 +3,7 @@ ghost use Rattle.subset_runs.specs.Subset.{at_each, count, contains, members, un
 ghost use Rattle.subset_runs.specs.Keep.{is_kept};
 ghost use Rattle.subset_runs.specs.Renumbering.{Expands, Shrinks};
 ghost use Rattle.subset_runs.specs.Ranges.{IsFirstFault, AreGood, HasRanges};
-ghost use Rattle.subset_runs.specs.Runs.{AreRuns, AddsRun, flags_in, is_in_some, next_start};
+ghost use Rattle.subset_runs.specs.Runs.{AreSeparate, AddsRun, flags_in, is_in_some, next_start};
 
 use crate::ranges::{first_fault, with_members_in};
 use crate::steps::{Keep, next_both, next_expanded, next_flipped, next_outside};
@@ -66,7 +66,7 @@ impl Subset {
 
     /// The runs of members as ranges, in O(1): each is its start and its end, the end not included.
     pub fn runs(&self) -> &[(u64, u64)]
-        ensures apart { AreRuns 0 result.now }
+        ensures apart { AreSeparate 0 result.now }
         ensures within { next_start 0 result.now ≤ length self.now + 1 }
         ensures members { HasRanges (length self.now) result.now self.now }
         ensures together { flags_in result.now 0 (length self.now) ≡ self.now }
@@ -205,7 +205,7 @@ impl Eq for Subset {
 
 // Whether one of the runs has the position.
 fn is_in_some(runs: &[(u64, u64)], i: u64) -> bool
-    requires { AreRuns 0 runs.now }
+    requires { AreSeparate 0 runs.now }
     ensures { result ≡ is_in_some runs.now i }
 {
     let after = runs.partition_point(|run| run.1 <= i);
@@ -215,7 +215,7 @@ fn is_in_some(runs: &[(u64, u64)], i: u64) -> bool
 // Puts a run after the runs, as a part of the last one where the two touch.
 fn add_run(runs: &mut Vec<(u64, u64)>, start: u64, end: u64) -> Result<(), AllocError>
     requires order { start < end }
-    requires apart { AreRuns 0 runs.old.items }
+    requires apart { AreSeparate 0 runs.old.items }
     requires within { next_start 0 runs.old.items ≤ start + 1 }
     ensures ok { OnOk result (AddsRun 0 runs.old.items runs.new.items start end) }
     ensures err { OnErr result (runs.new.items ≡ runs.old.items) }

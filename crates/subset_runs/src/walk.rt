@@ -1,5 +1,5 @@
 ghost use Rattle.std.specs.Prelude.{◌≡◌, ◌≢◌, ℕ, ◌+◌, ◌↔◌, ◌≤◌, List, [], Bool, length, drop, IsTrue};
-ghost use Rattle.subset_runs.specs.Runs.{AreRuns, EndsAfter, IsRest, flags_in, next_start};
+ghost use Rattle.subset_runs.specs.Runs.{AreSeparate, EndsAfter, IsRest, flags_in, next_start};
 ghost use Rattle.subset_runs.specs.Stretch.{IsFront};
 
 use crate::Stretch;
@@ -27,7 +27,7 @@ impl<'a> Model for Walk<'a> {
 
 impl<'a> Walk<'a> {
     pub(crate) fn new(runs: &'a [(u64, u64)], len: u64) -> Self
-        requires apart { AreRuns 0 runs.now }
+        requires apart { AreSeparate 0 runs.now }
         requires within { next_start 0 runs.now ≤ len + 1 }
         ensures { result ≡ flags_in runs.now 0 len }
     {
@@ -74,7 +74,7 @@ impl<'a> Walk<'a> {
 
 // The runs that end after `at`.
 fn rest_after(runs: &[(u64, u64)], at: u64) -> &[(u64, u64)]
-    requires { AreRuns 0 runs.now }
+    requires { AreSeparate 0 runs.now }
     ensures rest { IsRest runs.now result.now at }
     ensures ahead { EndsAfter at result.now }
 {

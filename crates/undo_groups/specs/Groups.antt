@@ -33,8 +33,8 @@ abbrev pub retiring : Groups → List ℕ
 retiring s = drop s.index s.live ++ take (excess (grown s)) (grown s)
 
 -- after a new group; what was undone stays so
-abbrev pub opened : Groups → Groups
-opened s = record {
+abbrev pub after_opening : Groups → Groups
+after_opening s = record {
   live = drop (excess (grown s)) (grown s);
   index = length (drop (excess (grown s)) (grown s));
   retired = fold with_group s.retired (retiring s);

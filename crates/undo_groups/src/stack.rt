@@ -2,7 +2,7 @@ ghost use Rattle.std.specs.Prelude.{◌≡◌, ◌+◌, ◌-◌, ◌^◌, ◌<�
 ghost use Rattle.std.specs.List.{fold};
 ghost use Rattle.xi_plain.specs.Numbers.{has};
 ghost use Rattle.undo_groups.specs.Numbers.{with_group, IsRising};
-ghost use Rattle.undo_groups.specs.Groups.{no_groups, excess, opened, undone_one, redone_one, forgotten, is_known};
+ghost use Rattle.undo_groups.specs.Groups.{no_groups, excess, after_opening, undone_one, redone_one, forgotten, is_known};
 
 use crate::rising::{is_among, put_all, put_in, take_out};
 use std::alloc::Global;
@@ -66,7 +66,7 @@ impl Stack {
     pub fn open_group(&mut self) -> Result<u64, NoMemory>
         requires { self.old.given + 1 < 2 ^ 63 }
         ensures group { IfOk result (λ group. group ≡ self.old.given + 1) }
-        ensures opened { OnOk result (self.new ≡ opened self.old) }
+        ensures opened { OnOk result (self.new ≡ after_opening self.old) }
         ensures unchanged { OnErr result (self.new ≡ self.old) }
     {
         self.live.reserve(1)?;

@@ -27,4 +27,4 @@ pub use memory::{Copied, NoMemory};
 pub use screen::{Line, Lines, Offsets, Op, Ops, Triple, Triples, Update};
 pub use selection::{Region, Regions, Sel};
 pub use steps::Steps;
-pub use text::Text;
+pub use text::{Text, place_in};

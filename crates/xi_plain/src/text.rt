@@ -196,8 +196,8 @@ fn gap_in(text: &str, at: u64) -> Option<u64>
     if left == 0 { Some(gap) } else { None }
 }
 
-/// How many bytes the first `gap` characters take.
-fn place_in(text: &str, gap: u64) -> u64
+/// The byte offset of a gap, or of the end where there is no such gap. This walks the text up to it.
+pub fn place_in(text: &str, gap: u64) -> u64
     ensures { result ≡ place_of (chars text.now) gap }
 {
     let mut place: u64 = 0;

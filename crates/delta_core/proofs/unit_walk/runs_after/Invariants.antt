@@ -1,9 +1,9 @@
 use Rattle.std.proofs.Common.{length}
-use Rattle.delta_core.specs.Walk.{IsRest}
+use Rattle.delta_core.specs.Walk.{IsRestOfKept}
 use Rattle.delta_core.proofs.unit_walk.runs_after.Given as goal
 
 abbrev pub invariant-loop-rest : goal.invariant-loop-rest
-invariant-loop-rest l = IsRest l.runs l.rest l.at
+invariant-loop-rest l = IsRestOfKept l.runs l.rest l.at
 
 abbrev pub decreases-loop-rest : goal.decreases-loop-rest
 decreases-loop-rest l = length l.rest

@@ -1,6 +1,6 @@
 use Rattle.std.specs.Prelude.{suc, slice_index_or}
 use Rattle.std.proofs.Common.{ℕ, ◌+◌, ◌≡◌, add-zero, inl, inr, subst, arith}
-use Rattle.subset_runs.specs.Ranges.{IsFault, IsFirstFault}
+use Rattle.subset_runs.specs.Ranges.{IsRangeFault, IsFirstFault}
 use Rattle.subset_runs.proofs.RangeLemmas.{fault_here, fault_later, good_later}
 use Rattle.subset_runs.proofs.ranges.first_fault.Goals as goal
 use Rattle.subset_runs.proofs.ranges.first_fault.Goals.{then-range-low-via-then-range-low, then-range-low-via-else-range-low+then-range, then-range-low-via-else-range-low+else-range+then-len-range}
@@ -9,7 +9,7 @@ pub returns-then-range-low-clause-found : goal.returns-then-range-low-clause-fou
 returns-then-range-low-clause-found c =
     let ranges = c.args.ranges.now in
     let index = c.loop-index.index in
-    let bad : IsFault c.args.len c.loop-index.low (slice_index_or ranges index (0, 0)) =
+    let bad : IsRangeFault c.args.len c.loop-index.low (slice_index_or ranges index (0, 0)) =
     elim c.then-range-low.branch [
       | then-range-low-via-then-range-low w ↦ inr (inl w.if-range-low.true)
       | then-range-low-via-else-range-low+then-range w ↦ inl w.if-range.true

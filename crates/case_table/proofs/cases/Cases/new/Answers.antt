@@ -4,7 +4,7 @@ use Rattle.std.specs.Cmp.Lexicographic.{slice_cmp}
 use Rattle.std.specs.declared.cmp.Ordering.TheVariants.{Less}
 use Rattle.std.proofs.lemmas.Bool.Decides.{nat_tests}
 use Rattle.case_table.proofs.Reading.{IsRead-step, IsRead-missing, IsRead-falls, IsRead-left, IsRead-over, IsTable-over}
-use Rattle.case_table.proofs.Laws.{names_of-count, names_of-rising, written-names_of}
+use Rattle.case_table.proofs.Laws.{names_of-count, names_of-rising, text_of_names-names_of}
 use Rattle.case_table.proofs.Search.{not_below, then_below}
 use Rattle.case_table.proofs.cases.Cases.new.Goals as goal
 use Rattle.case_table.proofs.cases.Cases.new.Goals.{else-row-gt0-via-then-row-gt0+else-le, else-row-gt0-via-else-row-gt0}
@@ -39,7 +39,7 @@ returns-then-is_empty-clause-ok g c =
     IsRead-over g.row.N c.args.text.now _ _ c.loop-row.places c.loop-row.row c.loop-row.invariant.2 (omega arith) (grind (arith, nat_tests))
 
 pub returns-then-is_empty-clause-text : goal.returns-then-is_empty-clause-text
-returns-then-is_empty-clause-text g c = sym (written-names_of g.row.N c.args.text.now (returns-then-is_empty-clause-ok g c))
+returns-then-is_empty-clause-text g c = sym (text_of_names-names_of g.row.N c.args.text.now (returns-then-is_empty-clause-ok g c))
 
 pub returns-then-is_empty-clause-count : goal.returns-then-is_empty-clause-count
 returns-then-is_empty-clause-count g c = names_of-count g.row.N c.args.text.now (returns-then-is_empty-clause-ok g c)
