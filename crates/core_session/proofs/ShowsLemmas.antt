@@ -1,7 +1,7 @@
 -- One more entry is shown, where those before it are.
-use Rattle.std.proofs.Common.{◌≡◌, ◌≢◌, ℕ, suc, ◌+◌, ◌<◌, ◌≤◌, ◌||◌, length, arith, Bool, true, false, List, [], ◌∷◌, ◌++◌, map, Option, Some, None, refl, ap, sym, ◌∙◌, subst, append_assoc, append-nil, ◌⊎◌, inl, inr, option_map, unwrap_or}
-use Rattle.std.specs.Prelude.{if◌then◌else◌, ⊤}
-use Rattle.std.specs.List.{filter_map, cons_option, AllByRecursion, concat}
+use Rattle.std.proofs.Common.{◌≡◌, ℕ, suc, ◌+◌, ◌<◌, ◌≤◌, ◌||◌, length, arith, Bool, true, false, List, [], ◌∷◌, ◌++◌, map, Option, Some, None, refl, ap, sym, ◌∙◌, subst, append-nil, ◌⊎◌, inl, inr, unwrap_or}
+use Rattle.std.specs.Prelude.{if◌then◌else◌}
+use Rattle.std.specs.List.{filter_map, cons_option, AllByRecursion}
 use Rattle.serde_json.specs.Data.{Data}
 use Rattle.json_rpc.specs.Line.{line_of, IsLineOf}
 use Rattle.json_rpc.proofs.Apart.{lines_of-lines}
@@ -26,7 +26,6 @@ use Rattle.xi_plain.proofs.ScreenLemmas.{screen_after-plan_from}
 use Rattle.std.proofs.lemmas.Bool.{cases_eq}
 use Rattle.std.proofs.lemmas.Bool.Decides.{nat_tests}
 use Rattle.xi_plain.specs.Screen.{Screen, screen_after}
-use Rattle.xi_plain.specs.Journal.{lines_of}
 use Rattle.json_rpc.specs.Response.{reply_data, error_data}
 use Rattle.view_update.specs.Notes.{scroll_data, alert_data}
 use Rattle.view_update.specs.Written.{update_data}
@@ -36,8 +35,8 @@ use Rattle.doc_session.specs.declared.doc.Doc.{Doc}
 use Rattle.doc_session.specs.ScreenOf.{IsScreenOf}
 use Rattle.doc_session.proofs.ScreenLemmas.{IsScreenOf-shown}
 use Rattle.doc_session.specs.Document.{Document, layout_of, no_request, loaded_document, inserted}
-use Rattle.doc_session.specs.Effects.{ops_of, update_of, told, wants_update, opened}
-use Rattle.core_session.specs.Answer.{Reply, accepted, refused, silent, answers, result_messages, refusal, named_refusal, code_of, message_of}
+use Rattle.doc_session.specs.Effects.{ops_of, update_of, told, wants_update}
+use Rattle.core_session.specs.Answer.{Reply, accepted, refused, silent, answers, refusal, named_refusal, code_of, message_of}
 use Rattle.core_session.specs.Session.{view_id, Outcome, outcome, opening_outcome, insert_outcome, refusing, is_first_view, outcome_messages, update_notes, scroll_notes, messages, step, document_after, all_messages, lines_written, written, piece_of}
 use Rattle.core_session.specs.Shows.{updates_in, screen_told, rebuilt_from, rebuilt, IsShown, SendsWithin, SendWindow, ShowsEach}
 use Rattle.core_session.specs.Core.{Stands, IsToldBack, AreLinesOf, screen_of, plain_of, IsShowing, front_entry}

@@ -1,4 +1,5 @@
-ghost use Rattle.std.specs.Prelude.{◌≡◌, ◌≢◌, ◌+◌, ◌≤◌, ◌++◌, ◌∷◌, [], ℕ, Option, IfOk, IfErr, vec_len, vec_capacity, false};
+ghost use Rattle.std.specs.Prelude.{◌≡◌, ◌≢◌, ◌+◌, ◌≤◌, ◌++◌, ◌∷◌, ◌⊎◌, [], ℕ, Option, IfOk, IfErr, vec_len, vec_capacity, false};
+ghost use Rattle.outside.specs.Faults.{Rose};
 ghost use Rattle.xi_plain.specs.declared.command.Command.{Command};
 ghost use Rattle.front_wire.specs.Fair.{IsFair};
 ghost use Rattle.doc_session.specs.Document.{Document};
@@ -68,6 +69,8 @@ impl<K: Sink> Core<K> {
         ensures broken { result ≡ Entered.SinkFault
             → (n : ℕ) × BreaksOff K.held K.faults self.old self.new (command_of line.now) n }
         ensures no_memory { result ≡ Entered.NoMemory → IsAsBefore self.old self.new }
+        ensures complete { (Rose (K.faults (sink_of self.old)) (K.faults (sink_of self.new)) → ⊥)
+            → (result ≡ Entered.Taken) ⊎ (result ≡ Entered.NoMemory) }
     {
         let Ok(made) = prepare(alloc, &self.document, line) else {
             return Entered::NoMemory;

@@ -1,6 +1,7 @@
 ghost use Rattle.std.specs.Prelude.{◌≡◌, ◌↔◌, [], IsTrue, codes};
 ghost use Rattle.xi_top.specs.Ending.{status_of};
 ghost use Rattle.xi_top.specs.Run.{RunsAlone, IsAlone, told_by};
+ghost use Rattle.xi_top.specs.Calm.{IsCalm, EndsWell};
 
 use crate::ending::Ending;
 use crate::serve::serve;
@@ -32,6 +33,10 @@ pub fn xi_main<S: Source, K: Sink>(
         (told_by S.left S.faults K.held K.faults source.old sink)
         (told_by S.left S.faults K.held K.faults source.new result.sink)
         result.journal.items result.status }
+    ensures complete { IsAlone words.now → IsCalm
+        (told_by S.left S.faults K.held K.faults source.old sink)
+        (told_by S.left S.faults K.held K.faults source.new result.sink)
+        → EndsWell result.status }
     ensures other { (IsAlone words.now → ⊥)
         → (result.journal.items ≡ []) × (result.sink ≡ sink) × (source.new ≡ source.old) }
     ensures usage { (result.status ≡ 2) ↔ (IsAlone words.now → ⊥) }
@@ -61,9 +66,23 @@ fn is_alone_word(word: &Text) -> bool
     word.as_str() == "alone"
 }
 
-/// Serves one front end on the calling thread, from its first byte to the closing entry.
+/// Serves one front end on the calling thread, from its first byte to the closing entry. Where neither count of faults rises, and
+/// the input has fewer than 2^40 lines of fewer than 2^24 bytes each, the status is 0, or 3 for want of memory.
 pub fn run_alone<S: Source, K: Sink>(alloc: Global, source: &mut S, sink: K) -> Report<K>
     ensures headline { RunsAlone
+        (told_by S.left S.faults K.held K.faults source.old sink)
+        (told_by S.left S.faults K.held K.faults source.new result.sink)
+        result.journal.items result.status }
+    ensures complete { IsCalm
+        (told_by S.left S.faults K.held K.faults source.old sink)
+        (told_by S.left S.faults K.held K.faults source.new result.sink)
+        → EndsWell result.status }
+{
+    run(alloc, source, sink)
+}
+
+fn run<S: Source, K: Sink>(alloc: Global, source: &mut S, sink: K) -> Report<K>
+    ensures { RunsAlone
         (told_by S.left S.faults K.held K.faults source.old sink)
         (told_by S.left S.faults K.held K.faults source.new result.sink)
         result.journal.items result.status }

@@ -1,7 +1,6 @@
-use Rattle.std.proofs.Common.{◌≡◌, ◌++◌, ◌∷◌, [], List, ℕ, Option, true, sym, ap, ◌∙◌, subst, arith, eq-eqb, take, length}
+use Rattle.std.proofs.Common.{◌≡◌, ◌++◌, ◌∷◌, [], List, ℕ, true, ap, ◌∙◌, subst, arith, eq-eqb, take}
 use Rattle.std.proofs.lemmas.List.{take_all}
 use Rattle.outside.specs.Sink.{Gains}
-use Rattle.xi_plain.specs.declared.command.Entry.{Entry}
 use Rattle.core_session.specs.Core.{front_entry, piece_after}
 use Rattle.core_session.proofs.ShowsLemmas.{serves_push}
 use Rattle.core_session.proofs.session.Core.put.Goals as goal
