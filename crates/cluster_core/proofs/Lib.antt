@@ -1,0 +1,3 @@
+pub mod BoundaryLemmas
+pub mod CursorLemmas
+pub mod RisingLemmas

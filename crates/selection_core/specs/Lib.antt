@@ -1,0 +1,4 @@
+pub mod Selection
+pub mod Mapped
+pub mod Steps
+pub mod Row

@@ -1,0 +1,13 @@
+//! Selections: a caret, one region more, the last caret alone, and what an edit makes of a selection.
+//!
+//! The calls are those of the trait [`Selection`] on the plain type `Sel`, which a contract sees as the list of its regions. They
+//! are sorted, and no two meet: two regions that overlap, or that touch where one is a caret, become one.
+#![tactic(auto)]
+
+mod mapping;
+mod merging;
+mod selection;
+#[cfg(test)]
+mod tests;
+
+pub use selection::Selection;
