@@ -258,6 +258,9 @@ undone_none (suc rev) = refl
 IsPlain-loaded : (len : ℕ) → IsPlain (loaded (replicate len 0))
 IsPlain-loaded len = record { none = undone_none; sound = loaded_sound len }
 
+pub IsPlain-history_of : (len : ℕ) (edits : List RevEdit) → IsPlain (history_of len edits)
+IsPlain-history_of len edits = IsPlain-fold (loaded (replicate len 0)) edits (IsPlain-loaded len)
+
 length-loaded : (len : ℕ) → length (loaded (replicate len 0)).characters ≡ len
 length-loaded zero = refl
 length-loaded (suc len) = omega (arith, length-loaded len)
@@ -291,7 +294,7 @@ hidden_at-history_of len edits rev turns le =
 pub hidden_head-history_of : (len : ℕ) (edits : List RevEdit) → AreInTurn len edits → hidden_at (history_of len edits) (head (history_of len edits)) ≡ fold dead_after (replicate len false) edits
 hidden_head-history_of len edits turns =
     let h = history_of len edits in
-    sym (hidden_then-head h (IsPlain-fold (loaded (replicate len 0)) edits (IsPlain-loaded len)))
+    sym (hidden_then-head h (IsPlain-history_of len edits))
     ∙ (ap (λ n. hidden_then h n) (head-history_of len edits)
     ∙ (hidden_then-history_of len edits (length edits) turns (omega arith)
     ∙ ap (λ xs. fold dead_after (replicate len false) xs) (take_all (length edits) edits (omega arith))))
@@ -324,7 +327,7 @@ IsNext-history_of len edits e may = record { grown = may.grown; same_length = ma
 pub IsReady-made : (len : ℕ) (edits : List RevEdit) (hid : List (List Bool)) (gone : List Bool) (e : RevEdit) (ready : ReadyEdit) → HoldsEdits len edits hid gone → MayPush (history_of len edits) e → ready.edit ≡ e → ready.hidden ≡ hidden_by gone e → ready.dead ≡ dead_after gone e → IsReady (history_of len edits) ready
 IsReady-made len edits hid gone e ready stored may e_is hid_is dead_is =
     let h = history_of len edits in
-    let plain = IsPlain-fold (loaded (replicate len 0)) edits (IsPlain-loaded len) in
+    let plain = IsPlain-history_of len edits in
     let gone_is : gone ≡ hidden_at h (head h) = stored.dead ∙ sym (hidden_head-history_of len edits stored.in_turn) in
     record {
       may = rw e_is may;
@@ -338,7 +341,7 @@ pub HoldsEdits-after_edit : (len : ℕ) (edits : List RevEdit) (hid : List (List
 HoldsEdits-after_edit len edits hid gone ready stored is =
     let h = history_of len edits in
     let e = ready.edit in
-    let plain = IsPlain-fold (loaded (replicate len 0)) edits (IsPlain-loaded len) in
+    let plain = IsPlain-history_of len edits in
     let next = IsNext-history_of len edits e is.may in
     let first : List Bool = replicate len false in
     let before : List Bool = fold dead_after first edits in

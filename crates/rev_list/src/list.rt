@@ -1,6 +1,6 @@
 ghost use Rattle.std.specs.Prelude.{◌≡◌, ◌≢◌, ℕ, ◌+◌, ◌-◌, ◌<◌, ◌≤◌, ◌↔◌, false, length, replicate, IfOk, IfSome, IfNone, OnOk, OnErr};
 ghost use Rattle.xi_plain.specs.Numbers.{has};
-ghost use Rattle.xi_plain.specs.History.{head, loaded, revision_at};
+ghost use Rattle.xi_plain.specs.History.{IsSound, head, loaded, revision_at};
 ghost use Rattle.rev_list.specs.Edit.{after_edit, MayPush};
 ghost use Rattle.rev_list.specs.Hidden.{AreEditsAfter, IsCollected, IsEditAt, IsKeptAt, IsUnknown, hidden_at, hidden_then, is_edit};
 ghost use Rattle.rev_list.specs.Kept.{IsReady};
@@ -123,10 +123,12 @@ impl RevList {
     }
 
     /// The edits after a revision, the oldest first, in O(1). Each one's subsets are in the positions of the union after it, so that
-    /// a set of positions is carried over one edit after the other.
+    /// a set of positions is carried over one edit after the other, and ends in the present union: each character of that is of a
+    /// revision which is there.
     pub fn edits_after(&self, base: u64) -> &[RevEdit]
         requires { base ≤ head self.now.history }
-        ensures { AreEditsAfter self.now.history base result.now }
+        ensures edits { AreEditsAfter self.now.history base result.now }
+        ensures sound { IsSound self.now.history }
     {
         edits_from(&self.edits, base as usize)
     }
