@@ -24,6 +24,7 @@ pub use application::apply;
 pub use carry::carry_ins;
 pub use factoring::factor;
 pub use misfits::fits;
+pub use places::split_at_gap;
 pub use synthesis::synthesize;
 pub use unit_form::to_units;
 pub use wire_form::to_wire;

@@ -22,8 +22,8 @@ pub(crate) fn gaps_between(text: &Text, from: u64, to: u64) -> u64
     text.as_str()[from as usize..to as usize].chars().count() as u64
 }
 
-// The first characters and the others; this walks the first.
-pub(crate) fn split_at_gap(text: &str, gap: u64) -> (&str, &str)
+/// The first `gap` characters and the others; this walks the first and takes no memory.
+pub fn split_at_gap(text: &str, gap: u64) -> (&str, &str)
     requires { gap ≤ length (chars text.now) }
     ensures front { chars result.0.now ≡ take gap (chars text.now) }
     ensures back { chars result.1.now ≡ drop gap (chars text.now) }
