@@ -3,6 +3,7 @@ ghost use Rattle.std.specs.Prelude.{◌≡◌};
 use std::alloc::AllocError;
 use std::error::Error;
 use std::fmt;
+use xi_plain::NoMemory;
 
 /// Why a revision gives no answer.
 #[derive(Clone, Copy, Debug, PartialEq, Eq)]
@@ -37,6 +38,16 @@ impl From<AllocError> for RevFault {
     ghost from_gives = { λ _ fault. fault ≡ NoMemory };
 
     fn from(_: AllocError) -> Self {
+        RevFault::NoMemory
+    }
+}
+
+impl From<NoMemory> for RevFault {
+    ghost use Rattle.rev_list.specs.declared.fault.RevFault.TheVariants;
+
+    ghost from_gives = { λ _ fault. fault ≡ TheVariants.NoMemory };
+
+    fn from(_: NoMemory) -> Self {
         RevFault::NoMemory
     }
 }
