@@ -1,0 +1,50 @@
+-- The texts of a unit delta, joined.
+use Rattle.std.proofs.Common.{◌≡◌, ◌≢◌, ℕ, zero, suc, ◌+◌, ◌<◌, inl, inr, if◌then◌else◌, List, [], ◌∷◌, ◌++◌, drop, length, get_or, flat_map, suc-add, append-nil, append_assoc, refl, ap, ap₂, sym, ◌∙◌, arith}
+use Rattle.std.specs.List.{range_with_len}
+use Rattle.std.proofs.lemmas.Bool.{cases_eq, eq-eqb, ne_eqb}
+use Rattle.xi_plain.specs.declared.delta.Added.{Added}
+use Rattle.xi_plain.specs.declared.delta.UnitDelta.{UnitDelta}
+use Rattle.xi_plain.specs.Delta.{text_at_gap}
+use Rattle.xi_plain.specs.UnitDelta.{AreAdds, IsUnitDelta}
+use Rattle.rev_rebase.specs.Rebase.{added_text}
+use Rattle.rev_rebase.proofs.TextLemmas.{flat_map_same_from}
+
+text_at_gap-before : (base from gap : ℕ) (adds : List Added) → AreAdds base from adds → gap < from → text_at_gap adds gap ≡ []
+text_at_gap-before base from gap [] are below = refl
+text_at_gap-before base from gap (added ∷ adds) are below =
+    ap₂ (λ b text. (if b then added.text else []) ++ text) (ne_eqb added.gap gap (λ hit. omega (arith, hit, below, are.0)))
+    (text_at_gap-before base (added.gap + 1) gap adds are.3 (omega (arith, below, are.0)))
+
+texts_joined : (base from n : ℕ) (adds : List Added) → AreAdds base from adds → from + n ≡ base + 1 →
+    flat_map (text_at_gap adds) (range_with_len from n) ≡ flat_map (λ added. added.text) adds
+texts_joined base from zero [] are all = refl
+texts_joined base from zero (added ∷ adds) are all = absurd (omega (arith, are.0, are.1, all))
+texts_joined base from (suc n) [] are all = texts_joined base (from + 1) n [] tt (omega (arith, all))
+texts_joined base from (suc n) (added ∷ adds) are all =
+    elim (cases_eq added.gap from) [
+      | inl here ↦
+          ap₂ (λ b text. ((if b then added.text else []) ++ text) ++ flat_map (text_at_gap (added ∷ adds)) (range_with_len (from + 1) n))
+          (eq-eqb added.gap from here) (text_at_gap-before base (added.gap + 1) from adds are.3 (omega (arith, here))) ∙
+          ap (λ text. text ++ flat_map (text_at_gap (added ∷ adds)) (range_with_len (from + 1) n)) (append-nil added.text) ∙
+          ap (λ text. added.text ++ text)
+          (flat_map_same_from (text_at_gap (added ∷ adds)) (text_at_gap adds) (from + 1) n
+          (λ gap past. ap (λ b. (if b then added.text else []) ++ text_at_gap adds gap) (ne_eqb added.gap gap (λ hit. omega (arith, hit, here, past)))) ∙
+          texts_joined base (from + 1) n adds (let next : added.gap + 1 ≡ from + 1 = omega (arith, here) in rw next at are.3) (omega (arith, all)))
+      | inr other ↦
+          let apart = other in
+          ap (λ text. text ++ flat_map (text_at_gap (added ∷ adds)) (range_with_len (from + 1) n)) (text_at_gap-before base (from + 1) from (added ∷ adds) (later other) (omega arith)) ∙
+          texts_joined base (from + 1) n (added ∷ adds) (later other) (omega (arith, all))
+    ]
+  where
+    later : added.gap ≢ from → AreAdds base (from + 1) (added ∷ adds)
+    later other = (omega (arith, other, are.0), are.1, are.2, are.3)
+
+pub added_text-joined : (units : UnitDelta) → IsUnitDelta units → flat_map (λ added. added.text) units.added ≡ added_text units
+added_text-joined units is = sym (texts_joined units.base 0 (units.base + 1) units.added is.adds (omega arith))
+
+pub flat_map-front : (out : List ℕ) (adds : List Added) (i : ℕ) (added : Added) → i < length adds → added ≡ get_or adds i added →
+    (out ++ added.text) ++ flat_map (λ a. a.text) (drop (i + 1) adds) ≡ out ++ flat_map (λ a. a.text) (drop i adds)
+flat_map-front out [] i added lt is = absurd (omega arith)
+flat_map-front out (a ∷ adds) zero added lt is =
+    append_assoc out added.text (flat_map (λ b. b.text) adds) ∙ ap (λ b. out ++ (b.text ++ flat_map (λ b. b.text) adds)) is
+flat_map-front out (a ∷ adds) (suc i) added lt is = rw (suc-add i 1) (flat_map-front out adds i added (omega arith) is)

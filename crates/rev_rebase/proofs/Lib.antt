@@ -1,0 +1,11 @@
+pub mod RunSteps
+pub mod PlaceSteps
+pub mod UntilLemmas
+pub mod CarriedLemmas
+pub mod InsertionLemmas
+pub mod DeletionLemmas
+pub mod TextLemmas
+pub mod TextlessLemmas
+pub mod LaterLemmas
+pub mod JoinedLemmas
+pub mod PlacesLemmas

@@ -1,0 +1,44 @@
+-- What a stale edit comes to.
+use Rattle.std.specs.Prelude.{◌≡◌, ℕ, ◌+◌, Bool, true, false, List, [], ◌∷◌, map}
+use Rattle.std.specs.List.{flat_map, range_with_len}
+use Rattle.xi_plain.specs.declared.delta.UnitDelta.{UnitDelta}
+use Rattle.xi_plain.specs.UnitDelta.{unit_keeps, unit_adds}
+use Rattle.xi_plain.specs.History.{History}
+use Rattle.xi_plain.specs.Edits.{PlainEdit, gap_count}
+use Rattle.rev_list.specs.WithoutText.{insertion_flags, deletion_flags}
+
+-- a unit delta against a revision; the group and the author of an edit decide nothing about its places
+abbrev pub unit_edit : ℕ → UnitDelta → ℕ → PlainEdit
+unit_edit base units priority = record {
+  base = base;
+  kept = unit_keeps units;
+  added = unit_adds units;
+  group = 1;
+  priority = priority;
+  author = 0;
+}
+
+-- the texts that a unit delta adds, joined in the order of their gaps
+abbrev pub added_text : UnitDelta → List ℕ
+added_text units = flat_map (unit_adds units) (range_with_len 0 (units.base + 1))
+
+-- the same of an edit of a history
+abbrev pub text_of_edit : History → PlainEdit → List ℕ
+text_of_edit history e = flat_map e.added (range_with_len 0 (gap_count history e.base))
+
+-- all characters that a history ever had, in order
+abbrev pub characters_of : History → List ℕ
+characters_of history = map (λ tagged. tagged.character) history.characters
+
+-- a text, put in at the positions `at` of the longer list
+abbrev pub put_in : List Bool → List ℕ → List ℕ → List ℕ
+put_in [] text characters = []
+put_in (true ∷ at) [] characters = []
+put_in (true ∷ at) (c ∷ text) characters = c ∷ put_in at text characters
+put_in (false ∷ at) text [] = []
+put_in (false ∷ at) text (c ∷ characters) = c ∷ put_in at text characters
+
+-- the places of a unit delta against a revision, in the union after the last one
+pub record ArePlaces (history : History) (base : ℕ) (units : UnitDelta) (priority : ℕ) (inserted deleted : List Bool) : Type 0 where
+  pub inserted_is : inserted ≡ insertion_flags history (unit_edit base units priority)
+  pub deleted_is : deleted ≡ deletion_flags history (unit_edit base units priority)

@@ -1,0 +1,34 @@
+//! The laws that tie the places of a stale edit to histories with text, and the places of one revision to those of the next. The
+//! functions do nothing: their clauses are the laws, and their proofs prove them.
+ghost use Rattle.std.specs.Prelude.{◌≡◌, ℕ, ◌+◌, ◌≤◌};
+ghost use Rattle.xi_plain.specs.History.{History, IsSound, head};
+ghost use Rattle.xi_plain.specs.Place.{goes_right, index_right_of, insertion_place, is_by};
+ghost use Rattle.xi_plain.specs.Edits.{PlainEdit, edited};
+ghost use Rattle.rev_list.specs.Hidden.{union_at};
+ghost use Rattle.rev_list.specs.WithoutText.{deletion_flags, insertion_flags, without_text};
+ghost use Rattle.rev_rebase.specs.Rebase.{characters_of, put_in, text_of_edit};
+ghost use Rattle.rev_rebase.specs.Until.{index_over, until};
+
+/// The places of an edit do not depend on the text of the history, and its text, put in at them, makes the characters of the
+/// edit step.
+pub fn places()
+    ensures insertions { (history : History) (e : PlainEdit) → insertion_flags (without_text history) e
+        ≡ insertion_flags history e }
+    ensures deletions { (history : History) (e : PlainEdit) → deletion_flags (without_text history) e
+        ≡ deletion_flags history e }
+    ensures step { (history : History) (e : PlainEdit) → characters_of (edited history e)
+        ≡ put_in (insertion_flags history e) (text_of_edit history e) (characters_of history) }
+{}
+
+/// An insertion place is carried over one revision after the other, from the base's own text on, where it is right of what is dead:
+/// the eldest edit of a run decides on its whole block without being looked for.
+pub fn places_step()
+    ensures base { (history : History) (base priority gap : ℕ)
+        → insertion_place (until history base) base priority gap
+        ≡ index_right_of (until history base) base gap }
+    ensures step { (history : History) (base priority gap rev : ℕ) → base ≤ rev
+        → insertion_place (until history (rev + 1)) base priority gap
+        ≡ index_over (is_by (rev + 1)) (goes_right history.revisions priority (rev + 1))
+        (union_at history (rev + 1)) (insertion_place (until history rev) base priority gap) }
+    ensures last { (history : History) → IsSound history → until history (head history) ≡ history }
+{}

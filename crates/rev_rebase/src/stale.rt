@@ -1,0 +1,110 @@
+ghost use Rattle.std.specs.Prelude.{◌≡◌, ◌+◌, ◌^◌, ◌<◌, ◌≤◌, ◌↔◌, length, IfOk, IsTrue};
+ghost use Rattle.subset_runs.specs.Subset.{count};
+ghost use Rattle.xi_plain.specs.UnitDelta.{IsUnitDelta};
+ghost use Rattle.xi_plain.specs.History.{History, head, visible_at};
+ghost use Rattle.xi_plain.specs.Edits.{edited};
+ghost use Rattle.rev_list.specs.Hidden.{hidden_then};
+ghost use Rattle.rev_list.specs.WithoutText.{deletion_flags, insertion_flags, without_text};
+ghost use Rattle.rev_rebase.specs.Rebase.{ArePlaces, added_text, characters_of, put_in, unit_edit};
+
+use crate::later::{deletions_over, insertions_over};
+use delta_core::{carry_ins, factor};
+use rev_list::RevList;
+use std::alloc::Global;
+use subset_runs::Subset;
+use xi_plain::{NoMemory, Text, UnitDelta};
+
+/// An edit in the positions of the union that it makes: what it inserts there and what it deletes, and the text that it inserts.
+#[derive(Debug, PartialEq, Eq, Drop)]
+pub struct Rebased {
+    pub inserted: Subset,
+    pub deleted: Subset,
+    pub text: Text,
+}
+
+/// Where an edit goes that was made for the text of revision `rev`, with this priority: its insertions stand after the dead
+/// characters at their gap, and beside those of later edits by the rule of order, and its deletions drop nothing that came later.
+/// Pushed with these subsets, the edit is the edit step of the history. `priority` has no unit: of two edits at one gap that of the
+/// higher one stands right, and of equal ones the later.
+///
+/// This costs the runs of what is dead at the head and at the base, those of the edits after the base, and the elements of `units`
+/// with the bytes that they add; for each edit after the base the runs of the answer so far besides. Against the head it costs what
+/// is dead and the edit alone.
+pub fn rebase(
+    alloc: Global,
+    revs: &RevList,
+    rev: u64,
+    units: &UnitDelta,
+    priority: u32,
+) -> Result<Rebased, NoMemory>
+    requires base_kept { revs.now.history.floor ≤ rev }
+    requires base_known { rev ≤ head revs.now.history }
+    requires well_formed { IsUnitDelta units.now }
+    requires alive { units.now.base ≡ length (visible_at revs.now.history rev) }
+    requires bound { length revs.now.history.characters + length (added_text units.now) < 2 ^ 64 }
+    ensures inserted { IfOk result (λ made. made.inserted
+        ≡ insertion_flags revs.now.history (unit_edit rev units.now priority)) }
+    ensures deleted { IfOk result (λ made. made.deleted
+        ≡ deletion_flags revs.now.history (unit_edit rev units.now priority)) }
+    ensures text { IfOk result (λ made. made.text ≡ added_text units.now) }
+    ensures step { IfOk result (λ made. (history : History) → without_text history ≡ revs.now.history
+        → characters_of (edited history (unit_edit rev units.now priority))
+        ≡ put_in made.inserted made.text (characters_of history)) }
+{
+    let (inserted, deleted) = places(alloc, revs, rev, units, priority)?;
+    let text = joined(alloc, units)?;
+    Ok(Rebased {
+        inserted,
+        deleted,
+        text,
+    })
+}
+
+// The insertions and deletions, first in the union of the base, and then over the edits after it.
+fn places(
+    alloc: Global,
+    revs: &RevList,
+    rev: u64,
+    units: &UnitDelta,
+    priority: u32,
+) -> Result<(Subset, Subset), NoMemory>
+    requires kept { revs.now.history.floor ≤ rev }
+    requires known { rev ≤ head revs.now.history }
+    requires well_formed { IsUnitDelta units.now }
+    requires alive { units.now.base ≡ length (visible_at revs.now.history rev) }
+    requires bound { length revs.now.history.characters + length (added_text units.now) < 2 ^ 64 }
+    ensures { IfOk result (λ sets. ArePlaces revs.now.history rev units.now priority sets.0 sets.1) }
+{
+    let (dropped, own) = factor(alloc, units)?;
+    let dead = dead_then(alloc, revs, rev)?;
+    let later = revs.edits_after(rev);
+    let first = carry_ins(alloc, &own, &dead, true)?;
+    let inserted = insertions_over(alloc, first, later, priority)?;
+    let gone = deletions_over(alloc, dropped.expand(alloc, &dead)?, later)?;
+    let deleted = gone.expand(alloc, &inserted)?;
+    Ok((inserted, deleted))
+}
+
+// What of the union of a kept revision is dead then.
+fn dead_then(alloc: Global, revs: &RevList, rev: u64) -> Result<Subset, NoMemory>
+    requires kept { revs.now.history.floor ≤ rev }
+    requires known { rev ≤ head revs.now.history }
+    ensures { IfOk result (λ dead. dead ≡ hidden_then revs.now.history rev) }
+{
+    match revs.dead_then(alloc, rev) {
+        Ok(dead) => Ok(dead),
+        Err(_) => Err(NoMemory),
+    }
+}
+
+// The texts that a unit delta adds, joined.
+fn joined(alloc: Global, units: &UnitDelta) -> Result<Text, NoMemory>
+    requires { IsUnitDelta units.now }
+    ensures { IfOk result (λ made. made ≡ added_text units.now) }
+{
+    let mut made = Text::new(alloc);
+    for added in units.added.as_slice() {
+        made.push_text(&added.text)?;
+    }
+    Ok(made)
+}
