@@ -3,70 +3,67 @@ use std::alloc::Global;
 use std::test::Fail;
 use xi_plain::{Line, Lines, NoMemory, Offsets, Op, Ops, Text, Triples, Update};
 
-fn text(alloc: Global, characters: &str) -> Result<Text, NoMemory> {
-    Text::from_str(alloc, characters)
-}
+// A line of a layout: its text, and the caret in it.
+type Shown<'a> = (&'a str, Option<u64>);
 
-fn line(alloc: Global, characters: &str, ln: u64, caret: Option<u64>) -> Result<Line, NoMemory> {
+fn line(alloc: Global, shown: Shown, ln: u64) -> Result<Line, NoMemory> {
     let mut cursor = Offsets::new(alloc);
-    if let Some(place) = caret {
+    if let Some(place) = shown.1 {
         cursor.push(place)?;
     }
     Ok(Line {
-        text: text(alloc, characters)?,
+        text: Text::from_str(alloc, shown.0)?,
         ln: Some(ln),
         cursor,
         styles: Triples::new(alloc),
     })
 }
 
-/// The update that sends one line, and a second one if there is one.
-fn sent(alloc: Global, first: Line, second: Option<Line>) -> Result<Update, NoMemory> {
+// The update that sends these lines.
+fn sent(alloc: Global, shown: &[Shown], pristine: bool) -> Result<Update, NoMemory> {
     let mut lines = Lines::new(alloc);
-    lines.push(first)?;
-    if let Some(line) = second {
-        lines.push(line)?;
+    let mut ln: u64 = 0;
+    for row in shown {
+        ln = ln.saturating_add(1);
+        lines.push(line(alloc, *row, ln)?)?;
     }
     let mut ops = Ops::new(alloc);
     ops.push(Op::Ins { lines })?;
-    Ok(Update {
-        ops,
-        pristine: false,
-    })
+    Ok(Update { ops, pristine })
+}
+
+// The document with characters put in.
+fn inserted(alloc: Global, doc: &Doc, chars: &str) -> Result<Inserted, NoMemory> {
+    let chars = Text::from_str(alloc, chars)?;
+    doc.insert(alloc, &chars)
 }
 
 #[test]
 fn an_empty_document_is_opened(rt: HostRuntime) -> Result<(), Fail> {
     let alloc = rt.alloc();
     let (_doc, told) = Doc::opened(alloc)?;
-    let expected = Update {
-        pristine: true,
-        ..sent(alloc, line(alloc, "", 1, Some(0))?, None)?
-    };
-    assert_eq!(rt; told, expected);
+    assert_eq!(rt; told, sent(alloc, &[("", Some(0))], true)?);
     Ok(())
 }
 
 #[test]
 fn characters_are_put_in_one_after_the_other(rt: HostRuntime) -> Result<(), Fail> {
     let alloc = rt.alloc();
-    let (doc, _told) = Doc::opened(alloc)?;
-    let done = doc.insert(alloc, &text(alloc, "a")?)?;
-    let expected = sent(alloc, line(alloc, "a", 1, Some(1))?, None)?;
-    assert_eq!(rt; done.update, Some(expected));
-    assert_eq!(rt; done.scroll, Some(Point { line: 0, col: 1 }));
-    let done = done.doc.insert(alloc, &text(alloc, "é")?)?;
-    let expected = sent(alloc, line(alloc, "aé", 1, Some(3))?, None)?;
-    assert_eq!(rt; done.update, Some(expected));
-    assert_eq!(rt; done.scroll, Some(Point { line: 0, col: 3 }));
-    let done = done.doc.insert(alloc, &text(alloc, "\n")?)?;
-    let expected = sent(
-        alloc,
-        line(alloc, "aé\n", 1, None)?,
-        Some(line(alloc, "", 2, Some(0))?),
-    )?;
-    assert_eq!(rt; done.update, Some(expected));
-    assert_eq!(rt; done.scroll, Some(Point { line: 1, col: 0 }));
+    let (mut doc, _told) = Doc::opened(alloc)?;
+    for (chars, shown, line, col) in [
+        ("a", [("a", Some(1))].as_slice(), 0, 1),
+        ("é", [("aé", Some(3))].as_slice(), 0, 3),
+        ("\n", [("aé\n", None), ("", Some(0))].as_slice(), 1, 0),
+    ] {
+        let Inserted {
+            doc: next,
+            update,
+            scroll,
+        } = inserted(alloc, &doc, chars)?;
+        assert_eq!(rt; update, Some(sent(alloc, shown, false)?));
+        assert_eq!(rt; scroll, Some(Point { line, col }));
+        doc = next;
+    }
     Ok(())
 }
 
@@ -74,30 +71,33 @@ fn characters_are_put_in_one_after_the_other(rt: HostRuntime) -> Result<(), Fail
 fn nothing_is_told_where_nothing_is_put_in(rt: HostRuntime) -> Result<(), Fail> {
     let alloc = rt.alloc();
     let (doc, _told) = Doc::opened(alloc)?;
-    let done = doc.insert(alloc, &text(alloc, "")?)?;
+    let done = inserted(alloc, &doc, "")?;
     assert_eq!(rt; done.update, None);
     assert_eq!(rt; done.scroll, None);
-    let done = done.doc.insert(alloc, &text(alloc, "b")?)?;
+    let done = inserted(alloc, &done.doc, "b")?;
     assert_eq!(rt; done.scroll, Some(Point { line: 0, col: 1 }));
     Ok(())
+}
+
+// How many lines the update sends, and how many it leaves invalid.
+fn counts(update: &Update) -> (usize, u64) {
+    let (mut sent, mut invalid) = (0, 0);
+    for op in update.ops.iter() {
+        match op {
+            Op::Ins { lines } => sent = lines.len(),
+            Op::Invalidate { n } => invalid = *n,
+            _ => {}
+        }
+    }
+    (sent, invalid)
 }
 
 #[test]
 fn the_eleventh_line_is_left_invalid(rt: HostRuntime) -> Result<(), Fail> {
     let alloc = rt.alloc();
     let (doc, _told) = Doc::opened(alloc)?;
-    let done = doc.insert(alloc, &text(alloc, "0\n1\n2\n3\n4\n5\n6\n7\n8\n9\n")?)?;
+    let done = inserted(alloc, &doc, "0\n1\n2\n3\n4\n5\n6\n7\n8\n9\n")?;
     assert_eq!(rt; done.scroll, Some(Point { line: 10, col: 0 }));
-    let (mut sent, mut invalid) = (0, 0);
-    if let Some(update) = &done.update {
-        for op in update.ops.iter() {
-            match op {
-                Op::Ins { lines } => sent = lines.len(),
-                Op::Invalidate { n } => invalid = *n,
-                _ => {}
-            }
-        }
-    }
-    assert_eq!(rt; (sent, invalid), (10, 1));
+    assert_eq!(rt; done.update.as_ref().map(counts), Some((10, 1)));
     Ok(())
 }
