@@ -46,12 +46,12 @@ here_split (false ∷ flags) = refl
 
 -- ---- the steps
 
-own_step : (after : Bool) (ins later : List Bool) → (after ≡ false) ⊎ (here later ≡ 0) → carried after (true ∷ ins) later ≡ true ∷ carried after ins later
+pub own_step : (after : Bool) (ins later : List Bool) → (after ≡ false) ⊎ (here later ≡ 0) → carried after (true ∷ ins) later ≡ true ∷ carried after ins later
 own_step false ins later first = refl
 own_step true ins later (inl e) = absurd (true≢false e)
 own_step true ins later (inr none) = rw none refl
 
-other_step : (after : Bool) (ins later : List Bool) → (after ≡ true) ⊎ (here ins ≡ 0) → carried after ins (true ∷ later) ≡ false ∷ carried after ins later
+pub other_step : (after : Bool) (ins later : List Bool) → (after ≡ true) ⊎ (here ins ≡ 0) → carried after ins (true ∷ later) ≡ false ∷ carried after ins later
 other_step after [] later first = refl
 other_step true (true ∷ ins) later first = rw (add-one (here later)) refl
 other_step false (true ∷ ins) later (inl e) = absurd (false≢true e)
@@ -59,11 +59,11 @@ other_step false (true ∷ ins) later (inr none) = absurd (omega (arith, none))
 other_step true (false ∷ ins) later first = rw (add-one (here later), add-one (suc (here later))) refl
 other_step false (false ∷ ins) later first = rw (add-one (here later), add-one (suc (here later))) refl
 
-base_step : (after : Bool) (ins later : List Bool) → carried after (false ∷ ins) (false ∷ later) ≡ false ∷ carried after ins later
+pub base_step : (after : Bool) (ins later : List Bool) → carried after (false ∷ ins) (false ∷ later) ≡ false ∷ carried after ins later
 base_step true ins later = refl
 base_step false ins later = refl
 
-own_steps : (n : ℕ) (after : Bool) (ins later : List Bool) → (after ≡ false) ⊎ (here later ≡ 0) →
+pub own_steps : (n : ℕ) (after : Bool) (ins later : List Bool) → (after ≡ false) ⊎ (here later ≡ 0) →
     carried after (replicate n true ++ ins) later ≡ replicate n true ++ carried after ins later
 own_steps zero after ins later first = refl
 own_steps (suc n) after ins later first =

@@ -77,91 +77,104 @@ fn units(
     Ok(UnitDelta { base, kept, added })
 }
 
+// A delta over a text: its elements, what they are in characters and on the wire again, and the text after it.
+#[derive(Clone, Copy)]
+struct Form<'a> {
+    text: &'a str,
+    els: &'a [Row],
+    runs: &'a [(u64, u64)],
+    additions: &'a [(u64, Word)],
+    wire: &'a [Row],
+    after: &'a str,
+}
+
+const FORMS: [Form<'static>; 5] = [
+    Form {
+        text: "abc",
+        els: &[Copy(0, 1), Insert(Word::X), Copy(2, 3)],
+        runs: &[(0, 1), (2, 3)],
+        additions: &[(1, Word::X)],
+        wire: &[Copy(0, 1), Insert(Word::X), Copy(2, 3)],
+        after: "aXc",
+    },
+    // An empty copy fixes a gap inside a deleted range; the wire has no trace of it.
+    Form {
+        text: "aébc",
+        els: &[Copy(0, 1), Copy(3, 3), Insert(Word::X), Copy(4, 5)],
+        runs: &[(0, 1), (3, 4)],
+        additions: &[(2, Word::X)],
+        wire: &[Copy(0, 1), Insert(Word::X), Copy(4, 5)],
+        after: "aXc",
+    },
+    // Insertions before any copy, several at one gap, empty ones, and copies that touch.
+    Form {
+        text: "a𝄞b",
+        els: &[
+            Insert(Word::X),
+            Insert(Word::Empty),
+            Insert(Word::Y),
+            Copy(0, 1),
+            Insert(Word::Empty),
+            Copy(1, 5),
+            Insert(Word::Z),
+        ],
+        runs: &[(0, 2)],
+        additions: &[(0, Word::XY), (2, Word::Z)],
+        wire: &[Insert(Word::XY), Copy(0, 5), Insert(Word::Z)],
+        after: "XYa𝄞Z",
+    },
+    // An insertion between two kept neighbours parts them on the wire, and insertions round a dropped character are one.
+    Form {
+        text: "abcd",
+        els: &[
+            Copy(0, 1),
+            Insert(Word::X),
+            Copy(1, 2),
+            Insert(Word::Y),
+            Copy(3, 3),
+            Insert(Word::Z),
+            Copy(3, 4),
+        ],
+        runs: &[(0, 2), (3, 4)],
+        additions: &[(1, Word::X), (2, Word::Y), (3, Word::Z)],
+        wire: &[
+            Copy(0, 1),
+            Insert(Word::X),
+            Copy(1, 2),
+            Insert(Word::YZ),
+            Copy(3, 4),
+        ],
+        after: "aXbYZd",
+    },
+    Form {
+        text: "ab",
+        els: &[],
+        runs: &[],
+        additions: &[],
+        wire: &[],
+        after: "",
+    },
+];
+
 #[test]
 fn a_delta_in_all_its_forms(rt: HostRuntime) -> Result<(), Fail> {
     let alloc = rt.alloc();
-    for (text, els, runs, additions, wire, after) in [
-        (
-            "abc",
-            [Copy(0, 1), Insert(Word::X), Copy(2, 3)].as_slice(),
-            [(0, 1), (2, 3)].as_slice(),
-            [(1, Word::X)].as_slice(),
-            [Copy(0, 1), Insert(Word::X), Copy(2, 3)].as_slice(),
-            "aXc",
-        ),
-        // An empty copy fixes a gap inside a deleted range; the wire has no trace of it.
-        (
-            "aébc",
-            [Copy(0, 1), Copy(3, 3), Insert(Word::X), Copy(4, 5)].as_slice(),
-            [(0, 1), (3, 4)].as_slice(),
-            [(2, Word::X)].as_slice(),
-            [Copy(0, 1), Insert(Word::X), Copy(4, 5)].as_slice(),
-            "aXc",
-        ),
-        // Insertions before any copy, several at one gap, empty ones, and copies that touch.
-        (
-            "a𝄞b",
-            [
-                Insert(Word::X),
-                Insert(Word::Empty),
-                Insert(Word::Y),
-                Copy(0, 1),
-                Insert(Word::Empty),
-                Copy(1, 5),
-                Insert(Word::Z),
-            ]
-            .as_slice(),
-            [(0, 2)].as_slice(),
-            [(0, Word::XY), (2, Word::Z)].as_slice(),
-            [Insert(Word::XY), Copy(0, 5), Insert(Word::Z)].as_slice(),
-            "XYa𝄞Z",
-        ),
-        // An insertion between two kept neighbours parts them on the wire, and insertions round a dropped character are one.
-        (
-            "abcd",
-            [
-                Copy(0, 1),
-                Insert(Word::X),
-                Copy(1, 2),
-                Insert(Word::Y),
-                Copy(3, 3),
-                Insert(Word::Z),
-                Copy(3, 4),
-            ]
-            .as_slice(),
-            [(0, 2), (3, 4)].as_slice(),
-            [(1, Word::X), (2, Word::Y), (3, Word::Z)].as_slice(),
-            [
-                Copy(0, 1),
-                Insert(Word::X),
-                Copy(1, 2),
-                Insert(Word::YZ),
-                Copy(3, 4),
-            ]
-            .as_slice(),
-            "aXbYZd",
-        ),
-        (
-            "ab",
-            [].as_slice(),
-            [].as_slice(),
-            [].as_slice(),
-            [].as_slice(),
-            "",
-        ),
-    ] {
-        let text = Text::from_str(alloc, text)?;
-        let given = delta(alloc, text.byte_len(), els)?;
+    for form in FORMS {
+        let text = Text::from_str(alloc, form.text)?;
+        let given = delta(alloc, text.byte_len(), form.els)?;
         assert_eq!(rt; fits(&text, &given), Ok(()));
         let in_units = to_units(alloc, &text, &given)?;
-        assert_eq!(rt; in_units, units(alloc, text.len(), runs, additions)?);
+        assert_eq!(rt;
+            in_units,
+            units(alloc, text.len(), form.runs, form.additions)?
+        );
         assert_eq!(rt;
             to_wire(alloc, &text, &in_units)?,
-            delta(alloc, text.byte_len(), wire)?
+            delta(alloc, text.byte_len(), form.wire)?
         );
         assert_eq!(rt;
             apply(alloc, &text, &in_units)?,
-            Text::from_str(alloc, after)?
+            Text::from_str(alloc, form.after)?
         );
     }
     Ok(())

@@ -1,40 +1,15 @@
 -- Insertions at the gaps of a list, carried over other ones.
-use Rattle.std.proofs.Common.{◌≡◌, ◌≢◌, ℕ, zero, suc, ◌+◌, ◌<◌, ◌≤◌, ◌⊎◌, inl, inr, Bool, true, false, not, if◌then◌else◌, ◌==◌, List, [], ◌∷◌, ◌++◌, length, map, drop, replicate, filter, flat_map, append-nil, add-one, refl, ap, ap₂, sym, ◌∙◌, arith, length-append, length-drop}
+use Rattle.std.proofs.Common.{◌≡◌, ◌≢◌, ℕ, zero, suc, ◌+◌, ◌<◌, ◌≤◌, inl, inr, Bool, true, false, not, if◌then◌else◌, ◌==◌, List, [], ◌∷◌, ◌++◌, length, map, drop, replicate, filter, flat_map, append-nil, add-one, refl, ap, ap₂, sym, ◌∙◌, arith, length-append, length-drop}
 use Rattle.std.specs.List.{range_with_len}
 use Rattle.std.proofs.lemmas.List.{length-replicate}
-use Rattle.std.proofs.lemmas.Bool.{true≢false, false≢true, cases_eq, eq-eqb, ne_eqb}
+use Rattle.std.proofs.lemmas.Bool.{cases_eq, eq-eqb, ne_eqb}
 use Rattle.subset_runs.specs.Subset.{count}
 use Rattle.subset_runs.proofs.FlagLemmas.{count_le_length, count-append, count-replicate_true, count-replicate_false}
 use Rattle.xi_plain.specs.Woven.{woven, nth_index}
 use Rattle.xi_plain.proofs.WovenLemmas.{nth_index-here, nth_index-yes, nth_index-no, nth_index_only, filter-yes, filter-no, flat_map_none, flat_map_same}
 use Rattle.delta_core.specs.Carry.{here, carried}
-use Rattle.delta_core.proofs.CarryLemmas.{here_split, here_le_length}
+use Rattle.delta_core.proofs.CarryLemmas.{here_split, here_le_length, other_step, base_step, own_steps}
 use Rattle.rev_rebase.specs.Until.{index_over}
-
--- ---- one step of a carry
-
-own_step : (after : Bool) (ins later : List Bool) → (after ≡ false) ⊎ (here later ≡ 0) → carried after (true ∷ ins) later ≡ true ∷ carried after ins later
-own_step false ins later first = refl
-own_step true ins later (inl e) = absurd (true≢false e)
-own_step true ins later (inr none) = rw none refl
-
-other_step : (after : Bool) (ins later : List Bool) → (after ≡ true) ⊎ (here ins ≡ 0) → carried after ins (true ∷ later) ≡ false ∷ carried after ins later
-other_step after [] later first = refl
-other_step true (true ∷ ins) later first = rw (add-one (here later)) refl
-other_step false (true ∷ ins) later (inl e) = absurd (false≢true e)
-other_step false (true ∷ ins) later (inr none) = absurd (omega (arith, none))
-other_step true (false ∷ ins) later first = rw (add-one (here later), add-one (suc (here later))) refl
-other_step false (false ∷ ins) later first = rw (add-one (here later), add-one (suc (here later))) refl
-
-base_step : (after : Bool) (ins later : List Bool) → carried after (false ∷ ins) (false ∷ later) ≡ false ∷ carried after ins later
-base_step true ins later = refl
-base_step false ins later = refl
-
-own_steps : (n : ℕ) (after : Bool) (ins later : List Bool) → (after ≡ false) ⊎ (here later ≡ 0) →
-    carried after (replicate n true ++ ins) later ≡ replicate n true ++ carried after ins later
-own_steps zero after ins later first = refl
-own_steps (suc n) after ins later first =
-    own_step after (replicate n true ++ ins) later first ∙ ap (λ xs. true ∷ xs) (own_steps n after ins later first)
 
 -- ---- flags by gaps
 
