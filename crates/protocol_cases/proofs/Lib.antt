@@ -1,0 +1,4 @@
+mod CaseLemmas
+mod CutLemmas
+mod ScriptLemmas
+mod VerdictLemmas
