@@ -1,0 +1,225 @@
+-- Edits of one text commute.
+use Rattle.std.proofs.Common.{◌≡◌, ◌≢◌, ℕ, ◌+◌, ◌-◌, ◌^◌, ◌≤◌, false, List, [], ◌∷◌, ◌++◌, length, map, IsPermutation, refl, ap, sym, subst, ◌∙◌, arith, append-nil}
+use Rattle.std.specs.List.{AllByRecursion, sum_by, list_any}
+use Rattle.std.proofs.lemmas.List.Sums.{sum_by-cons}
+use Rattle.std.proofs.lemmas.List.Sorted.{IsPermutation-refl, IsPermutation-trans, IsPermutation-middle, IsPermutation-map, length_permutation, sum_by-IsPermutation}
+use Rattle.xi_plain.specs.Numbers.{has}
+use Rattle.xi_plain.specs.Delta.{keeps, adds, misfit_of}
+use Rattle.xi_plain.specs.History.{Tagged, History, loaded, head, undone, text_at, inserted_count, IsSound}
+use Rattle.xi_plain.specs.Edits.{PlainEdit, edited, is_edit_of, inserted_len}
+use Rattle.xi_plain.proofs.HistoryLemmas.{IsSound-loaded, IsSound-edited, text_at-edited, undone-edit}
+use Rattle.rev_engine.specs.Given.{Asked, meant, after, after_all, IsTaken, AreTaken, IsGiven}
+use Rattle.rev_engine.specs.Commute.{DifferInPriority, IsForHead, AreForHead, ShowsMerged, EditsCommute}
+use Rattle.rev_rebase.proofs.RunSteps.{AllByRecursion-parts}
+use Rattle.rev_engine.proofs.LaidLemmas.{laid_nothing}
+use Rattle.rev_engine.proofs.MergeLemmas.{head-edited, Done, seen_in, IsMerging, text_at-merging}
+use Rattle.rev_engine.proofs.StepLemmas.{dones_after, at_after, IsMerging-edited}
+use Rattle.rev_engine.proofs.OrderLemmas.{AllByRecursion-permutation, Differ, Differ-permutation, merged-permutation}
+use Rattle.rev_engine.proofs.TakenLemmas.{inserted_count-after, edit_refusal-none}
+
+-- ---- which histories take edits
+
+-- each character is of revisions that are there, the head is not collected, and a group with no edit yet is neither undone nor collected
+pub record TakesEdits (history : History) : Type 0 where
+  pub sound : IsSound history
+  pub floor : history.floor ≤ head history
+  pub live : (group : ℕ) → list_any (is_edit_of group) history.revisions ≡ false → has (undone history.revisions (head history)) group ≡ false
+  pub kept : (group : ℕ) → list_any (is_edit_of group) history.revisions ≡ false → has history.collected group ≡ false
+
+-- a history that edits alone gave
+record IsPlain (history : History) : Type 0 where
+  sound : IsSound history
+  floor : history.floor ≡ 0
+  spent : undone history.revisions (head history) ≡ []
+  collected : history.collected ≡ []
+
+IsPlain-all : (history : History) (edits : List Asked) → IsPlain history → IsPlain (after_all history edits)
+IsPlain-all history [] plain = plain
+IsPlain-all history (asked ∷ edits) plain =
+    let e = meant history asked in
+    IsPlain-all (after history asked) edits
+    (record {
+      sound = IsSound-edited history e plain.sound;
+      floor = plain.floor;
+      spent =
+          ap (undone (after history asked).revisions) (head-edited history e) ∙
+          undone-edit history.revisions e.base e.group e.priority e.author ∙ plain.spent;
+      collected = plain.collected;
+    })
+
+pub TakesEdits-given : (limit : ℕ) (history : History) → IsGiven limit history → TakesEdits history
+TakesEdits-given limit history given =
+    let plain : IsPlain history =
+    subst IsPlain (sym given.is)
+    (IsPlain-all (loaded given.text) given.edits
+    (record { sound = IsSound-loaded given.text; floor = refl; spent = refl; collected = refl })) in
+    record {
+      sound = plain.sound;
+      floor = omega (arith, plain.floor);
+      live = λ group fresh. ap (λ groups. has groups group) plain.spent;
+      kept = λ group fresh. ap (λ groups. has groups group) plain.collected;
+    }
+
+-- ---- one edit in its turn
+
+-- the text of the first head stands, and there is room for the edits to come
+record IsReady (limit : ℕ) (first last : History) (edits : List Asked) : Type 0 where
+  sound : IsSound last
+  floor : last.floor ≡ first.floor
+  collected : last.collected ≡ first.collected
+  later : head first ≤ head last
+  text : text_at last (head first) ≡ text_at first (head first)
+  room : inserted_count last + sum_by (λ asked. inserted_len asked.delta.els) edits ≤ limit
+  numbers : head last + length edits ≤ 2 ^ 63 - 1
+
+module _ (limit : ℕ) (first last : History) (asked : Asked) (edits : List Asked) (takes : TakesEdits first) (is : IsForHead first asked)
+    (ready : IsReady limit first last (asked ∷ edits)) where
+  room_here : inserted_count last + inserted_len asked.delta.els + sum_by (λ other. inserted_len other.delta.els) edits ≤ limit
+  room_here = omega (arith, ready.room, sum_by-cons (λ (other : Asked). inserted_len other.delta.els) asked edits)
+
+  same_text : text_at last asked.base ≡ text_at first asked.base
+  same_text = ap (text_at last) is.base ∙ ready.text ∙ ap (text_at first) (sym is.base)
+
+  meant-same : meant last asked ≡ meant first asked
+  meant-same =
+      ap (λ text. record {
+        base = asked.base;
+        kept = keeps text asked.delta;
+        added = adds text asked.delta;
+        group = asked.group;
+        priority = asked.priority;
+        author = asked.author;
+      }) same_text
+
+  IsTaken-ready : IsTaken limit last asked
+  IsTaken-ready = record {
+    may = record {
+      group_counts = is.group_counts;
+      group_kept = ap (λ groups. has groups asked.group) ready.collected ∙ takes.kept asked.group is.group_fresh;
+      has_number = omega (arith, ready.numbers);
+    };
+    accepted =
+        edit_refusal-none last limit asked.base asked.delta (omega (arith, is.base, ready.later))
+        (omega (arith, is.base, ready.floor, takes.floor))
+        (ap (λ text. misfit_of text asked.delta) (ap (text_at last) is.base ∙ ready.text) ∙ is.fits) (omega (arith, room_here));
+  }
+
+  IsReady-after : IsReady limit first (after last asked) edits
+  IsReady-after =
+      let e = meant last asked in
+      let one_more : head (after last asked) ≡ head last + 1 = head-edited last e in
+      record {
+        sound = IsSound-edited last e ready.sound;
+        floor = ready.floor;
+        collected = ready.collected;
+        later = omega (arith, ready.later, one_more);
+        text = text_at-edited last e (head first) ready.sound ready.later ∙ ready.text;
+        room = omega (arith, room_here, inserted_count-after last asked);
+        numbers = omega (arith, ready.numbers, one_more);
+      }
+
+-- ---- all edits
+
+-- the history after the edits shows them merged in some order
+record Comes (limit : ℕ) (first : History) (done : List PlainEdit) (last : History) (order : List Asked) : Type 0 where
+  taken : AreTaken limit last order
+  final : List PlainEdit
+  dones : List Done
+  at : ℕ → Tagged → Tagged
+  state : IsMerging first final (after_all last order) dones at
+  moved : IsPermutation (done ++ map (meant first) order) final
+
+comes : (limit : ℕ) (first : History) → TakesEdits first → (order : List Asked) (done : List PlainEdit) (last : History) (dones : List Done)
+    (at : ℕ → Tagged → Tagged) → IsMerging first done last dones at → IsReady limit first last order → AllByRecursion (IsForHead first) order →
+    Differ (λ e. e.priority) (done ++ map (meant first) order) → Comes limit first done last order
+comes limit first takes [] done last dones at state ready each differ = record {
+  taken = tt;
+  final = done;
+  dones = dones;
+  at = at;
+  state = state;
+  moved = subst (λ edits. IsPermutation edits done) (sym (append-nil done)) (IsPermutation-refl done);
+}
+comes limit first takes (asked ∷ order) done last dones at state ready each differ =
+    let e : PlainEdit = meant first asked in
+    let edits : List PlainEdit = map (meant first) order in
+    let middle : IsPermutation (done ++ e ∷ edits) (e ∷ (done ++ edits)) = IsPermutation-middle done e edits in
+    let apart : Differ (λ f. f.priority) (e ∷ (done ++ edits)) =
+    Differ-permutation (λ (f : PlainEdit). f.priority) (done ++ e ∷ edits) (e ∷ (done ++ edits)) middle differ in
+    let others = (AllByRecursion-parts (λ f. f.priority ≢ e.priority) done edits apart.0).0 in
+    let live = takes.live asked.group each.0.group_fresh in
+    let same = meant-same limit first last asked order takes each.0 ready in
+    let step = IsMerging-edited first takes.sound done last dones at state e each.0.base live others in
+    let rest =
+    comes limit first takes order (e ∷ done) (after last asked)
+    (dones_after first takes.sound done last dones at state e each.0.base live others)
+    (at_after first takes.sound done last dones at state e each.0.base live others)
+    (subst (λ f. IsMerging first (e ∷ done) (edited last f)
+    (dones_after first takes.sound done last dones at state e each.0.base live others)
+    (at_after first takes.sound done last dones at state e each.0.base live others)) (sym same) step)
+    (IsReady-after limit first last asked order takes each.0 ready) each.1 apart in
+    record {
+      taken = (IsTaken-ready limit first last asked order takes each.0 ready, rest.taken);
+      final = rest.final;
+      dones = rest.dones;
+      at = rest.at;
+      state = rest.state;
+      moved = IsPermutation-trans (done ++ e ∷ edits) (e ∷ (done ++ edits)) rest.final middle rest.moved;
+    }
+
+AllByRecursion-to_map : {X Y : Type 0} (P : Y → Type 0) (f : X → Y) (xs : List X) → AllByRecursion (λ x. P (f x)) xs → AllByRecursion P (map f xs)
+AllByRecursion-to_map P f [] each = tt
+AllByRecursion-to_map P f (x ∷ xs) each = (each.0, AllByRecursion-to_map P f xs each.1)
+
+Differ-meant : (history : History) (edits : List Asked) → DifferInPriority edits → Differ (λ e. e.priority) (map (meant history) edits)
+Differ-meant history [] differ = tt
+Differ-meant history (asked ∷ edits) differ = (
+  AllByRecursion-to_map (λ e. e.priority ≢ asked.priority) (meant history) edits differ.0,
+  Differ-meant history edits differ.1,
+)
+
+-- before the first of the edits
+IsMerging-none : (first : History) → IsSound first → IsMerging first [] first [] (λ n x. x)
+IsMerging-none first sound = record {
+  sound = sound;
+  later = omega arith;
+  spent = refl;
+  characters = sym (laid_nothing (seen_in first) 0 first.characters);
+  each = tt;
+  rises = tt;
+  is = refl;
+  others_before = λ x tagged. refl;
+  others = λ x tagged. refl;
+  stays = λ n x tagged is. record { inserted = refl; character = refl; tagged = tagged; at_base = is; at_now = is };
+}
+
+-- in a history that takes edits
+pub edits_commute_in : (limit : ℕ) (history : History) (edits order : List Asked) → TakesEdits history → AreForHead limit history edits →
+    IsPermutation edits order → AreTaken limit history order × ShowsMerged history edits (after_all history order)
+edits_commute_in limit history edits order takes for_head moved =
+    let text : List ℕ = text_at history (head history) in
+    let asked_for = map (meant history) edits in
+    let in_order = map (meant history) order in
+    let across : IsPermutation asked_for in_order = IsPermutation-map (meant history) edits order moved in
+    let differ = Differ-meant history edits for_head.distinct in
+    let all =
+    comes limit history takes order [] history [] (λ n x. x) (IsMerging-none history takes.sound)
+    (record {
+      sound = takes.sound;
+      floor = refl;
+      collected = refl;
+      later = omega arith;
+      text = refl;
+      room = omega (arith, for_head.room, sum_by-IsPermutation (λ (asked : Asked). inserted_len asked.delta.els) edits order moved);
+      numbers = omega (arith, for_head.numbers, length_permutation edits order moved);
+    })
+    (AllByRecursion-permutation (IsForHead history) edits order moved for_head.each)
+    (Differ-permutation (λ (e : PlainEdit). e.priority) asked_for in_order across differ) in (
+      all.taken,
+      text_at-merging history takes.sound all.final (after_all history order) all.dones all.at all.state ∙
+          sym (merged-permutation text asked_for all.final (IsPermutation-trans asked_for in_order all.final across all.moved) differ),
+    )
+
+pub edits_commute : EditsCommute
+edits_commute limit history edits order given for_head moved =
+    edits_commute_in limit history edits order (TakesEdits-given limit history given) for_head moved

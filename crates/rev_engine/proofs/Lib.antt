@@ -1,0 +1,13 @@
+pub mod FlatLemmas
+pub mod SpentLemmas
+pub mod ReadyLemmas
+pub mod StandLemmas
+pub mod DoneLemmas
+pub mod BlockLemmas
+pub mod LaidLemmas
+pub mod WalkLemmas
+pub mod MergeLemmas
+pub mod StepLemmas
+pub mod OrderLemmas
+pub mod TakenLemmas
+pub mod CommuteLemmas

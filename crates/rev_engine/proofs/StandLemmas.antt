@@ -1,0 +1,246 @@
+-- What an engine says of a history that it stands for.
+use Rattle.std.proofs.Common.{◌≡◌, ℕ, zero, suc, ◌+◌, ◌<◌, ◌≤◌, inl, inr, Bool, true, false, cond, if◌then◌else◌, not, nat_lt, List, [], ◌∷◌, ◌++◌, length, map, filter, replicate, Some, None, refl, ap, ap₂, sym, ◌∙◌, subst, arith}
+use Rattle.std.specs.List.{AllByRecursion, list_any}
+use Rattle.std.proofs.lemmas.Bool.{cases_lt, lt-ltb, le-ltb}
+use Rattle.std.proofs.lemmas.List.{length-map}
+use Rattle.std.proofs.lemmas.List.Sums.{fold-append}
+use Rattle.subset_runs.specs.Subset.{items_outside}
+use Rattle.xi_plain.specs.declared.delta.Delta.{Delta}
+use Rattle.xi_plain.specs.declared.delta.Misfit.{Misfit}
+use Rattle.xi_plain.specs.Delta.{Fits, misfit_of}
+use Rattle.xi_plain.specs.History.{Tagged, History, head, is_visible, inserted_count, loaded, text_at, undone, visible_at}
+use Rattle.xi_plain.specs.Edits.{PlainEdit, collected, edited, edit_refusal, inserted_len, misfit, misfit_or_spent, spent, unknown}
+use Rattle.xi_plain.specs.Collection.{is_dropped, kept}
+use Rattle.xi_plain.proofs.WovenLemmas.{count_by-no}
+use Rattle.xi_plain.proofs.HistoryLemmas.{IsSound-edited, IsSound-loaded}
+use Rattle.rev_list.specs.declared.fault.RevFault.{RevFault}
+use Rattle.rev_list.specs.declared.fault.RevFault.TheVariants as Rev
+use Rattle.rev_list.specs.Hidden.{IsCollected, IsKeptAt, IsUnknown}
+use Rattle.rev_list.specs.WithoutText.{in_positions, without_text}
+use Rattle.rev_list.proofs.TagLemmas.{undone_after-edit}
+use Rattle.rev_list.proofs.HistoryLemmas.{IsPlain}
+use Rattle.rev_list.proofs.TextLemmas.{hidden_without_text}
+use Rattle.rev_rebase.specs.Rebase.{characters_of}
+use Rattle.rev_engine.specs.Given.{Asked, AreTaken, IsGiven, IsTaken, after, after_all, meant}
+use Rattle.rev_engine.specs.declared.fault.EditFault.{EditFault}
+use Rattle.rev_engine.specs.Fault.{Refuses, fault_of_base, refusal_by}
+use Rattle.rev_engine.specs.State.{State}
+use Rattle.rev_engine.specs.Steps.{shown_at}
+use Rattle.rev_engine.specs.Engine.{StandsFor}
+use Rattle.rev_engine.proofs.SpentLemmas.{count_by-all}
+
+-- ---- the histories that calls give
+
+-- nothing is undone or collected
+pub record IsFresh (history : History) : Type 0 where
+  pub plain : IsPlain history
+  pub floor : history.floor ≡ 0
+  pub collected : history.collected ≡ []
+
+IsFresh-loaded : (text : List ℕ) → IsFresh (loaded text)
+IsFresh-loaded text = record {
+  plain = record { none = none; sound = IsSound-loaded text };
+  floor = refl;
+  collected = refl;
+}
+  where
+    none : (rev : ℕ) → undone [] rev ≡ []
+    none zero = refl
+    none (suc rev) = refl
+
+IsFresh-edited : (h : History) (e : PlainEdit) → IsFresh h → IsFresh (edited h e)
+IsFresh-edited h e fresh = record {
+  plain = record {
+    none = λ rev. undone_after-edit [] h.revisions rev (in_positions h e) ∙ fresh.plain.none rev;
+    sound = IsSound-edited h e fresh.plain.sound;
+  };
+  floor = fresh.floor;
+  collected = fresh.collected;
+}
+
+IsFresh-all : (h : History) (edits : List Asked) → IsFresh h → IsFresh (after_all h edits)
+IsFresh-all h [] fresh = fresh
+IsFresh-all h (asked ∷ edits) fresh = IsFresh-all (after h asked) edits (IsFresh-edited h (meant h asked) fresh)
+
+pub IsFresh-given : (limit : ℕ) (h : History) → IsGiven limit h → IsFresh h
+IsFresh-given limit h given = rw given.is (IsFresh-all (loaded given.text) given.edits (IsFresh-loaded given.text))
+
+AreTaken-append : (limit : ℕ) (h : History) (edits : List Asked) (asked : Asked) → AreTaken limit h edits → IsTaken limit (after_all h edits) asked →
+    AreTaken limit h (edits ++ asked ∷ [])
+AreTaken-append limit h [] asked are is = (is, tt)
+AreTaken-append limit h (first ∷ edits) asked are is = (are.0, AreTaken-append limit (after h first) edits asked are.1 is)
+
+pub IsGiven-loaded : (limit : ℕ) (text : List ℕ) → IsGiven limit (loaded text)
+IsGiven-loaded limit text = record { text = text; edits = []; taken = tt; is = refl }
+
+pub IsGiven-after : (limit : ℕ) (h : History) (asked : Asked) → IsGiven limit h → IsTaken limit h asked → IsGiven limit (after h asked)
+IsGiven-after limit h asked given is = record {
+  text = given.text;
+  edits = given.edits ++ asked ∷ [];
+  taken = AreTaken-append limit (loaded given.text) given.edits asked given.taken (subst (λ g. IsTaken limit g asked) given.is is);
+  is = ap (λ g. after g asked) given.is ∙ sym (fold-append after (loaded given.text) given.edits (asked ∷ []));
+}
+
+-- ---- what is kept
+
+any_none : (xs : List ℕ) → list_any (λ _. false) xs ≡ false
+any_none [] = refl
+any_none (x ∷ xs) = any_none xs
+
+dropped_none : (h : History) (tagged : Tagged) → h.collected ≡ [] → is_dropped h tagged ≡ false
+dropped_none h tagged none =
+    ap (λ (collected : List ℕ). is_dropped (record h { collected = collected }) tagged) none ∙ any_none tagged.deleted
+
+pub kept-all : (h : History) → h.collected ≡ [] → kept h ≡ length h.characters
+kept-all h none = count_by-all (λ tagged. not (is_dropped h tagged)) h.characters (each h.characters)
+  where
+    each : (xs : List Tagged) → AllByRecursion (λ tagged. not (is_dropped h tagged) ≡ true) xs
+    each [] = tt
+    each (x ∷ xs) = (ap not (dropped_none h x none), each xs)
+
+pub kept-stands : (engine : State) (h : History) (n : ℕ) → StandsFor engine h → n ≡ length engine.revisions.characters → n ≡ kept h
+kept-stands engine h n stands is =
+    is ∙ (ap (λ g. length g.characters) stands.revisions ∙
+    (length-map h.characters _ ∙ sym (kept-all h (IsFresh-given engine.limit h stands.given).collected)))
+
+-- ---- what is shown
+
+outside_visible : (p : Tagged → Bool) (xs : List Tagged) →
+    items_outside (map (λ t. not (p t)) xs) (map (λ t. t.character) xs) ≡ map (λ t. t.character) (filter p xs)
+outside_visible p [] = refl
+outside_visible p (x ∷ xs) = both (p x) (outside_visible p xs)
+  where
+    both : (b : Bool) → items_outside (map (λ t. not (p t)) xs) (map (λ t. t.character) xs) ≡ map (λ t. t.character) (filter p xs) →
+        items_outside (not b ∷ map (λ t. not (p t)) xs) (x.character ∷ map (λ t. t.character) xs) ≡
+        map (λ t. t.character) (cond b (x ∷ filter p xs) (filter p xs))
+    both true rest = ap (λ cs. x.character ∷ cs) rest
+    both false rest = rest
+
+pub shown_at-text_at : (h : History) (rev : ℕ) → shown_at (characters_of h) (without_text h) rev ≡ text_at h rev
+shown_at-text_at h rev =
+    ap (λ hidden. items_outside hidden (characters_of h)) (hidden_without_text h rev) ∙ outside_visible (is_visible h.revisions rev) h.characters
+
+pub shown-stands : (engine : State) (h : History) (rev : ℕ) → StandsFor engine h → shown_at engine.union engine.revisions rev ≡ text_at h rev
+shown-stands engine h rev stands =
+    ap₂ (λ union revisions. shown_at union revisions rev) stands.union stands.revisions ∙ shown_at-text_at h rev
+
+length-outside : (p : Tagged → Bool) (ts : List Tagged) (xs : List ℕ) → length xs ≡ length ts →
+    length (items_outside (map (λ t. not (p t)) ts) xs) ≡ length (filter p ts)
+length-outside p [] xs same = refl
+length-outside p (t ∷ ts) [] same = absurd (omega (arith, same))
+length-outside p (t ∷ ts) (x ∷ xs) same = both (p t) (length-outside p ts xs (omega (arith, same)))
+  where
+    both : (b : Bool) → length (items_outside (map (λ u. not (p u)) ts) xs) ≡ length (filter p ts) →
+        length (items_outside (not b ∷ map (λ u. not (p u)) ts) (x ∷ xs)) ≡ length (cond b (t ∷ filter p ts) (filter p ts))
+    both true rest = omega (arith, rest)
+    both false rest = rest
+
+-- as many as the revision shows
+pub length-shown_at : (union : List ℕ) (revisions : History) (rev : ℕ) → length union ≡ length revisions.characters →
+    length (shown_at union revisions rev) ≡ length (visible_at revisions rev)
+length-shown_at union revisions rev same = length-outside (is_visible revisions.revisions rev) revisions.characters union same
+
+-- ---- what is refused
+
+module _ (h : History) (limit base : ℕ) (delta : Delta) where
+  pub refusal-unknown : (n : ℕ) → IsUnknown h base n → edit_refusal h limit base delta ≡ Some (unknown n)
+  refusal-unknown n is =
+      ap (λ above. if above then Some (unknown (head h)) else (
+      if nat_lt base h.floor then Some (collected h.floor) else
+      misfit_or_spent (misfit_of (text_at h base) delta) limit (inserted_count h + inserted_len delta.els)))
+      (lt-ltb (head h) base is.0) ∙ ap (λ k. Some (unknown k)) (sym is.1)
+
+  pub refusal-kept : h.floor ≤ base → base ≤ head h →
+      edit_refusal h limit base delta ≡ misfit_or_spent (misfit_of (text_at h base) delta) limit (inserted_count h + inserted_len delta.els)
+  refusal-kept low high =
+      ap₂ (λ above below. if above then Some (unknown (head h)) else (
+      if below then Some (collected h.floor) else
+      misfit_or_spent (misfit_of (text_at h base) delta) limit (inserted_count h + inserted_len delta.els)))
+      (le-ltb (head h) base high) (le-ltb base h.floor low)
+
+  pub refusal-misfit : (first : Misfit) → h.floor ≤ base → base ≤ head h → misfit_of (text_at h base) delta ≡ Some first →
+      edit_refusal h limit base delta ≡ Some (misfit first)
+  refusal-misfit first low high is = refusal-kept low high ∙ ap (λ found. misfit_or_spent found limit (inserted_count h + inserted_len delta.els)) is
+
+  pub refusal-spent : h.floor ≤ base → base ≤ head h → Fits (text_at h base) delta → limit < inserted_count h + inserted_len delta.els →
+      edit_refusal h limit base delta ≡ Some (spent (inserted_count h + inserted_len delta.els))
+  refusal-spent low high fits past =
+      refusal-kept low high ∙ ap (λ found. misfit_or_spent found limit (inserted_count h + inserted_len delta.els)) fits ∙
+      ap (λ b. if b then Some (spent (inserted_count h + inserted_len delta.els)) else None) (lt-ltb limit (inserted_count h + inserted_len delta.els) past)
+
+  pub refusal-none : h.floor ≤ base → base ≤ head h → Fits (text_at h base) delta → inserted_count h + inserted_len delta.els ≤ limit →
+      edit_refusal h limit base delta ≡ None
+  refusal-none low high fits within =
+      refusal-kept low high ∙ ap (λ found. misfit_or_spent found limit (inserted_count h + inserted_len delta.els)) fits ∙
+      ap (λ b. if b then Some (spent (inserted_count h + inserted_len delta.els)) else None) (le-ltb limit (inserted_count h + inserted_len delta.els) within)
+
+-- the base is kept, where a revision list has an answer for it
+pub IsKeptAt-answered : (revisions : History) (rev : ℕ) → (IsUnknown revisions rev (head revisions) → ⊥) → (IsCollected revisions rev revisions.floor → ⊥) →
+    IsKeptAt revisions rev
+IsKeptAt-answered revisions rev known kept = (
+  elim (cases_lt rev revisions.floor) [ inl below ↦ absurd (kept (below, refl)) | inr at ↦ at ],
+  elim (cases_lt (head revisions) rev) [ inl above ↦ absurd (known (above, refl)) | inr at ↦ at ],
+)
+
+module _ (engine : State) (h : History) (base : ℕ) (delta : Delta) (stands : StandsFor engine h) where
+  kept_then : IsKeptAt engine.revisions base → IsKeptAt h base
+  kept_then kept = subst (λ revisions. IsKeptAt revisions base) stands.revisions kept
+
+  pub Refuses-base : (rev : RevFault) (fault : EditFault) → ((n : ℕ) → rev ≡ Rev.Unknown n → IsUnknown engine.revisions base n) →
+      ((n : ℕ) → rev ≡ Rev.Collected n → IsCollected engine.revisions base n) → fault ≡ fault_of_base rev →
+      Refuses (edit_refusal h engine.limit base delta) fault
+  Refuses-base (Rev.Unknown n) fault above below is = λ _.
+      refusal-unknown h engine.limit base delta n (subst (λ revisions. IsUnknown revisions base n) stands.revisions (above n refl)) ∙ ap refusal_by (sym is)
+  Refuses-base (Rev.Collected n) fault above below is =
+      let past = subst (λ revisions. IsCollected revisions base n) stands.revisions (below n refl) in
+      absurd (omega (arith, past.0, (IsFresh-given engine.limit h stands.given).floor))
+  Refuses-base Rev.NoMemory fault above below is = λ other. absurd (other is)
+
+  pub refused-misfit : (text : List ℕ) (first : Misfit) → IsKeptAt engine.revisions base → text ≡ shown_at engine.union engine.revisions base →
+      misfit_of text delta ≡ Some first → edit_refusal h engine.limit base delta ≡ Some (misfit first)
+  refused-misfit text first kept text_is is =
+      refusal-misfit h engine.limit base delta first (kept_then kept).0 (kept_then kept).1
+      (ap (λ shown. misfit_of shown delta) (sym (text_is ∙ shown-stands engine h base stands)) ∙ is)
+
+  fits_then : (text : List ℕ) → text ≡ shown_at engine.union engine.revisions base → Fits text delta → Fits (text_at h base) delta
+  fits_then text text_is fits = ap (λ shown. misfit_of shown delta) (sym (text_is ∙ shown-stands engine h base stands)) ∙ fits
+
+  spent_then : inserted_count h + inserted_len delta.els ≡ engine.spent + inserted_len delta.els
+  spent_then = ap (λ n. n + inserted_len delta.els) (sym stands.spent)
+
+  pub refused-spent : (text : List ℕ) (total : ℕ) → IsKeptAt engine.revisions base → text ≡ shown_at engine.union engine.revisions base → Fits text delta →
+      total ≡ engine.spent + inserted_len delta.els → engine.limit < total → edit_refusal h engine.limit base delta ≡ Some (spent total)
+  refused-spent text total kept text_is fits total_is past =
+      refusal-spent h engine.limit base delta (kept_then kept).0 (kept_then kept).1 (fits_then text text_is fits) (omega (arith, past, total_is, spent_then)) ∙
+      ap (λ n. Some (spent n)) (spent_then ∙ sym total_is)
+
+  pub accepted-fitting : (text : List ℕ) (total : ℕ) → IsKeptAt engine.revisions base → text ≡ shown_at engine.union engine.revisions base → Fits text delta →
+      total ≡ engine.spent + inserted_len delta.els → total ≤ engine.limit → edit_refusal h engine.limit base delta ≡ None
+  accepted-fitting text total kept text_is fits total_is within =
+      refusal-none h engine.limit base delta (kept_then kept).0 (kept_then kept).1 (fits_then text text_is fits) (omega (arith, within, total_is, spent_then))
+
+-- ---- the engine of a loaded text
+
+characters-loaded : (text : List ℕ) → text ≡ characters_of (loaded text)
+characters-loaded [] = refl
+characters-loaded (c ∷ text) = ap (λ cs. c ∷ cs) (characters-loaded text)
+
+positions-loaded : (text : List ℕ) → (loaded (replicate (length text) 0)).characters ≡ (without_text (loaded text)).characters
+positions-loaded [] = refl
+positions-loaded (c ∷ text) = ap (λ (xs : List Tagged). record { character = 0; inserted = 0; deleted = [] } ∷ xs) (positions-loaded text)
+
+spent-loaded : (text : List ℕ) → inserted_count (loaded text) ≡ 0
+spent-loaded [] = refl
+spent-loaded (c ∷ text) =
+    count_by-no (λ tagged. nat_lt 0 tagged.inserted) (record { character = c; inserted = 0; deleted = [] }) (loaded text).characters refl ∙ spent-loaded text
+
+pub StandsFor-loaded : (engine : State) (text : List ℕ) → engine.union ≡ text → engine.revisions ≡ loaded (replicate (length text) 0) → engine.spent ≡ 0 →
+    StandsFor engine (loaded text)
+StandsFor-loaded engine text union_is revisions_is spent_is = record {
+  given = IsGiven-loaded engine.limit text;
+  union = union_is ∙ characters-loaded text;
+  revisions =
+      revisions_is ∙
+      ap (λ (xs : List Tagged). record { characters = xs; revisions = []; floor = 0; collected = [] }) (positions-loaded text);
+  spent = spent_is ∙ sym (spent-loaded text);
+}

@@ -1,0 +1,49 @@
+-- Which histories the calls of an engine give.
+use Rattle.std.specs.Prelude.{◌≡◌, ℕ, ◌-◌, ◌^◌, ◌<◌, ◌≤◌, false, List, [], ◌∷◌, None, ⊤}
+use Rattle.std.specs.List.{fold}
+use Rattle.xi_plain.specs.declared.delta.Delta.{Delta}
+use Rattle.xi_plain.specs.Numbers.{has}
+use Rattle.xi_plain.specs.History.{History, head, loaded}
+use Rattle.xi_plain.specs.Edits.{PlainEdit, edited, plain_edit, edit_refusal}
+
+-- an edit as it is asked for: a delta against the text of a revision
+pub record Asked : Type 0 where
+  pub base : ℕ
+  pub delta : Delta
+  pub group : ℕ
+  pub priority : ℕ
+  pub author : ℕ
+
+-- what it means in a history
+abbrev pub meant : History → Asked → PlainEdit
+meant history asked = plain_edit history asked.base asked.delta asked.group asked.priority asked.author
+
+-- the history after it, and after many, one after the other
+abbrev pub after : History → Asked → History
+after history asked = edited history (meant history asked)
+
+abbrev pub after_all : History → List Asked → History
+after_all history edits = fold after history edits
+
+-- the edit may be asked for: its group counts from 1 and is not collected, and the next revision has a number
+pub record MayAsk (history : History) (group : ℕ) : Type 0 where
+  pub group_counts : 1 ≤ group
+  pub group_kept : has history.collected group ≡ false
+  pub has_number : head history < 2 ^ 63 - 1
+
+-- the edit is taken
+pub record IsTaken (limit : ℕ) (history : History) (asked : Asked) : Type 0 where
+  pub may : MayAsk history asked.group
+  pub accepted : edit_refusal history limit asked.base asked.delta ≡ None
+
+-- each edit is taken in its turn
+abbrev pub AreTaken : ℕ → History → List Asked → Type 0
+AreTaken limit history [] = ⊤
+AreTaken limit history (asked ∷ edits) = IsTaken limit history asked × AreTaken limit (after history asked) edits
+
+-- THE HISTORIES that the calls of an engine with this limit give: a loaded text, and edits that were taken
+pub record IsGiven (limit : ℕ) (history : History) : Type 0 where
+  pub text : List ℕ
+  pub edits : List Asked
+  pub taken : AreTaken limit (loaded text) edits
+  pub is : history ≡ after_all (loaded text) edits

@@ -1,0 +1,6 @@
+pub mod Given
+pub mod State
+pub mod Engine
+pub mod Steps
+pub mod Fault
+pub mod Commute

@@ -1,0 +1,25 @@
+use xi_plain::{Delta, UnitDelta};
+
+/// An edit, made for the text of a revision.
+#[derive(Debug, PartialEq, Eq, Drop)]
+pub struct Edit {
+    /// The revision whose text the delta is against.
+    pub rev: u64,
+    pub delta: Delta,
+    /// Of two insertions at one gap that of the higher priority stands right; of equal ones the later.
+    pub priority: u32,
+    /// Whether carets at the gap of an insertion stay left of it. The engine has no carets and passes it over.
+    pub after_cursor: bool,
+    pub author: u32,
+    /// The undo group, from 1 up.
+    pub group: u64,
+}
+
+/// What an edit did to the head text.
+#[derive(Debug, PartialEq, Eq, Drop)]
+pub struct Change {
+    /// The new revision.
+    pub rev: u64,
+    /// From the head text before to the head text after, in characters.
+    pub units: UnitDelta,
+}

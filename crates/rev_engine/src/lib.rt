@@ -1,0 +1,21 @@
+//! The revision engine over flat texts: one text that many edit, each against the revision that it knows.
+//!
+//! To a contract an [`Engine`] is a record: the characters that were ever inserted, in order, the revisions over their positions, the
+//! limit, and how many characters were inserted after loading. It *stands for* a history (`StandsFor`), and every contract reads:
+//! for every history that the engine stands for before the call, it stands for this one after it. The histories that the calls
+//! give are those of `IsGiven`: a loaded text, and edits that were each taken in their turn. [`laws::edits_commute`] says that edits of
+//! one text may come in any order.
+#![tactic(auto)]
+
+mod edit;
+mod engine;
+mod fault;
+mod flat;
+pub mod laws;
+mod step;
+#[cfg(test)]
+mod tests;
+
+pub use edit::{Change, Edit};
+pub use engine::Engine;
+pub use fault::EditFault;

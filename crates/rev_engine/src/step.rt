@@ -1,0 +1,85 @@
+// The steps of an edit: that it fits, and then all that it takes memory for.
+ghost use Rattle.std.specs.Prelude.{◌≡◌, ◌+◌, ◌*◌, ◌^◌, ◌<◌, ◌≤◌, length, IfOk, OnOk};
+ghost use Rattle.xi_plain.specs.UnitDelta.{IsUnitDelta};
+ghost use Rattle.xi_plain.specs.Edits.{inserted_len};
+ghost use Rattle.rev_rebase.specs.Rebase.{added_text};
+ghost use Rattle.rev_engine.specs.Given.{MayAsk};
+ghost use Rattle.rev_engine.specs.Steps.{IsBased, IsMade};
+
+use crate::Edit;
+use crate::flat::with_put_in;
+use delta_core::synthesize;
+use rev_list::{ReadyEdit, RevEdit, RevList};
+use rev_rebase::{Rebased, rebase};
+use std::alloc::Global;
+use xi_plain::{El, NoMemory, Text, UnitDelta};
+
+/// An edit that fits, in characters, and how many characters were inserted after loading when it is taken.
+#[derive(Drop)]
+pub(crate) struct Fitting {
+    pub(crate) units: UnitDelta,
+    pub(crate) spent: u64,
+}
+
+/// An edit whose memory is taken: what is left is to put it in.
+#[derive(Drop)]
+pub(crate) struct Ready {
+    /// The characters, with those of the edit.
+    pub(crate) union: Text,
+    pub(crate) edit: ReadyEdit,
+    /// From the head text before to the head text after.
+    pub(crate) units: UnitDelta,
+}
+
+// How many characters the elements insert, in the time of their texts; they need not fit 64 bits.
+pub(crate) fn inserted_len(els: &[El]) -> u128
+    ensures total { result ≡ inserted_len els.now }
+    ensures room { result + 2 ^ 64 ≤ 2 ^ 128 }
+{
+    let mut total: u128 = 0;
+    for el in els {
+        if let El::Insert { text } = el {
+            total += u128::from(text.len());
+        }
+    }
+    total
+}
+
+// Takes all the memory of the edit and works out what it changes; the revisions stay as they are.
+pub(crate) fn made_ready(
+    alloc: Global,
+    union: &Text,
+    revs: &mut RevList,
+    edit: &Edit,
+    units: &UnitDelta,
+) -> Result<Ready, NoMemory>
+    requires based { IsBased union.now revs.old.history edit.now units.now }
+    requires may { MayAsk revs.old.history edit.now.group }
+    requires well_formed { IsUnitDelta units.now }
+    requires bound { length revs.old.history.characters + length (added_text units.now) < 2 ^ 64 }
+    ensures made { IfOk result (IsMade union.now revs.old.history edit.now units.now) }
+    ensures room { OnOk result (0 < revs.new.room) }
+    ensures same { revs.new.history ≡ revs.old.history }
+{
+    let made = rebase(alloc, revs, edit.rev, units, edit.priority)?;
+    let Rebased {
+        inserted,
+        deleted,
+        text,
+    } = made;
+    let union = with_put_in(alloc, union, &inserted, &text)?;
+    let before = revs.dead().expand_in(alloc, &inserted)?;
+    let edit = revs.ready_edit(
+        alloc,
+        RevEdit {
+            base: edit.rev,
+            priority: edit.priority,
+            group: edit.group,
+            author: edit.author,
+            inserted,
+            deleted,
+        },
+    )?;
+    let units = synthesize(alloc, &union, &before, &edit.dead)?;
+    Ok(Ready { union, edit, units })
+}
