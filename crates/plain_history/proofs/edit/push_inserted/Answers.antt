@@ -1,5 +1,4 @@
-use Rattle.std.proofs.Common.{◌≡◌, ◌∙◌, arith, rules}
-use Rattle.std.proofs.lemmas.Grind.{common_steps}
+use Rattle.std.proofs.Common.{◌≡◌, ◌∙◌, arith}
 use Rattle.std.specs.List.{count_by}
 use Rattle.xi_plain.specs.History.{is_visible}
 use Rattle.plain_history.specs.UnitEdit.{edit_of}

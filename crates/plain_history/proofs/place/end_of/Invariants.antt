@@ -1,4 +1,4 @@
-use Rattle.std.proofs.Common.{◌≡◌, ◌+◌, ◌≤◌, length, take, nat_lt, not}
+use Rattle.std.proofs.Common.{◌≡◌, ◌+◌, ◌≤◌, length, take, not}
 use Rattle.std.specs.List.{suffix_len}
 use Rattle.xi_plain.specs.Place.{is_by}
 use Rattle.plain_history.proofs.place.end_of.Given as goal

@@ -1,6 +1,5 @@
-use Rattle.std.proofs.Common.{◌≡◌, ◌+◌, ◌≤◌, length, take, nat_lt, not}
+use Rattle.std.proofs.Common.{◌≡◌, ◌+◌, ◌≤◌, length, take, nat_lt}
 use Rattle.std.specs.List.{suffix_len}
-use Rattle.xi_plain.specs.Place.{is_by}
 use Rattle.plain_history.proofs.place.start_of_later.Given as goal
 
 abbrev pub invariant-loop-start : goal.invariant-loop-start

@@ -1,4 +1,4 @@
-use Rattle.std.proofs.Common.{◌≡◌, ◌∙◌}
+use Rattle.std.proofs.Common.{◌∙◌}
 use Rattle.undo_groups.proofs.RisingLemmas.{has-searched}
 use Rattle.undo_groups.proofs.rising.is_among.Goals as goal
 

@@ -1,5 +1,3 @@
-use Rattle.std.proofs.Common.{◌≡◌, sym, subst, ◌∙◌, arith}
-use Rattle.undo_groups.specs.Numbers.{IsRising}
 use Rattle.undo_groups.proofs.RisingLemmas.{with-found, with-missed, when_true, IsRising-with}
 use Rattle.undo_groups.proofs.rising.put_in.Goals as goal
 

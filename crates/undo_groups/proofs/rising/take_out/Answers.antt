@@ -1,4 +1,3 @@
-use Rattle.std.proofs.Common.{◌≡◌, sym, subst, ◌∙◌, arith}
 use Rattle.undo_groups.proofs.RisingLemmas.{without-found, without-missed, IsRising-without}
 use Rattle.undo_groups.proofs.rising.take_out.Goals as goal
 

@@ -1,4 +1,4 @@
-use Rattle.std.proofs.Common.{◌≡◌, ◌<◌, length, arith}
+use Rattle.std.proofs.Common.{◌<◌, length, arith}
 use Rattle.undo_groups.proofs.LiveLemmas.{redone_one-at}
 use Rattle.undo_groups.proofs.stack.Stack.redo.Goals as goal
 
