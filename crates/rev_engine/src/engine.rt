@@ -3,7 +3,7 @@ ghost use Rattle.xi_plain.specs.Numbers.{has};
 ghost use Rattle.xi_plain.specs.History.{History, head, loaded, text_at};
 ghost use Rattle.xi_plain.specs.Collection.{kept};
 ghost use Rattle.xi_plain.specs.Edits.{edit_refusal};
-ghost use Rattle.rev_list.specs.Hidden.{IsCollected, IsUnknown};
+ghost use Rattle.rev_list.specs.Hidden.{IsCollected, IsKeptAt, IsUnknown};
 ghost use Rattle.rev_engine.specs.Engine.{IsChange, StandsFor, asked_by};
 ghost use Rattle.rev_engine.specs.Fault.{Refuses};
 ghost use Rattle.rev_engine.specs.Given.{MayAsk, after};
@@ -108,6 +108,7 @@ impl Engine {
         ensures text { IfOk result (λ text. text ≡ shown_at self.now.union self.now.revisions rev) }
         ensures unknown { (n : ℕ) → (result ≡ Err (RevFault.Unknown n)) ↔ IsUnknown self.now.revisions rev n }
         ensures collected { (n : ℕ) → (result ≡ Err (RevFault.Collected n)) ↔ IsCollected self.now.revisions rev n }
+        ensures kept { OnOk result (IsKeptAt self.now.revisions rev) }
     {
         match self.revs.dead_at(alloc, rev) {
             Ok(dead) => Ok(alive(alloc, &self.union, &dead)?),

@@ -1,9 +1,8 @@
 use Rattle.std.proofs.Common.{arith, ap, ◌∙◌, Err}
 use Rattle.std.proofs.lemmas.Result.{err_from_is_err_and}
-use Rattle.xi_plain.specs.History.{head}
 use Rattle.xi_plain.specs.Edits.{inserted_len}
 use Rattle.rev_engine.specs.State.{State}
-use Rattle.rev_engine.proofs.StandLemmas.{IsKeptAt-answered, Refuses-base, refused-misfit, refused-spent}
+use Rattle.rev_engine.proofs.StandLemmas.{Refuses-base, refused-misfit, refused-spent}
 use Rattle.rev_engine.proofs.engine.Engine.fitting.Goals as goal
 
 pub returns-in_err-text-clause-refused : goal.returns-in_err-text-clause-refused
@@ -14,28 +13,22 @@ returns-in_err-text-clause-refused c = λ history stands.
 
 pub returns-in-Err-clause-refused : goal.returns-in-Err-clause-refused
 returns-in-Err-clause-refused c = λ history stands _.
-    refused-misfit c.args.self.now history c.args.edit.now.rev c.args.edit.now.delta stands c.in_ok-text.text c.in-Err.misfit
-    (IsKeptAt-answered c.args.self.now.revisions c.args.edit.now.rev (λ is. let same = (c.in_ok-text.ensures.unknown (head c.args.self.now.revisions)).1 is in absurd cc)
-    (λ is. let same = (c.in_ok-text.ensures.collected c.args.self.now.revisions.floor).1 is in absurd cc)) c.in_ok-text.ensures.text c.in-Err.ensures.misfit
+    refused-misfit c.args.self.now history c.args.edit.now.rev c.args.edit.now.delta stands c.in_ok-text.text c.in-Err.misfit c.in_ok-text.ensures.kept
+    c.in_ok-text.ensures.text c.in-Err.ensures.misfit
 
 pub returns-then-from-total-clause-refused : goal.returns-then-from-total-clause-refused
 returns-then-from-total-clause-refused c = λ history stands _.
-    refused-spent c.args.self.now history c.args.edit.now.rev c.args.edit.now.delta stands c.in_ok-text.text _
-    (IsKeptAt-answered c.args.self.now.revisions c.args.edit.now.rev (λ is. let same = (c.in_ok-text.ensures.unknown (head c.args.self.now.revisions)).1 is in absurd cc)
-    (λ is. let same = (c.in_ok-text.ensures.collected c.args.self.now.revisions.floor).1 is in absurd cc)) c.in_ok-text.ensures.text c.in_default.ensures.fits
+    refused-spent c.args.self.now history c.args.edit.now.rev c.args.edit.now.delta stands c.in_ok-text.text _ c.in_ok-text.ensures.kept
+    c.in_ok-text.ensures.text c.in_default.ensures.fits
     (omega (arith, c.from.ensures, c.inserted_len.ensures.total ∙ ap inserted_len c.as_slice.ensures, ap (λ (s : State). s.spent) c.self.view_is))
     (omega (arith, c.if-from-total.true, c.from-2.ensures, ap (λ (s : State). s.limit) c.self.view_is))
 
 pub returns-clause-fits : goal.returns-clause-fits
-returns-clause-fits c =
-    let kept =
-    IsKeptAt-answered c.args.self.now.revisions c.args.edit.now.rev (λ is. let same = (c.in_ok-text.ensures.unknown (head c.args.self.now.revisions)).1 is in absurd cc)
-    (λ is. let same = (c.in_ok-text.ensures.collected c.args.self.now.revisions.floor).1 is in absurd cc) in
-    record {
-      base_kept = kept.0;
-      base_known = kept.1;
-      fits = rw (← c.in_ok-text.ensures.text) c.in_default.ensures.fits;
-      units = rw (← c.in_ok-text.ensures.text) c.in_ok-to_units.ensures;
-      spent = omega (arith, c.from.ensures, c.inserted_len.ensures.total ∙ ap inserted_len c.as_slice.ensures, ap (λ (s : State). s.spent) c.self.view_is);
-      within = omega (arith, c.if-from-total.false, c.from-2.ensures, ap (λ (s : State). s.limit) c.self.view_is);
-    }
+returns-clause-fits c = record {
+  base_kept = c.in_ok-text.ensures.kept.0;
+  base_known = c.in_ok-text.ensures.kept.1;
+  fits = rw (← c.in_ok-text.ensures.text) c.in_default.ensures.fits;
+  units = rw (← c.in_ok-text.ensures.text) c.in_ok-to_units.ensures;
+  spent = omega (arith, c.from.ensures, c.inserted_len.ensures.total ∙ ap inserted_len c.as_slice.ensures, ap (λ (s : State). s.spent) c.self.view_is);
+  within = omega (arith, c.if-from-total.false, c.from-2.ensures, ap (λ (s : State). s.limit) c.self.view_is);
+}

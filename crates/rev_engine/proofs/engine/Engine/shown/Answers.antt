@@ -1,7 +1,9 @@
 use Rattle.std.proofs.Common.{subst, sym, ap}
 use Rattle.std.proofs.lemmas.Result.{err_from_is_err_and}
-use Rattle.rev_list.specs.Hidden.{IsCollected, IsUnknown}
+use Rattle.xi_plain.specs.History.{head}
+use Rattle.rev_list.specs.Hidden.{IsCollected, IsKeptAt, IsUnknown}
 use Rattle.rev_engine.specs.State.{State}
+use Rattle.rev_engine.proofs.StandLemmas.{IsKeptAt-answered}
 use Rattle.rev_engine.proofs.engine.Engine.shown.Goals as goal
 
 pub returns-in_err-alive-in-Ok-clause-unknown : goal.returns-in_err-alive-in-Ok-clause-unknown
@@ -57,3 +59,14 @@ returns-in-Err-clause-collected c = λ n. (
       let same = (c.in-Err.ensures.collected n).1 (subst (λ revisions. IsCollected revisions c.args.rev n) (sym (ap (λ (s : State). s.revisions) c.self.view_is)) is) in
       cc,
 )
+
+pub returns-in_ok-alive-in-Ok-clause-kept : goal.returns-in_ok-alive-in-Ok-clause-kept
+returns-in_ok-alive-in-Ok-clause-kept c =
+    subst (λ revisions. IsKeptAt revisions c.args.rev) (ap (λ (s : State). s.revisions) c.self.view_is)
+    (IsKeptAt-answered c.self.inside.revs.history c.args.rev
+    (λ is.
+    let same = (c.in-Ok.ensures.unknown (head c.self.inside.revs.history)).1 is in
+    absurd cc)
+    (λ is.
+    let same = (c.in-Ok.ensures.collected c.self.inside.revs.history.floor).1 is in
+    absurd cc))
