@@ -1,6 +1,6 @@
 -- Which faults may come.
 use Rattle.std.proofs.Common.{Result, Ok, Err, IfErr, inl}
-use Rattle.history_cases.specs.declared.body_fault.BodyFault.{BodyFault}
+use Rattle.history_bodies.specs.declared.body_fault.BodyFault.{BodyFault}
 use Rattle.history_cases.specs.Case.{Case, IsOfList, MayCome}
 
 -- those of a list may come of any case

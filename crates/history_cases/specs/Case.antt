@@ -4,17 +4,17 @@ use Rattle.xi_plain.specs.History.{History, head, loaded, text_at}
 use Rattle.xi_plain.specs.Edits.{Refusal as EditRefusal, unknown, collected, misfit, spent, MayUndo, edit_refusal, edited, undid, plain_edit}
 use Rattle.plain_history.specs.declared.fault.EditFault.{EditFault}
 use Rattle.plain_history.specs.declared.fault.EditFault.TheVariants.{Unknown, Collected, Unfit, Spent, NoMemory}
-use Rattle.history_cases.specs.declared.step.NewEdit.{NewEdit}
-use Rattle.history_cases.specs.declared.step.Refusal.{Refusal}
-use Rattle.history_cases.specs.declared.step.Step.{Step}
-use Rattle.history_cases.specs.declared.step.Line.{Line}
-use Rattle.history_cases.specs.declared.body_fault.BodyFault.{BodyFault}
-use Rattle.history_cases.specs.declared.body_fault.BodyFault.TheVariants as faults
+use Rattle.history_script.specs.declared.step.NewEdit.{NewEdit}
+use Rattle.history_script.specs.declared.step.Refusal.{Refusal}
+use Rattle.history_script.specs.declared.step.Step.{Step}
+use Rattle.history_script.specs.declared.step.Line.{Line}
+use Rattle.history_bodies.specs.declared.body_fault.BodyFault.{BodyFault}
+use Rattle.history_bodies.specs.declared.body_fault.BodyFault.TheVariants as faults
 use Rattle.history_cases.specs.declared.failure.Difference.{Difference}
 use Rattle.history_cases.specs.declared.failure.Failure.{Failure}
 use Rattle.history_cases.specs.declared.failure.Failure.TheVariants as failures
-use Rattle.history_cases.specs.declared.step.Refusal.TheVariants as refusals
-use Rattle.history_cases.specs.declared.step.Step.TheVariants as steps
+use Rattle.history_script.specs.declared.step.Refusal.TheVariants as refusals
+use Rattle.history_script.specs.declared.step.Step.TheVariants as steps
 
 -- a case as far as it has come: its history, how many characters may be inserted in all, and what was refused and not yet said to be
 pub record Case : Type 0 where
@@ -75,7 +75,7 @@ LineHolds before step after =
 abbrev pub IsUnsaid : Case → Failure → Type 0
 IsUnsaid before failure = (is : Refusal) × (failure ≡ failures.Refused is) × (before.refused ≡ Some is)
 
--- the fault is want of memory, or comes where a list of revisions is compared
+-- the fault is want of memory, or comes where a list of revisions or an engine is compared
 abbrev pub IsOfList : BodyFault → Type 0
 IsOfList (faults.Misfits plain other) = ⊥
 IsOfList (faults.NoRevEdit rev) = Unit {0}
@@ -83,6 +83,8 @@ IsOfList (faults.OtherRevision rev number) = Unit {0}
 IsOfList (faults.NotListed rev) = Unit {0}
 IsOfList (faults.Dead rev position) = Unit {0}
 IsOfList (faults.Alive rev alive shown) = Unit {0}
+IsOfList (faults.Place fault) = Unit {0}
+IsOfList (faults.Engine fault) = Unit {0}
 IsOfList faults.TooLong = ⊥
 IsOfList faults.NoMemory = Unit {0}
 

@@ -1,13 +1,13 @@
-ghost use Rattle.std.specs.Prelude.{◌≡◌, ◌-◌, ◌^◌, ◌<◌, ◌↔◌, ℕ, Some, None, IsTrue, IfOk, IfErr, OnOk, OnErr};
+ghost use Rattle.std.specs.Prelude.{◌≡◌, ◌≢◌, ◌-◌, ◌^◌, ◌<◌, ◌↔◌, ℕ, Some, None, IsTrue, IfOk, IfErr, OnOk, OnErr};
 ghost use Rattle.xi_plain.specs.History.{head, loaded};
 ghost use Rattle.history_cases.specs.Case.{new_case, taken_edit, Acts, IsCause, IsOfList, IsRefused, IsUndone, IsUnsaid, LineHolds, MayCome, Runs, ShowsText, StopsAt};
 
-use crate::body_fault::BodyFault;
 use crate::failure::{Difference, Failure};
-use crate::step::{Line, NewEdit, Refusal, Step};
 use crate::tally::Tally;
-use crate::{by_delta_core, by_rev_list};
+use history_bodies::{BodyFault, by_delta_core, by_engine, by_rebase, by_rev_list, is_same_text};
+use history_script::{Line, NewEdit, Refusal, Step};
 use plain_history::{EditFault, PlainHistory, Tagged};
+use rev_engine::Engine;
 use rev_list::RevList;
 use std::alloc::Global;
 use std::marker::Model;
@@ -22,6 +22,8 @@ pub struct CaseRun {
     pub plain: PlainHistory,
     /// It takes edits alone, so there is none after an undo.
     list: Option<RevList>,
+    /// It takes edits alone too, under the limit that it began with.
+    engine: Option<Engine>,
     limit: u64,
     /// What was refused and not yet said to be.
     refused: Option<Refusal>,
@@ -44,6 +46,7 @@ impl CaseRun {
         Ok(CaseRun {
             plain: PlainHistory::loaded(alloc, text)?,
             list: Some(RevList::start(alloc, text.len())?),
+            engine: by_engine::begun(alloc, text, 1_000)?,
             limit: 1_000,
             refused: None,
             tally: Tally::new(),
@@ -100,10 +103,7 @@ impl CaseRun {
     {
         match step {
             Step::Load(text) => Ok(self.load(alloc, text)?),
-            Step::Limit(limit) => {
-                self.limit = *limit;
-                Ok(())
-            }
+            Step::Limit(limit) => Ok(self.set_limit(alloc, *limit)?),
             Step::Edit(edit) => Ok(self.edit(alloc, edit)?),
             Step::Undo(groups) => Ok(self.undo(alloc, groups)?),
             Step::Shows { rev, text } => self.shows(alloc, *rev, text),
@@ -124,8 +124,23 @@ impl CaseRun {
     {
         let plain = PlainHistory::loaded(alloc, text)?;
         let list = RevList::start(alloc, text.len())?;
+        self.engine = by_engine::begun(alloc, text, self.limit)?;
         self.plain = plain;
         self.list = Some(list);
+        Ok(())
+    }
+
+    /// Bounds what is inserted from now on; an engine takes this only before its first edit.
+    fn set_limit(&mut self, alloc: Global, limit: u64) -> Result<(), BodyFault>
+        ensures set { OnOk result (self.new ≡ record self.old { limit = limit }) }
+        ensures fault { IfErr result (MayCome self.old) }
+    {
+        self.engine = if self.plain.head() == 0 {
+            by_engine::begun(alloc, &self.plain.text_at(alloc, 0)?, limit)?
+        } else {
+            None
+        };
+        self.limit = limit;
         Ok(())
     }
 
@@ -143,7 +158,7 @@ impl CaseRun {
             Err(EditFault::NoMemory) => Err(BodyFault::NoMemory),
             Err(fault) => {
                 self.refuse(Refusal::Edit(fault));
-                Ok(())
+                self.compare_refusal(alloc, fault, edit)
             }
         }
     }
@@ -180,8 +195,31 @@ impl CaseRun {
         let again = deleted_again(rev, self.plain.characters());
         self.tally.deleted_again = self.tally.deleted_again.saturating_add(again);
         if let Some(list) = &mut self.list {
+            let places = by_rebase::compare(alloc, &self.plain, list, edit)?;
+            self.tally.places = self.tally.places.saturating_add(places);
             let compared = by_rev_list::follow(alloc, &self.plain, list, edit)?;
             self.tally.dead_sets = self.tally.dead_sets.saturating_add(compared);
+        }
+        if let Some(engine) = &mut self.engine {
+            let texts = by_engine::follow(alloc, &self.plain, engine, edit)?;
+            self.tally.engine_texts = self.tally.engine_texts.saturating_add(texts);
+        }
+        Ok(())
+    }
+
+    /// The engine refuses the edit for the same cause.
+    fn compare_refusal(
+        &mut self,
+        alloc: Global,
+        fault: EditFault,
+        edit: &NewEdit,
+    ) -> Result<(), BodyFault>
+        requires { fault ≢ EditFault.NoMemory }
+        ensures unchanged { OnOk result (self.new ≡ self.old) }
+        ensures fault { IfErr result IsOfList }
+    {
+        if let Some(engine) = &mut self.engine {
+            by_engine::refuse(alloc, engine, edit, fault)?;
         }
         Ok(())
     }
@@ -200,6 +238,7 @@ impl CaseRun {
         }
         self.plain.undo(groups.copy(alloc)?)?;
         self.list = None;
+        self.engine = None;
         self.tally.undos = self.tally.undos.saturating_add(1);
         Ok(())
     }
@@ -229,13 +268,6 @@ fn deleted_again(rev: u64, characters: &[Tagged]) -> u64 {
         .iter()
         .filter(|tagged| 1 < tagged.deleted().len() && tagged.deleted().last() == Some(&rev))
         .count() as u64
-}
-
-/// Whether two texts have the same characters.
-pub fn is_same_text(one: &Text, other: &Text) -> bool
-    ensures { IsTrue result ↔ (one.now ≡ other.now) }
-{
-    one.as_str() == other.as_str()
 }
 
 /// Takes the lines of a case, of which each has to hold; at the end no refusal may be left.

@@ -1,6 +1,5 @@
-use crate::bad_line::BadLine;
-use crate::body_fault::BodyFault;
-use crate::step::Refusal;
+use history_bodies::BodyFault;
+use history_script::{BadLine, Refusal};
 use std::fmt;
 use xi_plain::{NoMemory, Text};
 
@@ -48,7 +47,7 @@ impl From<BodyFault> for Failure {
 impl From<NoMemory> for Failure {
     ghost use Rattle.std.specs.Prelude.{◌≡◌};
     ghost use Rattle.history_cases.specs.declared.failure.Failure.TheVariants.{Body};
-    ghost use Rattle.history_cases.specs.declared.body_fault.BodyFault.TheVariants as faults;
+    ghost use Rattle.history_bodies.specs.declared.body_fault.BodyFault.TheVariants as faults;
 
     ghost from_gives = { λ _ failure. failure ≡ Body faults.NoMemory };
 

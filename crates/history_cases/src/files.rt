@@ -1,10 +1,10 @@
 //! The files of cases.
 
-use crate::body_fault::BodyFault;
 use crate::case_run::{CaseRun, run_lines};
 use crate::failure::{Difference, Failure};
 use crate::outcome::{Outcome, print_outcome};
-use crate::reading::read_lines;
+use history_bodies::BodyFault;
+use history_script::{NotRead, read_lines};
 use std::alloc::Global;
 use std::fs;
 use std::rt::Files;
@@ -34,7 +34,15 @@ pub fn print_case(rt: &HostRuntime, file: &String) -> anyhow::Result<bool> {
 /// Runs the case that a file says.
 pub fn run_case(alloc: Global, content: &str) -> Outcome {
     let mut run = new_run(alloc)?;
-    let lines = read_lines(alloc, content)?;
+    let lines = match read_lines(alloc, content) {
+        Ok(lines) => lines,
+        Err(NotRead { number, why }) => {
+            return Err(Difference {
+                at: number,
+                failure: Failure::Bad(why),
+            });
+        }
+    };
     run_lines(alloc, &mut run, lines.as_slice())?;
     Ok(run.tally)
 }

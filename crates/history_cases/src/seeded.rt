@@ -1,11 +1,11 @@
 //! Lists of edits from seeds.
 
-use crate::body_fault::BodyFault;
 use crate::case_run::CaseRun;
 use crate::draws::Draws;
 use crate::failure::{Difference, Failure};
 use crate::outcome::{Outcome, print_outcome};
-use crate::step::NewEdit;
+use history_bodies::BodyFault;
+use history_script::NewEdit;
 use plain_history::PlainHistory;
 use std::alloc::Global;
 use xi_plain::{Delta, El, Els, Listed, NoMemory, Text};
