@@ -1,5 +1,6 @@
 -- What an engine says beside the plain history.
-use Rattle.std.specs.Prelude.{◌≡◌, ◌≢◌, ◌⊎◌, ℕ, ◌-◌, ◌≤◌, Option, Some, None}
+use Rattle.std.specs.Prelude.{◌≡◌, ◌≢◌, ◌⊎◌, ℕ, ◌-◌, ◌≤◌, Option, Some, None, ◌<◌, false}
+use Rattle.xi_plain.specs.Numbers.{has}
 use Rattle.xi_plain.specs.declared.delta.UnitDelta.{UnitDelta}
 use Rattle.xi_plain.specs.History.{History, head, text_at}
 use Rattle.xi_plain.specs.Edits.{Refusal, edit_refusal}
@@ -41,12 +42,18 @@ answer_of (Some fault) = refusal_of fault
 abbrev pub IsLastChange : History → UnitDelta → Type 0
 IsLastChange plain units = text_after units (text_at plain (head plain - 1)) ≡ text_at plain (head plain)
 
--- what a fault says of an answer: in each history of the engine the edit is answered otherwise
+-- an engine is asked for an edit of the group: it counts from 1 and is not collected, and there are fewer revisions than a million
+pub record IsAsked (revisions : History) (group : ℕ) : Type 0 where
+  pub group_counts : 0 < group
+  pub group_kept : has revisions.collected group ≡ false
+  pub few : head revisions < 1000000
+
+-- what a fault says of an answer: the engine is not asked, or in each history of it the edit is answered otherwise
 abbrev pub IsOtherAnswer : State → NewEdit → EngineFault → Type 0
 IsOtherAnswer engine e (faults.OtherAnswer is wanted) = EachIs engine (λ history. refusal_in engine e history ≢ answer_of wanted)
 IsOtherAnswer engine e (faults.OtherRevision rev number) =
     (number ≢ rev) × EachIs engine (λ history. head (after history (asked_of e)) ≡ number)
-IsOtherAnswer engine e faults.NotAsked = Unit {0}
+IsOtherAnswer engine e faults.NotAsked = IsAsked engine.revisions e.group → ⊥
 IsOtherAnswer engine e faults.NoMemory = Unit {0}
 IsOtherAnswer engine e fault = ⊥
 

@@ -1,13 +1,13 @@
 //! The revision engine beside the plain history.
 
-ghost use Rattle.std.specs.Prelude.{◌≡◌, ◌≢◌, ◌↔◌, ◌≤◌, length, IsTrue, IfOk, IfErr, IfSome, OnOk};
+ghost use Rattle.std.specs.Prelude.{◌≡◌, ◌≢◌, ◌↔◌, ◌≤◌, length, IsTrue, IfOk, IfErr, IfSome, IfNone, OnOk, ◌<◌, ◌^◌};
 ghost use Rattle.xi_plain.specs.History.{head, loaded, text_at};
 ghost use Rattle.xi_plain.specs.UnitDelta.{AreAdds, AreRuns, IsUnitDelta};
 ghost use Rattle.plain_history.specs.EditFault.{refusal_of};
 ghost use Rattle.rev_engine.specs.Engine.{StandsFor, asked_by};
 ghost use Rattle.rev_engine.specs.Fault.{refusal_by};
 ghost use Rattle.rev_engine.specs.Given.{MayAsk, after};
-ghost use Rattle.history_bodies.specs.Engines.{asked_of, refusal_in, EachIs, EngineDiffers, IsLastChange, IsOther, IsOtherAnswer, IsOtherChange, Matches};
+ghost use Rattle.history_bodies.specs.Engines.{asked_of, refusal_in, EachIs, EngineDiffers, IsAsked, IsLastChange, IsOther, IsOtherAnswer, IsOtherChange, Matches};
 
 use crate::engine_fault::EngineFault;
 use crate::same::is_same_text;
@@ -26,7 +26,8 @@ const MOST: u64 = 1_000_000;
 
 /// The engine of a text that was just loaded; none where the limit is more than an engine takes.
 pub fn begun(alloc: Global, text: &Text, limit: u64) -> Result<Option<Engine>, NoMemory>
-    ensures { IfOk result (λ engine. IfSome engine (λ made. StandsFor made (loaded text.now))) }
+    ensures some { IfOk result (λ engine. IfSome engine (λ made. StandsFor made (loaded text.now))) }
+    ensures none { IfOk result (λ engine. IfNone engine (2 ^ 60 < limit)) }
 {
     if LIMIT < limit {
         return Ok(None);
@@ -92,7 +93,8 @@ pub fn refuse(
 
 /// Whether the engine can be asked for an edit of the group.
 fn may_ask(engine: &Engine, group: u64) -> bool
-    ensures { IsTrue result → MayAsk engine.now.revisions group }
+    ensures asked { IsTrue result ↔ IsAsked engine.now.revisions group }
+    ensures may { IsTrue result → MayAsk engine.now.revisions group }
 {
     0 < group && !engine.is_collected(group) && engine.head() < MOST
 }
