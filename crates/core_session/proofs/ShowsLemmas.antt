@@ -1,6 +1,6 @@
 -- One more entry is shown, where those before it are.
 use Rattle.std.proofs.Common.{◌≡◌, ℕ, suc, ◌+◌, ◌<◌, ◌≤◌, ◌||◌, length, arith, Bool, true, false, List, [], ◌∷◌, ◌++◌, map, Option, Some, None, refl, ap, sym, ◌∙◌, subst, append-nil, ◌⊎◌, inl, inr, unwrap_or}
-use Rattle.std.specs.Prelude.{if◌then◌else◌}
+use Rattle.std.specs.Prelude.{if◌then◌else◌, ℤ, pos, codes}
 use Rattle.std.specs.List.{filter_map, cons_option, AllByRecursion}
 use Rattle.serde_json.specs.Data.{Data}
 use Rattle.json_rpc.specs.Line.{line_of, IsLineOf}
@@ -12,6 +12,7 @@ use Rattle.xi_plain.specs.declared.command.Fault.TheVariants.{Parse, Invalid, No
 use Rattle.xi_plain.specs.declared.command.Command.{Command}
 use Rattle.xi_plain.specs.declared.command.Entry.{Entry}
 use Rattle.xi_plain.specs.declared.screen.Update.{Update}
+use Rattle.xi_plain.specs.Edits.{Refusal}
 use Rattle.xi_plain.specs.Layout.{Point}
 use Rattle.xi_plain.specs.declared.delta.Run.{Run}
 use Rattle.xi_plain.specs.declared.screen.Line.{Line}
@@ -32,14 +33,15 @@ use Rattle.view_update.specs.Written.{update_data}
 use Rattle.view_update.specs.Reading.{ViewUpdate, line_update}
 use Rattle.view_update.proofs.Lines.{others_are_no_updates}
 use Rattle.doc_session.specs.declared.doc.Doc.{Doc}
-use Rattle.doc_session.specs.ScreenOf.{IsScreenOf}
-use Rattle.doc_session.proofs.ScreenLemmas.{IsScreenOf-shown}
-use Rattle.doc_session.specs.Document.{Document, layout_of, no_request, loaded_document, inserted}
+use Rattle.doc_session.specs.Document.{Document, layout_of, no_request}
+use Rattle.doc_session.specs.declared.event.Event.TheVariants.{Front}
+use Rattle.doc_session.specs.Asking.{front_edit}
 use Rattle.doc_session.specs.Effects.{ops_of, update_of, told, wants_update}
-use Rattle.core_session.specs.Answer.{Reply, accepted, refused, silent, answers, refusal, named_refusal, code_of, message_of}
-use Rattle.core_session.specs.Session.{view_id, Outcome, outcome, opening_outcome, insert_outcome, refusing, is_first_view, outcome_messages, update_notes, scroll_notes, messages, step, document_after, all_messages, lines_written, written, piece_of}
+use Rattle.doc_session.specs.Step.{edited_document, refusal_at, step_of}
+use Rattle.core_session.specs.Answer.{Reply, accepted, refused, spent, silent, answers, refusal, refused_by, spent_refusal, code_of, message_of}
+use Rattle.core_session.specs.Session.{view_id, Outcome, outcome, opening_outcome, first_document, edit_came, insert_outcome, refusing, is_first_view, outcome_messages, update_notes, scroll_notes, messages, step, document_after, all_messages, lines_written, written, piece_of}
 use Rattle.core_session.specs.Shows.{updates_in, screen_told, rebuilt_from, rebuilt, IsShown, SendsWithin, SendWindow, ShowsEach}
-use Rattle.core_session.specs.Core.{Stands, IsToldBack, AreLinesOf, screen_of, plain_of, IsShowing, front_entry}
+use Rattle.core_session.specs.Core.{Stands, HasNoPlugins, IsToldBack, AreLinesOf, screen_of, plain_of, IsShowing, front_entry}
 use Rattle.core_session.specs.Next.{next_or}
 use Rattle.core_session.specs.Journal.{IsOpen, closes}
 use Rattle.core_session.proofs.SessionLemmas.{document_after-push, all_messages-push, IsOpen-push}
@@ -99,37 +101,33 @@ pub AreLines : List Data → Type 0
 AreLines said = AllByRecursion (λ m. IsLineOf m (line_of m)) said
 
 -- an answer says no update
-error_none : (id : Id) (fault : Fault) → IsLineOf (error_data id (code_of fault) (message_of fault)) (line_of (error_data id (code_of fault) (message_of fault))) →
-    line_update (line_of (error_data id (code_of fault) (message_of fault))) ≡ None
-error_none id fault line =
-    others_are_no_updates.error id (code_of fault) (message_of fault) (line_of (error_data id (code_of fault) (message_of fault))) line
+error_none : (id : Id) (code : ℤ) (text : List ℕ) → IsLineOf (error_data id code text) (line_of (error_data id code text)) →
+    line_update (line_of (error_data id code text)) ≡ None
+error_none id code text line = others_are_no_updates.error id code text (line_of (error_data id code text)) line
 
-alert_none : (fault : Fault) → IsLineOf (alert_data (message_of fault)) (line_of (alert_data (message_of fault))) →
-    line_update (line_of (alert_data (message_of fault))) ≡ None
-alert_none fault line = others_are_no_updates.alert (message_of fault) (line_of (alert_data (message_of fault))) line
+refused_none : (id : Id) (code : ℤ) (text : List ℕ) → IsLineOf (refused_by id code text) (line_of (refused_by id code text)) →
+    line_update (line_of (refused_by id code text)) ≡ None
+refused_none NoId code text line = others_are_no_updates.alert text (line_of (alert_data text)) line
+refused_none (Num n) code text line = error_none (Num n) code text line
+refused_none (Word word) code text line = error_none (Word word) code text line
 
 reply_none : (id : Id) (result : Data) → IsLineOf (reply_data id result) (line_of (reply_data id result)) →
     line_update (line_of (reply_data id result)) ≡ None
 reply_none id result line = others_are_no_updates.reply id result (line_of (reply_data id result)) line
 
-named_none : (id : Id) (fault : Fault) → IsLineOf (named_refusal id fault) (line_of (named_refusal id fault)) →
-    line_update (line_of (named_refusal id fault)) ≡ None
-named_none NoId fault line = alert_none fault line
-named_none (Num n) fault line = error_none (Num n) fault line
-named_none (Word text) fault line = error_none (Word text) fault line
-
 refusal_none : (id : Id) (fault : Fault) → IsLineOf (refusal id fault) (line_of (refusal id fault)) → line_update (line_of (refusal id fault)) ≡ None
-refusal_none id Parse line = error_none NoId Parse line
-refusal_none id Invalid line = error_none NoId Invalid line
-refusal_none id (NoMethod name) line = named_none id (NoMethod name) line
-refusal_none id (BadParams name) line = named_none id (BadParams name) line
-refusal_none id NotBuilt line = named_none id NotBuilt line
+refusal_none id Parse line = error_none NoId (code_of Parse) (message_of Parse) line
+refusal_none id Invalid line = error_none NoId (code_of Invalid) (message_of Invalid) line
+refusal_none id (NoMethod name) line = refused_none id (code_of (NoMethod name)) (message_of (NoMethod name)) line
+refusal_none id (BadParams name) line = refused_none id (code_of (BadParams name)) (message_of (BadParams name)) line
+refusal_none id NotBuilt line = refused_none id (code_of NotBuilt) (message_of NotBuilt) line
 
 updates_of-answers : (id : Id) (reply : Reply) → AllByRecursion (λ m. IsLineOf m (line_of m)) (answers id reply) → updates_of (answers id reply) ≡ []
 updates_of-answers NoId (accepted result) lines = updates_of-nil
 updates_of-answers (Num n) (accepted result) lines = updates_of-none (reply_data (Num n) result) (reply_none (Num n) result lines.0)
 updates_of-answers (Word text) (accepted result) lines = updates_of-none (reply_data (Word text) result) (reply_none (Word text) result lines.0)
 updates_of-answers id (refused fault) lines = updates_of-none (refusal id fault) (refusal_none id fault lines.0)
+updates_of-answers id spent lines = updates_of-none (spent_refusal id) (refused_none id (pos 3) (codes "spent") lines.0)
 updates_of-answers id silent lines = updates_of-nil
 
 -- the updates that an outcome says
@@ -212,10 +210,6 @@ unfolding told_list
 told_screen before after same =
     screen_after-ops_of after before.screen ∙ ap Some (sym (ap (λ o. unwrap_or o []) (screen_after-ops_of after after.screen)))
 
-inserted_screen : (document : Document) (chars : List ℕ) → (inserted document chars).screen ≡ document.screen
-inserted_screen document [] = refl
-inserted_screen document (c ∷ chars) = refl
-
 settles_if : (wants : Bool) (before after : Document) → after.screen ≡ before.screen →
     rebuilt_from (Some before.screen) (told_list (if wants then Some (update_of after) else None)) ≡
     Some (if wants then told after else after).screen
@@ -223,10 +217,25 @@ unfolding told_list
 settles_if true before after same = told_screen before after same
 settles_if false before after same = ap Some (sym same)
 
-settles_inserting : (document : Document) (chars : List ℕ) → Settles (Some document) (insert_outcome document chars)
+settles_still : (document : Document) → Settles (Some document) (edit_came document None (step_of document (Front (Insert []))))
 unfolding Settles
-settles_inserting document chars =
-    settles_if (wants_update document (inserted document chars)) document (inserted document chars) (inserted_screen document chars)
+settles_still document = settles_if (wants_update document document) document document refl
+
+settles_edit : (document : Document) (c : ℕ) (chars : List ℕ) → Settles (Some document) (edit_came document None (step_of document (Front (Insert (c ∷ chars)))))
+unfolding Settles
+settles_edit document c chars =
+    let next = edited_document document (front_edit document (c ∷ chars)) (document.caret + length (c ∷ chars)) in
+    settles_if (wants_update document next) document next refl
+
+settles_came : (document : Document) (refusal : Option Refusal) (chars : List ℕ) →
+    Settles (Some document) (edit_came document refusal (step_of document (Front (Insert chars))))
+unfolding Settles told_list
+settles_came document (Some refusal) chars = refl
+settles_came document None [] = settles_still document
+settles_came document None (c ∷ chars) = settles_edit document c chars
+
+settles_inserting : (document : Document) (chars : List ℕ) → Settles (Some document) (insert_outcome document chars)
+settles_inserting document chars = settles_came document (refusal_at document (Front (Insert chars))) chars
 
 settles_refusing : (plain : Option Document) (fault : Fault) → Settles plain (refusing plain fault)
 unfolding Settles told_list
@@ -234,7 +243,7 @@ settles_refusing plain fault = refl
 
 settles_opening : Settles None opening_outcome
 unfolding Settles
-settles_opening = told_screen (record (loaded_document []) { screen = [] }) (loaded_document []) refl
+settles_opening = settles_if (wants_update first_document first_document) first_document first_document refl
 
 settles_view : (here : Bool) (document : Document) (chars : List ℕ) →
     Settles (Some document) (if here then insert_outcome document chars else refusing (Some document) NotBuilt)
@@ -311,10 +320,18 @@ unfolding told_list
 sends_if true after = (sends-plan_from after.window (layout_of after) 0 0, tt)
 sends_if false after = tt
 
+sends_came : (document : Document) (refusal : Option Refusal) (chars : List ℕ) → Sends (edit_came document refusal (step_of document (Front (Insert chars))))
+unfolding Sends told_list
+sends_came document (Some refusal) chars = tt
+sends_came document None [] = sends_if (wants_update document document) document
+sends_came document None (c ∷ chars) =
+    let next = edited_document document (front_edit document (c ∷ chars)) (document.caret + length (c ∷ chars)) in
+    sends_if (wants_update document next) next
+
 sends_view : (here : Bool) (document : Document) (chars : List ℕ) →
     Sends (if here then insert_outcome document chars else refusing (Some document) NotBuilt)
 unfolding Sends told_list
-sends_view true document chars = sends_if (wants_update document (inserted document chars)) (inserted document chars)
+sends_view true document chars = sends_came document (refusal_at document (Front (Insert chars))) chars
 sends_view false document chars = tt
 
 pub sends : (plain : Option Document) (act : Act) → Sends (outcome plain act)
@@ -323,7 +340,7 @@ sends None (Bad fault) = refl
 sends (Some document) (Bad fault) = tt
 sends None Nothing = refl
 sends (Some document) Nothing = tt
-sends None (NewView None) = sends_if true (loaded_document [])
+sends None (NewView None) = sends_if (wants_update first_document first_document) first_document
 sends None (NewView (Some path)) = refl
 sends (Some document) (NewView path) = tt
 sends None (Edit view act) = refl
@@ -356,9 +373,13 @@ pub stands_shown : (doc : Option Doc) (plain : Option Document) → Stands doc p
 stands_shown None None stands = refl
 stands_shown None (Some plain) stands = absurd stands
 stands_shown (Some doc) None stands = absurd stands
-stands_shown (Some doc) (Some plain) stands =
-    let At : Screen → Type 0 = λ screen. IsScreenOf screen plain.window (layout_of plain) in
-    subst At (sym stands.screen) (IsScreenOf-shown plain.window (layout_of plain))
+stands_shown (Some doc) (Some plain) stands = stands.shown
+
+-- a document that a session keeps has no plugins
+pub HasNoPlugins-stands : (doc : Option Doc) (plain : Option Document) → Stands doc plain → HasNoPlugins doc
+HasNoPlugins-stands None plain stands = tt
+HasNoPlugins-stands (Some doc) None stands = absurd stands
+HasNoPlugins-stands (Some doc) (Some plain) stands = stands.no_plugins
 
 screens_push : (journal : List Entry) (entry : Entry) (doc : Option Doc) → Stands doc (plain_of (journal ++ entry ∷ [])) → ShowsEach journal →
     rebuilt (written None (journal ++ entry ∷ [])) ≡ Some (screen_of (plain_of (journal ++ entry ∷ []))) →

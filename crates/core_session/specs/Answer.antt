@@ -24,17 +24,26 @@ message_of (NoMethod name) = codes "method not found: " ++ name
 message_of (BadParams member) = codes "invalid params: " ++ member
 message_of NotBuilt = codes "not built"
 
--- what is to be answered: a result, a refusal, or nothing
+-- what is to be answered: a result, a refusal of a line by itself, that so many characters may not be inserted, or nothing
 pub data Reply : Type 0 where
   accepted : (result : Data) → Reply
   refused : (fault : Fault) → Reply
+  spent : Reply
   silent : Reply
 
--- the refusal of a request, by its id, or as an alert where it has none
+-- a refusal with this number that says this, by the id of the request, or as an alert where it has none
+abbrev pub refused_by : Id → ℤ → List ℕ → Data
+refused_by NoId code text = alert_data text
+refused_by (Num n) code text = error_data (Num n) code text
+refused_by (Word word) code text = error_data (Word word) code text
+
+-- the refusal of a request
 abbrev pub named_refusal : Id → Fault → Data
-named_refusal NoId fault = alert_data (message_of fault)
-named_refusal (Num n) fault = error_data (Num n) (code_of fault) (message_of fault)
-named_refusal (Word text) fault = error_data (Word text) (code_of fault) (message_of fault)
+named_refusal id fault = refused_by id (code_of fault) (message_of fault)
+
+-- the refusal of an edit that would insert more characters than may be
+abbrev pub spent_refusal : Id → Data
+spent_refusal id = refused_by id (pos 3) (codes "spent")
 
 -- the refusal of a line: what is no request has no id to be named
 abbrev pub refusal : Id → Fault → Data
@@ -54,4 +63,5 @@ result_messages (Word text) result = reply_data (Word text) result ∷ []
 abbrev pub answers : Id → Reply → List Data
 answers id (accepted result) = result_messages id result
 answers id (refused fault) = refusal id fault ∷ []
+answers id spent = spent_refusal id ∷ []
 answers id silent = []

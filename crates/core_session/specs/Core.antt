@@ -14,6 +14,7 @@ use Rattle.view_update.specs.Written.{update_data}
 use Rattle.view_update.specs.Reading.{line_update}
 use Rattle.doc_session.specs.declared.doc.Doc.{Doc}
 use Rattle.doc_session.specs.Document.{Document}
+use Rattle.doc_session.specs.ScreenOf.{IsUpToDate}
 use Rattle.doc_session.specs.Stands.{StandsFor}
 use Rattle.core_session.specs.declared.session.Core.{Core}
 use Rattle.core_session.specs.declared.session.Prepared.{Prepared}
@@ -22,12 +23,23 @@ use Rattle.core_session.specs.Journal.{IsOpen}
 use Rattle.core_session.specs.Next.{next_or}
 use Rattle.core_session.specs.Shows.{ShowsEach, rebuilt}
 
+-- the document in memory stands for the plain one, has no plugins, and is shown on the front end's screen
+pub record Keeps (doc : Doc) (plain : Document) : Type 0 where
+  pub stands : StandsFor doc plain
+  pub no_plugins : doc.plugins ≡ 0
+  pub shown : IsUpToDate plain
+
 -- what the document in memory stands for, where there is one
 abbrev pub Stands : Option Doc → Option Document → Type 0
 Stands None None = ⊤
 Stands None (Some plain) = ⊥
 Stands (Some doc) None = ⊥
-Stands (Some doc) (Some plain) = StandsFor doc plain
+Stands (Some doc) (Some plain) = Keeps doc plain
+
+-- the document has no plugins, where there is one
+abbrev pub HasNoPlugins : Option Doc → Type 0
+HasNoPlugins None = ⊤
+HasNoPlugins (Some doc) = doc.plugins ≡ 0
 
 -- the bytes are the lines of the messages, and each of these lines reads as its message
 pub record AreLinesOf (messages : List Data) (bytes : List ℕ) : Type 0 where

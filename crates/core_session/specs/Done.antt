@@ -5,9 +5,9 @@ use Rattle.json_rpc.specs.Response.{text_data}
 use Rattle.doc_session.specs.declared.doc.Doc.{Doc}
 use Rattle.doc_session.specs.PointView.{point_view}
 use Rattle.core_session.specs.declared.act.Reply.{Reply as Said}
-use Rattle.core_session.specs.declared.act.Reply.TheVariants.{Opened, Done as Accepted, Refused, Silent}
+use Rattle.core_session.specs.declared.act.Reply.TheVariants.{Opened, Done as Accepted, Refused, Spent, Silent}
 use Rattle.core_session.specs.declared.act.Done.{Done}
-use Rattle.core_session.specs.Answer.{Reply, accepted, refused, silent}
+use Rattle.core_session.specs.Answer.{Reply, accepted, refused, spent, silent}
 use Rattle.core_session.specs.Session.{Outcome, view_id}
 use Rattle.core_session.specs.Core.{Stands}
 use Rattle.core_session.specs.Next.{next_or}
@@ -17,6 +17,7 @@ abbrev pub reply_of : Said → Reply
 reply_of Opened = accepted (text_data view_id)
 reply_of Accepted = accepted null
 reply_of (Refused fault) = refused fault
+reply_of Spent = spent
 reply_of Silent = silent
 
 -- what came of an act in memory, beside the document before, is the outcome

@@ -1,5 +1,5 @@
 -- THE PLAIN SESSION: what the entries of a journal do, one after the other, and what each writes.
-use Rattle.std.specs.Prelude.{ℕ, Bool, if◌then◌else◌, List, [], ◌∷◌, ◌++◌, map, codes, Option, Some, None}
+use Rattle.std.specs.Prelude.{ℕ, ◌^◌, Bool, if◌then◌else◌, List, [], ◌∷◌, ◌++◌, map, codes, Option, Some, None}
 use Rattle.std.specs.Str.{encode_utf8_all, bytes_eq}
 use Rattle.std.specs.List.{concat}
 use Rattle.serde_json.specs.Data.{Data, null}
@@ -13,14 +13,16 @@ use Rattle.xi_plain.specs.declared.command.Act.TheVariants.{Bad, Nothing, NewVie
 use Rattle.xi_plain.specs.declared.command.Command.{Command}
 use Rattle.xi_plain.specs.declared.command.Entry.{Entry}
 use Rattle.xi_plain.specs.declared.screen.Update.{Update}
+use Rattle.xi_plain.specs.Edits.{Refusal}
 use Rattle.xi_plain.specs.Layout.{Point}
 use Rattle.json_rpc.specs.Line.{line_of}
 use Rattle.json_rpc.specs.Response.{text_data}
 use Rattle.view_update.specs.Written.{update_data}
 use Rattle.view_update.specs.Notes.{scroll_data}
-use Rattle.doc_session.specs.Document.{Document}
-use Rattle.doc_session.specs.Effects.{opened, opening_update, insert_document, insert_update, insert_scroll}
-use Rattle.core_session.specs.Answer.{Reply, accepted, refused, silent, answers}
+use Rattle.doc_session.specs.declared.event.Event.TheVariants.{Front, Other}
+use Rattle.doc_session.specs.Document.{Document, loaded_document}
+use Rattle.doc_session.specs.Step.{Step, step_of, refusal_at}
+use Rattle.core_session.specs.Answer.{Reply, accepted, refused, spent, silent, answers}
 
 -- the id of the first view
 abbrev pub view_id : List ℕ
@@ -47,23 +49,31 @@ scroll_notes (Some point) = scroll_data view_id point.line point.col ∷ []
 abbrev pub refusing : Option Document → Fault → Outcome
 refusing document fault = record { reply = refused fault; document = document; update = None; scroll = None }
 
--- the first view is opened on an empty text
+-- the most characters that may be inserted into a document
+abbrev pub text_limit : ℕ
+text_limit = 2 ^ 40
+
+-- the document of the first view, on an empty text, without plugins
+abbrev pub first_document : Document
+first_document = loaded_document [] 0 text_limit
+
+-- a step is taken, and answered so
+abbrev pub taking : Data → Step → Outcome
+taking result step = record { reply = accepted result; document = Some step.document; update = step.update; scroll = step.scroll }
+
+-- the first view is opened
 abbrev pub opening_outcome : Outcome
-opening_outcome = record {
-  reply = accepted (text_data view_id);
-  document = Some (opened []);
-  update = Some (opening_update []);
-  scroll = None;
-}
+opening_outcome = taking (text_data view_id) (step_of first_document Other)
+
+-- an edit of the front end, which is refused only where its characters are spent
+abbrev pub edit_came : Document → Option Refusal → Step → Outcome
+edit_came document None step = taking null step
+edit_came document (Some refusal) step = record { reply = spent; document = Some document; update = None; scroll = None }
 
 -- characters are inserted
 abbrev pub insert_outcome : Document → List ℕ → Outcome
-insert_outcome document chars = record {
-  reply = accepted null;
-  document = Some (insert_document document chars);
-  update = insert_update document chars;
-  scroll = insert_scroll document chars;
-}
+insert_outcome document chars =
+    edit_came document (refusal_at document (Front (Insert chars))) (step_of document (Front (Insert chars)))
 
 -- whether the id is that of the first view, in bytes
 abbrev pub is_first_view : List ℕ → Bool

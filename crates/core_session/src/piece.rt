@@ -7,18 +7,20 @@ ghost use Rattle.serde_json.specs.Data.{depth};
 ghost use Rattle.serde_json.specs.Written.{has_float};
 ghost use Rattle.serde_json.specs.View.{view};
 ghost use Rattle.doc_session.specs.PointView.{point_view};
-ghost use Rattle.core_session.specs.Answer.{answers, refusal, named_refusal, code_of, message_of, result_messages};
+ghost use Rattle.core_session.specs.Answer.{answers, refusal, named_refusal, refused_by, code_of, message_of, result_messages};
 ghost use Rattle.core_session.specs.Session.{view_id, update_notes, scroll_notes};
 ghost use Rattle.core_session.specs.Core.{AreLinesOf, IsToldBack};
 ghost use Rattle.core_session.specs.Done.{reply_of};
 
 use crate::act::{Done, FIRST_VIEW, Reply};
-use doc_session::Point;
 use json_rpc::{write_error, write_reply};
 use serde_json::Value;
 use std::alloc::Global;
 use view_update::{write_alert, write_scroll, write_update};
 use xi_plain::{Fault, Id, NoMemory, Text, Update};
+
+/// The number of the refusal of an edit that would insert more characters than may be.
+const SPENT: i64 = 3;
 
 /// The lines of an entry: its answer, and then what else the front end is told.
 pub fn piece_of(alloc: Global, id: &Id, done: &Done) -> Result<Text, NoMemory>
@@ -42,6 +44,7 @@ fn answer(alloc: Global, id: &Id, reply: &Reply) -> Result<Text, NoMemory>
         Reply::Refused(fault) => refusal(alloc, id, fault),
         Reply::Opened => result_line(alloc, id, view_value(alloc)?),
         Reply::Done => result_line(alloc, id, Value::Null),
+        Reply::Spent => refused_by(alloc, id, SPENT, &literal(alloc, "spent")?),
         Reply::Silent => Ok(Text::new(alloc)),
     }
 }
@@ -56,11 +59,11 @@ fn update_note(alloc: Global, update: &Option<Update>) -> Result<Text, NoMemory>
     }
 }
 
-fn scroll_note(alloc: Global, scroll: Option<Point>) -> Result<Text, NoMemory>
+fn scroll_note(alloc: Global, scroll: Option<(u64, u64)>) -> Result<Text, NoMemory>
     ensures { IfOk result (λ text. AreLinesOf (scroll_notes (option_map point_view scroll)) (encode_utf8_all text)) }
 {
     match scroll {
-        Some(point) => write_scroll(alloc, &first_view(alloc)?, point.line, point.col),
+        Some((line, col)) => write_scroll(alloc, &first_view(alloc)?, line, col),
         None => Ok(Text::new(alloc)),
     }
 }
@@ -110,9 +113,16 @@ fn named_refusal(alloc: Global, id: &Id, fault: &Fault) -> Result<Text, NoMemory
     requires { IsWireId id.now }
     ensures { IfOk result (λ text. AreLinesOf (named_refusal id.now fault.now ∷ []) (encode_utf8_all text)) }
 {
+    refused_by(alloc, id, code_of(fault), &message_of(alloc, fault)?)
+}
+
+fn refused_by(alloc: Global, id: &Id, code: i64, text: &Text) -> Result<Text, NoMemory>
+    requires { IsWireId id.now }
+    ensures { IfOk result (λ line. AreLinesOf (refused_by id.now code text.now ∷ []) (encode_utf8_all line)) }
+{
     match id {
-        Id::NoId => write_alert(alloc, &message_of(alloc, fault)?),
-        _ => error_line(alloc, id, fault),
+        Id::NoId => write_alert(alloc, text),
+        _ => write_error(alloc, id, code, text),
     }
 }
 

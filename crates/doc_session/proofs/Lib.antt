@@ -1,5 +1,11 @@
+pub mod CaretLemmas
+pub mod MoveLemmas
+pub mod LoadLemmas
+pub mod InsertLemmas
+pub mod SettleLemmas
+pub mod StepLemmas
 pub mod LayoutLemmas
 pub mod PlanLemmas
-pub mod InsertLemmas
-pub mod ScreenLemmas
 pub mod TellLemmas
+pub mod ScreenLemmas
+pub mod ShowLemmas

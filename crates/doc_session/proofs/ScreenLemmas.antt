@@ -7,12 +7,10 @@ use Rattle.xi_plain.specs.declared.screen.Line.{Line}
 use Rattle.xi_plain.specs.Screen.{Screen, screen_after}
 use Rattle.xi_plain.specs.Plan.{is_within}
 use Rattle.xi_plain.specs.Laws.{shown_lines}
-use Rattle.doc_session.specs.declared.doc.Doc.{Doc}
 use Rattle.doc_session.specs.Document.{Document, layout_of, no_request}
 use Rattle.doc_session.specs.Effects.{ops_of, told}
-use Rattle.doc_session.specs.Stands.{StandsFor}
 use Rattle.doc_session.specs.ScreenOf.{IsScreenOf}
-use Rattle.doc_session.proofs.InsertLemmas.{screen_after-ops_of, screen-told}
+use Rattle.doc_session.proofs.SettleLemmas.{screen_after-ops_of, screen-told}
 
 -- the screen that shows the lines of the window, where the first line has this index
 abbrev shown_from : Run → Run → ℕ → List Line → Screen
@@ -57,10 +55,6 @@ IsScreenOf-screen plain shown =
     let At : Screen → Type 0 = λ screen. IsScreenOf screen plain.window (layout_of plain) in
     subst At (sym shown) (IsScreenOf-shown plain.window (layout_of plain))
 
--- the screen of a document that one in memory stands for
-pub IsScreenOf-stands : (doc : Doc) (plain : Document) → StandsFor doc plain → IsScreenOf plain.screen plain.window (layout_of plain)
-IsScreenOf-stands doc plain stands = IsScreenOf-screen plain stands.screen
-
 -- the operations make the told screen, on whatever screen there was
 pub screen_after-told : (before after : Document) → screen_after before.screen (ops_of after) ≡ Some ((told after).screen)
-screen_after-told before after = screen_after-ops_of before after ∙ ap Some (sym (screen-told after))
+screen_after-told before after = screen_after-ops_of before.screen after ∙ ap Some (sym (screen-told after))

@@ -1,13 +1,23 @@
--- What a front end is told after a document changed.
-use Rattle.std.specs.Prelude.{ℕ, Bool, true, false, not, ◌&&◌, ◌||◌, if◌then◌else◌, ◌==◌, List, [], Option, Some, None, unwrap_or, is_some}
-use Rattle.std.specs.List.{list_all, enumerate_from}
+-- What a front end and the plugins are told after a document changed.
+use Rattle.std.specs.Prelude.{ℕ, ◌+◌, Bool, true, false, not, ◌&&◌, ◌||◌, if◌then◌else◌, ◌==◌, List, [], ◌∷◌, Option, Some, None, unwrap_or, is_some}
 use Rattle.std.specs.Str.{bytes_eq}
+use Rattle.subset_runs.specs.Subset.{contains, complement, shrink}
+use Rattle.xi_plain.specs.declared.config.Notice.{Notice}
+use Rattle.xi_plain.specs.declared.delta.Delta.{Delta}
+use Rattle.xi_plain.specs.declared.delta.Run.{Run}
+use Rattle.xi_plain.specs.declared.screen.Line.{Line}
 use Rattle.xi_plain.specs.declared.screen.Op.{Op}
 use Rattle.xi_plain.specs.declared.screen.Update.{Update}
+use Rattle.xi_plain.specs.Text.{byte_len}
+use Rattle.xi_plain.specs.History.{History, head, text_at}
 use Rattle.xi_plain.specs.Layout.{Point}
-use Rattle.xi_plain.specs.Screen.{screen_after}
+use Rattle.xi_plain.specs.Screen.{Screen, screen_after}
 use Rattle.xi_plain.specs.Plan.{is_within, update_plan}
-use Rattle.doc_session.specs.Document.{Document, text_of, layout_of, caret_point, is_pristine, no_request, loaded_document, inserted}
+use Rattle.delta_core.specs.Synthesis.{appearing}
+use Rattle.delta_core.specs.Wire.{wire_from}
+use Rattle.rev_list.specs.Hidden.{hidden_at}
+use Rattle.rev_rebase.specs.Rebase.{characters_of}
+use Rattle.doc_session.specs.Document.{Document, text_of, layout_of, caret_point, is_pristine, no_request}
 
 -- the update of a document (no line has a partner yet)
 abbrev pub ops_of : Document → List Op
@@ -29,10 +39,16 @@ abbrev pub differ : Bool → Bool → Bool
 differ true truth = not truth
 differ false truth = truth
 
+-- whether each of these lines that is in the window is valid on the screen, of which the lines from this index on are left
+abbrev pub are_valid : Run → ℕ → List Line → Screen → Bool
+are_valid window index [] screen = true
+are_valid window index (line ∷ lines) [] = not (is_within window index) && are_valid window (index + 1) lines []
+are_valid window index (line ∷ lines) (shown ∷ screen) =
+    (not (is_within window index) || is_some shown) && are_valid window (index + 1) lines screen
+
 -- whether each line of the window is valid on the screen
 abbrev pub is_window_valid : Document → Bool
-is_window_valid document =
-    list_all (λ (index, line). not (is_within document.window index) || is_some line) (enumerate_from 0 document.screen)
+is_window_valid document = are_valid document.window 0 (layout_of document) document.screen
 
 -- THE OCCASION OF AN UPDATE: the layout changed, or whether the text is pristine changed, or a line of the window was not valid
 abbrev pub wants_update : Document → Document → Bool
@@ -53,19 +69,26 @@ is_same_point before after = before.line == after.line && before.col == after.co
 abbrev pub scroll_after : Document → Document → Option Point
 scroll_after before after = if is_same_point (caret_point before) (caret_point after) then None else Some (caret_point after)
 
--- a document on a text that was just loaded, and told; its opening always writes its update
-abbrev pub opened : List ℕ → Document
-opened text = told (loaded_document text)
+-- THE CHANGE from the head text of a history to that of a later one: which characters stay, and which appear at each gap
+abbrev pub change_keeps : History → History → ℕ → Bool
+change_keeps before after = contains (shrink (complement (hidden_at after (head after))) (hidden_at after (head before)))
 
-abbrev pub opening_update : List ℕ → Update
-opening_update text = update_of (loaded_document text)
+abbrev pub change_adds : History → History → ℕ → List ℕ
+change_adds before after = appearing 0 (characters_of after) (hidden_at after (head before)) (hidden_at after (head after))
 
--- what an insertion leaves, and what it writes
-abbrev pub insert_document : Document → List ℕ → Document
-insert_document document chars = settled document (inserted document chars)
+-- the change, as the delta of the notices
+abbrev pub change_delta : History → History → Delta
+change_delta before after = record {
+  els = wire_from (change_keeps before after) (change_adds before after) 0 0 (text_at before (head before));
+  base_len = byte_len (text_at before (head before));
+}
 
-abbrev pub insert_update : Document → List ℕ → Option Update
-insert_update document chars = update_after document (inserted document chars)
-
-abbrev pub insert_scroll : Document → List ℕ → Option Point
-insert_scroll document chars = scroll_after document (inserted document chars)
+-- the notice of a change that this author made
+abbrev pub notice_of : History → History → ℕ → Notice
+notice_of before after author = record {
+  view = [];
+  author = author;
+  rev = head after;
+  new_len = byte_len (text_at after (head after));
+  delta = change_delta before after;
+}

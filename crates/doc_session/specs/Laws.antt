@@ -1,8 +1,10 @@
 -- Laws: what the definitions of a document come to, whatever the document.
-use Rattle.std.specs.Prelude.{◌≡◌, ℕ, ◌≤◌, List, [], ◌∷◌, length, Some}
+use Rattle.std.specs.Prelude.{◌≡◌, ℕ, ◌≤◌, List, [], ◌∷◌, ◌++◌, length, take, drop, Some}
+use Rattle.xi_plain.specs.Delta.{Fits, keeps, adds, applied}
 use Rattle.xi_plain.specs.Layout.{layout}
 use Rattle.xi_plain.specs.Screen.{screen_after}
 use Rattle.xi_plain.specs.Laws.{shown_lines}
+use Rattle.doc_session.specs.Asking.{insertion_delta}
 use Rattle.doc_session.specs.Document.{Document, layout_of, no_request}
 use Rattle.doc_session.specs.Effects.{ops_of, told}
 use Rattle.doc_session.specs.ScreenOf.{IsScreenOf}
@@ -20,3 +22,9 @@ ScreensShow = (plain : Document) → plain.screen ≡ shown_lines plain.window n
 -- the operations of a document make its told screen, on whatever screen there was
 abbrev pub TellingShows : Type 0
 TellingShows = (before after : Document) → screen_after before.screen (ops_of after) ≡ Some ((told after).screen)
+
+-- the delta of an insertion fits the text, and puts the characters in at the gap
+abbrev pub InsertionsPut : Type 0
+InsertionsPut = (text chars : List ℕ) (gap : ℕ) → gap ≤ length text →
+    Fits text (insertion_delta text gap chars) ×
+    (applied (keeps text (insertion_delta text gap chars)) (adds text (insertion_delta text gap chars)) text ≡ take gap text ++ (chars ++ drop gap text))

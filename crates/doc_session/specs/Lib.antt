@@ -1,6 +1,13 @@
 pub mod Document
+pub mod Asking
 pub mod Effects
-pub mod Stands
 pub mod PointView
+pub mod Step
+pub mod Fault
+pub mod Whole
+pub mod Stands
+pub mod Planned
+pub mod Lacking
+pub mod Moved
 pub mod ScreenOf
 pub mod Laws

@@ -1,6 +1,6 @@
 -- The place of a caret, as the front end is told it, is a place on the layout.
-use Rattle.xi_plain.specs.Layout as plain
-use Rattle.doc_session.specs.declared.doc.Point.{Point}
+use Rattle.std.specs.Prelude.{ℕ}
+use Rattle.xi_plain.specs.Layout.{Point}
 
-abbrev pub point_view : Point → plain.Point
-point_view point = record { line = point.line; col = point.col }
+abbrev pub point_view : ℕ × ℕ → Point
+point_view place = record { line = place.0; col = place.1 }

@@ -4,9 +4,14 @@ use Rattle.xi_plain.specs.declared.delta.Run.{Run}
 use Rattle.xi_plain.specs.declared.screen.Line.{Line}
 use Rattle.xi_plain.specs.Screen.{Screen}
 use Rattle.xi_plain.specs.Plan.{is_within}
+use Rattle.doc_session.specs.Document.{Document, layout_of}
 
 -- the screen has as many lines as the layout, each valid line of it is the layout's line, and each line of the window is valid
 pub record IsScreenOf (screen : Screen) (window : Run) (lines : List Line) : Type 0 where
   pub length : length screen ≡ length lines
   pub equal : (i : ℕ) (line : Line) → slice_get screen i ≡ Some (Some line) → slice_get lines i ≡ Some line
   pub valid : (i : ℕ) → is_within window i ≡ true → slice_get screen i ≡ option_map Some (slice_get lines i)
+
+-- the screen that the front end has of the document shows its layout
+abbrev pub IsUpToDate : Document → Type 0
+IsUpToDate document = IsScreenOf document.screen document.window (layout_of document)

@@ -1,9 +1,8 @@
-ghost use Rattle.std.specs.Prelude.{◌≡◌, ◌≤◌, ◌-◌, ◌++◌, [], ◌∷◌, length, take, drop, IfOk};
+ghost use Rattle.std.specs.Prelude.{◌≡◌, [], ◌∷◌, IfOk};
 ghost use Rattle.std.specs.Str.{chars};
 ghost use Rattle.xi_plain.specs.Layout.{cursor_of, layout_line, layout, point_of};
 ghost use Rattle.doc_session.specs.PointView.{point_view};
 
-use crate::doc::Point;
 use std::alloc::Global;
 use xi_plain::{Line, Lines, NoMemory, Offsets, Text, Triples};
 
@@ -74,14 +73,14 @@ fn cursor_in(
     Ok(cursor)
 }
 
-/// The place of a gap on the layout, in one walk up to it.
-pub(crate) fn point_of(text: &Text, gap: u64) -> Point
+/// The place of a gap on the layout, a line and an offset in it, in one walk up to it.
+pub(crate) fn point_of(text: &Text, gap: u64) -> (u64, u64)
     ensures { point_view result ≡ point_of text.now gap }
 {
     point_in(text.as_str(), gap)
 }
 
-fn point_in(text: &str, gap: u64) -> Point
+fn point_in(text: &str, gap: u64) -> (u64, u64)
     ensures { point_view result ≡ point_of (chars text.now) gap }
 {
     let mut line: u64 = 0;
@@ -99,23 +98,5 @@ fn point_in(text: &str, gap: u64) -> Point
             col += c.len_utf8() as u64;
         }
     }
-    Point { line, col }
-}
-
-/// The text with characters put in at a gap.
-pub(crate) fn with_inserted(
-    alloc: Global,
-    text: &Text,
-    caret: u64,
-    chars: &Text,
-) -> Result<Text, NoMemory>
-    requires inside { caret ≤ length text.now }
-    ensures { IfOk result
-        (λ made. made ≡ take caret text.now ++ (chars.now ++ drop caret text.now)) }
-{
-    let rest = text.slice(alloc, caret, text.len())?;
-    let mut made = text.slice(alloc, 0, caret)?;
-    made.push_text(chars)?;
-    made.push_text(&rest)?;
-    Ok(made)
+    (line, col)
 }

@@ -1,14 +1,21 @@
-//! A document with one view.
+//! A document with one view, which a front end and plugins edit.
 //!
-//! A contract says of a `Doc` which plain documents it stands for: `specs/Document.antt` has the plain document, a history with
-//! its caret, window and screen, and what an insertion does to it; `specs/Effects.antt` has what the front end is told.
+//! A contract says of a `Doc` which plain documents it stands for: `specs/Document.antt` has the plain document, a history with its
+//! caret, window and screen; `specs/Step.antt` has what each event comes to in it, or why it is refused; `specs/Effects.antt` has
+//! what the front end and the plugins are told.
 #![tactic(auto)]
 
+mod caret;
 mod doc;
+mod event;
+mod fault;
 pub mod laws;
 mod layout;
+mod moved;
 mod plan;
 #[cfg(test)]
 mod tests;
 
-pub use doc::{Doc, Inserted, Point};
+pub use doc::Doc;
+pub use event::{Body, Effects, Event};
+pub use fault::DocFault;

@@ -3,8 +3,8 @@ ghost use Rattle.xi_plain.specs.Plan.{update_plan};
 ghost use Rattle.doc_session.specs.Document.{first_window, no_request};
 ghost use Rattle.doc_session.specs.Effects.{is_same_point};
 ghost use Rattle.doc_session.specs.PointView.{point_view};
+ghost use Rattle.doc_session.specs.Planned.{planned};
 
-use crate::doc::Point;
 use std::alloc::Global;
 use xi_plain::{Copied, Line, Lines, NoMemory, Op, Ops, Update};
 
@@ -13,11 +13,25 @@ const WINDOW: usize = 10;
 
 /// The update that sends the lines of the window and leaves the others invalid.
 pub(crate) fn update_of(alloc: Global, lines: &Lines, pristine: bool) -> Result<Update, NoMemory>
-    ensures ops { IfOk result (λ made. made.ops ≡ update_plan first_window no_request lines.now []) }
-    ensures pristine { IfOk result (λ made. made.pristine ≡ pristine) }
+    ensures { IfOk result (λ made. made ≡ planned lines.now pristine) }
 {
     let ops = ops_of(alloc, lines)?;
     Ok(Update { ops, pristine })
+}
+
+/// The same, where it is wanted.
+pub(crate) fn update_if(
+    alloc: Global,
+    wanted: bool,
+    lines: &Lines,
+    pristine: bool,
+) -> Result<Option<Update>, NoMemory>
+    ensures { IfOk result (λ made. made ≡ (if wanted then Some (planned lines.now pristine) else None)) }
+{
+    if wanted {
+        return Ok(Some(update_of(alloc, lines, pristine)?));
+    }
+    Ok(None)
 }
 
 fn ops_of(alloc: Global, lines: &Lines) -> Result<Ops, NoMemory>
@@ -52,7 +66,7 @@ fn copies(alloc: Global, lines: &[Line]) -> Result<Lines, NoMemory>
 }
 
 /// The place of the caret, where it is another than before.
-pub(crate) fn scroll_of(before: Point, after: Point) -> Option<Point>
+pub(crate) fn scroll_of(before: (u64, u64), after: (u64, u64)) -> Option<(u64, u64)>
     ensures { option_map point_view result
         ≡ (if is_same_point (point_view before) (point_view after) then None
         else Some (point_view after)) }

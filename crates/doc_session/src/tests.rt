@@ -1,103 +1,243 @@
+ghost use Rattle.std.specs.Prelude.{◌≡◌, ◌-◌, ◌^◌, ◌<◌, IfOk};
+ghost use Rattle.xi_plain.specs.History.{head};
+ghost use Rattle.doc_session.specs.Step.{HasCaller};
+
 use super::*;
+use rev_engine::Edit;
 use std::alloc::Global;
+use std::marker::Brand;
+use std::process::Abort;
+use std::sync::ledger::{Blank, Ledger};
 use std::test::Fail;
-use xi_plain::{Line, Lines, NoMemory, Offsets, Op, Ops, Text, Triples, Update};
+use xi_plain::{Config, Delta, EditAct, El, Els, Misfit, NoMemory, Op, Steps, Text, Update};
 
-// A line of a layout: its text, and the caret in it.
-type Shown<'a> = (&'a str, Option<u64>);
+const CONFIG: Config = Config {
+    tab: 4,
+    width: 0,
+    spaces: false,
+};
 
-fn line(alloc: Global, shown: Shown, ln: u64) -> Result<Line, NoMemory> {
-    let mut cursor = Offsets::new(alloc);
-    if let Some(place) = shown.1 {
-        cursor.push(place)?;
-    }
-    Ok(Line {
-        text: Text::from_str(alloc, shown.0)?,
-        ln: Some(ln),
-        cursor,
-        styles: Triples::new(alloc),
+// What a row asks: the front end types, or the first plugin puts a text in at an offset of a base of so many bytes.
+#[derive(Clone, Copy)]
+enum Row<'a> {
+    Typed(&'a str),
+    Put {
+        rev: u64,
+        len: u64,
+        at: u64,
+        added: &'a str,
+        after_cursor: bool,
+    },
+}
+
+fn typing(alloc: Global, chars: &str) -> Result<Event, NoMemory>
+    ensures { IfOk result (HasCaller 1) }
+{
+    Ok(Event::Front(EditAct::Insert {
+        chars: Text::from_str(alloc, chars)?,
+    }))
+}
+
+fn putting(
+    alloc: Global,
+    rev: u64,
+    len: u64,
+    at: u64,
+    added: &str,
+    after_cursor: bool,
+) -> Result<Event, NoMemory>
+    ensures { IfOk result (HasCaller 1) }
+{
+    let mut els = Els::new(alloc);
+    els.push(El::Copy { a: 0, b: at })?;
+    els.push(El::Insert {
+        text: Text::from_str(alloc, added)?,
+    })?;
+    els.push(El::Copy { a: at, b: len })?;
+    let edit = Edit {
+        rev,
+        delta: Delta { els, base_len: len },
+        priority: 0,
+        after_cursor,
+        author: 7,
+        group: 7,
+    };
+    Ok(Event::Edit {
+        caller: 1,
+        edit,
+        named: None,
     })
 }
 
-// The update that sends these lines.
-fn sent(alloc: Global, shown: &[Shown], pristine: bool) -> Result<Update, NoMemory> {
-    let mut lines = Lines::new(alloc);
-    let mut ln: u64 = 0;
-    for row in shown {
-        ln = ln.saturating_add(1);
-        lines.push(line(alloc, *row, ln)?)?;
+fn event_of(alloc: Global, row: Row<'_>) -> Result<Event, NoMemory>
+    ensures { IfOk result (HasCaller 1) }
+{
+    match row {
+        Row::Typed(chars) => typing(alloc, chars),
+        Row::Put {
+            rev,
+            len,
+            at,
+            added,
+            after_cursor,
+        } => putting(alloc, rev, len, at, added, after_cursor),
     }
-    let mut ops = Ops::new(alloc);
-    ops.push(Op::Ins { lines })?;
-    Ok(Update { ops, pristine })
 }
 
-// The document with characters put in.
-fn inserted(alloc: Global, doc: &Doc, chars: &str) -> Result<Inserted, NoMemory> {
-    let chars = Text::from_str(alloc, chars)?;
-    doc.insert(alloc, &chars)
+// The document of a text, with one plugin and a limit of four characters.
+fn loaded(alloc: Global, text: &str) -> Result<Doc, NoMemory>
+    ensures { IfOk result (λ doc. doc.plugins ≡ 1) }
+{
+    Doc::of_text(alloc, Text::from_str(alloc, text)?, 1, 4, CONFIG)
 }
 
-#[test]
-fn an_empty_document_is_opened(rt: HostRuntime) -> Result<(), Fail> {
-    let alloc = rt.alloc();
-    let (_doc, told) = Doc::opened(alloc)?;
-    assert_eq!(rt; told, sent(alloc, &[("", Some(0))], true)?);
+fn counted<L: Ledger>(
+    alloc: Global,
+    doc: &mut Doc,
+    event: Event,
+    blank: Blank,
+) -> Result<Effects, DocFault>
+    requires name { blank.name ≡ L.name }
+    requires parts { blank.parts ≡ L.parts }
+    requires some { 0 < blank.parts }
+    requires caller { HasCaller doc.old.plugins event }
+    requires has_number { head doc.old.engine.revisions < 2 ^ 63 - 1 }
+    ensures { doc.new.plugins ≡ doc.old.plugins }
+{
+    let mut steps = Steps::<L>::new(blank);
+    doc.apply(alloc, event, &mut steps)
+}
+
+fn take(alloc: Global, doc: &mut Doc, event: Event) -> Result<Effects, DocFault>
+    requires { HasCaller doc.old.plugins event }
+    ensures { doc.new.plugins ≡ doc.old.plugins }
+{
+    if 1000 < doc.head() {
+        return Err(DocFault::NoMemory);
+    }
+    counted::<Brand>(alloc, doc, event, Blank::new(1))
+}
+
+// The document of a text after it was opened and the rows were taken, and what the last of them came to.
+fn after_all(alloc: Global, text: &str, rows: &[Row<'_>]) -> Result<(Doc, Effects), DocFault>
+    ensures { IfOk result (λ made. made.0.plugins ≡ 1) }
+{
+    let mut doc = loaded(alloc, text)?;
+    let mut last = take(alloc, &mut doc, Event::Other)?;
+    for row in rows {
+        let event = event_of(alloc, *row)?;
+        last = take(alloc, &mut doc, event)?;
+    }
+    Ok((doc, last))
+}
+
+// Where the caret stands in the first line that an update sends.
+fn caret_in(update: &Option<Update>) -> Option<u64> {
+    let update = update.as_ref()?;
+    match update.ops.get(0)? {
+        Op::Ins { lines } => lines.get(0)?.cursor.get(0).copied(),
+        _ => None,
+    }
+}
+
+fn shows(
+    rt: &impl Abort,
+    alloc: Global,
+    text: &str,
+    rows: &[Row<'_>],
+    want: (&str, u64),
+) -> Result<(), Fail> {
+    let (doc, last) = after_all(alloc, text, rows).ok().expect(rt, "refused");
+    assert_eq!(rt; doc.head_text(alloc)?.as_str(), want.0);
+    assert_eq!(rt; caret_in(&last.update), Some(want.1));
     Ok(())
 }
 
+fn put(rev: u64, len: u64, at: u64, added: &str, after_cursor: bool) -> Row<'_> {
+    Row::Put {
+        rev,
+        len,
+        at,
+        added,
+        after_cursor,
+    }
+}
+
 #[test]
-fn characters_are_put_in_one_after_the_other(rt: HostRuntime) -> Result<(), Fail> {
+fn a_caret_beside_a_plugins_insertion(rt: HostRuntime) -> Result<(), Fail> {
     let alloc = rt.alloc();
-    let (mut doc, _told) = Doc::opened(alloc)?;
-    for (chars, shown, line, col) in [
-        ("a", [("a", Some(1))].as_slice(), 0, 1),
-        ("é", [("aé", Some(3))].as_slice(), 0, 3),
-        ("\n", [("aé\n", None), ("", Some(0))].as_slice(), 1, 0),
+    let typed = Row::Typed("a");
+    for (text, rows, want) in [
+        (
+            "ac",
+            [Row::Typed("X"), put(0, 2, 2, "Y", false)].as_slice(),
+            ("XacY", 1),
+        ),
+        ("b", [put(0, 1, 0, "Z", false)].as_slice(), ("Zb", 1)),
+        ("b", [put(0, 1, 0, "Z", true)].as_slice(), ("Zb", 0)),
+        (
+            "c",
+            [typed, Row::Typed("X"), put(1, 2, 2, "Y", false)].as_slice(),
+            ("aXcY", 2),
+        ),
+        (
+            "b",
+            [typed, put(1, 2, 1, "Z", false)].as_slice(),
+            ("aZb", 2),
+        ),
+        ("b", [typed, put(1, 2, 1, "Z", true)].as_slice(), ("aZb", 1)),
     ] {
-        let Inserted {
-            doc: next,
-            update,
-            scroll,
-        } = inserted(alloc, &doc, chars)?;
-        assert_eq!(rt; update, Some(sent(alloc, shown, false)?));
-        assert_eq!(rt; scroll, Some(Point { line, col }));
-        doc = next;
+        shows(&rt, alloc, text, rows, want)?;
     }
     Ok(())
 }
 
 #[test]
-fn nothing_is_told_where_nothing_is_put_in(rt: HostRuntime) -> Result<(), Fail> {
+fn an_opening_is_told_once(rt: HostRuntime) -> Result<(), Fail> {
     let alloc = rt.alloc();
-    let (doc, _told) = Doc::opened(alloc)?;
-    let done = inserted(alloc, &doc, "")?;
-    assert_eq!(rt; done.update, None);
-    assert_eq!(rt; done.scroll, None);
-    let done = inserted(alloc, &done.doc, "b")?;
-    assert_eq!(rt; done.scroll, Some(Point { line: 0, col: 1 }));
+    let (mut doc, opened) = after_all(alloc, "", &[]).ok().expect(&rt, "refused");
+    assert_eq!(rt;
+        opened.update.as_ref().map(|update| update.pristine),
+        Some(true)
+    );
+    assert_eq!(rt; (opened.body, opened.scroll), (Body::Null, None));
+    let again = take(alloc, &mut doc, typing(alloc, "")?)
+        .ok()
+        .expect(&rt, "refused");
+    assert!(rt; again.update.is_none() && again.notice.is_none());
+    assert_eq!(rt; (doc.head(), doc.kept(), doc.lines()), (0, 0, 1));
     Ok(())
 }
 
-// How many lines the update sends, and how many it leaves invalid.
-fn counts(update: &Update) -> (usize, u64) {
-    let (mut sent, mut invalid) = (0, 0);
-    for op in update.ops.iter() {
-        match op {
-            Op::Ins { lines } => sent = lines.len(),
-            Op::Invalidate { n } => invalid = *n,
-            _ => {}
-        }
-    }
-    (sent, invalid)
+#[test]
+fn plugins_are_told_of_an_edit(rt: HostRuntime) -> Result<(), Fail> {
+    let alloc = rt.alloc();
+    let rows = [Row::Typed("é"), put(0, 1, 0, "Z", false)];
+    let (_doc, last) = after_all(alloc, "b", &rows).ok().expect(&rt, "refused");
+    assert_eq!(rt; last.body, Body::Edited { rev: 2, group: 2 });
+    assert_eq!(rt; last.scroll, Some((0, 3)));
+    let notice = last.notice.expect(&rt, "no notice");
+    assert_eq!(rt; (notice.author, notice.rev, notice.new_len), (1, 2, 4));
+    assert_eq!(rt; (notice.delta.base_len, notice.delta.els.len()), (3, 2));
+    Ok(())
 }
 
 #[test]
-fn the_eleventh_line_is_left_invalid(rt: HostRuntime) -> Result<(), Fail> {
+fn an_event_is_refused(rt: HostRuntime) -> Result<(), Fail> {
     let alloc = rt.alloc();
-    let (doc, _told) = Doc::opened(alloc)?;
-    let done = inserted(alloc, &doc, "0\n1\n2\n3\n4\n5\n6\n7\n8\n9\n")?;
-    assert_eq!(rt; done.scroll, Some(Point { line: 10, col: 0 }));
-    assert_eq!(rt; done.update.as_ref().map(counts), Some((10, 1)));
+    let (mut doc, _opened) = after_all(alloc, "b", &[]).ok().expect(&rt, "refused");
+    for (row, fault) in [
+        (put(1, 1, 0, "Z", false), DocFault::Unknown(0)),
+        (
+            put(0, 2, 0, "Z", false),
+            DocFault::Misfit(Misfit { kind: 1, at: 2 }),
+        ),
+        (put(0, 1, 0, "added", false), DocFault::Spent(5)),
+        (Row::Typed("added"), DocFault::Spent(5)),
+    ] {
+        let event = event_of(alloc, row)?;
+        assert_eq!(rt; take(alloc, &mut doc, event).err(), Some(fault));
+    }
+    assert_eq!(rt; (doc.head(), doc.kept()), (0, 1));
     Ok(())
 }

@@ -1,0 +1,219 @@
+-- What an edit that was taken leaves: the texts on both sides of its change, where it takes gaps, and its notice.
+use Rattle.std.proofs.Common.{◌≡◌, ℕ, zero, suc, ◌+◌, ◌<◌, ◌≤◌, Bool, true, false, cond, not, List, [], ◌∷◌, length, map, filter, Option, Some, None, refl, ap, ap₂, sym, ◌∙◌, subst, arith, inl, inr}
+use Rattle.std.proofs.Math.Nat.{ℕ_set}
+use Rattle.std.proofs.Math.Path.{fun_ext}
+use Rattle.std.proofs.Math.Logic.{∥∥₁_elim}
+use Rattle.std.specs.Prelude.{if◌then◌else◌, nat_lt, ◌^◌}
+use Rattle.std.specs.Coded.{Unit-prop, le_prop}
+use Rattle.std.proofs.lemmas.Bool.{cases_lt, lt-ltb}
+use Rattle.std.proofs.lemmas.List.{length-map, length_push}
+use Rattle.std.proofs.lemmas.Str.{len_utf8_bounds}
+use Rattle.subset_runs.specs.Subset.{items_outside}
+use Rattle.xi_plain.specs.declared.config.Notice.{Notice}
+use Rattle.xi_plain.specs.declared.delta.Delta.{Delta}
+use Rattle.xi_plain.specs.declared.delta.Misfit.{Misfit}
+use Rattle.xi_plain.specs.declared.delta.Run.{Run}
+use Rattle.xi_plain.specs.declared.delta.Added.{Added}
+use Rattle.xi_plain.specs.declared.delta.UnitDelta.{UnitDelta}
+use Rattle.xi_plain.specs.Caret.{moved_caret}
+use Rattle.xi_plain.specs.Woven.{nth_index}
+use Rattle.xi_plain.specs.Delta.{misfit_of}
+use Rattle.xi_plain.specs.Edits.{Refusal, unknown, collected, spent, edit_refusal, inserted_len, misfit_or_spent}
+use Rattle.xi_plain.specs.History.{Tagged, History, head, is_visible, visible_at, text_at, inserted_count, IsSound}
+use Rattle.xi_plain.specs.Text.{byte_len}
+use Rattle.xi_plain.specs.UnitDelta.{AreRuns, AreAdds, IsUnitDelta, unit_keeps, unit_adds}
+use Rattle.xi_plain.proofs.HistoryLemmas.{text_at-edited}
+use Rattle.delta_core.specs.Units.{text_after}
+use Rattle.delta_core.specs.Wire.{wire_from, wire_of}
+use Rattle.rev_list.specs.Hidden.{hidden_at}
+use Rattle.rev_rebase.specs.Rebase.{characters_of}
+use Rattle.rev_engine.specs.declared.edit.Change.{Change}
+use Rattle.rev_engine.specs.State.{State}
+use Rattle.rev_engine.specs.Engine.{StandsFor, IsChange}
+use Rattle.rev_engine.specs.Given.{Asked, after, meant}
+use Rattle.rev_engine.proofs.StandLemmas.{IsFresh-given}
+use Rattle.rev_engine.proofs.SpentLemmas.{inserted_count-plain}
+use Rattle.selection_core.specs.Mapped.{new_gap}
+use Rattle.doc_session.specs.declared.moved.Moved.{Moved}
+use Rattle.doc_session.specs.declared.moved.Taken.{Taken}
+use Rattle.doc_session.specs.Moved.{IsMoved, IsTakenBy}
+use Rattle.doc_session.specs.Effects.{notice_of, change_delta}
+use Rattle.doc_session.specs.Whole.{Shows, IsShown, IsChangeOf, LeadsTo}
+use Rattle.doc_session.proofs.CaretLemmas.{mapped-moved, moved_caret-before, moved_caret-after, left-le}
+
+-- what a history shows, by its flags
+outside_visible : (p : Tagged → Bool) (xs : List Tagged) →
+    items_outside (map (λ t. not (p t)) xs) (map (λ t. t.character) xs) ≡ map (λ t. t.character) (filter p xs)
+outside_visible p [] = refl
+outside_visible p (x ∷ xs) = both (p x) (outside_visible p xs)
+  where
+    both : (b : Bool) → items_outside (map (λ t. not (p t)) xs) (map (λ t. t.character) xs) ≡ map (λ t. t.character) (filter p xs) →
+        items_outside (not b ∷ map (λ t. not (p t)) xs) (x.character ∷ map (λ t. t.character) xs) ≡
+        map (λ t. t.character) (cond b (x ∷ filter p xs) (filter p xs))
+    both true rest = ap (λ cs. x.character ∷ cs) rest
+    both false rest = rest
+
+shown-at : (h : History) (rev : ℕ) → items_outside (hidden_at h rev) (characters_of h) ≡ text_at h rev
+shown-at h rev = outside_visible (is_visible h.revisions rev) h.characters
+
+pub head-after : (h : History) (asked : Asked) → head (after h asked) ≡ head h + 1
+head-after h asked = length_push h.revisions _
+
+pub sound-shown : (h : History) (engine : State) (text : List ℕ) → Shows h engine text → IsSound h
+sound-shown h engine text shown = (IsFresh-given engine.limit h shown.stands.given).plain.sound
+
+module _ (h : History) (engine : State) (text : List ℕ) (shown : Shows h engine text) (asked : Asked) (rev : ℕ) (units : UnitDelta)
+    (change : IsChange h (after h asked) (record { rev = rev; units = units })) where
+  abbrev next : History
+  next = after h asked
+
+  before-is : items_outside (hidden_at next (head h)) (characters_of next) ≡ text
+  before-is =
+      shown-at next (head h) ∙ text_at-edited h (meant h asked) (head h) (sound-shown h engine text shown) (omega arith) ∙ sym shown.text_is
+
+  pub IsChangeOf-taken : IsChangeOf text units
+  IsChangeOf-taken = record { well_formed = change.units.canonical.well_formed; base = change.units.base ∙ ap length before-is }
+
+  -- the change leads to the head text of the history after it
+  pub text_after-taken : text_after units text ≡ text_at next (head next)
+  text_after-taken = ap (text_after units) (sym before-is) ∙ change.units.leads ∙ shown-at next (head next)
+
+  -- it takes a gap where the caret rule takes a caret
+  pub new_gap-moved : (right : Bool) (gap : ℕ) → new_gap units right gap ≡ moved_caret h next right gap
+  new_gap-moved right gap =
+      mapped-moved h (meant h asked) (sound-shown h engine text shown) (unit_keeps units) (unit_adds units) right gap change.units.kept change.units.added
+
+  abbrev seen : Tagged → Bool
+  seen = is_visible next.revisions (head h)
+
+  abbrev now : Tagged → Bool
+  now = is_visible next.revisions (head next)
+
+  moved-le : (right : Bool) (gap : ℕ) → moved_caret h next right gap ≤ length (visible_at next (head next))
+  moved-le false gap =
+      omega (
+        arith,
+        moved_caret-before h (meant h asked) (sound-shown h engine text shown) gap,
+        left-le seen now (nth_index seen gap next.characters) next.characters,
+      )
+  moved-le true zero = omega arith
+  moved-le true (suc gap) =
+      omega (
+        arith,
+        moved_caret-after h (meant h asked) (sound-shown h engine text shown) gap,
+        left-le seen now (nth_index seen gap next.characters + 1) next.characters,
+      )
+
+  pub new_gap-le : (right : Bool) (gap : ℕ) → new_gap units right gap ≤ length (text_at next (head next))
+  new_gap-le right gap =
+      omega (arith, new_gap-moved right gap, moved-le right gap, length-map (visible_at next (head next)) (λ (t : Tagged). t.character))
+
+  -- the notice of the change
+  pub notice-taken : (notice : Notice) (made : List ℕ) → made ≡ text_at next (head next) → notice.view ≡ [] → notice.author ≡ asked.author →
+      notice.rev ≡ rev → notice.new_len ≡ byte_len made → notice.delta ≡ wire_of text units → notice ≡ notice_of h next asked.author
+  notice-taken notice made made_is view author rev_is len delta =
+      ap (λ v. record notice { view = v }) view ∙
+      ap (λ a. record notice { view = []; author = a }) author ∙
+      ap (λ r. record notice { view = []; author = asked.author; rev = r }) (rev_is ∙ change.rev) ∙
+      ap (λ n. record notice { view = []; author = asked.author; rev = head next; new_len = n }) (len ∙ ap byte_len made_is) ∙
+      ap (λ (d : Delta). record { view = []; author = asked.author; rev = head next; new_len = byte_len (text_at next (head next)); delta = d })
+      (delta ∙ delta-is)
+    where
+      delta-is : wire_of text units ≡ change_delta h next
+      delta-is =
+          ap (λ t. wire_of t units) shown.text_is ∙
+          ap₂ (λ keeps adds. record { els = wire_from keeps adds 0 0 (text_at h (head h)); base_len = byte_len (text_at h (head h)) })
+          (fun_ext change.units.kept) (fun_ext change.units.added)
+
+-- ---- what was spent
+
+none_within : (a b : Bool) (x y : Refusal) (m : Option Misfit) (limit total : ℕ) →
+    (if a then Some x else (if b then Some y else misfit_or_spent m limit total)) ≡ None → total ≤ limit
+none_within true b x y m limit total is = absurd cc
+none_within false true x y m limit total is = absurd cc
+none_within false false x y (Some misfit) limit total is = absurd cc
+none_within false false x y None limit total is =
+    elim (cases_lt limit total) [
+      | inl less ↦ absurd (apart (ap (λ b. if b then Some (spent total) else None) (sym (lt-ltb limit total less)) ∙ is))
+      | inr more ↦ more
+    ]
+  where
+    apart : Some (spent total) ≡ None → ⊥
+    apart is = cc
+
+pub spent-within : (h : History) (limit : ℕ) (asked : Asked) → edit_refusal h limit asked.base asked.delta ≡ None → inserted_count (after h asked) ≤ limit
+spent-within h limit asked accepted =
+    omega (
+      arith,
+      inserted_count-plain h asked.base asked.delta asked.group asked.priority asked.author,
+      none_within (nat_lt (head h) asked.base) (nat_lt asked.base h.floor) (unknown (head h)) (collected h.floor)
+          (misfit_of (text_at h asked.base) asked.delta) limit (inserted_count h + inserted_len asked.delta.els) accepted,
+    )
+
+-- ---- facts that have one proof at most
+
+AreRuns-prop : (base from : ℕ) (runs : List Run) → IsProp (AreRuns base from runs)
+AreRuns-prop base from [] = le_prop
+AreRuns-prop base from (run ∷ runs) = hlevel (le_prop, AreRuns-prop base run.end runs)
+
+AreAdds-prop : (base from : ℕ) (adds : List Added) → IsProp (AreAdds base from adds)
+AreAdds-prop base from [] = Unit-prop
+AreAdds-prop base from (added ∷ adds) = hlevel (le_prop, AreAdds-prop base (added.gap + 1) adds)
+
+pub IsUnitDelta-prop : (units : UnitDelta) → IsProp (IsUnitDelta units)
+IsUnitDelta-prop units = hlevel (AreRuns-prop units.base 0 units.kept, AreAdds-prop units.base 0 units.added)
+
+pub IsChangeOf-prop : (text : List ℕ) (units : UnitDelta) → IsProp (IsChangeOf text units)
+IsChangeOf-prop text units = hlevel (IsUnitDelta-prop units, ℕ_set)
+
+-- what holds whatever the history: the change is one of the text, and there is one revision more
+pub IsChangeOf-shown : (engine copied : State) (text : List ℕ) (asked : Asked) (change : Change) → IsShown engine text → copied ≡ engine →
+    ((h : History) → StandsFor copied h → IsChange h (after h asked) change) → IsChangeOf text change.units
+IsChangeOf-shown engine copied text asked change shown same each =
+    ∥∥₁_elim shown (IsChangeOf-prop text change.units)
+    (λ (s : (h : History) × Shows h engine text). IsChangeOf-taken s.0 engine text s.1 asked change.rev change.units
+    (each s.0 (subst (λ e. StandsFor e s.0) (sym same) s.1.stands)))
+
+pub head-stands : (engine : State) (h : History) → StandsFor engine h → head engine.revisions ≡ head h
+head-stands engine h stands = ap head stands.revisions
+
+pub next-shown : (engine copied next : State) (text : List ℕ) (asked : Asked) → IsShown engine text → copied ≡ engine →
+    ((h : History) → StandsFor copied h → StandsFor next (after h asked)) → head next.revisions ≡ head engine.revisions + 1
+next-shown engine copied next text asked shown same each =
+    ∥∥₁_elim shown (ℕ_set _ _) (λ (s : (h : History) × Shows h engine text).
+    head-stands next (after s.0 asked) (each s.0 (subst (λ e. StandsFor e s.0) (sym same) s.1.stands)) ∙ head-after s.0 asked ∙
+    ap (λ n. n + 1) (sym (head-stands engine s.0 s.1.stands)))
+
+-- a change leads into the text that it makes
+pub LeadsTo-shown : (engine : State) (text made : List ℕ) (asked : Asked) (change : Change) → IsShown engine text → length made < 2 ^ 64 →
+    made ≡ text_after change.units text → ((h : History) → Shows h engine text → IsChange h (after h asked) change) → LeadsTo made change.units
+LeadsTo-shown engine text made asked change shown long is each = record {
+  inside = λ right gap.
+      ∥∥₁_elim shown le_prop (λ (s : (h : History) × Shows h engine text).
+      omega (
+        arith,
+        new_gap-le s.0 engine text s.1 asked change.rev change.units (each s.0 s.1) right gap,
+        ap length is,
+        ap length (text_after-taken s.0 engine text s.1 asked change.rev change.units (each s.0 s.1)),
+      ));
+  long = long;
+}
+
+pub length-byte_len : (text : List ℕ) → length text ≤ byte_len text
+length-byte_len [] = omega arith
+length-byte_len (c ∷ text) = omega (arith, length-byte_len text, len_utf8_bounds c)
+
+-- what the edit leaves
+pub IsMoved-taken : (h : History) (engine : State) (text : List ℕ) (limit : ℕ) (asked : Asked) (taken : Taken) (moved : Moved) → Shows h engine text →
+    IsTakenBy h limit asked taken → moved.engine ≡ taken.engine → moved.units ≡ taken.change.units → moved.text ≡ text_after taken.change.units text →
+    moved.notice.view ≡ [] → moved.notice.author ≡ asked.author → moved.notice.rev ≡ taken.change.rev → moved.notice.new_len ≡ byte_len moved.text →
+    moved.notice.delta ≡ wire_of text taken.change.units → IsMoved h limit asked moved
+IsMoved-taken h engine text limit asked taken moved shown is engine_is units_is text_is view author rev len delta =
+    let made = text_is ∙ text_after-taken h engine text shown asked taken.change.rev taken.change.units is.changes in
+    record {
+      shown = record { stands = rw engine_is is.stands; text_is = made };
+      limit_is = ap (λ (e : State). e.limit) engine_is ∙ is.limit_is;
+      within = is.within;
+      changes = record { rev = refl; units = rw units_is is.changes.units };
+      notice = notice-taken h engine text shown asked taken.change.rev taken.change.units is.changes moved.notice moved.text made view author rev len delta;
+    }

@@ -1,0 +1,319 @@
+-- When a front end is told, and what a document in memory stands for then.
+use Rattle.std.proofs.Common.{◌≡◌, ℕ, ◌+◌, Bool, true, false, List, [], ◌∷◌, map, Option, Some, None, refl, ap, ap₂, sym, ◌∙◌, arith}
+use Rattle.std.specs.Prelude.{if◌then◌else◌, ◌==◌, not, ◌&&◌, ◌||◌, unwrap_or, is_some}
+use Rattle.std.specs.List.{enumerate_from, onto_first}
+use Rattle.std.specs.Str.{bytes_eq, chars, encode_utf8_all}
+use Rattle.std.proofs.lemmas.Bool.{eq-eqb, ne_eqb, eqb-true}
+use Rattle.std.proofs.lemmas.Slice.Eq.{bytes_eq-Decides}
+use Rattle.xi_plain.specs.declared.delta.Run.{Run}
+use Rattle.xi_plain.specs.declared.screen.Line.{Line}
+use Rattle.xi_plain.specs.declared.screen.Update.{Update}
+use Rattle.xi_plain.specs.History.{head}
+use Rattle.xi_plain.specs.Layout.{layout, layout_from, logical_lines, Point, point_of}
+use Rattle.xi_plain.specs.Screen.{Screen, screen_after}
+use Rattle.xi_plain.specs.Plan.{is_within, update_plan}
+use Rattle.xi_plain.specs.Laws.{shown_lines}
+use Rattle.xi_plain.proofs.ScreenLemmas.{screen_after-plan_from}
+use Rattle.rev_engine.specs.State.{State}
+use Rattle.rev_engine.specs.Given.{Asked, after}
+use Rattle.doc_session.specs.declared.doc.Doc.{Doc}
+use Rattle.doc_session.specs.declared.moved.Moved.{Moved}
+use Rattle.doc_session.specs.Document.{Document, text_of, layout_of, is_pristine, no_request, first_window}
+use Rattle.doc_session.specs.Effects.{ops_of, update_of, told, differ, are_valid, is_window_valid, wants_update, update_after, settled, scroll_after, is_same_point}
+use Rattle.doc_session.specs.Lacking.{is_lacking}
+use Rattle.doc_session.specs.Moved.{IsMoved}
+use Rattle.doc_session.specs.Planned.{planned}
+use Rattle.doc_session.specs.Stands.{StandsFor}
+use Rattle.doc_session.specs.Step.{edited_document}
+use Rattle.doc_session.specs.Whole.{IsOf, IsWhole}
+use Rattle.doc_session.proofs.InsertLemmas.{IsOf-whole}
+use Rattle.doc_session.proofs.MoveLemmas.{head-after, head-stands}
+
+-- ---- the screen
+
+pub screen_after-ops_of : (screen : Screen) (document : Document) →
+    screen_after screen (ops_of document) ≡ Some (shown_lines document.window no_request (layout_of document))
+screen_after-ops_of screen document = screen_after-plan_from document.window no_request (layout_of document) 0 0 screen
+
+pub screen-told : (document : Document) → (told document).screen ≡ shown_lines document.window no_request (layout_of document)
+screen-told document = ap (λ screen. unwrap_or screen []) (screen_after-ops_of document.screen document)
+
+shown_valid : (b r : Bool) (line : Line) → (not b || is_some (if b || r then Some line else None)) ≡ true
+shown_valid true r line = refl
+shown_valid false r line = refl
+
+-- the lines of the window are valid where they are shown
+are_valid-shown : (window request : Run) (index : ℕ) (lines : List Line) →
+    are_valid window index lines
+    (map (λ (index, line). if is_within window index || is_within request index then Some line else None) (enumerate_from index lines)) ≡ true
+are_valid-shown window request index [] = refl
+are_valid-shown window request index (line ∷ lines) =
+    ap (λ b. b && are_valid window (index + 1) lines
+    (map (λ (index, line). if is_within window index || is_within request index then Some line else None) (enumerate_from (index + 1) lines)))
+    (shown_valid (is_within window index) (is_within request index) line) ∙ are_valid-shown window request (index + 1) lines
+
+-- and the first is not on an empty screen
+some_lines : (carets text : List ℕ) → (line : Line) × (lines : List Line) × layout text carets ≡ line ∷ lines
+some_lines carets [] = (_, _, refl)
+some_lines carets (c ∷ text) = by (c == 10) (logical_lines text)
+  where
+    first : (line : List ℕ) (lines : List (List ℕ)) → (l : Line) × (ls : List Line) × layout_from carets 1 0 (line ∷ lines) ≡ l ∷ ls
+    first line [] = (_, _, refl)
+    first line (next ∷ lines) = (_, _, refl)
+
+    by : (b : Bool) (lines : List (List ℕ)) →
+        (l : Line) × (ls : List Line) × layout_from carets 1 0 (if b then (c ∷ []) ∷ lines else onto_first c lines) ≡ l ∷ ls
+    by true lines = first (c ∷ []) lines
+    by false [] = first (c ∷ []) []
+    by false (line ∷ lines) = first (c ∷ line) lines
+
+are_valid-none : (text carets : List ℕ) → are_valid first_window 0 (layout text carets) [] ≡ false
+are_valid-none text carets =
+    let some = some_lines carets text in
+    ap (λ lines. are_valid first_window 0 lines []) some.2
+
+-- ---- the occasion of an update
+
+or-true : (a : Bool) → (a || true) ≡ true
+or-true true = refl
+or-true false = refl
+
+differ-same : (b : Bool) → differ b b ≡ false
+differ-same true = refl
+differ-same false = refl
+
+same_bytes : (xs : List ℕ) → bytes_eq xs xs ≡ true
+same_bytes xs = (bytes_eq-Decides xs xs).1 refl
+
+by_flags : (t c p v w : Bool) → (v ≡ false → w ≡ false) → (v ≡ true → t ≡ true → c ≡ true → w ≡ true) →
+    (not v || (not c || (p || not t))) ≡ (((not t || not c) || differ p false) || not w)
+by_flags t c p false w none all =
+    sym (ap (λ b. ((not t || not c) || differ p false) || not b) (none refl) ∙ or-true ((not t || not c) || differ p false))
+by_flags true true true true w none all = refl
+by_flags true true false true w none all = sym (ap not (all refl refl refl))
+by_flags true false p true w none all = refl
+by_flags false true p true w none all = or-true p
+by_flags false false p true w none all = refl
+
+-- the screen of a document that one in memory stands for
+abbrev pub screen_by : Bool → Document → Screen
+screen_by valid plain = if valid then shown_lines plain.window no_request (layout_of plain) else []
+
+module _ (doc : Doc) (plain : Document) (stands : StandsFor doc plain) where
+  -- nothing but what the front end lacks is told where nothing changed
+  screen_valid : (valid : Bool) → plain.screen ≡ screen_by valid plain → is_window_valid plain ≡ valid
+  screen_valid true is =
+      ap (are_valid plain.window 0 (layout_of plain)) is ∙ are_valid-shown plain.window no_request 0 (layout_of plain)
+  screen_valid false is =
+      ap₂ (λ window screen. are_valid window 0 (layout_of plain) screen) stands.window is ∙ are_valid-none (text_of plain) (plain.caret ∷ [])
+
+  pub wants_update-same : wants_update plain plain ≡ not doc.valid
+  wants_update-same =
+      ap₂ (λ text caret. ((not text || not caret) || differ (is_pristine plain) (is_pristine plain)) || not (is_window_valid plain))
+      (same_bytes (text_of plain)) (eq-eqb plain.caret plain.caret refl) ∙
+      ap₂ (λ pristine valid. pristine || not valid) (differ-same (is_pristine plain)) (screen_valid doc.valid stands.screen)
+
+  module _ (asked : Asked) (gap : ℕ) where
+    abbrev next : Document
+    next = edited_document plain asked gap
+
+    window_lacks : (valid : Bool) → plain.screen ≡ screen_by valid plain → valid ≡ false → is_window_valid next ≡ false
+    window_lacks true is none = absurd cc
+    window_lacks false is none =
+        ap₂ (λ window screen. are_valid window 0 (layout_of next) screen) stands.window is ∙ are_valid-none (text_of next) (gap ∷ [])
+
+    layout_same : bytes_eq (text_of plain) (text_of next) ≡ true → (plain.caret == gap) ≡ true → layout_of next ≡ layout_of plain
+    layout_same text caret =
+        ap₂ (λ t c. layout t (c ∷ [])) (sym ((bytes_eq-Decides (text_of plain) (text_of next)).0 text)) (sym (eqb-true plain.caret gap caret))
+
+    window_has : (valid : Bool) → plain.screen ≡ screen_by valid plain → valid ≡ true → bytes_eq (text_of plain) (text_of next) ≡ true →
+        (plain.caret == gap) ≡ true → is_window_valid next ≡ true
+    window_has false is some text caret = absurd cc
+    window_has true is some text caret =
+        ap₂ (λ lines screen. are_valid plain.window 0 lines screen) (layout_same text caret) is ∙
+        are_valid-shown plain.window no_request 0 (layout_of plain)
+
+    pristine_next : is_pristine next ≡ false
+    pristine_next =
+        ap₂ (λ now saved. now == saved) (head-after plain.history asked) stands.saved ∙ ne_eqb (head plain.history + 1) 0 (λ is. omega (arith, is))
+
+    pristine_plain : is_pristine plain ≡ (head doc.engine.revisions == 0)
+    pristine_plain =
+        ap₂ (λ now saved. now == saved) (sym (head-stands doc.engine plain.history stands.parts.shown.stands)) stands.saved
+
+    -- THE OCCASION, by what is in memory
+    pub wants_update-edited : (text : List ℕ) → text ≡ text_of next →
+        is_lacking doc.valid (head doc.engine.revisions) doc.text doc.caret text gap ≡ wants_update plain next
+    wants_update-edited text text_is =
+        ap₂ (λ t c. is_lacking doc.valid (head doc.engine.revisions) t c text gap) stands.parts.shown.text_is stands.caret ∙
+        ap (λ t. is_lacking doc.valid (head doc.engine.revisions) (text_of plain) plain.caret t gap) text_is ∙
+        by_flags (bytes_eq (text_of plain) (text_of next)) (plain.caret == gap) (head doc.engine.revisions == 0) doc.valid (is_window_valid next)
+        (window_lacks doc.valid stands.screen) (window_has doc.valid stands.screen) ∙
+        ap₂ (λ was is. (not (bytes_eq (text_of plain) (text_of next)) || not (plain.caret == gap)) || differ was is || not (is_window_valid next))
+        (sym pristine_plain) (sym pristine_next)
+
+    -- the screen that the front end has then
+    settled_lacks : (t c p v : Bool) → (not v || (not c || (p || not t))) ≡ false → (v ≡ true) × (t ≡ true) × (c ≡ true)
+    settled_lacks t c p false is = absurd cc
+    settled_lacks t false p true is = absurd cc
+    settled_lacks t true true true is = absurd cc
+    settled_lacks true true false true is = (refl, refl, refl)
+    settled_lacks false true false true is = absurd cc
+
+    pub screen-settled : (text : List ℕ) → text ≡ text_of next →
+        (settled plain next).screen ≡ shown_lines plain.window no_request (layout_of next)
+    screen-settled text text_is = by (wants_update plain next) refl
+      where
+        valid_by : (valid : Bool) → valid ≡ true → screen_by valid plain ≡ shown_lines plain.window no_request (layout_of plain)
+        valid_by true is = refl
+        valid_by false is = absurd cc
+
+        by : (b : Bool) → wants_update plain next ≡ b →
+            (if b then told next else next).screen ≡ shown_lines plain.window no_request (layout_of next)
+        by true is = screen-told next
+        by false is =
+            let flags =
+            settled_lacks (bytes_eq doc.text text) (doc.caret == gap) (head doc.engine.revisions == 0) doc.valid (wants_update-edited text text_is ∙ is) in
+            let same_text : bytes_eq (text_of plain) (text_of next) ≡ true =
+            ap₂ bytes_eq (sym stands.parts.shown.text_is) (sym text_is) ∙ flags.1 in
+            let same_caret : (plain.caret == gap) ≡ true = ap (λ c. c == gap) (sym stands.caret) ∙ flags.2 in
+            stands.screen ∙ valid_by doc.valid flags.0 ∙ ap (shown_lines plain.window no_request) (sym (layout_same same_text same_caret))
+
+-- two texts are alike where their bytes are
+pub bytes_texts : (xs ys a b : List ℕ) → a ≡ encode_utf8_all xs → b ≡ encode_utf8_all ys → chars a ≡ xs → chars b ≡ ys → bytes_eq a b ≡ bytes_eq xs ys
+bytes_texts xs ys a b a_is b_is xs_is ys_is = by (bytes_eq a b) (bytes_eq xs ys) refl refl
+  where
+    by : (p q : Bool) → bytes_eq a b ≡ p → bytes_eq xs ys ≡ q → p ≡ q
+    by true true one other = refl
+    by false false one other = refl
+    by true false one other =
+        let is : xs ≡ ys = sym xs_is ∙ ap chars ((bytes_eq-Decides a b).0 one) ∙ ys_is in
+        sym (same_bytes ys) ∙ ap (λ t. bytes_eq t ys) (sym is) ∙ other
+    by false true one other =
+        let is : a ≡ b = a_is ∙ ap encode_utf8_all ((bytes_eq-Decides xs ys).0 other) ∙ sym b_is in
+        sym one ∙ ap (bytes_eq a) (sym is) ∙ same_bytes a
+
+-- ---- a document in memory after an edit
+
+pub StandsFor-settled : (doc made : Doc) (plain : Document) (asked : Asked) (moved : Moved) → StandsFor doc plain →
+    IsMoved plain.history plain.limit asked moved → IsWhole moved.engine moved.text made.caret doc.plugins →
+    made.engine ≡ moved.engine → made.text ≡ moved.text → made.lines ≡ layout moved.text (made.caret ∷ []) → made.plugins ≡ doc.plugins → made.valid ≡ true →
+    StandsFor made (settled plain (edited_document plain asked made.caret))
+StandsFor-settled doc made plain asked moved stands is whole engine_is text_is lines_is plugins_is valid_is = by (wants_update plain next) refl
+  where
+    next : Document
+    next = edited_document plain asked made.caret
+
+    parts : IsOf (after plain.history asked) made.engine made.text made.caret made.plugins
+    parts = rw (engine_is, text_is, plugins_is) (IsOf-whole (after plain.history asked) moved.engine moved.text made.caret doc.plugins whole is.shown)
+
+    shown_by : (valid : Bool) → valid ≡ true → shown_lines plain.window no_request (layout_of next) ≡ screen_by valid next
+    shown_by true is = refl
+    shown_by false is = absurd cc
+
+    screen_is : (settled plain next).screen ≡ screen_by made.valid next
+    screen_is = screen-settled doc plain stands asked made.caret moved.text is.shown.text_is ∙ shown_by made.valid valid_is
+
+    by : (b : Bool) → wants_update plain next ≡ b → StandsFor made (if b then told next else next)
+    by true wants = record {
+      parts = parts;
+      limit = ap (λ (e : State). e.limit) engine_is ∙ is.limit_is;
+      plugins = plugins_is ∙ stands.plugins;
+      caret = refl;
+      lines = lines_is ∙ ap (λ t. layout t (made.caret ∷ [])) is.shown.text_is;
+      window = stands.window;
+      saved = stands.saved;
+      screen = screen-told next ∙ shown_by made.valid valid_is;
+    }
+    by false wants = record {
+      parts = parts;
+      limit = ap (λ (e : State). e.limit) engine_is ∙ is.limit_is;
+      plugins = plugins_is ∙ stands.plugins;
+      caret = refl;
+      lines = lines_is ∙ ap (λ t. layout t (made.caret ∷ [])) is.shown.text_is;
+      window = stands.window;
+      saved = stands.saved;
+      screen = ap (λ b. (if b then told next else next).screen) (sym wants) ∙ screen_is;
+    }
+
+-- the update of an edit
+pub update-settled : (doc : Doc) (plain : Document) (asked : Asked) (moved : Moved) (gap : ℕ) (wanted : Bool) (lines : List Line) (update : Option Update) →
+    StandsFor doc plain → IsMoved plain.history plain.limit asked moved → lines ≡ layout moved.text (gap ∷ []) →
+    wanted ≡ is_lacking doc.valid (head doc.engine.revisions) doc.text doc.caret moved.text gap →
+    update ≡ (if wanted then Some (planned lines false) else None) → update ≡ update_after plain (edited_document plain asked gap)
+update-settled doc plain asked moved gap wanted lines update stands is lines_is wanted_is update_is =
+    update_is ∙
+    ap₂ (λ b u. if b then Some u else None) (wanted_is ∙ wants_update-edited doc plain stands asked gap moved.text is.shown.text_is) planned_is
+  where
+    next : Document
+    next = edited_document plain asked gap
+
+    planned_is : planned lines false ≡ update_of next
+    planned_is =
+        ap (λ l. planned l false) (lines_is ∙ ap (λ t. layout t (gap ∷ [])) is.shown.text_is) ∙
+        ap₂ (λ window pristine. record { ops = update_plan window no_request (layout_of next) []; pristine = pristine }) (sym stands.window)
+        (sym (pristine_next doc plain stands asked gap))
+
+-- its scroll
+pub scroll-settled : (doc : Doc) (plain : Document) (asked : Asked) (moved : Moved) (gap : ℕ) (was now : Point) (scroll : Option Point) →
+    StandsFor doc plain → IsMoved plain.history plain.limit asked moved → was ≡ point_of doc.text doc.caret → now ≡ point_of moved.text gap →
+    scroll ≡ (if is_same_point was now then None else Some now) → scroll ≡ scroll_after plain (edited_document plain asked gap)
+scroll-settled doc plain asked moved gap was now scroll stands is was_is now_is scroll_is =
+    scroll_is ∙
+    ap₂ (λ was now. if is_same_point was now then None else Some now) (was_is ∙ ap₂ point_of stands.parts.shown.text_is stands.caret)
+    (now_is ∙ ap (λ t. point_of t gap) is.shown.text_is)
+
+-- ---- a document in memory where nothing changed
+
+pub StandsFor-still : (doc made : Doc) (plain : Document) → StandsFor doc plain → made.engine ≡ doc.engine → made.text ≡ doc.text → made.lines ≡ doc.lines →
+    made.caret ≡ doc.caret → made.plugins ≡ doc.plugins → made.valid ≡ true → StandsFor made (settled plain plain)
+StandsFor-still doc made plain stands engine_is text_is lines_is caret_is plugins_is valid_is = by (wants_update plain plain) refl
+  where
+    parts : IsOf plain.history made.engine made.text made.caret made.plugins
+    parts = rw (engine_is, text_is, caret_is, plugins_is) stands.parts
+
+    shown_by : (valid : Bool) → valid ≡ true → shown_lines plain.window no_request (layout_of plain) ≡ screen_by valid plain
+    shown_by true is = refl
+    shown_by false is = absurd cc
+
+    valid_by : (valid : Bool) → not valid ≡ false → screen_by valid plain ≡ shown_lines plain.window no_request (layout_of plain)
+    valid_by true is = refl
+    valid_by false is = absurd cc
+
+    by : (b : Bool) → wants_update plain plain ≡ b → StandsFor made (if b then told plain else plain)
+    by true wants = record {
+      parts = parts;
+      limit = ap (λ (e : State). e.limit) engine_is ∙ stands.limit;
+      plugins = plugins_is ∙ stands.plugins;
+      caret = caret_is ∙ stands.caret;
+      lines = lines_is ∙ stands.lines;
+      window = stands.window;
+      saved = stands.saved;
+      screen = screen-told plain ∙ shown_by made.valid valid_is;
+    }
+    by false wants = record {
+      parts = parts;
+      limit = ap (λ (e : State). e.limit) engine_is ∙ stands.limit;
+      plugins = plugins_is ∙ stands.plugins;
+      caret = caret_is ∙ stands.caret;
+      lines = lines_is ∙ stands.lines;
+      window = stands.window;
+      saved = stands.saved;
+      screen = stands.screen ∙ valid_by doc.valid (sym (wants_update-same doc plain stands) ∙ wants) ∙ shown_by made.valid valid_is;
+    }
+
+pub update-still : (doc : Doc) (plain : Document) (pristine : Bool) (update : Option Update) → StandsFor doc plain →
+    pristine ≡ (head doc.engine.revisions == 0) → update ≡ (if not doc.valid then Some (planned doc.lines pristine) else None) →
+    update ≡ update_after plain plain
+update-still doc plain pristine update stands pristine_is update_is =
+    update_is ∙ ap₂ (λ b u. if b then Some u else None) (sym (wants_update-same doc plain stands)) planned_is
+  where
+    is_now : pristine ≡ is_pristine plain
+    is_now =
+        pristine_is ∙
+        ap₂ (λ now saved. now == saved) (head-stands doc.engine plain.history stands.parts.shown.stands) (sym stands.saved)
+
+    planned_is : planned doc.lines pristine ≡ update_of plain
+    planned_is =
+        ap (λ l. planned l pristine) stands.lines ∙
+        ap₂ (λ window pristine. record { ops = update_plan window no_request (layout_of plain) []; pristine = pristine }) (sym stands.window) is_now

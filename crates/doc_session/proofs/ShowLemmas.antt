@@ -1,0 +1,68 @@
+-- After an event the front end's screen shows the layout.
+use Rattle.std.proofs.Common.{◌≡◌, ℕ, ◌+◌, ◌≤◌, Bool, true, false, [], ◌∷◌, length, refl, ap, sym, ◌∙◌, arith}
+use Rattle.std.proofs.Math.Logic.{∥∥₁_elim}
+use Rattle.std.specs.Coded.{le_prop}
+use Rattle.std.specs.Prelude.{if◌then◌else◌, not, ◌^◌}
+use Rattle.xi_plain.specs.declared.command.EditAct.TheVariants.{Insert}
+use Rattle.xi_plain.specs.History.{History, head}
+use Rattle.xi_plain.specs.Laws.{shown_lines}
+use Rattle.rev_engine.specs.Given.{Asked}
+use Rattle.doc_session.specs.declared.doc.Doc.{Doc}
+use Rattle.doc_session.specs.declared.event.Event.{Event}
+use Rattle.doc_session.specs.declared.event.Event.TheVariants.{Front, Edit, Other}
+use Rattle.doc_session.specs.Asking.{front_edit, plugin_edit}
+use Rattle.doc_session.specs.Document.{Document, layout_of, no_request, text_of}
+use Rattle.doc_session.specs.Effects.{settled, told, wants_update}
+use Rattle.doc_session.specs.ScreenOf.{IsUpToDate}
+use Rattle.doc_session.specs.Stands.{StandsFor}
+use Rattle.doc_session.specs.Step.{caret_by, edited_document, step_of}
+use Rattle.doc_session.specs.Whole.{IsOf}
+use Rattle.doc_session.proofs.MoveLemmas.{head-stands}
+use Rattle.doc_session.proofs.ScreenLemmas.{IsScreenOf-screen}
+use Rattle.doc_session.proofs.SettleLemmas.{screen-settled, screen-told, wants_update-same, screen_by}
+
+-- the window stays, also where the front end was told
+window-settled : (b : Bool) (plain next : Document) → next.window ≡ plain.window → (if b then told next else next).window ≡ plain.window
+window-settled true plain next same = same
+window-settled false plain next same = same
+
+layout-settled : (b : Bool) (next : Document) → layout_of (if b then told next else next) ≡ layout_of next
+layout-settled true next = refl
+layout-settled false next = refl
+
+shown-by : (plain next : Document) → next.window ≡ plain.window → (settled plain next).screen ≡ shown_lines plain.window no_request (layout_of next) →
+    IsUpToDate (settled plain next)
+shown-by plain next same shown =
+    IsScreenOf-screen (settled plain next)
+    (shown ∙ ap (λ window. shown_lines window no_request (layout_of next)) (sym (window-settled (wants_update plain next) plain next same)) ∙
+    ap (shown_lines (settled plain next).window no_request) (sym (layout-settled (wants_update plain next) next)))
+
+module _ (doc : Doc) (plain : Document) (stands : StandsFor doc plain) where
+  shown-edited : (asked : Asked) (gap : ℕ) → IsUpToDate (settled plain (edited_document plain asked gap))
+  shown-edited asked gap =
+      shown-by plain (edited_document plain asked gap) refl
+      (screen-settled doc plain stands asked gap (text_of (edited_document plain asked gap)) refl)
+
+  shown-still : IsUpToDate (settled plain plain)
+  shown-still = shown-by plain plain refl (by (wants_update plain plain) refl)
+    where
+      valid_by : (valid : Bool) → not valid ≡ false → screen_by valid plain ≡ shown_lines plain.window no_request (layout_of plain)
+      valid_by true is = refl
+      valid_by false is = absurd cc
+
+      by : (b : Bool) → wants_update plain plain ≡ b → (if b then told plain else plain).screen ≡ shown_lines plain.window no_request (layout_of plain)
+      by true is = screen-told plain
+      by false is = stands.screen ∙ valid_by doc.valid (sym (wants_update-same doc plain stands) ∙ is)
+
+  pub shown-step : (event : Event) → IsUpToDate (step_of plain event).document
+  shown-step (Front (Insert [])) = shown-still
+  shown-step (Front (Insert (c ∷ chars))) = shown-edited (front_edit plain (c ∷ chars)) (plain.caret + length (c ∷ chars))
+  shown-step (Edit caller edit named) =
+      shown-edited (plugin_edit plain caller edit) (caret_by plain (plugin_edit plain caller edit) edit.after_cursor)
+  shown-step Other = shown-still
+
+-- a document without plugins has no more revisions than its limit
+pub head-few : (doc : Doc) → doc.plugins ≡ 0 → head doc.engine.revisions ≤ 2 ^ 60
+head-few doc none =
+    ∥∥₁_elim doc.whole le_prop (λ (s : (h : History) × IsOf h doc.engine doc.text doc.caret doc.plugins).
+    omega (arith, s.1.few none, s.1.within, s.1.bound, head-stands doc.engine s.0 s.1.shown.stands))

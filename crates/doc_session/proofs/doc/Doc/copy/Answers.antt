@@ -1,0 +1,4 @@
+use Rattle.doc_session.proofs.doc.Doc.copy.Goals as goal
+
+pub invariant_of-result : goal.invariant_of-result
+invariant_of-result c = record { whole = rw (c.in_ok-copy.ensures, c.in_ok-copy-2.ensures) c.args.self.now.whole }

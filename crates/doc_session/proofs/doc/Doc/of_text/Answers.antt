@@ -1,0 +1,21 @@
+use Rattle.std.proofs.Common.{refl, ap, sym, ◌∙◌, ◌∷◌, []}
+use Rattle.xi_plain.specs.Layout.{layout}
+use Rattle.doc_session.proofs.LoadLemmas.{IsOf-loaded, text_at-loaded}
+use Rattle.doc_session.proofs.doc.Doc.of_text.Goals as goal
+
+pub invariant_of-result : goal.invariant_of-result
+invariant_of-result c = record {
+  whole = ∣ (_, IsOf-loaded _ _ _ _ _ c.in_ok-copy.ensures c.in_ok-engine.ensures.stands c.in_ok-engine.ensures.limit c.requires) ∣₁;
+}
+
+pub returns : goal.returns
+returns c = record {
+  parts = IsOf-loaded _ _ _ _ _ c.in_ok-copy.ensures c.in_ok-engine.ensures.stands c.in_ok-engine.ensures.limit c.requires;
+  limit = c.in_ok-engine.ensures.limit;
+  plugins = refl;
+  caret = refl;
+  lines = c.in_ok-lines.ensures ∙ ap (λ t. layout t (0 ∷ [])) (sym (text_at-loaded c.args.text));
+  window = refl;
+  saved = refl;
+  screen = refl;
+}

@@ -1,0 +1,20 @@
+-- What a fault of a document says in the words of the definitions.
+use Rattle.std.specs.Prelude.{Option}
+use Rattle.xi_plain.specs.Edits.{Refusal}
+use Rattle.rev_engine.specs.declared.fault.EditFault.{EditFault}
+use Rattle.rev_engine.specs.declared.fault.EditFault.TheVariants as Edit
+use Rattle.rev_engine.specs.Fault as engine
+use Rattle.doc_session.specs.declared.fault.DocFault.{DocFault}
+use Rattle.doc_session.specs.declared.fault.DocFault.TheVariants.{Unknown, Collected, Misfit, Spent, NoMemory}
+
+-- the fault of an edit that it is
+abbrev pub edit_fault : DocFault → EditFault
+edit_fault (Unknown head) = Edit.Unknown head
+edit_fault (Collected floor) = Edit.Collected floor
+edit_fault (Misfit first) = Edit.Misfit first
+edit_fault (Spent total) = Edit.Spent total
+edit_fault NoMemory = Edit.NoMemory
+
+-- the fault is this refusal, or want of memory
+abbrev pub Refuses : Option Refusal → DocFault → Type 0
+Refuses refusal fault = engine.Refuses refusal (edit_fault fault)

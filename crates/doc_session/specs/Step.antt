@@ -1,0 +1,91 @@
+-- THE STEP: what an event comes to in a plain document.
+use Rattle.std.specs.Prelude.{◌≡◌, ℕ, ◌+◌, ◌≤◌, Bool, [], ◌∷◌, length, Option, Some, None, option_map, ⊤}
+use Rattle.xi_plain.specs.declared.config.Notice.{Notice}
+use Rattle.xi_plain.specs.declared.command.EditAct.TheVariants.{Insert}
+use Rattle.xi_plain.specs.declared.screen.Update.{Update}
+use Rattle.xi_plain.specs.Caret.{moved_caret}
+use Rattle.xi_plain.specs.History.{head}
+use Rattle.xi_plain.specs.Edits.{Refusal}
+use Rattle.xi_plain.specs.Layout.{Point}
+use Rattle.rev_engine.specs.declared.edit.Edit.{Edit as Given}
+use Rattle.rev_engine.specs.Given.{Asked, after}
+use Rattle.doc_session.specs.declared.event.Body.{Body}
+use Rattle.doc_session.specs.declared.event.Body.TheVariants.{Null, Edited}
+use Rattle.doc_session.specs.declared.event.Effects.{Effects}
+use Rattle.doc_session.specs.declared.event.Event.{Event}
+use Rattle.doc_session.specs.declared.event.Event.TheVariants.{Front, Edit, Other}
+use Rattle.doc_session.specs.Document.{Document}
+use Rattle.doc_session.specs.Asking.{front_edit, plugin_edit, refusal_of}
+use Rattle.doc_session.specs.Effects.{update_after, settled, scroll_after, notice_of}
+use Rattle.doc_session.specs.PointView.{point_view}
+
+-- what an event comes to: the document after it, its answer, what the front end is told, and what the plugins are
+pub record Step : Type 0 where
+  pub document : Document
+  pub body : Body
+  pub update : Option Update
+  pub scroll : Option Point
+  pub notice : Option Notice
+
+-- the document after an edit, with its caret at this gap, before its front end was told
+abbrev pub edited_document : Document → Asked → ℕ → Document
+edited_document document asked gap = record document { history = after document.history asked; caret = gap }
+
+-- an edit is taken, and the caret stands at this gap after it
+abbrev pub edit_step : Document → Asked → ℕ → Body → Step
+edit_step document asked gap body = record {
+  document = settled document (edited_document document asked gap);
+  body = body;
+  update = update_after document (edited_document document asked gap);
+  scroll = scroll_after document (edited_document document asked gap);
+  notice = Some (notice_of document.history (after document.history asked) asked.author);
+}
+
+-- where the caret rule takes the caret at an edit: `after_cursor` or not
+abbrev pub caret_by : Document → Asked → Bool → ℕ
+caret_by document asked after_cursor = moved_caret document.history (after document.history asked) after_cursor document.caret
+
+-- nothing changes; what the front end lacks it is told
+abbrev pub still_step : Document → Step
+still_step document = record {
+  document = settled document document;
+  body = Null;
+  update = update_after document document;
+  scroll = None;
+  notice = None;
+}
+
+-- the edit of a plugin is taken
+abbrev pub plugin_step : Document → ℕ → Given → Step
+plugin_step document caller edit =
+    edit_step document (plugin_edit document caller edit) (caret_by document (plugin_edit document caller edit) edit.after_cursor)
+    (Edited (head document.history + 1) (head document.history + 1))
+
+-- THE STEP of an event that is not refused. The front end's own insertion leaves the caret after its text, and one of no characters
+-- changes nothing; at a plugin's edit the caret moves by the caret rule.
+abbrev pub step_of : Document → Event → Step
+step_of document (Front (Insert [])) = still_step document
+step_of document (Front (Insert (c ∷ chars))) =
+    edit_step document (front_edit document (c ∷ chars)) (document.caret + length (c ∷ chars)) Null
+step_of document (Edit caller edit named) = plugin_step document caller edit
+step_of document Other = still_step document
+
+-- THE REFUSAL of an event
+abbrev pub refusal_at : Document → Event → Option Refusal
+refusal_at document (Front (Insert [])) = None
+refusal_at document (Front (Insert (c ∷ chars))) = refusal_of document (front_edit document (c ∷ chars))
+refusal_at document (Edit caller edit named) = refusal_of document (plugin_edit document caller edit)
+refusal_at document Other = None
+
+-- an event of a plugin is one of those that there are
+abbrev pub HasCaller : ℕ → Event → Type 0
+HasCaller plugins (Front act) = ⊤
+HasCaller plugins (Edit caller edit named) = (1 ≤ caller) × (caller ≤ plugins)
+HasCaller plugins Other = ⊤
+
+-- the effects are those of the step
+pub record AreOf (step : Step) (effects : Effects) : Type 0 where
+  pub body : effects.body ≡ step.body
+  pub update : effects.update ≡ step.update
+  pub scroll : option_map point_view effects.scroll ≡ step.scroll
+  pub notice : effects.notice ≡ step.notice
