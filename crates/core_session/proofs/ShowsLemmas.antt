@@ -1,6 +1,6 @@
 -- One more entry is shown, where those before it are.
 use Rattle.std.proofs.Common.{◌≡◌, ℕ, suc, ◌+◌, ◌<◌, ◌≤◌, ◌||◌, length, arith, Bool, true, false, List, [], ◌∷◌, ◌++◌, map, Option, Some, None, refl, ap, sym, ◌∙◌, subst, append-nil, ◌⊎◌, inl, inr, unwrap_or}
-use Rattle.std.specs.Prelude.{if◌then◌else◌, ℤ, pos, codes}
+use Rattle.std.specs.Prelude.{if◌then◌else◌, ℤ, pos, codes, option_map}
 use Rattle.std.specs.List.{filter_map, cons_option, AllByRecursion}
 use Rattle.serde_json.specs.Data.{Data}
 use Rattle.json_rpc.specs.Line.{line_of, IsLineOf}
@@ -32,16 +32,19 @@ use Rattle.view_update.specs.Notes.{scroll_data, alert_data}
 use Rattle.view_update.specs.Written.{update_data}
 use Rattle.view_update.specs.Reading.{ViewUpdate, line_update}
 use Rattle.view_update.proofs.Lines.{others_are_no_updates}
-use Rattle.doc_session.specs.declared.doc.Doc.{Doc}
+use Rattle.doc_session.specs.InMemory.{Doc, doc_contents}
 use Rattle.doc_session.specs.Document.{Document, layout_of, no_request}
 use Rattle.doc_session.specs.declared.event.Event.TheVariants.{Front}
 use Rattle.doc_session.specs.Asking.{front_edit}
 use Rattle.doc_session.specs.Effects.{ops_of, update_of, told, wants_update}
-use Rattle.doc_session.specs.Step.{edited_document, refusal_at, step_of}
+use Rattle.doc_session.specs.Step.{edited_document, refusal_at, event_step}
 use Rattle.core_session.specs.Answer.{Reply, accepted, refused, spent, silent, answers, refusal, refused_by, spent_refusal, code_of, message_of}
 use Rattle.core_session.specs.Session.{view_id, Outcome, outcome, opening_outcome, first_document, edit_came, insert_outcome, refusing, is_first_view, outcome_messages, update_notes, scroll_notes, messages, step, document_after, all_messages, lines_written, written, piece_of}
 use Rattle.core_session.specs.Shows.{updates_in, screen_told, rebuilt_from, rebuilt, IsShown, SendsWithin, SendWindow, ShowsEach}
-use Rattle.core_session.specs.Core.{Stands, HasNoPlugins, IsToldBack, AreLinesOf, screen_of, plain_of, IsShowing, front_entry}
+use Rattle.doc_session.proofs.ShowLemmas.{head-few}
+use Rattle.doc_session.proofs.StepLemmas.{DocStandsFor-doc_contents}
+use Rattle.core_session.specs.declared.act.Next.{Next}
+use Rattle.core_session.specs.Core.{Stands, MayBeAsked, IsToldBack, AreLinesOf, screen_of, plain_of, IsShowing, front_entry}
 use Rattle.core_session.specs.Next.{next_or}
 use Rattle.core_session.specs.Journal.{IsOpen, closes}
 use Rattle.core_session.proofs.SessionLemmas.{document_after-push, all_messages-push, IsOpen-push}
@@ -217,18 +220,18 @@ unfolding told_list
 settles_if true before after same = told_screen before after same
 settles_if false before after same = ap Some (sym same)
 
-settles_still : (document : Document) → Settles (Some document) (edit_came document None (step_of document (Front (Insert []))))
+settles_still : (document : Document) → Settles (Some document) (edit_came document None (event_step document (Front (Insert []))))
 unfolding Settles
 settles_still document = settles_if (wants_update document document) document document refl
 
-settles_edit : (document : Document) (c : ℕ) (chars : List ℕ) → Settles (Some document) (edit_came document None (step_of document (Front (Insert (c ∷ chars)))))
+settles_edit : (document : Document) (c : ℕ) (chars : List ℕ) → Settles (Some document) (edit_came document None (event_step document (Front (Insert (c ∷ chars)))))
 unfolding Settles
 settles_edit document c chars =
     let next = edited_document document (front_edit document (c ∷ chars)) (document.caret + length (c ∷ chars)) in
     settles_if (wants_update document next) document next refl
 
 settles_came : (document : Document) (refusal : Option Refusal) (chars : List ℕ) →
-    Settles (Some document) (edit_came document refusal (step_of document (Front (Insert chars))))
+    Settles (Some document) (edit_came document refusal (event_step document (Front (Insert chars))))
 unfolding Settles told_list
 settles_came document (Some refusal) chars = refl
 settles_came document None [] = settles_still document
@@ -320,7 +323,7 @@ unfolding told_list
 sends_if true after = (sends-plan_from after.window (layout_of after) 0 0, tt)
 sends_if false after = tt
 
-sends_came : (document : Document) (refusal : Option Refusal) (chars : List ℕ) → Sends (edit_came document refusal (step_of document (Front (Insert chars))))
+sends_came : (document : Document) (refusal : Option Refusal) (chars : List ℕ) → Sends (edit_came document refusal (event_step document (Front (Insert chars))))
 unfolding Sends told_list
 sends_came document (Some refusal) chars = tt
 sends_came document None [] = sends_if (wants_update document document) document
@@ -375,11 +378,25 @@ stands_shown None (Some plain) stands = absurd stands
 stands_shown (Some doc) None stands = absurd stands
 stands_shown (Some doc) (Some plain) stands = stands.shown
 
--- a document that a session keeps has no plugins
-pub HasNoPlugins-stands : (doc : Option Doc) (plain : Option Document) → Stands doc plain → HasNoPlugins doc
-HasNoPlugins-stands None plain stands = tt
-HasNoPlugins-stands (Some doc) None stands = absurd stands
-HasNoPlugins-stands (Some doc) (Some plain) stands = stands.no_plugins
+-- a document that a session keeps has no plugins, and fewer revisions than there are numbers
+pub MayBeAsked-stands : (doc : Option Doc) (plain : Option Document) → Stands doc plain → MayBeAsked doc
+MayBeAsked-stands None plain stands = tt
+MayBeAsked-stands (Some doc) None stands = absurd stands
+MayBeAsked-stands (Some doc) (Some plain) stands = (stands.no_plugins, omega (arith, head-few doc plain stands.stands stands.no_plugins))
+
+-- what is kept hangs on what the document holds alone
+pub Stands-contents : (doc now : Option Doc) (plain : Option Document) → option_map doc_contents now ≡ option_map doc_contents doc → Stands doc plain → Stands now plain
+Stands-contents None None plain same stands = stands
+Stands-contents None (Some now) plain same stands = absurd cc
+Stands-contents (Some doc) None plain same stands = absurd cc
+Stands-contents (Some doc) (Some now) None same stands = absurd stands
+Stands-contents (Some doc) (Some now) (Some plain) same stands =
+    let is : doc_contents now ≡ doc_contents doc = ap (λ o. unwrap_or o (doc_contents doc)) same in
+    record {
+      stands = DocStandsFor-doc_contents doc now plain is stands.stands;
+      no_plugins = ap (λ (d : Doc). d.plugins) is ∙ stands.no_plugins;
+      shown = stands.shown;
+    }
 
 screens_push : (journal : List Entry) (entry : Entry) (doc : Option Doc) → Stands doc (plain_of (journal ++ entry ∷ [])) → ShowsEach journal →
     rebuilt (written None (journal ++ entry ∷ [])) ≡ Some (screen_of (plain_of (journal ++ entry ∷ []))) →
@@ -437,7 +454,7 @@ shows_push journal entry doc stands showing lines told =
     }
 
 -- a command that was prepared is an entry that is served
-pub serves_push : (journal : List Entry) (command : Command) (before next : Option Doc) (piece : List ℕ) →
+pub serves_push : (journal : List Entry) (command : Command) (before : Option Doc) (next : Option Next) (piece : List ℕ) →
     AllByRecursion IsOpen journal → IsShowing journal → closes command.act ≡ false →
     AreLinesOf (messages (plain_of journal) command) piece → IsToldBack (outcome (plain_of journal) command.act).update →
     Stands (next_or next before) (step (plain_of journal) command) →

@@ -1,21 +1,22 @@
 -- What a session in memory keeps, and what a call does to it.
-use Rattle.std.specs.Prelude.{◌≡◌, ℕ, ◌<◌, ◌≤◌, Bool, true, false, List, [], ◌∷◌, ◌++◌, length, take, Option, Some, None, vec_len, vec_capacity, ⊤}
+use Rattle.std.specs.Prelude.{◌≡◌, ℕ, ◌^◌, ◌-◌, ◌<◌, ◌≤◌, Bool, true, false, List, [], ◌∷◌, ◌++◌, length, take, Option, Some, None, vec_len, vec_capacity, ⊤}
 use Rattle.std.specs.List.{AllByRecursion}
 use Rattle.std.specs.Str.{encode_utf8_all}
 use Rattle.serde_json.specs.Data.{Data}
 use Rattle.xi_plain.specs.declared.command.Command.{Command}
 use Rattle.xi_plain.specs.declared.command.Entry.{Entry}
 use Rattle.xi_plain.specs.declared.screen.Update.{Update}
+use Rattle.xi_plain.specs.History.{head}
 use Rattle.xi_plain.specs.Screen.{Screen}
 use Rattle.json_rpc.specs.Line.{line_of, IsLineOf}
 use Rattle.outside.specs.Faults.{Rose}
 use Rattle.outside.specs.Sink.{Gains}
 use Rattle.view_update.specs.Written.{update_data}
 use Rattle.view_update.specs.Reading.{line_update}
-use Rattle.doc_session.specs.declared.doc.Doc.{Doc}
+use Rattle.doc_session.specs.InMemory.{Doc}
 use Rattle.doc_session.specs.Document.{Document}
 use Rattle.doc_session.specs.ScreenOf.{IsUpToDate}
-use Rattle.doc_session.specs.Stands.{StandsFor}
+use Rattle.doc_session.specs.Stands.{DocStandsFor}
 use Rattle.core_session.specs.declared.session.Core.{Core}
 use Rattle.core_session.specs.declared.session.Prepared.{Prepared}
 use Rattle.core_session.specs.Session.{view_id, outcome, messages, lines_written, piece_of, step, document_after, written}
@@ -25,7 +26,7 @@ use Rattle.core_session.specs.Shows.{ShowsEach, rebuilt}
 
 -- the document in memory stands for the plain one, has no plugins, and is shown on the front end's screen
 pub record Keeps (doc : Doc) (plain : Document) : Type 0 where
-  pub stands : StandsFor doc plain
+  pub stands : DocStandsFor doc plain
   pub no_plugins : doc.plugins ≡ 0
   pub shown : IsUpToDate plain
 
@@ -36,10 +37,10 @@ Stands None (Some plain) = ⊥
 Stands (Some doc) None = ⊥
 Stands (Some doc) (Some plain) = Keeps doc plain
 
--- the document has no plugins, where there is one
-abbrev pub HasNoPlugins : Option Doc → Type 0
-HasNoPlugins None = ⊤
-HasNoPlugins (Some doc) = doc.plugins ≡ 0
+-- the document has no plugins, and may take one more edit, where there is one
+abbrev pub MayBeAsked : Option Doc → Type 0
+MayBeAsked None = ⊤
+MayBeAsked (Some doc) = (doc.plugins ≡ 0) × (head doc.engine.revisions < 2 ^ 63 - 1)
 
 -- the bytes are the lines of the messages, and each of these lines reads as its message
 pub record AreLinesOf (messages : List Data) (bytes : List ℕ) : Type 0 where

@@ -2,7 +2,7 @@
 use Rattle.std.specs.Prelude.{◌≡◌, Option, option_map}
 use Rattle.serde_json.specs.Data.{null}
 use Rattle.json_rpc.specs.Response.{text_data}
-use Rattle.doc_session.specs.declared.doc.Doc.{Doc}
+use Rattle.doc_session.specs.InMemory.{Doc}
 use Rattle.doc_session.specs.PointView.{point_view}
 use Rattle.core_session.specs.declared.act.Reply.{Reply as Said}
 use Rattle.core_session.specs.declared.act.Reply.TheVariants.{Opened, Done as Accepted, Refused, Spent, Silent}

@@ -21,7 +21,7 @@ use Rattle.view_update.specs.Written.{update_data}
 use Rattle.view_update.specs.Notes.{scroll_data}
 use Rattle.doc_session.specs.declared.event.Event.TheVariants.{Front, Other}
 use Rattle.doc_session.specs.Document.{Document, loaded_document}
-use Rattle.doc_session.specs.Step.{Step, step_of, refusal_at}
+use Rattle.doc_session.specs.Step.{EventStep, event_step, refusal_at}
 use Rattle.core_session.specs.Answer.{Reply, accepted, refused, spent, silent, answers}
 
 -- the id of the first view
@@ -58,22 +58,22 @@ abbrev pub first_document : Document
 first_document = loaded_document [] 0 text_limit
 
 -- a step is taken, and answered so
-abbrev pub taking : Data → Step → Outcome
+abbrev pub taking : Data → EventStep → Outcome
 taking result step = record { reply = accepted result; document = Some step.document; update = step.update; scroll = step.scroll }
 
 -- the first view is opened
 abbrev pub opening_outcome : Outcome
-opening_outcome = taking (text_data view_id) (step_of first_document Other)
+opening_outcome = taking (text_data view_id) (event_step first_document Other)
 
 -- an edit of the front end, which is refused only where its characters are spent
-abbrev pub edit_came : Document → Option Refusal → Step → Outcome
+abbrev pub edit_came : Document → Option Refusal → EventStep → Outcome
 edit_came document None step = taking null step
 edit_came document (Some refusal) step = record { reply = spent; document = Some document; update = None; scroll = None }
 
 -- characters are inserted
 abbrev pub insert_outcome : Document → List ℕ → Outcome
 insert_outcome document chars =
-    edit_came document (refusal_at document (Front (Insert chars))) (step_of document (Front (Insert chars)))
+    edit_came document (refusal_at document (Front (Insert chars))) (event_step document (Front (Insert chars)))
 
 -- whether the id is that of the first view, in bytes
 abbrev pub is_first_view : List ℕ → Bool

@@ -1,14 +1,17 @@
-ghost use Rattle.std.specs.Prelude.{◌≡◌, ◌<◌, Option, Some, None, IfOk, IfErr, OnOk};
+ghost use Rattle.std.specs.Prelude.{◌≡◌, ◌<◌, Option, Some, None, IfOk, IfErr, OnOk, option_map};
 ghost use Rattle.xi_plain.specs.declared.command.Act.{Act};
 ghost use Rattle.doc_session.specs.Document.{Document};
-ghost use Rattle.doc_session.specs.Fault.{Refuses};
-ghost use Rattle.doc_session.specs.Stands.{StandsFor};
-ghost use Rattle.doc_session.specs.Step.{AreOf, HasCaller, refusal_at, step_of};
-ghost use Rattle.core_session.specs.Core.{HasNoPlugins, Keeps, Stands};
+ghost use Rattle.doc_session.specs.Fault.{DocRefuses};
+ghost use Rattle.doc_session.specs.InMemory.{Doc, doc_contents};
+ghost use Rattle.doc_session.specs.Ready.{MayTake, with_event};
+ghost use Rattle.doc_session.specs.Stands.{DocStandsFor};
+ghost use Rattle.doc_session.specs.Step.{AreOf, HasCaller, refusal_at, event_step};
+ghost use Rattle.core_session.specs.Core.{MayBeAsked, Keeps, Stands};
 ghost use Rattle.core_session.specs.Session.{outcome, edit_outcome, open_outcome, is_first_view, insert_outcome, refusing};
 ghost use Rattle.core_session.specs.Done.{IsOutcome};
+ghost use Rattle.core_session.specs.Next.{MayReplace};
 
-use doc_session::{Doc, DocFault, Effects, Event};
+use doc_session::{Doc, DocFault, Effects, Event, ReadyEvent};
 use std::alloc::Global;
 use std::marker::Brand;
 use std::sync::ledger::{Blank, Ledger};
@@ -42,20 +45,32 @@ pub enum Reply {
     Silent,
 }
 
-/// What an act came to: what it is answered, the document in place of the one before, and what else the front end is told.
+/// What there is after an act in place of the document before it.
+#[derive(Drop)]
+pub enum Next {
+    /// A document, where there was none.
+    Opened(Doc),
+    /// The same document, with an event that was made ready.
+    Changed(ReadyEvent),
+}
+
+/// What an act came to: what it is answered, what is in place of the document then, where it changes, and what else the front end is
+/// told.
 #[derive(Drop)]
 pub struct Done {
     pub reply: Reply,
-    pub next: Option<Doc>,
+    pub next: Option<Next>,
     pub update: Option<Update>,
     pub scroll: Option<(u64, u64)>,
 }
 
-/// Does what a command asks, beside the document that there is.
-pub fn act_on(alloc: Global, document: &Option<Doc>, act: &Act) -> Result<Done, NoMemory>
-    requires { HasNoPlugins document.now }
-    ensures { (plain : Option Document) → Stands document.now plain
-        → IfOk result (IsOutcome document.now (outcome plain act.now)) }
+/// Makes ready what a command asks; the document is as before.
+pub fn act_on(alloc: Global, document: &mut Option<Doc>, act: &Act) -> Result<Done, NoMemory>
+    requires { MayBeAsked document.old }
+    ensures stands { (plain : Option Document) → Stands document.old plain
+        → IfOk result (IsOutcome document.new (outcome plain act.now)) }
+    ensures may_replace { IfOk result (λ done. MayReplace done.next document.new) }
+    ensures same { option_map doc_contents document.new ≡ option_map doc_contents document.old }
 {
     match act {
         Act::Bad(fault) => refused(alloc, fault),
@@ -78,30 +93,40 @@ fn changed_nothing(reply: Reply) -> Done
 }
 
 fn refused(alloc: Global, fault: &Fault) -> Result<Done, NoMemory>
-    ensures { (document : Option Document) (before : Option Doc) → Stands before document
+    ensures refused { (document : Option Document) (before : Option Doc) → Stands before document
         → IfOk result (IsOutcome before (refusing document fault.now)) }
+    ensures nothing { IfOk result (λ done. done.next ≡ None) }
 {
     Ok(changed_nothing(Reply::Refused(fault.copy(alloc)?)))
 }
 
 fn open(alloc: Global, document: &Option<Doc>, path: &Option<Text>) -> Result<Done, NoMemory>
-    ensures { (plain : Option Document) → Stands document.now plain
+    ensures stands { (plain : Option Document) → Stands document.now plain
         → IfOk result (IsOutcome document.now (open_outcome plain path.now)) }
+    ensures may_replace { IfOk result (λ done. MayReplace done.next document.now) }
 {
     if document.is_some() || path.is_some() {
         return refused(alloc, &Fault::NotBuilt);
     }
     let mut doc = Doc::of_text(alloc, Text::new(alloc), 0, TEXT_LIMIT, FIRST_CONFIG)?;
-    let Ok(effects) = apply_alone(alloc, &mut doc, Event::Other) else {
+    let Ok((ready, effects)) = ready_alone(alloc, &mut doc, Event::Other) else {
         return Err(NoMemory);
     };
-    Ok(taken(Reply::Opened, doc, effects))
+    doc.put(ready);
+    Ok(taken(Reply::Opened, Next::Opened(doc), effects))
 }
 
-fn edit(alloc: Global, document: &Option<Doc>, view: &Text, act: &EditAct) -> Result<Done, NoMemory>
-    requires { HasNoPlugins document.now }
-    ensures { (plain : Option Document) → Stands document.now plain
-        → IfOk result (IsOutcome document.now (edit_outcome plain view.now act.now)) }
+fn edit(
+    alloc: Global,
+    document: &mut Option<Doc>,
+    view: &Text,
+    act: &EditAct,
+) -> Result<Done, NoMemory>
+    requires { MayBeAsked document.old }
+    ensures stands { (plain : Option Document) → Stands document.old plain
+        → IfOk result (IsOutcome document.new (edit_outcome plain view.now act.now)) }
+    ensures may_replace { IfOk result (λ done. MayReplace done.next document.new) }
+    ensures same { option_map doc_contents document.new ≡ option_map doc_contents document.old }
 {
     match document {
         Some(doc) if is_first_view(view) => match act {
@@ -117,23 +142,24 @@ fn is_first_view(view: &Text) -> bool
     view.as_str() == FIRST_VIEW
 }
 
-fn insert(alloc: Global, doc: &Doc, chars: &Text) -> Result<Done, NoMemory>
-    requires { doc.now.plugins ≡ 0 }
-    ensures { (plain : Document) → Keeps doc.now plain
-        → IfOk result (IsOutcome (Some doc.now) (insert_outcome plain chars.now)) }
+fn insert(alloc: Global, doc: &mut Doc, chars: &Text) -> Result<Done, NoMemory>
+    requires { MayBeAsked (Some doc.old) }
+    ensures stands { (plain : Document) → Keeps doc.old plain
+        → IfOk result (IsOutcome (Some doc.new) (insert_outcome plain chars.now)) }
+    ensures may_replace { IfOk result (λ done. MayReplace done.next (Some doc.new)) }
+    ensures same { doc_contents doc.new ≡ doc_contents doc.old }
 {
-    let mut next = doc.copy(alloc)?;
     let event = Event::Front(EditAct::Insert {
         chars: chars.copy(alloc)?,
     });
-    match apply_alone(alloc, &mut next, event) {
-        Ok(effects) => Ok(taken(Reply::Done, next, effects)),
+    match ready_alone(alloc, doc, event) {
+        Ok((ready, effects)) => Ok(taken(Reply::Done, Next::Changed(ready), effects)),
         Err(DocFault::NoMemory) => Err(NoMemory),
         Err(_) => Ok(changed_nothing(Reply::Spent)),
     }
 }
 
-fn taken(reply: Reply, next: Doc, effects: Effects) -> Done
+fn taken(reply: Reply, next: Next, effects: Effects) -> Done
     ensures { result ≡ record { reply = reply; next = Some next; update = effects.update; scroll = effects.scroll } }
 {
     let Effects {
@@ -150,14 +176,21 @@ fn taken(reply: Reply, next: Doc, effects: Effects) -> Done
     }
 }
 
-/// Applies an event of the front end, whose steps nobody counts.
-fn apply_alone(alloc: Global, doc: &mut Doc, event: Event) -> Result<Effects, DocFault>
-    requires no_plugins { doc.old.plugins ≡ 0 }
+/// Makes an event of the front end ready, whose steps nobody counts.
+fn ready_alone(
+    alloc: Global,
+    doc: &mut Doc,
+    event: Event,
+) -> Result<(ReadyEvent, Effects), DocFault>
+    requires alone { MayBeAsked (Some doc.old) }
     requires caller { HasCaller 0 event }
-    ensures kept { (plain : Document) → StandsFor doc.old plain → OnOk result (Keeps doc.new (step_of plain event).document) }
-    ensures effects { (plain : Document) → StandsFor doc.old plain → IfOk result (AreOf (step_of plain event)) }
-    ensures accepted { (plain : Document) → StandsFor doc.old plain → OnOk result (refusal_at plain event ≡ None) }
-    ensures refused { (plain : Document) → StandsFor doc.old plain → IfErr result (Refuses (refusal_at plain event)) }
+    ensures may_take { IfOk result (λ made. MayTake doc.new made.0) }
+    ensures kept { (plain : Document) → DocStandsFor doc.old plain
+        → IfOk result (λ made. Keeps (with_event doc.new made.0) (event_step plain event).document) }
+    ensures effects { (plain : Document) → DocStandsFor doc.old plain → IfOk result (λ made. AreOf (event_step plain event) made.1) }
+    ensures accepted { (plain : Document) → DocStandsFor doc.old plain → OnOk result (refusal_at plain event ≡ None) }
+    ensures refused { (plain : Document) → DocStandsFor doc.old plain → IfErr result (DocRefuses (refusal_at plain event)) }
+    ensures same { doc_contents doc.new ≡ doc_contents doc.old }
 {
     counted::<Brand>(alloc, doc, event, Blank::new(1))
 }
@@ -167,17 +200,18 @@ fn counted<L: Ledger>(
     doc: &mut Doc,
     event: Event,
     blank: Blank,
-) -> Result<Effects, DocFault>
-    requires name { blank.name ≡ L.name }
-    requires parts { blank.parts ≡ L.parts }
-    requires some { 0 < blank.parts }
-    requires no_plugins { doc.old.plugins ≡ 0 }
+) -> Result<(ReadyEvent, Effects), DocFault>
+    requires blank { (blank.name ≡ L.name) × ((blank.parts ≡ L.parts) × (0 < blank.parts)) }
+    requires alone { MayBeAsked (Some doc.old) }
     requires caller { HasCaller 0 event }
-    ensures kept { (plain : Document) → StandsFor doc.old plain → OnOk result (Keeps doc.new (step_of plain event).document) }
-    ensures effects { (plain : Document) → StandsFor doc.old plain → IfOk result (AreOf (step_of plain event)) }
-    ensures accepted { (plain : Document) → StandsFor doc.old plain → OnOk result (refusal_at plain event ≡ None) }
-    ensures refused { (plain : Document) → StandsFor doc.old plain → IfErr result (Refuses (refusal_at plain event)) }
+    ensures may_take { IfOk result (λ made. MayTake doc.new made.0) }
+    ensures kept { (plain : Document) → DocStandsFor doc.old plain
+        → IfOk result (λ made. Keeps (with_event doc.new made.0) (event_step plain event).document) }
+    ensures effects { (plain : Document) → DocStandsFor doc.old plain → IfOk result (λ made. AreOf (event_step plain event) made.1) }
+    ensures accepted { (plain : Document) → DocStandsFor doc.old plain → OnOk result (refusal_at plain event ≡ None) }
+    ensures refused { (plain : Document) → DocStandsFor doc.old plain → IfErr result (DocRefuses (refusal_at plain event)) }
+    ensures same { doc_contents doc.new ≡ doc_contents doc.old }
 {
     let mut steps = Steps::<L>::new(blank);
-    doc.apply(alloc, event, &mut steps)
+    doc.ready(alloc, event, &mut steps)
 }

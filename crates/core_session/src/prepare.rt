@@ -1,8 +1,10 @@
-ghost use Rattle.std.specs.Prelude.{◌≡◌, Option, IfOk, false};
+ghost use Rattle.std.specs.Prelude.{◌≡◌, Option, IfOk, false, option_map};
 ghost use Rattle.front_wire.specs.Front.{command_of};
 ghost use Rattle.doc_session.specs.Document.{Document};
 ghost use Rattle.core_session.specs.Journal.{closes};
-ghost use Rattle.core_session.specs.Core.{Stands, HasNoPlugins, IsPrepared};
+ghost use Rattle.doc_session.specs.InMemory.{doc_contents};
+ghost use Rattle.core_session.specs.Core.{Stands, MayBeAsked, IsPrepared};
+ghost use Rattle.core_session.specs.Next.{MayReplace};
 
 use crate::act::act_on;
 use crate::piece::piece_of;
@@ -12,13 +14,15 @@ use front_wire::command_of;
 use std::alloc::Global;
 use xi_plain::NoMemory;
 
-/// What a line comes to beside the document that there is.
-pub fn prepare(alloc: Global, document: &Option<Doc>, line: &[u8]) -> Result<Prepared, NoMemory>
-    requires { HasNoPlugins document.now }
+/// Makes ready what a line comes to; the document is as before.
+pub fn prepare(alloc: Global, document: &mut Option<Doc>, line: &[u8]) -> Result<Prepared, NoMemory>
+    requires { MayBeAsked document.old }
     ensures command { IfOk result (λ made. made.command ≡ command_of line.now) }
     ensures asks { IfOk result (λ made. closes made.command.act ≡ false) }
-    ensures prepared { (plain : Option Document) → Stands document.now plain
-        → IfOk result (IsPrepared document.now plain) }
+    ensures prepared { (plain : Option Document) → Stands document.old plain
+        → IfOk result (IsPrepared document.new plain) }
+    ensures may_replace { IfOk result (λ made. MayReplace made.next document.new) }
+    ensures same { option_map doc_contents document.new ≡ option_map doc_contents document.old }
 {
     let command = command_of(alloc, line)?;
     let done = act_on(alloc, document, &command.act)?;

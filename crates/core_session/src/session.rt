@@ -4,12 +4,14 @@ ghost use Rattle.xi_plain.specs.declared.command.Command.{Command};
 ghost use Rattle.front_wire.specs.Fair.{IsFair};
 ghost use Rattle.doc_session.specs.Document.{Document};
 ghost use Rattle.core_session.specs.Journal.{closing_entry, closes};
-ghost use Rattle.core_session.specs.Next.{next_or};
+ghost use Rattle.core_session.specs.Next.{changed_by, next_or};
 ghost use Rattle.front_wire.specs.Front.{command_of};
+ghost use Rattle.core_session.specs.Next.{MayReplace, MayTakeIn};
 
+use crate::act::Next;
 use crate::prepare::prepare;
 use crate::write::write_piece;
-use doc_session::Doc;
+use doc_session::{Doc, ReadyEvent};
 use outside::Sink;
 use std::alloc::Global;
 use xi_plain::{Act, Command, Entry, Id, Text};
@@ -25,12 +27,12 @@ pub enum Entered {
     NoMemory,
 }
 
-/// What a line comes to, before it is an entry: the document is one in place of that before, where there is a new one.
+/// What a line comes to, before it is an entry.
 #[derive(Drop)]
 pub struct Prepared {
     pub command: Command,
     pub piece: Text,
-    pub next: Option<Doc>,
+    pub next: Option<Next>,
 }
 
 /// A session with its journal, its document and the sink that it writes to. There is always room for its closing entry.
@@ -72,7 +74,7 @@ impl<K: Sink> Core<K> {
         ensures complete { (Rose (K.faults (sink_of self.old)) (K.faults (sink_of self.new)) → ⊥)
             → (result ≡ Entered.Taken) ⊎ (result ≡ Entered.NoMemory) }
     {
-        let Ok(made) = prepare(alloc, &self.document, line) else {
+        let Ok(made) = prepare(alloc, &mut self.document, line) else {
             return Entered::NoMemory;
         };
         if self.journal.reserve(2).is_err() {
@@ -87,6 +89,7 @@ impl<K: Sink> Core<K> {
         requires room { vec_len self.old.journal + 2 ≤ vec_capacity self.old.journal }
         requires asks { closes made.command.act ≡ false }
         requires prepared { IsPrepared self.old.document (plain_of (journal_of self.old)) made }
+        requires may_replace { MayReplace made.next self.old.document }
         ensures taken { result ≡ Entered.Taken → Takes K.held K.faults self.old self.new made.command }
         ensures broken { result ≡ Entered.SinkFault
             → (n : ℕ) × BreaksOff K.held K.faults self.old self.new made.command n }
@@ -131,12 +134,24 @@ impl<K: Sink> Core<K> {
     }
 }
 
-/// Puts the next document in place, where there is one.
-fn replace(document: &mut Option<Doc>, next: Option<Doc>)
+/// Puts what comes next in place, where there is anything.
+fn replace(document: &mut Option<Doc>, next: Option<Next>)
+    requires { MayReplace next document.old }
     ensures { document.new ≡ next_or next document.old }
 {
-    if next.is_some() {
-        *document = next;
+    match next {
+        Some(Next::Opened(doc)) => *document = Some(doc),
+        Some(Next::Changed(ready)) => changed(document, ready),
+        None => {}
+    }
+}
+
+fn changed(document: &mut Option<Doc>, ready: ReadyEvent)
+    requires { MayTakeIn ready document.old }
+    ensures { document.new ≡ changed_by ready document.old }
+{
+    if let Some(doc) = document {
+        doc.put(ready);
     }
 }
 

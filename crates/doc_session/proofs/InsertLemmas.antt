@@ -16,14 +16,15 @@ use Rattle.xi_plain.proofs.EditLemmas.{text_at-edited_at_head}
 use Rattle.xi_plain.proofs.TextLemmas.{gap_from-place}
 use Rattle.delta_core.proofs.UnitLemmas.{is_place-end, gap_of-end, place_within}
 use Rattle.delta_core.proofs.WireLaws.{CopyFits-to, applied-shown}
-use Rattle.rev_engine.specs.State.{State}
+use Rattle.rev_engine.specs.State.{State, contents}
+use Rattle.rev_engine.specs.Steps.{with_edit}
 use Rattle.rev_engine.specs.Given.{Asked, after, meant}
-use Rattle.rev_engine.proofs.StandLemmas.{IsFresh-given}
+use Rattle.rev_engine.proofs.StandLemmas.{IsFresh-given, StandsFor-contents}
 use Rattle.rev_engine.proofs.SpentLemmas.{inserted_count-plain}
 use Rattle.doc_session.specs.declared.moved.Moved.{Moved}
 use Rattle.doc_session.specs.Asking.{insertion_delta, insertion_at}
 use Rattle.doc_session.specs.Moved.{IsMoved}
-use Rattle.doc_session.specs.Whole.{Shows, IsShown, IsOf, IsWhole}
+use Rattle.doc_session.specs.Whole.{ShowsHead, ShowsSomeHead, IsOf, IsOfSome}
 use Rattle.doc_session.proofs.MoveLemmas.{head-after, head-stands}
 
 -- the text with characters put in at a gap
@@ -80,7 +81,7 @@ module _ (text : List ℕ) (gap : ℕ) (chars : List ℕ) (inside : gap ≤ leng
   applied-insertion = applied-shown text (insertion_delta text gap chars).els copies-fit ∙ shown-insertion
 
 -- the head text after an insertion at a gap
-pub text_at-inserted : (h : History) (engine : State) (text : List ℕ) (gap : ℕ) (chars : List ℕ) → Shows h engine text → gap ≤ length text →
+pub text_at-inserted : (h : History) (engine : State) (text : List ℕ) (gap : ℕ) (chars : List ℕ) → ShowsHead h engine text → gap ≤ length text →
     text_at (after h (insertion_at (head h) text gap chars)) (head (after h (insertion_at (head h) text gap chars))) ≡ put_in gap chars text
 text_at-inserted h engine text gap chars shows inside =
     let fresh = IsFresh-given engine.limit h shows.stands.given in
@@ -91,12 +92,12 @@ text_at-inserted h engine text gap chars shows inside =
 
 -- ---- what edits leave is whole
 
-pub whole-moved : (engine : State) (text : List ℕ) (caret plugins now : ℕ) (asked : Asked) (moved : Moved) → IsWhole engine text caret plugins →
-    ((h : History) → Shows h engine text → IsMoved h engine.limit asked moved) → now ≤ length moved.text →
-    (plugins ≡ 0 → 1 ≤ inserted_len asked.delta.els) → IsWhole moved.engine moved.text now plugins
-whole-moved engine text caret plugins now asked moved whole each inside some =
+pub whole-moved : (engine now : State) (text : List ℕ) (caret plugins gap : ℕ) (asked : Asked) (moved : Moved) → contents now ≡ contents engine →
+    IsOfSome engine text caret plugins → ((h : History) → ShowsHead h engine text → IsMoved h now asked moved) → gap ≤ length moved.text →
+    (plugins ≡ 0 → 1 ≤ inserted_len asked.delta.els) → IsOfSome (with_edit now moved.ready) moved.text gap plugins
+whole-moved engine now text caret plugins gap asked moved same whole each inside some =
     ∥∥₁_map whole (λ (s : (h : History) × IsOf h engine text caret plugins).
-    let is : IsMoved s.0 engine.limit asked moved = each s.0 s.1.shown in (
+    let is : IsMoved s.0 now asked moved = each s.0 s.1.shown in (
       after s.0 asked,
       record {
         shown = is.shown;
@@ -109,22 +110,22 @@ whole-moved engine text caret plugins now asked moved whole each inside some =
               head-after s.0 asked,
               inserted_count-plain s.0 asked.base asked.delta asked.group asked.priority asked.author,
             );
-        within = omega (arith, is.within, is.limit_is);
-        bound = omega (arith, s.1.bound, is.limit_is);
+        within = is.within;
+        bound = omega (arith, s.1.bound, ap (λ (e : State). e.limit) same);
       },
     ))
 
-pub shown-whole : (engine : State) (text : List ℕ) (caret plugins : ℕ) → IsWhole engine text caret plugins → IsShown engine text
+pub shown-whole : (engine : State) (text : List ℕ) (caret plugins : ℕ) → IsOfSome engine text caret plugins → ShowsSomeHead engine text
 shown-whole engine text caret plugins whole = ∥∥₁_map whole (λ (s : (h : History) × IsOf h engine text caret plugins). (s.0, s.1.shown))
 
-pub inside-whole : (engine : State) (text : List ℕ) (caret plugins : ℕ) → IsWhole engine text caret plugins → caret ≤ length text
+pub inside-whole : (engine : State) (text : List ℕ) (caret plugins : ℕ) → IsOfSome engine text caret plugins → caret ≤ length text
 inside-whole engine text caret plugins whole = ∥∥₁_elim whole le_prop (λ (s : (h : History) × IsOf h engine text caret plugins). s.1.inside)
 
 -- so many characters has the text after an insertion at the caret
-pub inside-inserted : (engine : State) (text : List ℕ) (caret plugins : ℕ) (chars : List ℕ) (asked : Asked) (moved : Moved) →
-    IsWhole engine text caret plugins → asked ≡ insertion_at (head engine.revisions) text caret chars →
-    ((h : History) → Shows h engine text → IsMoved h engine.limit asked moved) → length moved.text ≡ length text + length chars
-inside-inserted engine text caret plugins chars asked moved whole is each =
+pub inside-inserted : (engine now : State) (text : List ℕ) (caret plugins : ℕ) (chars : List ℕ) (asked : Asked) (moved : Moved) →
+    IsOfSome engine text caret plugins → asked ≡ insertion_at (head engine.revisions) text caret chars →
+    ((h : History) → ShowsHead h engine text → IsMoved h now asked moved) → length moved.text ≡ length text + length chars
+inside-inserted engine now text caret plugins chars asked moved whole is each =
     ∥∥₁_elim whole (ℕ_set _ _) (λ (s : (h : History) × IsOf h engine text caret plugins).
     let here : asked ≡ insertion_at (head s.0) text caret chars =
     is ∙ ap (λ n. insertion_at n text caret chars) (head-stands engine s.0 s.1.shown.stands) in
@@ -133,7 +134,7 @@ inside-inserted engine text caret plugins chars asked moved whole is each =
     text_at-inserted s.0 engine text caret chars s.1.shown s.1.inside) ∙ length-put_in caret chars text s.1.inside)
 
 -- what is whole is that of each history that it shows
-pub IsOf-whole : (h : History) (engine : State) (text : List ℕ) (caret plugins : ℕ) → IsWhole engine text caret plugins → Shows h engine text →
+pub IsOf-whole : (h : History) (engine : State) (text : List ℕ) (caret plugins : ℕ) → IsOfSome engine text caret plugins → ShowsHead h engine text →
     IsOf h engine text caret plugins
 IsOf-whole h engine text caret plugins whole shows = record {
   shown = shows;
@@ -151,3 +152,28 @@ IsOf-whole h engine text caret plugins whole shows = record {
       omega (arith, s.1.within, s.1.shown.stands.spent, shows.stands.spent));
   bound = ∥∥₁_elim whole le_prop (λ (s : (h : History) × IsOf h engine text caret plugins). s.1.bound);
 }
+
+-- ---- the room for more revisions tells nothing
+
+pub ShowsHead-contents : (h : History) (engine now : State) (text : List ℕ) → contents now ≡ contents engine → ShowsHead h engine text → ShowsHead h now text
+ShowsHead-contents h engine now text same shows = record {
+  stands = StandsFor-contents engine now h same shows.stands;
+  text_is = shows.text_is;
+}
+
+pub IsOf-contents : (h : History) (engine now : State) (text : List ℕ) (caret plugins : ℕ) → contents now ≡ contents engine →
+    IsOf h engine text caret plugins → IsOf h now text caret plugins
+IsOf-contents h engine now text caret plugins same is =
+    let limit = ap (λ (e : State). e.limit) same in
+    record {
+      shown = ShowsHead-contents h engine now text same is.shown;
+      inside = is.inside;
+      few = is.few;
+      within = omega (arith, is.within, limit);
+      bound = omega (arith, is.bound, limit);
+    }
+
+pub IsOfSome-contents : (engine now : State) (text : List ℕ) (caret plugins : ℕ) → contents now ≡ contents engine →
+    IsOfSome engine text caret plugins → IsOfSome now text caret plugins
+IsOfSome-contents engine now text caret plugins same whole =
+    ∥∥₁_map whole (λ (s : (h : History) × IsOf h engine text caret plugins). (s.0, IsOf-contents s.0 engine now text caret plugins same s.1))

@@ -1,20 +1,15 @@
 -- A document on a text that was just loaded.
-use Rattle.std.proofs.Common.{◌≡◌, ℕ, ◌≤◌, List, [], ◌∷◌, refl, ap, sym, ◌∙◌, arith}
-use Rattle.std.specs.Prelude.{nat_lt, ◌^◌}
-use Rattle.xi_plain.specs.History.{loaded, text_at, inserted_count}
-use Rattle.xi_plain.proofs.WovenLemmas.{count_by-no}
+use Rattle.std.proofs.Common.{◌≡◌, ℕ, ◌≤◌, List, [], ◌∷◌, refl, ap, sym, arith}
+use Rattle.std.specs.Prelude.{◌^◌}
+use Rattle.xi_plain.specs.History.{loaded, text_at}
 use Rattle.rev_engine.specs.State.{State}
 use Rattle.rev_engine.specs.Engine.{StandsFor}
+use Rattle.rev_engine.proofs.StandLemmas.{spent-loaded}
 use Rattle.doc_session.specs.Whole.{IsOf}
 
 pub text_at-loaded : (text : List ℕ) → text_at (loaded text) 0 ≡ text
 text_at-loaded [] = refl
 text_at-loaded (c ∷ text) = ap (λ cs. c ∷ cs) (text_at-loaded text)
-
-spent-loaded : (text : List ℕ) → inserted_count (loaded text) ≡ 0
-spent-loaded [] = refl
-spent-loaded (c ∷ text) =
-    count_by-no (λ tagged. nat_lt 0 tagged.inserted) (record { character = c; inserted = 0; deleted = [] }) (loaded text).characters refl ∙ spent-loaded text
 
 pub IsOf-loaded : (text copied : List ℕ) (engine : State) (limit plugins : ℕ) → copied ≡ text → StandsFor engine (loaded copied) → engine.limit ≡ limit →
     limit ≤ 2 ^ 60 → IsOf (loaded text) engine text 0 plugins

@@ -1,5 +1,5 @@
 -- What an edit that was taken leaves: the texts on both sides of its change, where it takes gaps, and its notice.
-use Rattle.std.proofs.Common.{◌≡◌, ℕ, zero, suc, ◌+◌, ◌<◌, ◌≤◌, Bool, true, false, cond, not, List, [], ◌∷◌, length, map, filter, Option, Some, None, refl, ap, ap₂, sym, ◌∙◌, subst, arith, inl, inr}
+use Rattle.std.proofs.Common.{◌≡◌, ℕ, zero, suc, ◌+◌, ◌<◌, ◌≤◌, Bool, true, false, List, [], ◌∷◌, length, Option, Some, None, ap, ap₂, sym, ◌∙◌, arith, inl, inr}
 use Rattle.std.proofs.Math.Nat.{ℕ_set}
 use Rattle.std.proofs.Math.Path.{fun_ext}
 use Rattle.std.proofs.Math.Logic.{∥∥₁_elim}
@@ -31,38 +31,26 @@ use Rattle.rev_engine.specs.declared.edit.Change.{Change}
 use Rattle.rev_engine.specs.State.{State}
 use Rattle.rev_engine.specs.Engine.{StandsFor, IsChange}
 use Rattle.rev_engine.specs.Given.{Asked, after, meant}
-use Rattle.rev_engine.proofs.StandLemmas.{IsFresh-given}
+use Rattle.rev_engine.proofs.StandLemmas.{IsFresh-given, outside_visible}
 use Rattle.rev_engine.proofs.SpentLemmas.{inserted_count-plain}
 use Rattle.selection_core.specs.Mapped.{new_gap}
 use Rattle.doc_session.specs.declared.moved.Moved.{Moved}
-use Rattle.doc_session.specs.declared.moved.Taken.{Taken}
 use Rattle.doc_session.specs.Moved.{IsMoved, IsTakenBy}
 use Rattle.doc_session.specs.Effects.{notice_of, change_delta}
-use Rattle.doc_session.specs.Whole.{Shows, IsShown, IsChangeOf, LeadsTo}
+use Rattle.doc_session.specs.Whole.{ShowsHead, ShowsSomeHead, IsChangeOf, LeadsTo}
 use Rattle.doc_session.proofs.CaretLemmas.{mapped-moved, moved_caret-before, moved_caret-after, left-le}
 
 -- what a history shows, by its flags
-outside_visible : (p : Tagged → Bool) (xs : List Tagged) →
-    items_outside (map (λ t. not (p t)) xs) (map (λ t. t.character) xs) ≡ map (λ t. t.character) (filter p xs)
-outside_visible p [] = refl
-outside_visible p (x ∷ xs) = both (p x) (outside_visible p xs)
-  where
-    both : (b : Bool) → items_outside (map (λ t. not (p t)) xs) (map (λ t. t.character) xs) ≡ map (λ t. t.character) (filter p xs) →
-        items_outside (not b ∷ map (λ t. not (p t)) xs) (x.character ∷ map (λ t. t.character) xs) ≡
-        map (λ t. t.character) (cond b (x ∷ filter p xs) (filter p xs))
-    both true rest = ap (λ cs. x.character ∷ cs) rest
-    both false rest = rest
-
 shown-at : (h : History) (rev : ℕ) → items_outside (hidden_at h rev) (characters_of h) ≡ text_at h rev
 shown-at h rev = outside_visible (is_visible h.revisions rev) h.characters
 
 pub head-after : (h : History) (asked : Asked) → head (after h asked) ≡ head h + 1
 head-after h asked = length_push h.revisions _
 
-pub sound-shown : (h : History) (engine : State) (text : List ℕ) → Shows h engine text → IsSound h
+pub sound-shown : (h : History) (engine : State) (text : List ℕ) → ShowsHead h engine text → IsSound h
 sound-shown h engine text shown = (IsFresh-given engine.limit h shown.stands.given).plain.sound
 
-module _ (h : History) (engine : State) (text : List ℕ) (shown : Shows h engine text) (asked : Asked) (rev : ℕ) (units : UnitDelta)
+module _ (h : History) (engine : State) (text : List ℕ) (shown : ShowsHead h engine text) (asked : Asked) (rev : ℕ) (units : UnitDelta)
     (change : IsChange h (after h asked) (record { rev = rev; units = units })) where
   abbrev next : History
   next = after h asked
@@ -166,30 +154,22 @@ IsUnitDelta-prop units = hlevel (AreRuns-prop units.base 0 units.kept, AreAdds-p
 pub IsChangeOf-prop : (text : List ℕ) (units : UnitDelta) → IsProp (IsChangeOf text units)
 IsChangeOf-prop text units = hlevel (IsUnitDelta-prop units, ℕ_set)
 
--- what holds whatever the history: the change is one of the text, and there is one revision more
-pub IsChangeOf-shown : (engine copied : State) (text : List ℕ) (asked : Asked) (change : Change) → IsShown engine text → copied ≡ engine →
-    ((h : History) → StandsFor copied h → IsChange h (after h asked) change) → IsChangeOf text change.units
-IsChangeOf-shown engine copied text asked change shown same each =
+-- what holds whatever the history: the change is one of the text
+pub IsChangeOf-shown : (engine : State) (text : List ℕ) (asked : Asked) (change : Change) → ShowsSomeHead engine text →
+    ((h : History) → StandsFor engine h → IsChange h (after h asked) change) → IsChangeOf text change.units
+IsChangeOf-shown engine text asked change shown each =
     ∥∥₁_elim shown (IsChangeOf-prop text change.units)
-    (λ (s : (h : History) × Shows h engine text). IsChangeOf-taken s.0 engine text s.1 asked change.rev change.units
-    (each s.0 (subst (λ e. StandsFor e s.0) (sym same) s.1.stands)))
+    (λ (s : (h : History) × ShowsHead h engine text). IsChangeOf-taken s.0 engine text s.1 asked change.rev change.units (each s.0 s.1.stands))
 
 pub head-stands : (engine : State) (h : History) → StandsFor engine h → head engine.revisions ≡ head h
 head-stands engine h stands = ap head stands.revisions
 
-pub next-shown : (engine copied next : State) (text : List ℕ) (asked : Asked) → IsShown engine text → copied ≡ engine →
-    ((h : History) → StandsFor copied h → StandsFor next (after h asked)) → head next.revisions ≡ head engine.revisions + 1
-next-shown engine copied next text asked shown same each =
-    ∥∥₁_elim shown (ℕ_set _ _) (λ (s : (h : History) × Shows h engine text).
-    head-stands next (after s.0 asked) (each s.0 (subst (λ e. StandsFor e s.0) (sym same) s.1.stands)) ∙ head-after s.0 asked ∙
-    ap (λ n. n + 1) (sym (head-stands engine s.0 s.1.stands)))
-
 -- a change leads into the text that it makes
-pub LeadsTo-shown : (engine : State) (text made : List ℕ) (asked : Asked) (change : Change) → IsShown engine text → length made < 2 ^ 64 →
-    made ≡ text_after change.units text → ((h : History) → Shows h engine text → IsChange h (after h asked) change) → LeadsTo made change.units
+pub LeadsTo-shown : (engine : State) (text made : List ℕ) (asked : Asked) (change : Change) → ShowsSomeHead engine text → length made < 2 ^ 64 →
+    made ≡ text_after change.units text → ((h : History) → ShowsHead h engine text → IsChange h (after h asked) change) → LeadsTo made change.units
 LeadsTo-shown engine text made asked change shown long is each = record {
   inside = λ right gap.
-      ∥∥₁_elim shown le_prop (λ (s : (h : History) × Shows h engine text).
+      ∥∥₁_elim shown le_prop (λ (s : (h : History) × ShowsHead h engine text).
       omega (
         arith,
         new_gap-le s.0 engine text s.1 asked change.rev change.units (each s.0 s.1) right gap,
@@ -204,16 +184,16 @@ length-byte_len [] = omega arith
 length-byte_len (c ∷ text) = omega (arith, length-byte_len text, len_utf8_bounds c)
 
 -- what the edit leaves
-pub IsMoved-taken : (h : History) (engine : State) (text : List ℕ) (limit : ℕ) (asked : Asked) (taken : Taken) (moved : Moved) → Shows h engine text →
-    IsTakenBy h limit asked taken → moved.engine ≡ taken.engine → moved.units ≡ taken.change.units → moved.text ≡ text_after taken.change.units text →
-    moved.notice.view ≡ [] → moved.notice.author ≡ asked.author → moved.notice.rev ≡ taken.change.rev → moved.notice.new_len ≡ byte_len moved.text →
-    moved.notice.delta ≡ wire_of text taken.change.units → IsMoved h limit asked moved
-IsMoved-taken h engine text limit asked taken moved shown is engine_is units_is text_is view author rev len delta =
-    let made = text_is ∙ text_after-taken h engine text shown asked taken.change.rev taken.change.units is.changes in
+pub IsMoved-taken : (h : History) (engine now : State) (text : List ℕ) (asked : Asked) (moved : Moved) → ShowsHead h engine text →
+    IsTakenBy h now asked moved.ready → moved.text ≡ text_after moved.ready.change.units text →
+    moved.notice.view ≡ [] → moved.notice.author ≡ asked.author → moved.notice.rev ≡ moved.ready.change.rev → moved.notice.new_len ≡ byte_len moved.text →
+    moved.notice.delta ≡ wire_of text moved.ready.change.units → IsMoved h now asked moved
+IsMoved-taken h engine now text asked moved shown is text_is view author rev len delta =
+    let change = moved.ready.change in
+    let made = text_is ∙ text_after-taken h engine text shown asked change.rev change.units is.changes in
     record {
-      shown = record { stands = rw engine_is is.stands; text_is = made };
-      limit_is = ap (λ (e : State). e.limit) engine_is ∙ is.limit_is;
+      shown = record { stands = is.stands; text_is = made };
       within = is.within;
-      changes = record { rev = refl; units = rw units_is is.changes.units };
-      notice = notice-taken h engine text shown asked taken.change.rev taken.change.units is.changes moved.notice moved.text made view author rev len delta;
+      changes = is.changes;
+      notice = notice-taken h engine text shown asked change.rev change.units is.changes moved.notice moved.text made view author rev len delta;
     }

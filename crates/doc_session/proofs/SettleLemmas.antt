@@ -16,16 +16,17 @@ use Rattle.xi_plain.specs.Laws.{shown_lines}
 use Rattle.xi_plain.proofs.ScreenLemmas.{screen_after-plan_from}
 use Rattle.rev_engine.specs.State.{State}
 use Rattle.rev_engine.specs.Given.{Asked, after}
-use Rattle.doc_session.specs.declared.doc.Doc.{Doc}
+use Rattle.rev_engine.specs.Steps.{with_edit}
+use Rattle.doc_session.specs.InMemory.{Doc}
 use Rattle.doc_session.specs.declared.moved.Moved.{Moved}
 use Rattle.doc_session.specs.Document.{Document, text_of, layout_of, is_pristine, no_request, first_window}
 use Rattle.doc_session.specs.Effects.{ops_of, update_of, told, differ, are_valid, is_window_valid, wants_update, update_after, settled, scroll_after, is_same_point}
 use Rattle.doc_session.specs.Lacking.{is_lacking}
 use Rattle.doc_session.specs.Moved.{IsMoved}
 use Rattle.doc_session.specs.Planned.{planned}
-use Rattle.doc_session.specs.Stands.{StandsFor}
+use Rattle.doc_session.specs.Stands.{DocStandsFor}
 use Rattle.doc_session.specs.Step.{edited_document}
-use Rattle.doc_session.specs.Whole.{IsOf, IsWhole}
+use Rattle.doc_session.specs.Whole.{IsOf, IsOfSome}
 use Rattle.doc_session.proofs.InsertLemmas.{IsOf-whole}
 use Rattle.doc_session.proofs.MoveLemmas.{head-after, head-stands}
 
@@ -99,7 +100,7 @@ by_flags false false p true w none all = refl
 abbrev pub screen_by : Bool → Document → Screen
 screen_by valid plain = if valid then shown_lines plain.window no_request (layout_of plain) else []
 
-module _ (doc : Doc) (plain : Document) (stands : StandsFor doc plain) where
+module _ (doc : Doc) (plain : Document) (stands : DocStandsFor doc plain) where
   -- nothing but what the front end lacks is told where nothing changed
   screen_valid : (valid : Bool) → plain.screen ≡ screen_by valid plain → is_window_valid plain ≡ valid
   screen_valid true is =
@@ -195,17 +196,17 @@ bytes_texts xs ys a b a_is b_is xs_is ys_is = by (bytes_eq a b) (bytes_eq xs ys)
 
 -- ---- a document in memory after an edit
 
-pub StandsFor-settled : (doc made : Doc) (plain : Document) (asked : Asked) (moved : Moved) → StandsFor doc plain →
-    IsMoved plain.history plain.limit asked moved → IsWhole moved.engine moved.text made.caret doc.plugins →
-    made.engine ≡ moved.engine → made.text ≡ moved.text → made.lines ≡ layout moved.text (made.caret ∷ []) → made.plugins ≡ doc.plugins → made.valid ≡ true →
-    StandsFor made (settled plain (edited_document plain asked made.caret))
-StandsFor-settled doc made plain asked moved stands is whole engine_is text_is lines_is plugins_is valid_is = by (wants_update plain next) refl
+pub DocStandsFor-settled : (doc made : Doc) (plain : Document) (asked : Asked) (moved : Moved) → DocStandsFor doc plain →
+    IsMoved plain.history doc.engine asked moved → IsOfSome (with_edit doc.engine moved.ready) moved.text made.caret doc.plugins →
+    made.engine ≡ with_edit doc.engine moved.ready → made.text ≡ moved.text → made.lines ≡ layout moved.text (made.caret ∷ []) → made.plugins ≡ doc.plugins → made.valid ≡ true →
+    DocStandsFor made (settled plain (edited_document plain asked made.caret))
+DocStandsFor-settled doc made plain asked moved stands is whole engine_is text_is lines_is plugins_is valid_is = by (wants_update plain next) refl
   where
     next : Document
     next = edited_document plain asked made.caret
 
     parts : IsOf (after plain.history asked) made.engine made.text made.caret made.plugins
-    parts = rw (engine_is, text_is, plugins_is) (IsOf-whole (after plain.history asked) moved.engine moved.text made.caret doc.plugins whole is.shown)
+    parts = rw (engine_is, text_is, plugins_is) (IsOf-whole (after plain.history asked) (with_edit doc.engine moved.ready) moved.text made.caret doc.plugins whole is.shown)
 
     shown_by : (valid : Bool) → valid ≡ true → shown_lines plain.window no_request (layout_of next) ≡ screen_by valid next
     shown_by true is = refl
@@ -214,10 +215,10 @@ StandsFor-settled doc made plain asked moved stands is whole engine_is text_is l
     screen_is : (settled plain next).screen ≡ screen_by made.valid next
     screen_is = screen-settled doc plain stands asked made.caret moved.text is.shown.text_is ∙ shown_by made.valid valid_is
 
-    by : (b : Bool) → wants_update plain next ≡ b → StandsFor made (if b then told next else next)
+    by : (b : Bool) → wants_update plain next ≡ b → DocStandsFor made (if b then told next else next)
     by true wants = record {
       parts = parts;
-      limit = ap (λ (e : State). e.limit) engine_is ∙ is.limit_is;
+      limit = ap (λ (e : State). e.limit) engine_is ∙ stands.limit;
       plugins = plugins_is ∙ stands.plugins;
       caret = refl;
       lines = lines_is ∙ ap (λ t. layout t (made.caret ∷ [])) is.shown.text_is;
@@ -227,7 +228,7 @@ StandsFor-settled doc made plain asked moved stands is whole engine_is text_is l
     }
     by false wants = record {
       parts = parts;
-      limit = ap (λ (e : State). e.limit) engine_is ∙ is.limit_is;
+      limit = ap (λ (e : State). e.limit) engine_is ∙ stands.limit;
       plugins = plugins_is ∙ stands.plugins;
       caret = refl;
       lines = lines_is ∙ ap (λ t. layout t (made.caret ∷ [])) is.shown.text_is;
@@ -238,7 +239,7 @@ StandsFor-settled doc made plain asked moved stands is whole engine_is text_is l
 
 -- the update of an edit
 pub update-settled : (doc : Doc) (plain : Document) (asked : Asked) (moved : Moved) (gap : ℕ) (wanted : Bool) (lines : List Line) (update : Option Update) →
-    StandsFor doc plain → IsMoved plain.history plain.limit asked moved → lines ≡ layout moved.text (gap ∷ []) →
+    DocStandsFor doc plain → IsMoved plain.history doc.engine asked moved → lines ≡ layout moved.text (gap ∷ []) →
     wanted ≡ is_lacking doc.valid (head doc.engine.revisions) doc.text doc.caret moved.text gap →
     update ≡ (if wanted then Some (planned lines false) else None) → update ≡ update_after plain (edited_document plain asked gap)
 update-settled doc plain asked moved gap wanted lines update stands is lines_is wanted_is update_is =
@@ -256,7 +257,7 @@ update-settled doc plain asked moved gap wanted lines update stands is lines_is 
 
 -- its scroll
 pub scroll-settled : (doc : Doc) (plain : Document) (asked : Asked) (moved : Moved) (gap : ℕ) (was now : Point) (scroll : Option Point) →
-    StandsFor doc plain → IsMoved plain.history plain.limit asked moved → was ≡ point_of doc.text doc.caret → now ≡ point_of moved.text gap →
+    DocStandsFor doc plain → IsMoved plain.history doc.engine asked moved → was ≡ point_of doc.text doc.caret → now ≡ point_of moved.text gap →
     scroll ≡ (if is_same_point was now then None else Some now) → scroll ≡ scroll_after plain (edited_document plain asked gap)
 scroll-settled doc plain asked moved gap was now scroll stands is was_is now_is scroll_is =
     scroll_is ∙
@@ -265,9 +266,9 @@ scroll-settled doc plain asked moved gap was now scroll stands is was_is now_is 
 
 -- ---- a document in memory where nothing changed
 
-pub StandsFor-still : (doc made : Doc) (plain : Document) → StandsFor doc plain → made.engine ≡ doc.engine → made.text ≡ doc.text → made.lines ≡ doc.lines →
-    made.caret ≡ doc.caret → made.plugins ≡ doc.plugins → made.valid ≡ true → StandsFor made (settled plain plain)
-StandsFor-still doc made plain stands engine_is text_is lines_is caret_is plugins_is valid_is = by (wants_update plain plain) refl
+pub DocStandsFor-still : (doc made : Doc) (plain : Document) → DocStandsFor doc plain → made.engine ≡ doc.engine → made.text ≡ doc.text → made.lines ≡ doc.lines →
+    made.caret ≡ doc.caret → made.plugins ≡ doc.plugins → made.valid ≡ true → DocStandsFor made (settled plain plain)
+DocStandsFor-still doc made plain stands engine_is text_is lines_is caret_is plugins_is valid_is = by (wants_update plain plain) refl
   where
     parts : IsOf plain.history made.engine made.text made.caret made.plugins
     parts = rw (engine_is, text_is, caret_is, plugins_is) stands.parts
@@ -280,7 +281,7 @@ StandsFor-still doc made plain stands engine_is text_is lines_is caret_is plugin
     valid_by true is = refl
     valid_by false is = absurd cc
 
-    by : (b : Bool) → wants_update plain plain ≡ b → StandsFor made (if b then told plain else plain)
+    by : (b : Bool) → wants_update plain plain ≡ b → DocStandsFor made (if b then told plain else plain)
     by true wants = record {
       parts = parts;
       limit = ap (λ (e : State). e.limit) engine_is ∙ stands.limit;
@@ -302,7 +303,7 @@ StandsFor-still doc made plain stands engine_is text_is lines_is caret_is plugin
       screen = stands.screen ∙ valid_by doc.valid (sym (wants_update-same doc plain stands) ∙ wants) ∙ shown_by made.valid valid_is;
     }
 
-pub update-still : (doc : Doc) (plain : Document) (pristine : Bool) (update : Option Update) → StandsFor doc plain →
+pub update-still : (doc : Doc) (plain : Document) (pristine : Bool) (update : Option Update) → DocStandsFor doc plain →
     pristine ≡ (head doc.engine.revisions == 0) → update ≡ (if not doc.valid then Some (planned doc.lines pristine) else None) →
     update ≡ update_after plain plain
 update-still doc plain pristine update stands pristine_is update_is =

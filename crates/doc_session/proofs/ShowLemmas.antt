@@ -1,22 +1,22 @@
 -- After an event the front end's screen shows the layout.
-use Rattle.std.proofs.Common.{◌≡◌, ℕ, ◌+◌, ◌≤◌, Bool, true, false, [], ◌∷◌, length, refl, ap, sym, ◌∙◌, arith}
-use Rattle.std.proofs.Math.Logic.{∥∥₁_elim}
-use Rattle.std.specs.Coded.{le_prop}
+use Rattle.std.proofs.Common.{◌≡◌, ℕ, ◌+◌, ◌≤◌, Bool, true, false, [], ◌∷◌, length, Option, Some, None, refl, ap, sym, ◌∙◌, arith}
 use Rattle.std.specs.Prelude.{if◌then◌else◌, not, ◌^◌}
 use Rattle.xi_plain.specs.declared.command.EditAct.TheVariants.{Insert}
-use Rattle.xi_plain.specs.History.{History, head}
+use Rattle.xi_plain.specs.History.{head}
 use Rattle.xi_plain.specs.Laws.{shown_lines}
 use Rattle.rev_engine.specs.Given.{Asked}
-use Rattle.doc_session.specs.declared.doc.Doc.{Doc}
+use Rattle.doc_session.specs.InMemory.{Doc}
+use Rattle.doc_session.specs.declared.ready.Edited.{Edited}
+use Rattle.doc_session.specs.declared.ready.ReadyEvent.{ReadyEvent}
+use Rattle.doc_session.specs.Ready.{with_edited, with_event}
 use Rattle.doc_session.specs.declared.event.Event.{Event}
 use Rattle.doc_session.specs.declared.event.Event.TheVariants.{Front, Edit, Other}
 use Rattle.doc_session.specs.Asking.{front_edit, plugin_edit}
 use Rattle.doc_session.specs.Document.{Document, layout_of, no_request, text_of}
 use Rattle.doc_session.specs.Effects.{settled, told, wants_update}
 use Rattle.doc_session.specs.ScreenOf.{IsUpToDate}
-use Rattle.doc_session.specs.Stands.{StandsFor}
-use Rattle.doc_session.specs.Step.{caret_by, edited_document, step_of}
-use Rattle.doc_session.specs.Whole.{IsOf}
+use Rattle.doc_session.specs.Stands.{DocStandsFor}
+use Rattle.doc_session.specs.Step.{caret_by, edited_document, event_step}
 use Rattle.doc_session.proofs.MoveLemmas.{head-stands}
 use Rattle.doc_session.proofs.ScreenLemmas.{IsScreenOf-screen}
 use Rattle.doc_session.proofs.SettleLemmas.{screen-settled, screen-told, wants_update-same, screen_by}
@@ -37,7 +37,7 @@ shown-by plain next same shown =
     (shown ∙ ap (λ window. shown_lines window no_request (layout_of next)) (sym (window-settled (wants_update plain next) plain next same)) ∙
     ap (shown_lines (settled plain next).window no_request) (sym (layout-settled (wants_update plain next) next)))
 
-module _ (doc : Doc) (plain : Document) (stands : StandsFor doc plain) where
+module _ (doc : Doc) (plain : Document) (stands : DocStandsFor doc plain) where
   shown-edited : (asked : Asked) (gap : ℕ) → IsUpToDate (settled plain (edited_document plain asked gap))
   shown-edited asked gap =
       shown-by plain (edited_document plain asked gap) refl
@@ -54,7 +54,7 @@ module _ (doc : Doc) (plain : Document) (stands : StandsFor doc plain) where
       by true is = screen-told plain
       by false is = stands.screen ∙ valid_by doc.valid (sym (wants_update-same doc plain stands) ∙ is)
 
-  pub shown-step : (event : Event) → IsUpToDate (step_of plain event).document
+  pub shown-step : (event : Event) → IsUpToDate (event_step plain event).document
   shown-step (Front (Insert [])) = shown-still
   shown-step (Front (Insert (c ∷ chars))) = shown-edited (front_edit plain (c ∷ chars)) (plain.caret + length (c ∷ chars))
   shown-step (Edit caller edit named) =
@@ -62,7 +62,14 @@ module _ (doc : Doc) (plain : Document) (stands : StandsFor doc plain) where
   shown-step Other = shown-still
 
 -- a document without plugins has no more revisions than its limit
-pub head-few : (doc : Doc) → doc.plugins ≡ 0 → head doc.engine.revisions ≤ 2 ^ 60
-head-few doc none =
-    ∥∥₁_elim doc.whole le_prop (λ (s : (h : History) × IsOf h doc.engine doc.text doc.caret doc.plugins).
-    omega (arith, s.1.few none, s.1.within, s.1.bound, head-stands doc.engine s.0 s.1.shown.stands))
+pub head-few : (doc : Doc) (plain : Document) → DocStandsFor doc plain → doc.plugins ≡ 0 → head doc.engine.revisions ≤ 2 ^ 60
+head-few doc plain stands none =
+    let parts = stands.parts in
+    omega (arith, parts.few none, parts.within, parts.bound, head-stands doc.engine plain.history parts.shown.stands)
+
+pub plugins-with_event : (doc : Doc) (ready : ReadyEvent) → (with_event doc ready).plugins ≡ doc.plugins
+plugins-with_event doc ready = by ready.edited
+  where
+    by : (edited : Option Edited) → (with_edited doc edited).plugins ≡ doc.plugins
+    by None = refl
+    by (Some edited) = refl

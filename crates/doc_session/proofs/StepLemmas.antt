@@ -8,26 +8,27 @@ use Rattle.xi_plain.specs.Edits.{inserted_len}
 use Rattle.xi_plain.specs.History.{History, head}
 use Rattle.xi_plain.specs.Numbers.{has}
 use Rattle.rev_engine.specs.declared.edit.Edit.{Edit}
-use Rattle.rev_engine.specs.State.{State}
+use Rattle.rev_engine.specs.State.{State, contents}
 use Rattle.rev_engine.specs.Engine.{asked_by}
-use Rattle.rev_engine.specs.Given.{Asked, MayAsk, after}
+use Rattle.rev_engine.specs.Given.{Asked, MayAsk}
 use Rattle.rev_engine.proofs.StandLemmas.{IsFresh-given}
 use Rattle.selection_core.specs.Mapped.{new_gap}
-use Rattle.doc_session.specs.declared.doc.Doc.{Doc}
+use Rattle.doc_session.specs.InMemory.{Doc, doc_contents}
 use Rattle.doc_session.specs.declared.event.Body.TheVariants.{Null}
 use Rattle.doc_session.specs.declared.event.Event.TheVariants.{Front}
 use Rattle.doc_session.specs.declared.moved.Moved.{Moved}
-use Rattle.doc_session.specs.Asking.{front_edit, insertion_at, plugin_edit, refusal_of}
+use Rattle.doc_session.specs.Asking.{front_edit, insertion_at, plugin_edit, asked_refusal}
 use Rattle.doc_session.specs.Document.{Document}
 use Rattle.doc_session.specs.Moved.{IsMoved}
-use Rattle.doc_session.specs.Stands.{StandsFor}
-use Rattle.doc_session.specs.Step.{caret_by, edit_step, refusal_at, step_of}
-use Rattle.doc_session.specs.Whole.{Shows, IsOf, IsWhole}
+use Rattle.doc_session.specs.Stands.{DocStandsFor}
+use Rattle.doc_session.specs.Step.{caret_by, edit_step, refusal_at, event_step}
+use Rattle.doc_session.specs.Whole.{ShowsHead, IsOf, IsOfSome}
+use Rattle.doc_session.proofs.InsertLemmas.{IsOf-contents}
 use Rattle.doc_session.proofs.MoveLemmas.{head-stands, new_gap-moved}
 use Rattle.doc_session.proofs.SettleLemmas.{screen_by}
 
 -- an edit in the group of its own revision may be asked for
-pub MayAsk-whole : (engine : State) (text : List ℕ) (caret plugins group : ℕ) → IsWhole engine text caret plugins → 1 ≤ group →
+pub MayAsk-whole : (engine : State) (text : List ℕ) (caret plugins group : ℕ) → IsOfSome engine text caret plugins → 1 ≤ group →
     head engine.revisions < 2 ^ 63 - 1 → MayAsk engine.revisions group
 MayAsk-whole engine text caret plugins group whole counts numbered = record {
   group_counts = counts;
@@ -44,34 +45,33 @@ asked-given plain caller rev edit given is rev_is =
     ap asked_by is ∙
     ap (λ n. record { base = edit.rev; delta = edit.delta; group = n; priority = edit.priority; author = caller }) rev_is
 
-pub IsMoved-plain : (doc : Doc) (plain : Document) (asked other : Asked) (moved : Moved) → StandsFor doc plain → other ≡ asked →
-    ((h : History) → Shows h doc.engine doc.text → IsMoved h doc.engine.limit other moved) → IsMoved plain.history plain.limit asked moved
-IsMoved-plain doc plain asked other moved stands same each =
-    let At : Asked → Type 0 = λ a. IsMoved plain.history plain.limit a moved in
-    let With : ℕ → Type 0 = λ n. IsMoved plain.history n other moved in
-    subst At same (subst With stands.limit (each plain.history stands.parts.shown))
+pub IsMoved-plain : (doc : Doc) (now : State) (plain : Document) (asked other : Asked) (moved : Moved) → DocStandsFor doc plain → other ≡ asked →
+    ((h : History) → ShowsHead h doc.engine doc.text → IsMoved h now other moved) → IsMoved plain.history now asked moved
+IsMoved-plain doc now plain asked other moved stands same each =
+    let At : Asked → Type 0 = λ a. IsMoved plain.history now a moved in
+    subst At same (each plain.history stands.parts.shown)
 
 -- its caret is where the caret rule takes it
-pub caret-given : (doc : Doc) (plain : Document) (asked : Asked) (moved : Moved) (right : Bool) (now : ℕ) → StandsFor doc plain →
-    IsMoved plain.history plain.limit asked moved → now ≡ new_gap moved.units right doc.caret → now ≡ caret_by plain asked right
-caret-given doc plain asked moved right now stands is now_is =
-    now_is ∙
-    new_gap-moved plain.history doc.engine doc.text stands.parts.shown asked (head (after plain.history asked)) moved.units is.changes right doc.caret ∙
+pub caret-given : (doc : Doc) (now : State) (plain : Document) (asked : Asked) (moved : Moved) (right : Bool) (gap : ℕ) → DocStandsFor doc plain →
+    IsMoved plain.history now asked moved → gap ≡ new_gap moved.ready.change.units right doc.caret → gap ≡ caret_by plain asked right
+caret-given doc now plain asked moved right gap stands is gap_is =
+    gap_is ∙
+    new_gap-moved plain.history doc.engine doc.text stands.parts.shown asked moved.ready.change.rev moved.ready.change.units is.changes right doc.caret ∙
     ap (λ gap. caret_by (record plain { caret = gap }) asked right) stands.caret
 
 -- the front end's edit
-pub asked-front : (doc : Doc) (plain : Document) (chars : List ℕ) (other : Asked) → StandsFor doc plain →
+pub asked-front : (doc : Doc) (plain : Document) (chars : List ℕ) (other : Asked) → DocStandsFor doc plain →
     other ≡ insertion_at (head doc.engine.revisions) doc.text doc.caret chars → other ≡ front_edit plain chars
 asked-front doc plain chars other stands is =
     is ∙ ap (λ n. insertion_at n doc.text doc.caret chars) (head-stands doc.engine plain.history stands.parts.shown.stands) ∙
     ap₂ (λ text gap. insertion_at (head plain.history) text gap chars) stands.parts.shown.text_is stands.caret
 
-pub step_of-front : (plain : Document) (chars : List ℕ) → chars ≢ [] →
-    step_of plain (Front (Insert chars)) ≡ edit_step plain (front_edit plain chars) (plain.caret + length chars) Null
-step_of-front plain [] some = absurd (some refl)
-step_of-front plain (c ∷ chars) some = refl
+pub event_step-front : (plain : Document) (chars : List ℕ) → chars ≢ [] →
+    event_step plain (Front (Insert chars)) ≡ edit_step plain (front_edit plain chars) (plain.caret + length chars) Null
+event_step-front plain [] some = absurd (some refl)
+event_step-front plain (c ∷ chars) some = refl
 
-pub refusal_at-front : (plain : Document) (chars : List ℕ) → chars ≢ [] → refusal_at plain (Front (Insert chars)) ≡ refusal_of plain (front_edit plain chars)
+pub refusal_at-front : (plain : Document) (chars : List ℕ) → chars ≢ [] → refusal_at plain (Front (Insert chars)) ≡ asked_refusal plain (front_edit plain chars)
 refusal_at-front plain [] some = absurd (some refl)
 refusal_at-front plain (c ∷ chars) some = refl
 
@@ -81,18 +81,22 @@ some-inserted head text gap [] asked is some = absurd (some refl)
 some-inserted head text gap (c ∷ chars) asked is some = rw is (omega arith)
 
 -- what a document stands for hangs on what it holds alone
-pub StandsFor-alike : (doc other : Doc) (plain : Document) → StandsFor doc plain → other.engine ≡ doc.engine → other.text ≡ doc.text →
-    other.lines ≡ doc.lines → other.caret ≡ doc.caret → other.plugins ≡ doc.plugins → other.valid ≡ doc.valid → StandsFor other plain
-StandsFor-alike doc other plain stands engine_is text_is lines_is caret_is plugins_is valid_is = record {
-  parts = rw (engine_is, text_is, caret_is, plugins_is) stands.parts;
-  limit = ap (λ (e : State). e.limit) engine_is ∙ stands.limit;
-  plugins = plugins_is ∙ stands.plugins;
-  caret = caret_is ∙ stands.caret;
-  lines = lines_is ∙ stands.lines;
-  window = stands.window;
-  saved = stands.saved;
-  screen = stands.screen ∙ ap (λ v. screen_by v plain) (sym valid_is);
-}
+pub DocStandsFor-doc_contents : (doc now : Doc) (plain : Document) → doc_contents now ≡ doc_contents doc → DocStandsFor doc plain → DocStandsFor now plain
+DocStandsFor-doc_contents doc now plain same stands =
+    let engine : contents now.engine ≡ contents doc.engine = ap (λ (d : Doc). d.engine) same in
+    let text : now.text ≡ doc.text = ap (λ (d : Doc). d.text) same in
+    let caret : now.caret ≡ doc.caret = ap (λ (d : Doc). d.caret) same in
+    let plugins : now.plugins ≡ doc.plugins = ap (λ (d : Doc). d.plugins) same in
+    record {
+      parts = rw (text, caret, plugins) (IsOf-contents plain.history doc.engine now.engine doc.text doc.caret doc.plugins engine stands.parts);
+      limit = ap (λ (e : State). e.limit) engine ∙ stands.limit;
+      plugins = plugins ∙ stands.plugins;
+      caret = caret ∙ stands.caret;
+      lines = ap (λ (d : Doc). d.lines) same ∙ stands.lines;
+      window = stands.window;
+      saved = stands.saved;
+      screen = stands.screen ∙ ap (λ (d : Doc). screen_by d.valid plain) (sym same);
+    }
 
 pub some_by : (b : Bool) (chars : List ℕ) → (chars ≡ [] → IsTrue b) → b ≡ false → chars ≢ []
 some_by true chars told off = absurd cc

@@ -45,5 +45,5 @@ plugin_edit document caller edit = record {
 }
 
 -- why an edit is refused, if it is
-abbrev pub refusal_of : Document → Asked → Option Refusal
-refusal_of document asked = edit_refusal document.history document.limit asked.base asked.delta
+abbrev pub asked_refusal : Document → Asked → Option Refusal
+asked_refusal document asked = edit_refusal document.history document.limit asked.base asked.delta

@@ -16,5 +16,5 @@ edit_fault (Spent total) = Edit.Spent total
 edit_fault NoMemory = Edit.NoMemory
 
 -- the fault is this refusal, or want of memory
-abbrev pub Refuses : Option Refusal → DocFault → Type 0
-Refuses refusal fault = engine.Refuses refusal (edit_fault fault)
+abbrev pub DocRefuses : Option Refusal → DocFault → Type 0
+DocRefuses refusal fault = engine.Refuses refusal (edit_fault fault)

@@ -5,6 +5,8 @@ pub mod PointView
 pub mod Step
 pub mod Fault
 pub mod Whole
+pub mod InMemory
+pub mod Ready
 pub mod Stands
 pub mod Planned
 pub mod Lacking

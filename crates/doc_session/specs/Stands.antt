@@ -1,13 +1,13 @@
 -- What a document in memory stands for.
 use Rattle.std.specs.Prelude.{◌≡◌, if◌then◌else◌, []}
 use Rattle.xi_plain.specs.Laws.{shown_lines}
-use Rattle.doc_session.specs.declared.doc.Doc.{Doc}
+use Rattle.doc_session.specs.InMemory.{Doc}
 use Rattle.doc_session.specs.Document.{Document, layout_of, first_window, no_request}
 use Rattle.doc_session.specs.Whole.{IsOf}
 
 -- the document in memory stands for the plain one: they have the same history, limit, plugins, caret and layout, and the front end's
 -- screen is as the last update left it, or empty where there was none
-pub record StandsFor (doc : Doc) (plain : Document) : Type 0 where
+pub record DocStandsFor (doc : Doc) (plain : Document) : Type 0 where
   pub parts : IsOf plain.history doc.engine doc.text doc.caret doc.plugins
   pub limit : doc.engine.limit ≡ plain.limit
   pub plugins : doc.plugins ≡ plain.plugins

@@ -15,12 +15,12 @@ use Rattle.doc_session.specs.declared.event.Effects.{Effects}
 use Rattle.doc_session.specs.declared.event.Event.{Event}
 use Rattle.doc_session.specs.declared.event.Event.TheVariants.{Front, Edit, Other}
 use Rattle.doc_session.specs.Document.{Document}
-use Rattle.doc_session.specs.Asking.{front_edit, plugin_edit, refusal_of}
+use Rattle.doc_session.specs.Asking.{front_edit, plugin_edit, asked_refusal}
 use Rattle.doc_session.specs.Effects.{update_after, settled, scroll_after, notice_of}
 use Rattle.doc_session.specs.PointView.{point_view}
 
 -- what an event comes to: the document after it, its answer, what the front end is told, and what the plugins are
-pub record Step : Type 0 where
+pub record EventStep : Type 0 where
   pub document : Document
   pub body : Body
   pub update : Option Update
@@ -32,7 +32,7 @@ abbrev pub edited_document : Document → Asked → ℕ → Document
 edited_document document asked gap = record document { history = after document.history asked; caret = gap }
 
 -- an edit is taken, and the caret stands at this gap after it
-abbrev pub edit_step : Document → Asked → ℕ → Body → Step
+abbrev pub edit_step : Document → Asked → ℕ → Body → EventStep
 edit_step document asked gap body = record {
   document = settled document (edited_document document asked gap);
   body = body;
@@ -46,7 +46,7 @@ abbrev pub caret_by : Document → Asked → Bool → ℕ
 caret_by document asked after_cursor = moved_caret document.history (after document.history asked) after_cursor document.caret
 
 -- nothing changes; what the front end lacks it is told
-abbrev pub still_step : Document → Step
+abbrev pub still_step : Document → EventStep
 still_step document = record {
   document = settled document document;
   body = Null;
@@ -56,25 +56,25 @@ still_step document = record {
 }
 
 -- the edit of a plugin is taken
-abbrev pub plugin_step : Document → ℕ → Given → Step
+abbrev pub plugin_step : Document → ℕ → Given → EventStep
 plugin_step document caller edit =
     edit_step document (plugin_edit document caller edit) (caret_by document (plugin_edit document caller edit) edit.after_cursor)
     (Edited (head document.history + 1) (head document.history + 1))
 
 -- THE STEP of an event that is not refused. The front end's own insertion leaves the caret after its text, and one of no characters
 -- changes nothing; at a plugin's edit the caret moves by the caret rule.
-abbrev pub step_of : Document → Event → Step
-step_of document (Front (Insert [])) = still_step document
-step_of document (Front (Insert (c ∷ chars))) =
+abbrev pub event_step : Document → Event → EventStep
+event_step document (Front (Insert [])) = still_step document
+event_step document (Front (Insert (c ∷ chars))) =
     edit_step document (front_edit document (c ∷ chars)) (document.caret + length (c ∷ chars)) Null
-step_of document (Edit caller edit named) = plugin_step document caller edit
-step_of document Other = still_step document
+event_step document (Edit caller edit named) = plugin_step document caller edit
+event_step document Other = still_step document
 
 -- THE REFUSAL of an event
 abbrev pub refusal_at : Document → Event → Option Refusal
 refusal_at document (Front (Insert [])) = None
-refusal_at document (Front (Insert (c ∷ chars))) = refusal_of document (front_edit document (c ∷ chars))
-refusal_at document (Edit caller edit named) = refusal_of document (plugin_edit document caller edit)
+refusal_at document (Front (Insert (c ∷ chars))) = asked_refusal document (front_edit document (c ∷ chars))
+refusal_at document (Edit caller edit named) = asked_refusal document (plugin_edit document caller edit)
 refusal_at document Other = None
 
 -- an event of a plugin is one of those that there are
@@ -84,7 +84,7 @@ HasCaller plugins (Edit caller edit named) = (1 ≤ caller) × (caller ≤ plugi
 HasCaller plugins Other = ⊤
 
 -- the effects are those of the step
-pub record AreOf (step : Step) (effects : Effects) : Type 0 where
+pub record AreOf (step : EventStep) (effects : Effects) : Type 0 where
   pub body : effects.body ≡ step.body
   pub update : effects.update ≡ step.update
   pub scroll : option_map point_view effects.scroll ≡ step.scroll

@@ -8,25 +8,26 @@ use Rattle.rev_engine.specs.Engine.{StandsFor}
 use Rattle.selection_core.specs.Mapped.{new_gap}
 
 -- the engine stands for the history, whose head text this is
-pub record Shows (history : History) (engine : State) (text : List ℕ) : Type 0 where
+pub record ShowsHead (history : History) (engine : State) (text : List ℕ) : Type 0 where
   pub stands : StandsFor engine history
   pub text_is : text ≡ text_at history (head history)
 
 -- the engine and the text are those of a history, and the caret is a gap of the text. As many characters were inserted as there are
 -- revisions, where no plugin makes any: each of the front end inserts one at least
 pub record IsOf (history : History) (engine : State) (text : List ℕ) (caret plugins : ℕ) : Type 0 where
-  pub shown : Shows history engine text
+  pub shown : ShowsHead history engine text
   pub inside : caret ≤ length text
   pub few : plugins ≡ 0 → head history ≤ inserted_count history
   pub within : inserted_count history ≤ engine.limit
   pub bound : engine.limit ≤ 2 ^ 60
 
--- they are those of some history
-abbrev pub IsShown : State → List ℕ → Type 0
-IsShown engine text = ∥ ((history : History) × Shows history engine text) ∥₁
+-- they are those of some history: the text alone
+abbrev pub ShowsSomeHead : State → List ℕ → Type 0
+ShowsSomeHead engine text = ∥ ((history : History) × ShowsHead history engine text) ∥₁
 
-abbrev pub IsWhole : State → List ℕ → ℕ → ℕ → Type 0
-IsWhole engine text caret plugins = ∥ ((history : History) × IsOf history engine text caret plugins) ∥₁
+-- and the caret with it
+abbrev pub IsOfSome : State → List ℕ → ℕ → ℕ → Type 0
+IsOfSome engine text caret plugins = ∥ ((history : History) × IsOf history engine text caret plugins) ∥₁
 
 -- a change can be made of the text
 pub record IsChangeOf (text : List ℕ) (units : UnitDelta) : Type 0 where

@@ -1,6 +1,22 @@
-ghost use Rattle.std.specs.Prelude.{◌≡◌, ◌+◌, ◌-◌, ◌^◌, ◌<◌, ◌≤◌, length, None, IfOk, IfErr, OnOk, OnErr};
+ghost use Rattle.std.specs.Prelude.{◌≡◌, ◌+◌, ◌-◌, ◌^◌, ◌<◌, ◌≤◌, length, Some, None, IfOk, IfErr, OnOk, OnErr};
+ghost use Rattle.xi_plain.specs.Collection.{kept};
 ghost use Rattle.xi_plain.specs.History.{head};
-ghost use Rattle.doc_session.specs.Whole.{IsWhole};
+ghost use Rattle.xi_plain.specs.declared.command.EditAct.TheVariants.{Insert};
+ghost use Rattle.rev_engine.specs.Engine.{asked_by};
+ghost use Rattle.rev_engine.specs.Given.{Asked};
+ghost use Rattle.rev_engine.specs.Steps.{MayPut, with_edit};
+ghost use Rattle.doc_session.specs.Asking.{insertion_at, plugin_edit, asked_refusal};
+ghost use Rattle.doc_session.specs.Document.{Document, layout_of, loaded_document, text_of};
+ghost use Rattle.doc_session.specs.Fault.{DocRefuses};
+ghost use Rattle.doc_session.specs.InMemory.{doc_contents};
+ghost use Rattle.doc_session.specs.Lacking.{is_lacking};
+ghost use Rattle.doc_session.specs.Moved.{IsMoved};
+ghost use Rattle.doc_session.specs.Ready.{MayTake, MayTakeEdited, with_edited, with_event};
+ghost use Rattle.doc_session.specs.ScreenOf.{IsUpToDate};
+ghost use Rattle.doc_session.specs.Stands.{DocStandsFor};
+ghost use Rattle.doc_session.specs.Step.{AreOf, HasCaller, edit_step, plugin_step, refusal_at, event_step, still_step};
+ghost use Rattle.doc_session.specs.Whole.{IsOfSome};
+ghost use Rattle.doc_session.specs.declared.event.Event.TheVariants.{Front};
 
 use crate::caret::caret_after;
 use crate::event::{Body, Effects, Event};
@@ -8,8 +24,10 @@ use crate::fault::DocFault;
 use crate::layout::{layout_of, point_of};
 use crate::moved::{Moved, moved_by};
 use crate::plan::{scroll_of, update_if};
+use crate::ready::{Edited, ReadyEvent};
 use rev_engine::{Edit, Engine};
 use std::alloc::Global;
+use std::marker::Model;
 use std::sync::ledger::Ledger;
 use xi_plain::{Config, Copied, Delta, EditAct, El, Els, Lines, NoMemory, Steps, Text};
 
@@ -27,24 +45,28 @@ pub struct Doc {
     plugins: u32,
     /// Whether the front end has the lines of the window.
     valid: bool,
-    ghost whole: { IsWhole engine text caret plugins },
+}
+
+impl Model for Doc {
+    ghost use Rattle.doc_session.specs.InMemory.{Doc};
+
+    ghost Value = { Doc };
+
+    ghost use Rattle.doc_session.specs.Whole.{IsOfSome};
+
+    ghost view = { λ d. record {
+      engine = d.engine;
+      text = d.text;
+      lines = d.lines;
+      caret = d.caret;
+      plugins = d.plugins;
+      valid = d.valid;
+    } };
+
+    ghost invariant = { λ d. IsOfSome d.engine d.text d.caret d.plugins };
 }
 
 impl Doc {
-    ghost use Rattle.xi_plain.specs.Collection.{kept};
-    ghost use Rattle.rev_engine.specs.Given.{Asked};
-    ghost use Rattle.rev_engine.specs.Engine.{asked_by};
-    ghost use Rattle.doc_session.specs.Asking.{insertion_at, plugin_edit, refusal_of};
-    ghost use Rattle.doc_session.specs.Document.{Document, layout_of, loaded_document, text_of};
-    ghost use Rattle.doc_session.specs.Fault.{Refuses};
-    ghost use Rattle.doc_session.specs.Moved.{IsMoved};
-    ghost use Rattle.doc_session.specs.ScreenOf.{IsUpToDate};
-    ghost use Rattle.doc_session.specs.Stands.{StandsFor};
-    ghost use Rattle.doc_session.specs.Step.{AreOf, HasCaller, edit_step, plugin_step, refusal_at, step_of, still_step};
-    ghost use Rattle.doc_session.specs.declared.event.Event.TheVariants.{Front};
-    ghost use Rattle.xi_plain.specs.declared.command.EditAct.TheVariants.{Insert};
-    ghost use Rattle.doc_session.specs.Lacking.{is_lacking};
-
     /// The document of a text that was just loaded, in its time, before its front end is told of it. `plugins` is how many plugins
     /// there are, and `limit` the most characters that may be inserted from now on. Lines are not wrapped yet, and tabs are not
     /// laid out, so the configuration is passed over.
@@ -56,7 +78,7 @@ impl Doc {
         _config: Config,
     ) -> Result<Doc, NoMemory>
         requires { limit ≤ 2 ^ 60 }
-        ensures { IfOk result (λ made. StandsFor made (loaded_document text plugins limit)) }
+        ensures { IfOk result (λ made. DocStandsFor made (loaded_document text plugins limit)) }
     {
         let lines = layout_of(alloc, &text, 0)?;
         let engine = Engine::of_text(alloc, text.copy(alloc)?, limit)?;
@@ -70,8 +92,8 @@ impl Doc {
         })
     }
 
-    /// What an event comes to, in the time of the text and the layout. After an `Err` the document is as before, also for want of
-    /// memory. `named` is passed over, and no step is counted yet.
+    /// What an event comes to: [`Doc::ready`], and then [`Doc::put`]. After an `Err` the document is as before, also for want of
+    /// memory.
     pub fn apply<L: Ledger>(
         &mut self,
         alloc: Global,
@@ -80,15 +102,41 @@ impl Doc {
     ) -> Result<Effects, DocFault>
         requires caller { HasCaller self.old.plugins event }
         requires has_number { head self.old.engine.revisions < 2 ^ 63 - 1 }
-        ensures stands { (plain : Document) → StandsFor self.old plain
-            → OnOk result (StandsFor self.new (step_of plain event).document) }
-        ensures effects { (plain : Document) → StandsFor self.old plain → IfOk result (AreOf (step_of plain event)) }
-        ensures accepted { (plain : Document) → StandsFor self.old plain → OnOk result (refusal_at plain event ≡ None) }
-        ensures refused { (plain : Document) → StandsFor self.old plain → IfErr result (Refuses (refusal_at plain event)) }
-        ensures same { OnErr result (self.new ≡ self.old) }
-        ensures shown { (plain : Document) → StandsFor self.old plain → IsUpToDate (step_of plain event).document }
-        ensures grows { head self.new.engine.revisions ≤ head self.old.engine.revisions + 1 }
+        ensures stands { (plain : Document) → DocStandsFor self.old plain
+            → OnOk result (DocStandsFor self.new (event_step plain event).document) }
+        ensures effects { (plain : Document) → DocStandsFor self.old plain → IfOk result (AreOf (event_step plain event)) }
+        ensures accepted { (plain : Document) → DocStandsFor self.old plain → OnOk result (refusal_at plain event ≡ None) }
+        ensures refused { (plain : Document) → DocStandsFor self.old plain → IfErr result (DocRefuses (refusal_at plain event)) }
+        ensures shown { (plain : Document) → DocStandsFor self.old plain → IsUpToDate (event_step plain event).document }
+        ensures same { OnErr result (doc_contents self.new ≡ doc_contents self.old) }
         ensures plugins { self.new.plugins ≡ self.old.plugins }
+        ensures steps { steps.new ≡ steps.old }
+    {
+        let (ready, effects) = self.ready(alloc, event, steps)?;
+        self.put(ready);
+        Ok(effects)
+    }
+
+    /// Takes all the memory that an event needs and works out what it comes to for those outside, in the time of the text and the
+    /// layout; an edit against an old revision costs the runs of the later ones besides. The document is as before. `named` is passed
+    /// over, and no step is counted yet.
+    pub fn ready<L: Ledger>(
+        &mut self,
+        alloc: Global,
+        event: Event,
+        steps: &mut Steps<L>,
+    ) -> Result<(ReadyEvent, Effects), DocFault>
+        requires caller { HasCaller self.old.plugins event }
+        requires has_number { head self.old.engine.revisions < 2 ^ 63 - 1 }
+        ensures may_take { IfOk result (λ made. MayTake self.new made.0) }
+        ensures stands { (plain : Document) → DocStandsFor self.old plain
+            → IfOk result (λ made. DocStandsFor (with_event self.new made.0) (event_step plain event).document) }
+        ensures effects { (plain : Document) → DocStandsFor self.old plain
+            → IfOk result (λ made. AreOf (event_step plain event) made.1) }
+        ensures accepted { (plain : Document) → DocStandsFor self.old plain → OnOk result (refusal_at plain event ≡ None) }
+        ensures refused { (plain : Document) → DocStandsFor self.old plain → IfErr result (DocRefuses (refusal_at plain event)) }
+        ensures shown { (plain : Document) → DocStandsFor self.old plain → IsUpToDate (event_step plain event).document }
+        ensures same { doc_contents self.new ≡ doc_contents self.old }
         ensures steps { steps.new ≡ steps.old }
     {
         match event {
@@ -102,28 +150,56 @@ impl Doc {
         }
     }
 
+    /// Puts an event in that was made ready since the last one was put in, in O(1) and without memory.
+    pub fn put(&mut self, ready: ReadyEvent)
+        requires { MayTake self.old ready }
+        ensures { self.new ≡ with_event self.old ready }
+    {
+        let ReadyEvent { edited } = ready;
+        self.valid = true;
+        if let Some(edited) = edited {
+            self.take(edited);
+        }
+    }
+
+    fn take(&mut self, edited: Edited)
+        requires { MayTakeEdited self.old (Some edited) }
+        ensures { self.new ≡ with_edited self.old (Some edited) }
+    {
+        let Edited {
+            ready,
+            text,
+            lines,
+            caret,
+        } = edited;
+        self.engine.put(ready);
+        self.text = text;
+        self.lines = lines;
+        self.caret = caret;
+        self.valid = true;
+    }
+
     // The front end puts characters in at its caret, against the head.
-    fn insert(&mut self, alloc: Global, chars: &Text) -> Result<Effects, DocFault>
+    fn insert(&mut self, alloc: Global, chars: &Text) -> Result<(ReadyEvent, Effects), DocFault>
         requires { head self.old.engine.revisions < 2 ^ 63 - 1 }
-        ensures stands { (plain : Document) → StandsFor self.old plain
-            → OnOk result (StandsFor self.new (step_of plain (Front (Insert chars.now))).document) }
-        ensures effects { (plain : Document) → StandsFor self.old plain
-            → IfOk result (AreOf (step_of plain (Front (Insert chars.now)))) }
-        ensures accepted { (plain : Document) → StandsFor self.old plain
+        ensures may_take { IfOk result (λ made. MayTake self.new made.0) }
+        ensures stands { (plain : Document) → DocStandsFor self.old plain
+            → IfOk result (λ made. DocStandsFor (with_event self.new made.0) (event_step plain (Front (Insert chars.now))).document) }
+        ensures effects { (plain : Document) → DocStandsFor self.old plain
+            → IfOk result (λ made. AreOf (event_step plain (Front (Insert chars.now))) made.1) }
+        ensures accepted { (plain : Document) → DocStandsFor self.old plain
             → OnOk result (refusal_at plain (Front (Insert chars.now)) ≡ None) }
-        ensures refused { (plain : Document) → StandsFor self.old plain
-            → IfErr result (Refuses (refusal_at plain (Front (Insert chars.now)))) }
-        ensures grows { head self.new.engine.revisions ≤ head self.old.engine.revisions + 1 }
-        ensures plugins { self.new.plugins ≡ self.old.plugins }
-        ensures same { OnErr result (self.new ≡ self.old) }
+        ensures refused { (plain : Document) → DocStandsFor self.old plain
+            → IfErr result (DocRefuses (refusal_at plain (Front (Insert chars.now)))) }
+        ensures same { doc_contents self.new ≡ doc_contents self.old }
     {
         if chars.is_empty() {
             return Ok(self.look(alloc)?);
         }
         let typed = self.insertion(alloc, chars)?;
-        let moved = moved_by(alloc, &self.engine, &self.text, &typed)?;
+        let moved = moved_by(alloc, &mut self.engine, &self.text, &typed)?;
         let caret = self.caret + chars.len();
-        Ok(self.settle(alloc, moved, caret, Body::Null)?)
+        Ok(self.settled(alloc, moved, caret, Body::Null)?)
     }
 
     // The edit that puts characters in at the caret.
@@ -152,72 +228,79 @@ impl Doc {
     }
 
     // A plugin edits the text.
-    fn edit(&mut self, alloc: Global, caller: u32, edit: Edit) -> Result<Effects, DocFault>
+    fn edit(
+        &mut self,
+        alloc: Global,
+        caller: u32,
+        edit: Edit,
+    ) -> Result<(ReadyEvent, Effects), DocFault>
         requires caller { (1 ≤ caller) × (caller ≤ self.old.plugins) }
         requires has_number { head self.old.engine.revisions < 2 ^ 63 - 1 }
-        ensures stands { (plain : Document) → StandsFor self.old plain
-            → OnOk result (StandsFor self.new (plugin_step plain caller edit).document) }
-        ensures effects { (plain : Document) → StandsFor self.old plain
-            → IfOk result (AreOf (plugin_step plain caller edit)) }
-        ensures accepted { (plain : Document) → StandsFor self.old plain
-            → OnOk result (refusal_of plain (plugin_edit plain caller edit) ≡ None) }
-        ensures refused { (plain : Document) → StandsFor self.old plain
-            → IfErr result (Refuses (refusal_of plain (plugin_edit plain caller edit))) }
-        ensures grows { head self.new.engine.revisions ≤ head self.old.engine.revisions + 1 }
-        ensures plugins { self.new.plugins ≡ self.old.plugins }
-        ensures same { OnErr result (self.new ≡ self.old) }
+        ensures may_take { IfOk result (λ made. MayTake self.new made.0) }
+        ensures stands { (plain : Document) → DocStandsFor self.old plain
+            → IfOk result (λ made. DocStandsFor (with_event self.new made.0) (plugin_step plain caller edit).document) }
+        ensures effects { (plain : Document) → DocStandsFor self.old plain
+            → IfOk result (λ made. AreOf (plugin_step plain caller edit) made.1) }
+        ensures accepted { (plain : Document) → DocStandsFor self.old plain
+            → OnOk result (asked_refusal plain (plugin_edit plain caller edit) ≡ None) }
+        ensures refused { (plain : Document) → DocStandsFor self.old plain
+            → IfErr result (DocRefuses (asked_refusal plain (plugin_edit plain caller edit))) }
+        ensures same { doc_contents self.new ≡ doc_contents self.old }
     {
         let rev = self.engine.head() + 1;
         let after_cursor = edit.after_cursor;
         let edit = given(edit, caller, rev);
-        let moved = moved_by(alloc, &self.engine, &self.text, &edit)?;
-        let caret = caret_after(alloc, self.caret, &moved.units, after_cursor)?;
-        Ok(self.settle(alloc, moved, caret, Body::Edited { rev, group: rev })?)
+        let moved = moved_by(alloc, &mut self.engine, &self.text, &edit)?;
+        let units = &moved.ready.change.units;
+        let caret = caret_after(alloc, self.caret, units, after_cursor)?;
+        Ok(self.settled(alloc, moved, caret, Body::Edited { rev, group: rev })?)
     }
 
-    // Puts the document after an edit in place of the one before, and says what the front end and the plugins are told.
-    fn settle(
-        &mut self,
+    // Lays out the text after an edit, and says what the front end and the plugins are told.
+    fn settled(
+        &self,
         alloc: Global,
         moved: Moved,
         caret: u64,
         body: Body,
-    ) -> Result<Effects, NoMemory>
-        requires whole { IsWhole moved.engine moved.text caret self.old.plugins }
-        ensures stands { (plain : Document) (asked : Asked) → StandsFor self.old plain
-            → IsMoved plain.history plain.limit asked moved
-            → OnOk result (StandsFor self.new (edit_step plain asked caret body).document) }
-        ensures effects { (plain : Document) (asked : Asked) → StandsFor self.old plain
-            → IsMoved plain.history plain.limit asked moved
-            → IfOk result (AreOf (edit_step plain asked caret body)) }
-        ensures engine { OnOk result (self.new.engine ≡ moved.engine) }
-        ensures plugins { self.new.plugins ≡ self.old.plugins }
-        ensures same { OnErr result (self.new ≡ self.old) }
+    ) -> Result<(ReadyEvent, Effects), NoMemory>
+        requires may_put { MayPut self.now.engine moved.ready }
+        requires whole { IsOfSome (with_edit self.now.engine moved.ready) moved.text caret self.now.plugins }
+        ensures may_take { IfOk result (λ made. MayTake self.now made.0) }
+        ensures stands { (plain : Document) (asked : Asked) → DocStandsFor self.now plain
+            → IsMoved plain.history self.now.engine asked moved
+            → IfOk result (λ made. DocStandsFor (with_event self.now made.0) (edit_step plain asked caret body).document) }
+        ensures effects { (plain : Document) (asked : Asked) → DocStandsFor self.now plain
+            → IsMoved plain.history self.now.engine asked moved
+            → IfOk result (λ made. AreOf (edit_step plain asked caret body) made.1) }
     {
         let Moved {
-            engine,
+            ready,
             text,
-            units: _,
             notice,
         } = moved;
         let lines = layout_of(alloc, &text, caret)?;
         let wanted = self.lacks(&text, caret);
         let update = update_if(alloc, wanted, &lines, false)?;
         let scroll = scroll_of(point_of(&self.text, self.caret), point_of(&text, caret));
-        *self = Doc {
-            engine,
+        let edited = Edited {
+            ready,
             text,
             lines,
             caret,
-            plugins: self.plugins,
-            valid: true,
         };
-        Ok(Effects {
+        let effects = Effects {
             body,
             update,
             scroll,
             notice: Some(notice),
-        })
+        };
+        Ok((
+            ReadyEvent {
+                edited: Some(edited),
+            },
+            effects,
+        ))
     }
 
     // Whether the front end has to be told of this text and caret, which an edit made.
@@ -231,28 +314,27 @@ impl Doc {
     }
 
     // Nothing changes, and the front end is told what it lacks.
-    fn look(&mut self, alloc: Global) -> Result<Effects, NoMemory>
-        ensures stands { (plain : Document) → StandsFor self.old plain
-            → OnOk result (StandsFor self.new (still_step plain).document) }
-        ensures effects { (plain : Document) → StandsFor self.old plain → IfOk result (AreOf (still_step plain)) }
-        ensures engine { self.new.engine ≡ self.old.engine }
-        ensures plugins { self.new.plugins ≡ self.old.plugins }
-        ensures same { OnErr result (self.new ≡ self.old) }
+    fn look(&self, alloc: Global) -> Result<(ReadyEvent, Effects), NoMemory>
+        ensures may_take { IfOk result (λ made. MayTake self.now made.0) }
+        ensures stands { (plain : Document) → DocStandsFor self.now plain
+            → IfOk result (λ made. DocStandsFor (with_event self.now made.0) (still_step plain).document) }
+        ensures effects { (plain : Document) → DocStandsFor self.now plain
+            → IfOk result (λ made. AreOf (still_step plain) made.1) }
     {
         let pristine = self.engine.head() == 0;
         let update = update_if(alloc, !self.valid, &self.lines, pristine)?;
-        self.valid = true;
-        Ok(Effects {
+        let effects = Effects {
             body: Body::Null,
             update,
             scroll: None,
             notice: None,
-        })
+        };
+        Ok((ReadyEvent { edited: None }, effects))
     }
 
     /// The last revision.
     pub fn head(&self) -> u64
-        ensures head { (plain : Document) → StandsFor self.now plain → result ≡ head plain.history }
+        ensures head { (plain : Document) → DocStandsFor self.now plain → result ≡ head plain.history }
         ensures revisions { result ≡ head self.now.engine.revisions }
     {
         self.engine.head()
@@ -260,28 +342,28 @@ impl Doc {
 
     /// A copy of the head text.
     pub fn head_text(&self, alloc: Global) -> Result<Text, NoMemory>
-        ensures { (plain : Document) → StandsFor self.now plain → IfOk result (λ text. text ≡ text_of plain) }
+        ensures { (plain : Document) → DocStandsFor self.now plain → IfOk result (λ text. text ≡ text_of plain) }
     {
         self.text.copy(alloc)
     }
 
     /// How many characters some revision can still show.
     pub fn kept(&self) -> u64
-        ensures { (plain : Document) → StandsFor self.now plain → result ≡ kept plain.history }
+        ensures { (plain : Document) → DocStandsFor self.now plain → result ≡ kept plain.history }
     {
         self.engine.kept()
     }
 
     /// How many lines the layout has.
     pub fn lines(&self) -> u64
-        ensures { (plain : Document) → StandsFor self.now plain → result ≡ length (layout_of plain) }
+        ensures { (plain : Document) → DocStandsFor self.now plain → result ≡ length (layout_of plain) }
     {
         self.lines.len() as u64
     }
 
     /// A second document that stands for the same.
     pub fn copy(&self, alloc: Global) -> Result<Doc, NoMemory>
-        ensures { IfOk result (λ made. made ≡ self.now) }
+        ensures { IfOk result (λ made. doc_contents made ≡ doc_contents self.now) }
     {
         Ok(Doc {
             engine: self.engine.copy(alloc)?,

@@ -13,9 +13,11 @@ pub mod laws;
 mod layout;
 mod moved;
 mod plan;
+mod ready;
 #[cfg(test)]
 mod tests;
 
 pub use doc::Doc;
 pub use event::{Body, Effects, Event};
 pub use fault::DocFault;
+pub use ready::ReadyEvent;

@@ -1,87 +1,80 @@
-// What an edit leaves, beside what there was: nothing is changed where it is refused, or where memory is wanting.
-ghost use Rattle.std.specs.Prelude.{◌≡◌, ◌+◌, None, IfOk, IfErr};
+// What an edit comes to, beside the text that there is: nothing is changed where it is refused, or where memory is wanting.
+ghost use Rattle.std.specs.Prelude.{◌≡◌, None, IfOk, IfErr};
 ghost use Rattle.xi_plain.specs.Edits.{edit_refusal};
-ghost use Rattle.xi_plain.specs.History.{History, head};
+ghost use Rattle.xi_plain.specs.History.{History};
 ghost use Rattle.rev_engine.specs.Engine.{asked_by};
 ghost use Rattle.rev_engine.specs.Given.{MayAsk};
-ghost use Rattle.doc_session.specs.Fault.{Refuses};
+ghost use Rattle.rev_engine.specs.State.{contents};
+ghost use Rattle.rev_engine.specs.Steps.{MayPut};
+ghost use Rattle.doc_session.specs.Fault.{DocRefuses};
 ghost use Rattle.doc_session.specs.Moved.{IsMoved, IsTakenBy};
-ghost use Rattle.doc_session.specs.Whole.{IsChangeOf, IsShown, LeadsTo, Shows};
+ghost use Rattle.doc_session.specs.Whole.{IsChangeOf, ShowsSomeHead, LeadsTo, ShowsHead};
 
 use crate::fault::DocFault;
 use delta_core::{apply, to_wire};
-use rev_engine::{Change, Edit, Engine};
+use rev_engine::{Edit, Engine, Ready};
 use std::alloc::Global;
-use xi_plain::{Notice, Text, UnitDelta};
+use xi_plain::{Notice, Text};
 
-/// The engine with an edit, and what the edit did to the head text.
-#[derive(Drop)]
-pub(crate) struct Taken {
-    pub(crate) engine: Engine,
-    pub(crate) change: Change,
-}
-
-/// The same, with the head text and what the plugins are told.
+/// An edit that was made ready for the engine, with the head text after it and what the plugins are told.
 #[derive(Drop)]
 pub(crate) struct Moved {
-    pub(crate) engine: Engine,
+    pub(crate) ready: Ready,
     pub(crate) text: Text,
-    pub(crate) units: UnitDelta,
     pub(crate) notice: Notice,
 }
 
-// Takes an edit beside the engine that there is.
-fn taken_by(alloc: Global, engine: &Engine, text: &Text, edit: &Edit) -> Result<Taken, DocFault>
-    requires may { MayAsk engine.now.revisions edit.now.group }
-    requires shown { IsShown engine.now text.now }
-    ensures taken { (history : History) → Shows history engine.now text.now
-        → IfOk result (IsTakenBy history engine.now.limit (asked_by edit.now)) }
-    ensures accepted { (history : History) → Shows history engine.now text.now
-        → IfOk result (λ _. edit_refusal history engine.now.limit edit.now.rev edit.now.delta ≡ None) }
-    ensures refused { (history : History) → Shows history engine.now text.now
-        → IfErr result (Refuses (edit_refusal history engine.now.limit edit.now.rev edit.now.delta)) }
-    ensures sound { IfOk result (λ made. IsChangeOf text.now made.change.units) }
-    ensures next { IfOk result (λ made. head made.engine.revisions ≡ head engine.now.revisions + 1) }
+// Makes an edit of the head text ready.
+fn taken_by(alloc: Global, engine: &mut Engine, text: &Text, edit: &Edit) -> Result<Ready, DocFault>
+    requires may { MayAsk engine.old.revisions edit.now.group }
+    requires shown { ShowsSomeHead engine.old text.now }
+    ensures may_put { IfOk result (MayPut engine.new) }
+    ensures taken { (history : History) → ShowsHead history engine.old text.now
+        → IfOk result (IsTakenBy history engine.new (asked_by edit.now)) }
+    ensures accepted { (history : History) → ShowsHead history engine.old text.now
+        → IfOk result (λ _. edit_refusal history engine.old.limit edit.now.rev edit.now.delta ≡ None) }
+    ensures refused { (history : History) → ShowsHead history engine.old text.now
+        → IfErr result (DocRefuses (edit_refusal history engine.old.limit edit.now.rev edit.now.delta)) }
+    ensures sound { IfOk result (λ ready. IsChangeOf text.now ready.change.units) }
+    ensures same { contents engine.new ≡ contents engine.old }
 {
-    let mut engine = engine.copy(alloc)?;
-    let change = engine.edit(alloc, edit)?;
-    Ok(Taken { engine, change })
+    let _text = text;
+    Ok(engine.ready(alloc, edit)?)
 }
 
-/// Takes an edit beside the engine and its head text.
+/// What an edit of the head text comes to; the engine holds what it held.
 pub(crate) fn moved_by(
     alloc: Global,
-    engine: &Engine,
+    engine: &mut Engine,
     text: &Text,
     edit: &Edit,
 ) -> Result<Moved, DocFault>
-    requires may { MayAsk engine.now.revisions edit.now.group }
-    requires shown { IsShown engine.now text.now }
-    ensures moved { (history : History) → Shows history engine.now text.now
-        → IfOk result (IsMoved history engine.now.limit (asked_by edit.now)) }
-    ensures accepted { (history : History) → Shows history engine.now text.now
-        → IfOk result (λ _. edit_refusal history engine.now.limit edit.now.rev edit.now.delta ≡ None) }
-    ensures refused { (history : History) → Shows history engine.now text.now
-        → IfErr result (Refuses (edit_refusal history engine.now.limit edit.now.rev edit.now.delta)) }
-    ensures change { IfOk result (λ made. IsChangeOf text.now made.units) }
-    ensures next { IfOk result (λ made. head made.engine.revisions ≡ head engine.now.revisions + 1) }
-    ensures leads { IfOk result (λ made. LeadsTo made.text made.units) }
+    requires may { MayAsk engine.old.revisions edit.now.group }
+    requires shown { ShowsSomeHead engine.old text.now }
+    ensures may_put { IfOk result (λ made. MayPut engine.new made.ready) }
+    ensures moved { (history : History) → ShowsHead history engine.old text.now
+        → IfOk result (IsMoved history engine.new (asked_by edit.now)) }
+    ensures accepted { (history : History) → ShowsHead history engine.old text.now
+        → IfOk result (λ _. edit_refusal history engine.old.limit edit.now.rev edit.now.delta ≡ None) }
+    ensures refused { (history : History) → ShowsHead history engine.old text.now
+        → IfErr result (DocRefuses (edit_refusal history engine.old.limit edit.now.rev edit.now.delta)) }
+    ensures change { IfOk result (λ made. IsChangeOf text.now made.ready.change.units) }
+    ensures leads { IfOk result (λ made. LeadsTo made.text made.ready.change.units) }
+    ensures same { contents engine.new ≡ contents engine.old }
 {
-    let Taken { engine, change } = taken_by(alloc, engine, text, edit)?;
-    let Change { rev, units } = change;
-    let delta = to_wire(alloc, text, &units)?;
-    let text = apply(alloc, text, &units)?;
+    let ready = taken_by(alloc, engine, text, edit)?;
+    let delta = to_wire(alloc, text, &ready.change.units)?;
+    let text = apply(alloc, text, &ready.change.units)?;
     let notice = Notice {
         view: Text::new(alloc),
         author: edit.author,
-        rev,
+        rev: ready.change.rev,
         new_len: text.byte_len(),
         delta,
     };
     Ok(Moved {
-        engine,
+        ready,
         text,
-        units,
         notice,
     })
 }

@@ -43,7 +43,7 @@ abbrev pub IsLastChange : History → UnitDelta → Type 0
 IsLastChange plain units = text_after units (text_at plain (head plain - 1)) ≡ text_at plain (head plain)
 
 -- an engine is asked for an edit of the group: it counts from 1 and is not collected, and there are fewer revisions than a million
-pub record IsAsked (revisions : History) (group : ℕ) : Type 0 where
+pub record IsAskedEdit (revisions : History) (group : ℕ) : Type 0 where
   pub group_counts : 0 < group
   pub group_kept : has revisions.collected group ≡ false
   pub few : head revisions < 1000000
@@ -53,7 +53,7 @@ abbrev pub IsOtherAnswer : State → NewEdit → EngineFault → Type 0
 IsOtherAnswer engine e (faults.OtherAnswer is wanted) = EachIs engine (λ history. refusal_in engine e history ≢ answer_of wanted)
 IsOtherAnswer engine e (faults.OtherRevision rev number) =
     (number ≢ rev) × EachIs engine (λ history. head (after history (asked_of e)) ≡ number)
-IsOtherAnswer engine e faults.NotAsked = IsAsked engine.revisions e.group → ⊥
+IsOtherAnswer engine e faults.NotAsked = IsAskedEdit engine.revisions e.group → ⊥
 IsOtherAnswer engine e faults.NoMemory = Unit {0}
 IsOtherAnswer engine e fault = ⊥
 

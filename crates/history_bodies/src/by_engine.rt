@@ -7,7 +7,8 @@ ghost use Rattle.plain_history.specs.EditFault.{refusal_of};
 ghost use Rattle.rev_engine.specs.Engine.{StandsFor, asked_by};
 ghost use Rattle.rev_engine.specs.Fault.{refusal_by};
 ghost use Rattle.rev_engine.specs.Given.{MayAsk, after};
-ghost use Rattle.history_bodies.specs.Engines.{asked_of, refusal_in, EachIs, EngineDiffers, IsAsked, IsLastChange, IsOther, IsOtherAnswer, IsOtherChange, Matches};
+ghost use Rattle.rev_engine.specs.State.{contents};
+ghost use Rattle.history_bodies.specs.Engines.{asked_of, refusal_in, EachIs, EngineDiffers, IsAskedEdit, IsLastChange, IsOther, IsOtherAnswer, IsOtherChange, Matches};
 
 use crate::engine_fault::EngineFault;
 use crate::same::is_same_text;
@@ -70,7 +71,7 @@ pub fn refuse(
     requires { wanted ≢ EditFault.NoMemory }
     ensures same { OnOk result (EachIs engine.old (λ history.
         refusal_in engine.old edit.now history ≡ refusal_of wanted)) }
-    ensures unchanged { OnOk result (engine.new ≡ engine.old) }
+    ensures unchanged { OnOk result (contents engine.new ≡ contents engine.old) }
     ensures differ { IfErr result (IsOtherAnswer engine.old edit.now) }
 {
     if !may_ask(engine, edit.group) {
@@ -93,7 +94,7 @@ pub fn refuse(
 
 /// Whether the engine can be asked for an edit of the group.
 fn may_ask(engine: &Engine, group: u64) -> bool
-    ensures asked { IsTrue result ↔ IsAsked engine.now.revisions group }
+    ensures asked { IsTrue result ↔ IsAskedEdit engine.now.revisions group }
     ensures may { IsTrue result → MayAsk engine.now.revisions group }
 {
     0 < group && !engine.is_collected(group) && engine.head() < MOST

@@ -1,6 +1,7 @@
 //! Whether two values are the same.
 
 ghost use Rattle.std.specs.Prelude.{◌≡◌, ◌↔◌, IsTrue};
+ghost use Rattle.history_bodies.specs.Sets.{IsFirstDifference};
 
 use subset_runs::Subset;
 use xi_plain::Text;
@@ -21,7 +22,9 @@ pub fn is_same_set(one: &Subset, other: &Subset) -> bool
 }
 
 /// The first position that one of the sets has and the other has not; the lesser length where there is none.
-pub fn first_difference(one: &Subset, other: &Subset) -> u64 {
+pub fn first_difference(one: &Subset, other: &Subset) -> u64
+    ensures { IsFirstDifference one.now other.now result }
+{
     let both = one.len().min(other.len());
     for position in 0..both {
         if one.contains(position) != other.contains(position) {

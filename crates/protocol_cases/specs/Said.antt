@@ -51,8 +51,8 @@ IsProper (side way piece) = IsProperPiece piece
 IsProper (status code) = Unit {0}
 
 -- what stands after the mark, where the line begins with it
-abbrev pub after : List ℕ → List ℕ → Option (List ℕ)
-after mark line = if bytes_eq (take (length mark) line) mark then Some (drop (length mark) line) else None
+abbrev pub after_mark : List ℕ → List ℕ → Option (List ℕ)
+after_mark mark line = if bytes_eq (take (length mark) line) mark then Some (drop (length mark) line) else None
 
 -- what the text says, where there is one, or else what is said without it
 abbrev pub or_else : {A : Type 0} → Option (List ℕ) → (List ℕ → Option A) → Option A → Option A
@@ -68,22 +68,22 @@ status_said text = option_and_then small_status (number_of text)
 
 -- of the calls of one end: the greatest piece that one moves, or which one fails
 abbrev pub piece_said : List ℕ → Option Piece
-piece_said text = or_else (after (codes "piece ") text) (λ count. option_map at_most (positive_of count)) (option_map fails (positive_of text))
+piece_said text = or_else (after_mark (codes "piece ") text) (λ count. option_map at_most (positive_of count)) (option_map fails (positive_of text))
 
 -- of the calls of the source, or of those of the sink
 abbrev pub call_said : List ℕ → Option Meaning
 call_said text =
-    or_else (after (codes "read ") text) (λ call. option_map (side Input) (piece_said call))
-    (or_else (after (codes "write ") text) (λ call. option_map (side Output) (piece_said call)) None)
+    or_else (after_mark (codes "read ") text) (λ call. option_map (side Input) (piece_said call))
+    (or_else (after_mark (codes "write ") text) (λ call. option_map (side Output) (piece_said call)) None)
 
 -- WHAT A LINE SAYS, without its LF; `None` is a bad line
 abbrev pub said_of : List ℕ → Option Meaning
 said_of line =
-    or_else (after (codes "> ") line) (λ text. Some (side Input (bytes (text ++ 10 ∷ []))))
-    (or_else (after (codes ">| ") line) (λ text. Some (side Input (bytes text)))
-    (or_else (after (codes ">* ") line) (λ count. option_map (λ n. side Input (filler n)) (number_of count))
-    (or_else (after (codes "< ") line) (λ text. Some (side Output (bytes (text ++ 10 ∷ []))))
-    (or_else (after (codes "<| ") line) (λ text. Some (side Output (bytes text)))
-    (or_else (after (codes "= ") line) status_said
-    (or_else (after (codes "! ") line) call_said
-    (or_else (after (codes "#") line) (λ text. Some remark) None)))))))
+    or_else (after_mark (codes "> ") line) (λ text. Some (side Input (bytes (text ++ 10 ∷ []))))
+    (or_else (after_mark (codes ">| ") line) (λ text. Some (side Input (bytes text)))
+    (or_else (after_mark (codes ">* ") line) (λ count. option_map (λ n. side Input (filler n)) (number_of count))
+    (or_else (after_mark (codes "< ") line) (λ text. Some (side Output (bytes (text ++ 10 ∷ []))))
+    (or_else (after_mark (codes "<| ") line) (λ text. Some (side Output (bytes text)))
+    (or_else (after_mark (codes "= ") line) status_said
+    (or_else (after_mark (codes "! ") line) call_said
+    (or_else (after_mark (codes "#") line) (λ text. Some remark) None)))))))

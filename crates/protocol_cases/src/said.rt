@@ -1,5 +1,5 @@
 ghost use Rattle.std.specs.Prelude.{◌≡◌, Option, option_map, IfSome};
-ghost use Rattle.protocol_cases.specs.Said.{after, said_of, call_said, piece_said, status_said, IsProper, IsProperPiece, said_view, part_view};
+ghost use Rattle.protocol_cases.specs.Said.{after_mark, said_of, call_said, piece_said, status_said, IsProper, IsProperPiece, said_view, part_view};
 
 use crate::number::{number_of, positive_of};
 
@@ -39,33 +39,33 @@ pub fn said_of(line: &[u8]) -> Option<Said<'_>>
     ensures said { option_map said_view result ≡ said_of line.now }
     ensures proper { IfSome result (λ said. IsProper (said_view said)) }
 {
-    if let Some(text) = after(line, b"> ") {
+    if let Some(text) = after_mark(line, b"> ") {
         return Some(Said::Side(Way::Input, Part::Line(text)));
     }
-    if let Some(text) = after(line, b">| ") {
+    if let Some(text) = after_mark(line, b">| ") {
         return Some(Said::Side(Way::Input, Part::Rest(text)));
     }
-    if let Some(count) = after(line, b">* ") {
+    if let Some(count) = after_mark(line, b">* ") {
         return Some(Said::Side(Way::Input, Part::Filler(number_of(count)?)));
     }
-    if let Some(text) = after(line, b"< ") {
+    if let Some(text) = after_mark(line, b"< ") {
         return Some(Said::Side(Way::Output, Part::Line(text)));
     }
-    if let Some(text) = after(line, b"<| ") {
+    if let Some(text) = after_mark(line, b"<| ") {
         return Some(Said::Side(Way::Output, Part::Rest(text)));
     }
-    if let Some(text) = after(line, b"= ") {
+    if let Some(text) = after_mark(line, b"= ") {
         return status_said(text);
     }
-    if let Some(text) = after(line, b"! ") {
+    if let Some(text) = after_mark(line, b"! ") {
         return call_said(text);
     }
-    after(line, b"#").map(|_| Said::Remark)
+    after_mark(line, b"#").map(|_| Said::Remark)
 }
 
 /// What stands after the mark, where the line begins with it.
-fn after<'a>(line: &'a [u8], mark: &[u8]) -> Option<&'a [u8]>
-    ensures { option_map (λ text. text.now) result ≡ after mark.now line.now }
+fn after_mark<'a>(line: &'a [u8], mark: &[u8]) -> Option<&'a [u8]>
+    ensures { option_map (λ text. text.now) result ≡ after_mark mark.now line.now }
 {
     line.strip_prefix(mark)
 }
@@ -85,10 +85,10 @@ fn call_said(text: &[u8]) -> Option<Said<'static>>
     ensures said { option_map said_view result ≡ call_said text.now }
     ensures proper { IfSome result (λ said. IsProper (said_view said)) }
 {
-    if let Some(call) = after(text, b"read ") {
+    if let Some(call) = after_mark(text, b"read ") {
         return Some(Said::Side(Way::Input, piece_said(call)?));
     }
-    if let Some(call) = after(text, b"write ") {
+    if let Some(call) = after_mark(text, b"write ") {
         return Some(Said::Side(Way::Output, piece_said(call)?));
     }
     None
@@ -98,7 +98,7 @@ fn piece_said(text: &[u8]) -> Option<Part<'static>>
     ensures said { option_map part_view result ≡ piece_said text.now }
     ensures proper { IfSome result (λ part. IsProperPiece (part_view part)) }
 {
-    if let Some(count) = after(text, b"piece ") {
+    if let Some(count) = after_mark(text, b"piece ") {
         return Some(Part::AtMost(positive_of(count)?));
     }
     Some(Part::Fails(positive_of(text)?))

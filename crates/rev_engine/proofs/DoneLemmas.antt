@@ -59,7 +59,7 @@ accepted-stands engine edit fitting h stands is =
 -- ---- the parts after it go together
 
 module _ (engine : State) (edit : Edit) (fitting : Fitting) (ready : Ready) (held : IsHeld engine.union engine.revisions engine.limit engine.spent)
-    (is : IsFitting engine edit fitting) (made : IsMade engine.union engine.revisions edit fitting.units ready) where
+    (is : IsFitting engine edit fitting) (made : IsMade engine.union engine.revisions edit fitting ready) where
   grown : length (insertion_flags engine.revisions (in_characters edit fitting.units)) ≡
       length engine.union + count (insertion_flags engine.revisions (in_characters edit fitting.units))
   grown =
@@ -122,7 +122,7 @@ positions-textless h e =
 
 module _ (engine : State) (edit : Edit) (fitting : Fitting) (ready : Ready) (h : History) (positions : length engine.union ≡ length engine.revisions.characters)
     (stands : StandsFor engine h) (may : MayAsk engine.revisions edit.group)
-    (is : IsFitting engine edit fitting) (made : IsMade engine.union engine.revisions edit fitting.units ready) where
+    (is : IsFitting engine edit fitting) (made : IsMade engine.union engine.revisions edit fitting ready) where
   after_is : after h (asked_by edit) ≡ edited h (in_characters edit fitting.units)
   after_is =
       ap (edited h) (same_edit h edit fitting.units (subst (λ text. IsUnitsOf text edit.delta fitting.units) (shown-stands engine h edit.rev stands) is.units))
@@ -176,14 +176,14 @@ module _ (engine : State) (edit : Edit) (fitting : Fitting) (ready : Ready) (h :
   last : head engine.revisions + 1 ≡ head (after h (asked_by edit))
   last = omega (arith, ap head stands.revisions, length-append h.revisions (revision edit.rev edit.group edit.priority edit.author ∷ []))
 
-  pub IsChange-after : (change : Change) → change.rev ≡ head engine.revisions + 1 → change.units ≡ ready.units → IsChange h (after h (asked_by edit)) change
+  pub IsChange-after : (change : Change) → change.rev ≡ head engine.revisions + 1 → change.units ≡ ready.change.units → IsChange h (after h (asked_by edit)) change
   IsChange-after change rev_is units_is = record {
     rev = rev_is ∙ last;
     units =
         rw units_is
-        (subst (λ union. IsBetween union (hidden_at (after h (asked_by edit)) (head h)) (hidden_at (after h (asked_by edit)) (head (after h (asked_by edit)))) ready.units)
+        (subst (λ union. IsBetween union (hidden_at (after h (asked_by edit)) (head h)) (hidden_at (after h (asked_by edit)) (head (after h (asked_by edit)))) ready.change.units)
         (union_is ∙ ap characters_of (sym after_is))
-        (subst (λ before. IsBetween ready.union before (hidden_at (after h (asked_by edit)) (head (after h (asked_by edit)))) ready.units) before_is
-        (subst (λ dead. IsBetween ready.union (expand_in (hidden_at engine.revisions (head engine.revisions)) (insertion_flags engine.revisions (in_characters edit fitting.units))) dead ready.units)
+        (subst (λ before. IsBetween ready.union before (hidden_at (after h (asked_by edit)) (head (after h (asked_by edit)))) ready.change.units) before_is
+        (subst (λ dead. IsBetween ready.union (expand_in (hidden_at engine.revisions (head engine.revisions)) (insertion_flags engine.revisions (in_characters edit fitting.units))) dead ready.change.units)
         (made.edit_ready.dead ∙ (hidden_after (head engine.revisions + 1) ∙ ap (hidden_at (after h (asked_by edit))) last)) made.between)));
   }

@@ -24,7 +24,7 @@ use Rattle.rev_rebase.specs.Rebase.{characters_of}
 use Rattle.rev_engine.specs.Given.{Asked, AreTaken, IsGiven, IsTaken, after, after_all, meant}
 use Rattle.rev_engine.specs.declared.fault.EditFault.{EditFault}
 use Rattle.rev_engine.specs.Fault.{Refuses, fault_of_base, refusal_by}
-use Rattle.rev_engine.specs.State.{State}
+use Rattle.rev_engine.specs.State.{State, contents}
 use Rattle.rev_engine.specs.Steps.{shown_at}
 use Rattle.rev_engine.specs.Engine.{StandsFor}
 use Rattle.rev_engine.proofs.SpentLemmas.{count_by-all}
@@ -105,7 +105,7 @@ kept-stands engine h n stands is =
 
 -- ---- what is shown
 
-outside_visible : (p : Tagged → Bool) (xs : List Tagged) →
+pub outside_visible : (p : Tagged → Bool) (xs : List Tagged) →
     items_outside (map (λ t. not (p t)) xs) (map (λ t. t.character) xs) ≡ map (λ t. t.character) (filter p xs)
 outside_visible p [] = refl
 outside_visible p (x ∷ xs) = both (p x) (outside_visible p xs)
@@ -229,7 +229,7 @@ positions-loaded : (text : List ℕ) → (loaded (replicate (length text) 0)).ch
 positions-loaded [] = refl
 positions-loaded (c ∷ text) = ap (λ (xs : List Tagged). record { character = 0; inserted = 0; deleted = [] } ∷ xs) (positions-loaded text)
 
-spent-loaded : (text : List ℕ) → inserted_count (loaded text) ≡ 0
+pub spent-loaded : (text : List ℕ) → inserted_count (loaded text) ≡ 0
 spent-loaded [] = refl
 spent-loaded (c ∷ text) =
     count_by-no (λ tagged. nat_lt 0 tagged.inserted) (record { character = c; inserted = 0; deleted = [] }) (loaded text).characters refl ∙ spent-loaded text
@@ -243,4 +243,13 @@ StandsFor-loaded engine text union_is revisions_is spent_is = record {
       revisions_is ∙
       ap (λ (xs : List Tagged). record { characters = xs; revisions = []; floor = 0; collected = [] }) (positions-loaded text);
   spent = spent_is ∙ sym (spent-loaded text);
+}
+
+-- what an engine stands for hangs on what it holds alone
+pub StandsFor-contents : (engine now : State) (h : History) → contents now ≡ contents engine → StandsFor engine h → StandsFor now h
+StandsFor-contents engine now h same stands = record {
+  given = rw (ap (λ (e : State). e.limit) same) stands.given;
+  union = ap (λ (e : State). e.union) same ∙ stands.union;
+  revisions = ap (λ (e : State). e.revisions) same ∙ stands.revisions;
+  spent = ap (λ (e : State). e.spent) same ∙ stands.spent;
 }

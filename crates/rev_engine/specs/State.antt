@@ -10,6 +10,12 @@ pub record State : Type 0 where
   -- the most characters that may be inserted after loading, and how many were
   pub limit : ℕ
   pub spent : ℕ
+  -- for how many more revisions there is room without memory
+  pub room : ℕ
+
+-- what an engine holds, whatever room it has
+abbrev pub contents : State → State
+contents engine = record engine { room = 0 }
 
 -- the parts go together, and there are numbers for all characters that may still come
 pub record IsHeld (union : List ℕ) (revisions : History) (limit spent : ℕ) : Type 0 where

@@ -1,5 +1,5 @@
 -- The steps of an edit, over the characters and the revisions of an engine, whatever the histories that it stands for.
-use Rattle.std.specs.Prelude.{◌≡◌, ℕ, ◌+◌, ◌≤◌, List, length}
+use Rattle.std.specs.Prelude.{◌≡◌, ℕ, ◌+◌, ◌-◌, ◌<◌, ◌≤◌, List, length}
 use Rattle.subset_runs.specs.Subset.{items_outside, expand_in}
 use Rattle.xi_plain.specs.declared.delta.UnitDelta.{UnitDelta}
 use Rattle.xi_plain.specs.Delta.{Fits}
@@ -8,6 +8,7 @@ use Rattle.xi_plain.specs.Edits.{PlainEdit, inserted_len}
 use Rattle.xi_plain.specs.UnitDelta.{unit_keeps, unit_adds}
 use Rattle.delta_core.specs.Units.{IsUnitsOf}
 use Rattle.delta_core.specs.Synthesis.{IsBetween}
+use Rattle.rev_list.specs.Edit.{after_edit}
 use Rattle.rev_list.specs.Hidden.{hidden_at}
 use Rattle.rev_list.specs.Kept.{IsReady}
 use Rattle.rev_list.specs.WithoutText.{insertion_flags, in_positions}
@@ -15,7 +16,7 @@ use Rattle.rev_rebase.specs.Rebase.{added_text, put_in}
 use Rattle.rev_engine.specs.declared.edit.Edit.{Edit}
 use Rattle.rev_engine.specs.declared.step.Fitting.{Fitting}
 use Rattle.rev_engine.specs.declared.step.Ready.{Ready}
-use Rattle.rev_engine.specs.State.{State}
+use Rattle.rev_engine.specs.State.{State, IsHeld}
 
 -- what of the characters is visible at a revision
 abbrev pub shown_at : List ℕ → History → ℕ → List ℕ
@@ -49,9 +50,27 @@ pub record IsBased (union : List ℕ) (revisions : History) (edit : Edit) (units
   pub positions : length union ≡ length revisions.characters
 
 -- THE EDIT IS READY: its revision, the characters with its text put in, and what it changes of those that were visible
-pub record IsMade (union : List ℕ) (revisions : History) (edit : Edit) (units : UnitDelta) (ready : Ready) : Type 0 where
-  pub edit_is : ready.edit.edit ≡ in_positions revisions (in_characters edit units)
+pub record IsMade (union : List ℕ) (revisions : History) (edit : Edit) (fitting : Fitting) (ready : Ready) : Type 0 where
+  pub edit_is : ready.edit.edit ≡ in_positions revisions (in_characters edit fitting.units)
   pub edit_ready : IsReady revisions ready.edit
-  pub union_is : ready.union ≡ put_in (insertion_flags revisions (in_characters edit units)) (added_text units) union
+  pub union_is : ready.union ≡ put_in (insertion_flags revisions (in_characters edit fitting.units)) (added_text fitting.units) union
   pub between : IsBetween ready.union
-      (expand_in (hidden_at revisions (head revisions)) (insertion_flags revisions (in_characters edit units))) ready.edit.dead ready.units
+      (expand_in (hidden_at revisions (head revisions)) (insertion_flags revisions (in_characters edit fitting.units))) ready.edit.dead ready.change.units
+  pub spent_is : ready.spent ≡ fitting.spent
+  pub rev_is : ready.change.rev ≡ head revisions + 1
+
+-- the engine with the edit put in, which uses up the room that was taken for it
+abbrev pub with_edit : State → Ready → State
+with_edit engine ready = record {
+  union = ready.union;
+  revisions = after_edit engine.revisions ready.edit.edit;
+  limit = engine.limit;
+  spent = ready.spent;
+  room = engine.room - 1;
+}
+
+-- THE EDIT MAY BE PUT IN: there is room for it, it comes next in the revisions, and with it the parts still go together
+pub record MayPut (engine : State) (ready : Ready) : Type 0 where
+  pub room : 0 < engine.room
+  pub next : IsReady engine.revisions ready.edit
+  pub held : IsHeld ready.union (after_edit engine.revisions ready.edit.edit) engine.limit ready.spent

@@ -7,7 +7,8 @@ ghost use Rattle.rev_list.specs.Hidden.{IsCollected, IsKeptAt, IsUnknown};
 ghost use Rattle.rev_engine.specs.Engine.{IsChange, StandsFor, asked_by};
 ghost use Rattle.rev_engine.specs.Fault.{Refuses};
 ghost use Rattle.rev_engine.specs.Given.{MayAsk, after};
-ghost use Rattle.rev_engine.specs.Steps.{IsFitting, shown_at};
+ghost use Rattle.rev_engine.specs.State.{contents};
+ghost use Rattle.rev_engine.specs.Steps.{IsFitting, MayPut, shown_at, with_edit};
 
 use crate::flat::alive;
 use crate::step::{Fitting, Ready, inserted_len, made_ready};
@@ -36,7 +37,7 @@ impl Model for Engine {
 
     ghost use Rattle.rev_engine.specs.State.{IsHeld};
 
-    ghost view = { λ e. record { union = e.union; revisions = e.revs.history; limit = e.limit; spent = e.spent } };
+    ghost view = { λ e. record { union = e.union; revisions = e.revs.history; limit = e.limit; spent = e.spent; room = e.revs.room } };
 
     ghost invariant = { λ e. IsHeld e.union e.revs.history e.limit e.spent };
 }
@@ -116,11 +117,8 @@ impl Engine {
         }
     }
 
-    /// Takes an edit as the next revision. A fault leaves the engine as it is; want of memory too. The faults are looked for in the
-    /// order of [`EditFault`]: the base, then the delta, then the limit.
-    ///
-    /// Against the head this costs the edit and a constant number of walks over the text that was ever inserted, and none over the
-    /// revisions; a stale edit costs the runs of the revisions after its base besides. `after_cursor` is passed over.
+    /// Takes an edit as the next revision: [`Engine::ready`], and then [`Engine::put`]. A fault leaves the engine as it is; want of
+    /// memory too.
     pub fn edit(&mut self, alloc: Global, edit: &Edit) -> Result<Change, EditFault>
         requires { MayAsk self.old.revisions edit.now.group }
         ensures stands { (history : History) → StandsFor self.old history
@@ -132,18 +130,50 @@ impl Engine {
         ensures refused { (history : History) → StandsFor self.old history
             → IfErr result (Refuses (edit_refusal history self.old.limit edit.now.rev edit.now.delta)) }
         ensures limit { self.new.limit ≡ self.old.limit }
-        ensures same { OnErr result (self.new ≡ self.old) }
+        ensures same { OnErr result (contents self.new ≡ contents self.old) }
+    {
+        let ready = self.ready(alloc, edit)?;
+        Ok(self.put(ready))
+    }
+
+    /// Takes all the memory that an edit needs and works out what it does; the engine holds what it held. The faults are looked for in
+    /// the order of [`EditFault`]: the base, then the delta, then the limit.
+    ///
+    /// Against the head this costs the edit and a constant number of walks over the text that was ever inserted, and none over the
+    /// revisions; a stale edit costs the runs of the revisions after its base besides. `after_cursor` is passed over.
+    pub fn ready(&mut self, alloc: Global, edit: &Edit) -> Result<Ready, EditFault>
+        requires { MayAsk self.old.revisions edit.now.group }
+        ensures may_put { IfOk result (MayPut self.new) }
+        ensures stands { (history : History) → StandsFor self.old history
+            → IfOk result (λ ready. StandsFor (with_edit self.new ready) (after history (asked_by edit.now))) }
+        ensures change { (history : History) → StandsFor self.old history
+            → IfOk result (λ ready. IsChange history (after history (asked_by edit.now)) ready.change) }
+        ensures accepted { (history : History) → StandsFor self.old history
+            → OnOk result (edit_refusal history self.old.limit edit.now.rev edit.now.delta ≡ None) }
+        ensures refused { (history : History) → StandsFor self.old history
+            → IfErr result (Refuses (edit_refusal history self.old.limit edit.now.rev edit.now.delta)) }
+        ensures same { contents self.new ≡ contents self.old }
     {
         let fitting = self.fitting(alloc, edit)?;
+        Ok(made_ready(alloc, &self.union, &mut self.revs, edit, &fitting)?)
+    }
+
+    /// Puts an edit in that was made ready since the last one was put in, in O(1) and without memory.
+    pub fn put(&mut self, ready: Ready) -> Change
+        requires { MayPut self.old ready }
+        ensures put { self.new ≡ with_edit self.old ready }
+        ensures change { result ≡ ready.change }
+    {
         let Ready {
             union,
-            edit: ready_edit,
-            units,
-        } = made_ready(alloc, &self.union, &mut self.revs, edit, &fitting.units)?;
-        let rev = self.revs.put(ready_edit);
+            edit,
+            spent,
+            change,
+        } = ready;
+        self.revs.put(edit);
         self.union = union;
-        self.spent = fitting.spent;
-        Ok(Change { rev, units })
+        self.spent = spent;
+        change
     }
 
     // The edit in characters, or why it is not taken.
@@ -168,7 +198,7 @@ impl Engine {
 
     /// A second engine that stands for the same histories, in the time of the text and the runs of all revisions.
     pub fn copy(&self, alloc: Global) -> Result<Engine, NoMemory>
-        ensures { IfOk result (λ made. made ≡ self.now) }
+        ensures { IfOk result (λ made. contents made ≡ contents self.now) }
     {
         Ok(Engine {
             union: self.union.copy(alloc)?,

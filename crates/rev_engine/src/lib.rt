@@ -19,3 +19,4 @@ mod tests;
 pub use edit::{Change, Edit};
 pub use engine::Engine;
 pub use fault::EditFault;
+pub use step::Ready;

@@ -6,8 +6,8 @@ ghost use Rattle.rev_rebase.specs.Rebase.{added_text};
 ghost use Rattle.rev_engine.specs.Given.{MayAsk};
 ghost use Rattle.rev_engine.specs.Steps.{IsBased, IsMade};
 
-use crate::Edit;
 use crate::flat::with_put_in;
+use crate::{Change, Edit};
 use delta_core::synthesize;
 use rev_list::{ReadyEdit, RevEdit, RevList};
 use rev_rebase::{Rebased, rebase};
@@ -21,14 +21,16 @@ pub(crate) struct Fitting {
     pub(crate) spent: u64,
 }
 
-/// An edit whose memory is taken: what is left is to put it in.
+/// An edit that was made ready: its memory is taken, and what is left is to put it in.
 #[derive(Drop)]
-pub(crate) struct Ready {
+pub struct Ready {
     /// The characters, with those of the edit.
     pub(crate) union: Text,
     pub(crate) edit: ReadyEdit,
-    /// From the head text before to the head text after.
-    pub(crate) units: UnitDelta,
+    /// How many characters were inserted after loading, with those of the edit.
+    pub(crate) spent: u64,
+    /// What the edit does to the head text.
+    pub change: Change,
 }
 
 // How many characters the elements insert, in the time of their texts; they need not fit 64 bits.
@@ -51,17 +53,17 @@ pub(crate) fn made_ready(
     union: &Text,
     revs: &mut RevList,
     edit: &Edit,
-    units: &UnitDelta,
+    fitting: &Fitting,
 ) -> Result<Ready, NoMemory>
-    requires based { IsBased union.now revs.old.history edit.now units.now }
+    requires based { IsBased union.now revs.old.history edit.now fitting.now.units }
     requires may { MayAsk revs.old.history edit.now.group }
-    requires well_formed { IsUnitDelta units.now }
-    requires bound { length revs.old.history.characters + length (added_text units.now) < 2 ^ 64 }
-    ensures made { IfOk result (IsMade union.now revs.old.history edit.now units.now) }
+    requires well_formed { IsUnitDelta fitting.now.units }
+    requires bound { length revs.old.history.characters + length (added_text fitting.now.units) < 2 ^ 64 }
+    ensures made { IfOk result (IsMade union.now revs.old.history edit.now fitting.now) }
     ensures room { OnOk result (0 < revs.new.room) }
     ensures same { revs.new.history ≡ revs.old.history }
 {
-    let made = rebase(alloc, revs, edit.rev, units, edit.priority)?;
+    let made = rebase(alloc, revs, edit.rev, &fitting.units, edit.priority)?;
     let Rebased {
         inserted,
         deleted,
@@ -81,5 +83,11 @@ pub(crate) fn made_ready(
         },
     )?;
     let units = synthesize(alloc, &union, &before, &edit.dead)?;
-    Ok(Ready { union, edit, units })
+    let rev = revs.head() + 1;
+    Ok(Ready {
+        union,
+        edit,
+        spent: fitting.spent,
+        change: Change { rev, units },
+    })
 }

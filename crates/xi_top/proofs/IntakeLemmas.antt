@@ -21,7 +21,7 @@ use Rattle.xi_top.specs.declared.ending.Ending.{Ending}
 use Rattle.xi_top.specs.declared.ending.Ending.TheVariants.{Finished, NoMemory, SourceFault, SinkFault, TooMany, TooLong}
 use Rattle.xi_top.specs.Ending.{HasLongLine, short_lines, most_lines, too_long}
 use Rattle.xi_top.specs.Run.{IsSent, IsCutOff, HasCause}
-use Rattle.xi_top.specs.Intake.{Start, Begun, IsShort, IsWhole, IsAt, IsInside, IsOver, HasSinkCause, Stops, GoesOn, GoesOnBefore, FailsBy, Keeps, Counts, EndsLine, HasNoEnd}
+use Rattle.xi_top.specs.Intake.{Start, Begun, IsShort, IsWhole, IsAt, IsInside, IsOver, HasSinkCause, Stops, GoesOn, GoesOnBefore, FailsBy, KeepsBytes, Counts, EndsLine, HasNoEnd}
 use Rattle.xi_top.proofs.LineLemmas.{ended_lines-more, unended-more, ended_lines-begin, unended-begin, lines_of-front, ended_lines-front, short_lines-long, short_lines-all}
 
 -- ---- legal journals
@@ -268,7 +268,7 @@ goes_next held faults start taken core begun (Some ending) at counts =
 
 pub goes_begin : {K : Type 0} (held : K → Option (List ℕ)) (faults : K → ℕ) (start : Start) (taken bytes : List ℕ) (core : Core K)
     (begun next : Begun) (outcome : Option Ending) → HasNoEnd bytes → IsAt held faults start taken core begun →
-    Keeps begun next bytes outcome → GoesOn held faults start (taken ++ bytes) core next outcome
+    KeepsBytes begun next bytes outcome → GoesOn held faults start (taken ++ bytes) core next outcome
 goes_begin held faults start taken bytes core begun next None none at kept =
     let same : ended_lines [] (taken ++ bytes) ≡ ended_lines [] taken = ended_lines-begin taken bytes none in
     record {

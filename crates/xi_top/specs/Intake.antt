@@ -140,8 +140,8 @@ pub record IsKept (old new : Begun) (bytes : List ℕ) : Type 0 where
   pub room : length (old.bytes ++ bytes) < too_long
 
 -- the bytes were put after those of the line that was begun, or the run ended
-abbrev pub Keeps : Begun → Begun → List ℕ → Option Ending → Type 0
-Keeps old new bytes outcome = MatchOption outcome (IsKept old new bytes) (λ ending. KeepsNot (old.bytes ++ bytes) ending)
+abbrev pub KeepsBytes : Begun → Begun → List ℕ → Option Ending → Type 0
+KeepsBytes old new bytes outcome = MatchOption outcome (IsKept old new bytes) (λ ending. KeepsNot (old.bytes ++ bytes) ending)
 
 -- a line more was taken, which is the last one that a run takes or not
 abbrev pub Counts : ℕ → Option Ending → Type 0

@@ -23,7 +23,7 @@ pub struct Intake {
 }
 
 impl Intake {
-    ghost use Rattle.xi_top.specs.Intake.{Start, IsAt, IsOver, Stops, GoesOn, GoesOnBefore, IsFed, IsSmall, EndsLine, HasNoEnd, Keeps, Counts, begun_of};
+    ghost use Rattle.xi_top.specs.Intake.{Start, IsAt, IsOver, Stops, GoesOn, GoesOnBefore, IsFed, IsSmall, EndsLine, HasNoEnd, KeepsBytes, Counts, begun_of};
 
     /// Nothing was taken.
     pub fn new(alloc: Global) -> Intake
@@ -102,10 +102,10 @@ impl Intake {
         }
     }
 
-    /// Keeps the bytes of a line that has not ended.
+    /// KeepsBytes the bytes of a line that has not ended.
     fn begin(&mut self, bytes: &[u8]) -> Option<Ending>
         requires { IsSmall (begun_of self.old) }
-        ensures { Keeps (begun_of self.old) (begun_of self.new) bytes.now result }
+        ensures { KeepsBytes (begun_of self.old) (begun_of self.new) bytes.now result }
     {
         if bytes.len() >= TOO_LONG - self.begun.len() {
             return Some(Ending::TooLong);

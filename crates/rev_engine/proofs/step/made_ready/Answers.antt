@@ -17,7 +17,7 @@ expand_in-requires c =
 
 pub ready_edit-requires : goal.ready_edit-requires
 ready_edit-requires c =
-    MayPush-placed c.args.union.now c.args.revs.now.history c.args.edit.now c.args.units.now _ _ _ _ c.requires.based c.requires.may
+    MayPush-placed c.args.union.now c.args.revs.now.history c.args.edit.now c.args.fitting.now.units _ _ _ _ c.requires.based c.requires.may
     (IsPlaced-based _ _ _ _ _ _ _ c.requires.based c.in_ok-made.ensures.inserted c.in_ok-made.ensures.deleted c.in_ok-made.ensures.text) refl
 
 pub synthesize-requires-clause-before : goal.synthesize-requires-clause-before

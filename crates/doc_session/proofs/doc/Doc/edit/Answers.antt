@@ -1,60 +1,89 @@
-use Rattle.std.proofs.Common.{◌≡◌, ◌+◌, refl, ap, subst, arith}
+use Rattle.std.proofs.Common.{◌≡◌, ◌+◌, ap, sym, subst, arith}
 use Rattle.xi_plain.specs.History.{head}
+use Rattle.rev_engine.specs.declared.edit.Edit.{Edit}
 use Rattle.rev_engine.specs.Engine.{asked_by}
+use Rattle.rev_engine.specs.State.{State}
 use Rattle.doc_session.specs.declared.event.Body.TheVariants.{Edited}
 use Rattle.doc_session.specs.Asking.{plugin_edit}
+use Rattle.doc_session.specs.InMemory.{Doc}
+use Rattle.doc_session.specs.Ready.{with_event}
 use Rattle.doc_session.specs.Step.{AreOf, caret_by, edit_step}
-use Rattle.doc_session.specs.Stands.{StandsFor}
-use Rattle.doc_session.proofs.InsertLemmas.{whole-moved, shown-whole, inside-whole}
-use Rattle.doc_session.proofs.StepLemmas.{StandsFor-alike, MayAsk-whole, asked-given, IsMoved-plain, caret-given}
+use Rattle.doc_session.specs.Stands.{DocStandsFor}
+use Rattle.doc_session.proofs.InsertLemmas.{IsOfSome-contents, whole-moved, shown-whole, inside-whole}
+use Rattle.doc_session.proofs.StepLemmas.{DocStandsFor-doc_contents, MayAsk-whole, asked-given, IsMoved-plain, caret-given}
 use Rattle.doc_session.proofs.doc.Doc.edit.Goals as goal
 
 pub moved_by-requires-clause-may : goal.moved_by-requires-clause-may
 moved_by-requires-clause-may c =
-    let doc = c.args.self.now in
-    MayAsk-whole doc.engine doc.text doc.caret doc.plugins c.given-edit.result.group doc.whole
-    (omega (arith, ap (λ e. e.group) c.given-edit.ensures)) c.requires.has_number
+    let doc = c.self.inside in
+    MayAsk-whole doc.engine doc.text doc.caret doc.plugins c.given-edit.result.group c.self.invariant
+    (omega (arith, ap (λ (e : Edit). e.group) c.given-edit.ensures)) (omega (arith, ap (λ (d : Doc). head d.engine.revisions) c.self.view_is, c.requires.has_number))
 
 pub moved_by-requires-clause-shown : goal.moved_by-requires-clause-shown
 moved_by-requires-clause-shown c =
-    let doc = c.args.self.now in
-    shown-whole doc.engine doc.text doc.caret doc.plugins doc.whole
+    let doc = c.self.inside in
+    shown-whole doc.engine doc.text doc.caret doc.plugins c.self.invariant
+
+pub invariant_of-self : goal.invariant_of-self
+invariant_of-self c =
+    let doc = c.self.inside in
+    IsOfSome-contents doc.engine c.moved_by.new.engine doc.text doc.caret doc.plugins c.moved_by.ensures.same c.self.invariant
 
 pub caret_after-requires-clause-within : goal.caret_after-requires-clause-within
 caret_after-requires-clause-within c =
-    let doc = c.args.self.now in
-    omega (arith, inside-whole doc.engine doc.text doc.caret doc.plugins doc.whole, c.in_ok-moved.ensures.change.base)
+    let doc = c.self.inside in
+    omega (arith, inside-whole doc.engine doc.text doc.caret doc.plugins c.self.invariant, c.in_ok-moved.ensures.change.base)
 
-pub settle-requires : goal.settle-requires
-settle-requires c =
-    let doc = c.args.self.now in
-    record {
-      whole =
-          whole-moved doc.engine doc.text doc.caret doc.plugins c.in_ok-caret.caret (asked_by c.given-edit.result) c.in_ok-moved.moved doc.whole
-          c.in_ok-moved.ensures.moved (omega (arith, c.in_ok-caret.ensures, c.in_ok-moved.ensures.leads.inside c.args.edit.after_cursor doc.caret))
-          (λ none. absurd (omega (arith, none, c.requires.caller.0, c.requires.caller.1)));
-    }
+pub invariant_of-self-in_err-caret : goal.invariant_of-self-in_err-caret
+invariant_of-self-in_err-caret c =
+    let doc = c.self.inside in
+    IsOfSome-contents doc.engine c.moved_by.new.engine doc.text doc.caret doc.plugins c.moved_by.ensures.same c.self.invariant
+
+pub invariant_of-self-2 : goal.invariant_of-self-2
+invariant_of-self-2 c =
+    let doc = c.self.inside in
+    IsOfSome-contents doc.engine c.moved_by.new.engine doc.text doc.caret doc.plugins c.moved_by.ensures.same c.self.invariant
+
+pub settled-requires-clause-whole : goal.settled-requires-clause-whole
+settled-requires-clause-whole c =
+    let doc = c.self.inside in
+    whole-moved doc.engine c.moved_by.new.engine doc.text doc.caret doc.plugins c.in_ok-caret.caret (asked_by c.given-edit.result) c.in_ok-moved.moved
+    c.moved_by.ensures.same c.self.invariant c.in_ok-moved.ensures.moved
+    (omega (arith, c.in_ok-caret.ensures, c.in_ok-moved.ensures.leads.inside c.args.edit.after_cursor doc.caret))
+    (λ none. absurd (omega (arith, none, ap (λ (d : Doc). d.plugins) c.self.view_is, c.requires.caller.0, c.requires.caller.1)))
 
 pub returns-clause-stands : goal.returns-clause-stands
 returns-clause-stands c = λ plain stands.
-    let doc = c.args.self.now in
+    let doc = c.self.inside in
+    let now : Doc =
+    record { engine = c.moved_by.new.engine; text = doc.text; lines = doc.lines; caret = doc.caret; plugins = doc.plugins; valid = doc.valid } in
+    let was = subst (λ d. DocStandsFor d plain) (sym c.self.view_is) stands in
     let asked = plugin_edit plain c.args.caller c.args.edit in
     let given = asked-given plain c.args.caller (c.head-rev.result + 1) c.args.edit c.given-edit.result c.given-edit.ensures
-    (ap (λ n. n + 1) (c.head-rev.ensures.head plain.history stands.parts.shown.stands)) in
-    let is = IsMoved-plain doc plain asked (asked_by c.given-edit.result) c.in_ok-moved.moved stands given c.in_ok-moved.ensures.moved in
-    let place = caret-given doc plain asked c.in_ok-moved.moved c.args.edit.after_cursor c.in_ok-caret.caret stands is c.in_ok-caret.ensures in
-    subst (λ gap. StandsFor c.settle.new.self (edit_step plain asked gap (Edited 0 0)).document) place
-    (c.in_ok-settle.ensures.stands plain asked (StandsFor-alike doc _ plain stands refl refl refl refl refl refl) is)
+    (ap (λ n. n + 1) (c.head-rev.ensures.head plain.history was.parts.shown.stands)) in
+    let is = IsMoved-plain _ c.moved_by.new.engine plain asked (asked_by c.given-edit.result) c.in_ok-moved.moved was given c.in_ok-moved.ensures.moved in
+    let place = caret-given _ c.moved_by.new.engine plain asked c.in_ok-moved.moved c.args.edit.after_cursor c.in_ok-caret.caret was is c.in_ok-caret.ensures in
+    subst (λ gap. DocStandsFor (with_event now c.in_ok-settled.field-0.0) (edit_step plain asked gap (Edited 0 0)).document) place
+    (c.in_ok-settled.ensures.stands plain asked
+    (DocStandsFor-doc_contents _ now plain
+    (ap (λ (e : State). record { engine = e; text = doc.text; lines = doc.lines; caret = doc.caret; plugins = doc.plugins; valid = doc.valid })
+    c.moved_by.ensures.same) was) is)
 
 pub returns-clause-effects : goal.returns-clause-effects
 returns-clause-effects c = λ plain stands.
-    let doc = c.args.self.now in
+    let doc = c.self.inside in
+    let now : Doc =
+    record { engine = c.moved_by.new.engine; text = doc.text; lines = doc.lines; caret = doc.caret; plugins = doc.plugins; valid = doc.valid } in
+    let was = subst (λ d. DocStandsFor d plain) (sym c.self.view_is) stands in
     let asked = plugin_edit plain c.args.caller c.args.edit in
     let numbered : c.head-rev.result + 1 ≡ head plain.history + 1 =
-    ap (λ n. n + 1) (c.head-rev.ensures.head plain.history stands.parts.shown.stands) in
+    ap (λ n. n + 1) (c.head-rev.ensures.head plain.history was.parts.shown.stands) in
     let given = asked-given plain c.args.caller (c.head-rev.result + 1) c.args.edit c.given-edit.result c.given-edit.ensures numbered in
-    let is = IsMoved-plain doc plain asked (asked_by c.given-edit.result) c.in_ok-moved.moved stands given c.in_ok-moved.ensures.moved in
-    let place = caret-given doc plain asked c.in_ok-moved.moved c.args.edit.after_cursor c.in_ok-caret.caret stands is c.in_ok-caret.ensures in
-    subst (λ n. AreOf (edit_step plain asked (caret_by plain asked c.args.edit.after_cursor) (Edited n n)) c.in_ok-settle.field-0) numbered
-    (subst (λ gap. AreOf (edit_step plain asked gap (Edited (c.head-rev.result + 1) (c.head-rev.result + 1))) c.in_ok-settle.field-0) place
-    (c.in_ok-settle.ensures.effects plain asked (StandsFor-alike doc _ plain stands refl refl refl refl refl refl) is))
+    let is = IsMoved-plain _ c.moved_by.new.engine plain asked (asked_by c.given-edit.result) c.in_ok-moved.moved was given c.in_ok-moved.ensures.moved in
+    let place = caret-given _ c.moved_by.new.engine plain asked c.in_ok-moved.moved c.args.edit.after_cursor c.in_ok-caret.caret was is c.in_ok-caret.ensures in
+    subst (λ n. AreOf (edit_step plain asked (caret_by plain asked c.args.edit.after_cursor) (Edited n n)) c.in_ok-settled.field-0.1) numbered
+    (subst (λ gap. AreOf (edit_step plain asked gap (Edited (c.head-rev.result + 1) (c.head-rev.result + 1))) c.in_ok-settled.field-0.1) place
+    (c.in_ok-settled.ensures.effects plain asked
+    (DocStandsFor-doc_contents _ now plain
+    (ap (λ (e : State). record { engine = e; text = doc.text; lines = doc.lines; caret = doc.caret; plugins = doc.plugins; valid = doc.valid })
+    c.moved_by.ensures.same) was) is))

@@ -1,77 +1,114 @@
-use Rattle.std.proofs.Common.{◌≡◌, ◌≢◌, ◌+◌, [], length, refl, ap, sym, ◌∙◌, subst, arith}
+use Rattle.std.proofs.Common.{◌≡◌, ◌≢◌, ◌+◌, [], length, ap, ap₂, sym, ◌∙◌, subst, arith}
+use Rattle.xi_plain.specs.Edits.{edit_refusal}
 use Rattle.xi_plain.specs.History.{head}
 use Rattle.rev_engine.specs.Engine.{asked_by}
+use Rattle.rev_engine.specs.Given.{Asked}
+use Rattle.rev_engine.specs.State.{State}
 use Rattle.doc_session.specs.declared.event.Body.TheVariants.{Null}
-use Rattle.doc_session.specs.Asking.{front_edit}
-use Rattle.doc_session.specs.Step.{AreOf, Step, edit_step}
-use Rattle.doc_session.specs.Stands.{StandsFor}
-use Rattle.doc_session.proofs.InsertLemmas.{whole-moved, shown-whole, inside-inserted, inside-whole}
-use Rattle.doc_session.proofs.StepLemmas.{StandsFor-alike, some_by, MayAsk-whole, asked-front, IsMoved-plain, step_of-front, some-inserted}
+use Rattle.doc_session.specs.Asking.{front_edit, insertion_at}
+use Rattle.doc_session.specs.InMemory.{Doc}
+use Rattle.doc_session.specs.Ready.{with_event}
+use Rattle.doc_session.specs.Step.{AreOf, EventStep, edit_step}
+use Rattle.doc_session.specs.Stands.{DocStandsFor}
+use Rattle.doc_session.proofs.InsertLemmas.{IsOfSome-contents, whole-moved, shown-whole, inside-inserted, inside-whole}
+use Rattle.doc_session.proofs.StepLemmas.{DocStandsFor-doc_contents, some_by, MayAsk-whole, asked-front, IsMoved-plain, event_step-front, refusal_at-front, some-inserted}
 use Rattle.doc_session.proofs.doc.Doc.insert.Goals as goal
 
 pub moved_by-requires-clause-may : goal.moved_by-requires-clause-may
 moved_by-requires-clause-may c =
-    let doc = c.args.self.now in
-    MayAsk-whole doc.engine doc.text doc.caret doc.plugins c.in_ok-typed.typed.group doc.whole
-    (omega (arith, ap (λ e. e.group) c.in_ok-typed.ensures)) c.requires
+    let doc = c.self.inside in
+    MayAsk-whole doc.engine doc.text doc.caret doc.plugins c.in_ok-typed.typed.group c.self.invariant
+    (omega (arith, ap (λ (e : Asked). e.group) c.in_ok-typed.ensures)) (omega (arith, ap (λ (d : Doc). head d.engine.revisions) c.self.view_is, c.requires))
 
 pub moved_by-requires-clause-shown : goal.moved_by-requires-clause-shown
 moved_by-requires-clause-shown c =
-    let doc = c.args.self.now in
-    shown-whole doc.engine doc.text doc.caret doc.plugins doc.whole
+    let doc = c.self.inside in
+    shown-whole doc.engine doc.text doc.caret doc.plugins c.self.invariant
+
+pub invariant_of-self : goal.invariant_of-self
+invariant_of-self c =
+    let doc = c.self.inside in
+    IsOfSome-contents doc.engine c.moved_by.new.engine doc.text doc.caret doc.plugins c.moved_by.ensures.same c.self.invariant
 
 pub overflow_add-caret : goal.overflow_add-caret
 overflow_add-caret c =
-    let doc = c.args.self.now in
+    let doc = c.self.inside in
     omega (
       arith,
       c.len.ensures,
-      inside-whole doc.engine doc.text doc.caret doc.plugins doc.whole,
-      inside-inserted doc.engine doc.text doc.caret doc.plugins c.args.chars.now (asked_by c.in_ok-typed.typed) c.in_ok-moved.moved doc.whole
-          c.in_ok-typed.ensures c.in_ok-moved.ensures.moved,
+      inside-whole doc.engine doc.text doc.caret doc.plugins c.self.invariant,
+      inside-inserted doc.engine c.moved_by.new.engine doc.text doc.caret doc.plugins c.args.chars.now (asked_by c.in_ok-typed.typed) c.in_ok-moved.moved
+          c.self.invariant
+          (c.in_ok-typed.ensures ∙ ap (λ (d : Doc). insertion_at (head d.engine.revisions) d.text d.caret c.args.chars.now) (sym c.self.view_is))
+          c.in_ok-moved.ensures.moved,
       c.in_ok-moved.ensures.leads.long,
     )
 
-pub settle-requires : goal.settle-requires
-settle-requires c =
-    let doc = c.args.self.now in
-    let some : c.args.chars.now ≢ [] = some_by c.is_empty.result c.args.chars.now c.is_empty.ensures.1 c.if-is_empty.false in
-    record {
-      whole =
-          whole-moved doc.engine doc.text doc.caret doc.plugins (doc.caret + c.len.result) (asked_by c.in_ok-typed.typed) c.in_ok-moved.moved doc.whole
-          c.in_ok-moved.ensures.moved
-          (omega (
-            arith,
-            c.len.ensures,
-            inside-whole doc.engine doc.text doc.caret doc.plugins doc.whole,
-            inside-inserted doc.engine doc.text doc.caret doc.plugins c.args.chars.now (asked_by c.in_ok-typed.typed) c.in_ok-moved.moved doc.whole
-                c.in_ok-typed.ensures c.in_ok-moved.ensures.moved,
-          ))
-          (λ none. some-inserted (head doc.engine.revisions) doc.text doc.caret c.args.chars.now (asked_by c.in_ok-typed.typed) c.in_ok-typed.ensures some);
-    }
+pub invariant_of-self-2 : goal.invariant_of-self-2
+invariant_of-self-2 c =
+    let doc = c.self.inside in
+    IsOfSome-contents doc.engine c.moved_by.new.engine doc.text doc.caret doc.plugins c.moved_by.ensures.same c.self.invariant
+
+pub settled-requires-clause-whole : goal.settled-requires-clause-whole
+settled-requires-clause-whole c =
+    let doc = c.self.inside in
+    let chars = c.args.chars.now in
+    let some : chars ≢ [] = some_by c.is_empty.result chars c.is_empty.ensures.1 c.if-is_empty.false in
+    let typed = c.in_ok-typed.ensures ∙ ap (λ (d : Doc). insertion_at (head d.engine.revisions) d.text d.caret chars) (sym c.self.view_is) in
+    whole-moved doc.engine c.moved_by.new.engine doc.text doc.caret doc.plugins (doc.caret + c.len.result) (asked_by c.in_ok-typed.typed) c.in_ok-moved.moved
+    c.moved_by.ensures.same c.self.invariant c.in_ok-moved.ensures.moved
+    (omega (
+      arith,
+      c.len.ensures,
+      inside-whole doc.engine doc.text doc.caret doc.plugins c.self.invariant,
+      inside-inserted doc.engine c.moved_by.new.engine doc.text doc.caret doc.plugins chars (asked_by c.in_ok-typed.typed) c.in_ok-moved.moved
+          c.self.invariant typed c.in_ok-moved.ensures.moved,
+    ))
+    (λ none. some-inserted (head doc.engine.revisions) doc.text doc.caret chars (asked_by c.in_ok-typed.typed) typed some)
 
 pub returns-clause-stands : goal.returns-clause-stands
 returns-clause-stands c = λ plain stands.
-    let doc = c.args.self.now in
-    let some : c.args.chars.now ≢ [] = some_by c.is_empty.result c.args.chars.now c.is_empty.ensures.1 c.if-is_empty.false in
-    let asked = front_edit plain c.args.chars.now in
-    let same = asked-front doc plain c.args.chars.now (asked_by c.in_ok-typed.typed) stands c.in_ok-typed.ensures in
-    let is = IsMoved-plain doc plain asked (asked_by c.in_ok-typed.typed) c.in_ok-moved.moved stands same c.in_ok-moved.ensures.moved in
-    let place : doc.caret + c.len.result ≡ plain.caret + length c.args.chars.now =
-    ap (λ n. doc.caret + n) c.len.ensures ∙ ap (λ n. n + length c.args.chars.now) stands.caret in
-    subst (λ (step : Step). StandsFor c.settle.new.self step.document)
-    (ap (λ gap. edit_step plain asked gap Null) place ∙ sym (step_of-front plain c.args.chars.now some))
-    (c.in_ok-settle.ensures.stands plain asked (StandsFor-alike doc _ plain stands refl refl refl refl refl refl) is)
+    let doc = c.self.inside in
+    let now : Doc =
+    record { engine = c.moved_by.new.engine; text = doc.text; lines = doc.lines; caret = doc.caret; plugins = doc.plugins; valid = doc.valid } in
+    let was = subst (λ d. DocStandsFor d plain) (sym c.self.view_is) stands in
+    let chars = c.args.chars.now in
+    let some : chars ≢ [] = some_by c.is_empty.result chars c.is_empty.ensures.1 c.if-is_empty.false in
+    let asked = front_edit plain chars in
+    let same = asked-front c.args.self.now plain chars (asked_by c.in_ok-typed.typed) stands c.in_ok-typed.ensures in
+    let is = IsMoved-plain _ c.moved_by.new.engine plain asked (asked_by c.in_ok-typed.typed) c.in_ok-moved.moved was same c.in_ok-moved.ensures.moved in
+    let place : doc.caret + c.len.result ≡ plain.caret + length chars = ap (λ n. doc.caret + n) c.len.ensures ∙ ap (λ n. n + length chars) was.caret in
+    subst (λ (step : EventStep). DocStandsFor (with_event now c.in_ok-settled.field-0.0) step.document)
+    (ap (λ gap. edit_step plain asked gap Null) place ∙ sym (event_step-front plain chars some))
+    (c.in_ok-settled.ensures.stands plain asked
+    (DocStandsFor-doc_contents _ now plain
+    (ap (λ (e : State). record { engine = e; text = doc.text; lines = doc.lines; caret = doc.caret; plugins = doc.plugins; valid = doc.valid })
+    c.moved_by.ensures.same) was) is)
 
 pub returns-clause-effects : goal.returns-clause-effects
 returns-clause-effects c = λ plain stands.
-    let doc = c.args.self.now in
-    let some : c.args.chars.now ≢ [] = some_by c.is_empty.result c.args.chars.now c.is_empty.ensures.1 c.if-is_empty.false in
-    let asked = front_edit plain c.args.chars.now in
-    let same = asked-front doc plain c.args.chars.now (asked_by c.in_ok-typed.typed) stands c.in_ok-typed.ensures in
-    let is = IsMoved-plain doc plain asked (asked_by c.in_ok-typed.typed) c.in_ok-moved.moved stands same c.in_ok-moved.ensures.moved in
-    let place : doc.caret + c.len.result ≡ plain.caret + length c.args.chars.now =
-    ap (λ n. doc.caret + n) c.len.ensures ∙ ap (λ n. n + length c.args.chars.now) stands.caret in
-    subst (λ (step : Step). AreOf step c.in_ok-settle.field-0)
-    (ap (λ gap. edit_step plain asked gap Null) place ∙ sym (step_of-front plain c.args.chars.now some))
-    (c.in_ok-settle.ensures.effects plain asked (StandsFor-alike doc _ plain stands refl refl refl refl refl refl) is)
+    let doc = c.self.inside in
+    let now : Doc =
+    record { engine = c.moved_by.new.engine; text = doc.text; lines = doc.lines; caret = doc.caret; plugins = doc.plugins; valid = doc.valid } in
+    let was = subst (λ d. DocStandsFor d plain) (sym c.self.view_is) stands in
+    let chars = c.args.chars.now in
+    let some : chars ≢ [] = some_by c.is_empty.result chars c.is_empty.ensures.1 c.if-is_empty.false in
+    let asked = front_edit plain chars in
+    let same = asked-front c.args.self.now plain chars (asked_by c.in_ok-typed.typed) stands c.in_ok-typed.ensures in
+    let is = IsMoved-plain _ c.moved_by.new.engine plain asked (asked_by c.in_ok-typed.typed) c.in_ok-moved.moved was same c.in_ok-moved.ensures.moved in
+    let place : doc.caret + c.len.result ≡ plain.caret + length chars = ap (λ n. doc.caret + n) c.len.ensures ∙ ap (λ n. n + length chars) was.caret in
+    subst (λ (step : EventStep). AreOf step c.in_ok-settled.field-0.1)
+    (ap (λ gap. edit_step plain asked gap Null) place ∙ sym (event_step-front plain chars some))
+    (c.in_ok-settled.ensures.effects plain asked
+    (DocStandsFor-doc_contents _ now plain
+    (ap (λ (e : State). record { engine = e; text = doc.text; lines = doc.lines; caret = doc.caret; plugins = doc.plugins; valid = doc.valid })
+    c.moved_by.ensures.same) was) is)
+
+pub returns-clause-accepted : goal.returns-clause-accepted
+returns-clause-accepted c = λ plain stands.
+    let was = subst (λ d. DocStandsFor d plain) (sym c.self.view_is) stands in
+    let chars = c.args.chars.now in
+    let some : chars ≢ [] = some_by c.is_empty.result chars c.is_empty.ensures.1 c.if-is_empty.false in
+    let same = asked-front c.args.self.now plain chars (asked_by c.in_ok-typed.typed) stands c.in_ok-typed.ensures in
+    refusal_at-front plain chars some ∙ ap₂ (λ n (a : Asked). edit_refusal plain.history n a.base a.delta) (sym was.limit) (sym same) ∙
+    c.in_ok-moved.ensures.accepted plain.history was.parts.shown

@@ -3,11 +3,6 @@ use Rattle.xi_plain.specs.Layout.{layout}
 use Rattle.doc_session.proofs.LoadLemmas.{IsOf-loaded, text_at-loaded}
 use Rattle.doc_session.proofs.doc.Doc.of_text.Goals as goal
 
-pub invariant_of-result : goal.invariant_of-result
-invariant_of-result c = record {
-  whole = ∣ (_, IsOf-loaded _ _ _ _ _ c.in_ok-copy.ensures c.in_ok-engine.ensures.stands c.in_ok-engine.ensures.limit c.requires) ∣₁;
-}
-
 pub returns : goal.returns
 returns c = record {
   parts = IsOf-loaded _ _ _ _ _ c.in_ok-copy.ensures c.in_ok-engine.ensures.stands c.in_ok-engine.ensures.limit c.requires;
@@ -19,3 +14,6 @@ returns c = record {
   saved = refl;
   screen = refl;
 }
+
+pub invariant_of-result : goal.invariant_of-result
+invariant_of-result c = ∣ (_, IsOf-loaded _ _ _ _ _ c.in_ok-copy.ensures c.in_ok-engine.ensures.stands c.in_ok-engine.ensures.limit c.requires) ∣₁

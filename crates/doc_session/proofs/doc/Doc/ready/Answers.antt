@@ -1,5 +1,5 @@
 use Rattle.doc_session.proofs.ShowLemmas.{shown-step}
-use Rattle.doc_session.proofs.doc.Doc.apply.Goals as goal
+use Rattle.doc_session.proofs.doc.Doc.ready.Goals as goal
 
 pub returns-in-Front-Insert-clause-shown : goal.returns-in-Front-Insert-clause-shown
 returns-in-Front-Insert-clause-shown g c = λ plain stands. shown-step c.args.self.now plain stands c.args.event
