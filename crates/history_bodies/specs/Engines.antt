@@ -1,7 +1,8 @@
 -- What an engine says beside the plain history.
-use Rattle.std.specs.Prelude.{◌≡◌, ◌≢◌, ◌⊎◌, ℕ, ◌-◌, ◌≤◌, Option, Some, None, ◌<◌, false}
+use Rattle.std.specs.Prelude.{◌≡◌, ◌≢◌, ◌⊎◌, ℕ, ◌-◌, ◌≤◌, List, length, Option, Some, None, ◌<◌, false}
 use Rattle.xi_plain.specs.Numbers.{has}
 use Rattle.xi_plain.specs.declared.delta.UnitDelta.{UnitDelta}
+use Rattle.xi_plain.specs.UnitDelta.{IsUnitDelta}
 use Rattle.xi_plain.specs.History.{History, head, text_at}
 use Rattle.xi_plain.specs.Edits.{Refusal, edit_refusal}
 use Rattle.xi_plain.specs.Collection.{kept}
@@ -57,10 +58,15 @@ IsOtherAnswer engine e faults.NotAsked = IsAskedEdit engine.revisions e.group �
 IsOtherAnswer engine e faults.NoMemory = Unit {0}
 IsOtherAnswer engine e fault = ⊥
 
--- what a fault says of the change that the engine tells: it leads to another text than the last revision shows
+-- the delta is one over the text
+abbrev pub IsOver : List ℕ → UnitDelta → Type 0
+IsOver text units = IsUnitDelta units × (units.base ≡ length text)
+
+-- what a fault says of the change that the engine tells: it leads to another text than the last revision shows, or it is no delta over
+-- the text before
 abbrev pub IsOtherChange : History → EngineFault → Type 0
 IsOtherChange plain (faults.OtherChange rev is shown) = (text_at plain (head plain) ≡ shown) × (is ≢ shown)
-IsOtherChange plain (faults.BadChange rev) = Unit {0}
+IsOtherChange plain (faults.BadChange rev units) = IsOver (text_at plain (head plain - 1)) units → ⊥
 IsOtherChange plain faults.NoMemory = Unit {0}
 IsOtherChange plain fault = ⊥
 

@@ -8,7 +8,7 @@ ghost use Rattle.rev_engine.specs.Engine.{StandsFor, asked_by};
 ghost use Rattle.rev_engine.specs.Fault.{refusal_by};
 ghost use Rattle.rev_engine.specs.Given.{MayAsk, after};
 ghost use Rattle.rev_engine.specs.State.{contents};
-ghost use Rattle.history_bodies.specs.Engines.{asked_of, refusal_in, EachIs, EngineDiffers, IsAskedEdit, IsLastChange, IsOther, IsOtherAnswer, IsOtherChange, Matches};
+ghost use Rattle.history_bodies.specs.Engines.{asked_of, refusal_in, EachIs, EngineDiffers, IsAskedEdit, IsLastChange, IsOther, IsOver, IsOtherAnswer, IsOtherChange, Matches};
 
 use crate::engine_fault::EngineFault;
 use crate::same::is_same_text;
@@ -57,7 +57,7 @@ pub fn follow(
         let number = change.rev;
         return Err(EngineFault::OtherRevision { rev, number });
     }
-    compare_change(alloc, plain, &change.units)?;
+    compare_change(alloc, plain, change.units)?;
     compare(alloc, plain, engine)
 }
 
@@ -149,16 +149,16 @@ fn is_same_fault(is: rev_engine::EditFault, wanted: EditFault) -> bool
 }
 
 /// Whether the delta leads from the text before the last revision to that after it.
-fn compare_change(alloc: Global, plain: &PlainHistory, units: &UnitDelta) -> Result<(), EngineFault>
-    ensures agree { OnOk result (IsLastChange plain.now units.now) }
+fn compare_change(alloc: Global, plain: &PlainHistory, units: UnitDelta) -> Result<(), EngineFault>
+    ensures agree { OnOk result (IsLastChange plain.now units) }
     ensures differ { IfErr result (IsOtherChange plain.now) }
 {
     let rev = plain.head();
     let before = plain.text_at(alloc, rev.saturating_sub(1))?;
-    if !is_over(&before, units) {
-        return Err(EngineFault::BadChange { rev });
+    if !is_over(&before, &units) {
+        return Err(EngineFault::BadChange { rev, units });
     }
-    let is = delta_core::apply(alloc, &before, units)?;
+    let is = delta_core::apply(alloc, &before, &units)?;
     let shown = plain.text_at(alloc, rev)?;
     if is_same_text(&is, &shown) {
         Ok(())
@@ -169,8 +169,7 @@ fn compare_change(alloc: Global, plain: &PlainHistory, units: &UnitDelta) -> Res
 
 /// Whether the delta is one over the text.
 fn is_over(text: &Text, units: &UnitDelta) -> bool
-    ensures well_formed { IsTrue result → IsUnitDelta units.now }
-    ensures base { IsTrue result → units.now.base ≡ length text.now }
+    ensures { IsTrue result ↔ IsOver text.now units.now }
 {
     units.base == text.len()
         && are_runs(units.base, 0, units.kept.as_slice())
@@ -189,16 +188,18 @@ fn are_runs(base: u64, from: u64, runs: &[Run]) -> bool
 }
 
 fn are_adds(base: u64, from: u64, adds: &[Added]) -> bool
-    ensures { IsTrue result → AreAdds base from adds.now }
+    ensures { IsTrue result ↔ AreAdds base from adds.now }
 {
     match adds {
         [] => true,
         [added, rest @ ..] => {
             from <= added.gap
                 && added.gap <= base
-                && added.gap < u64::MAX
                 && !added.text.is_empty()
-                && are_adds(base, added.gap + 1, rest)
+                && match added.gap.checked_add(1) {
+                    Some(next) => are_adds(base, next, rest),
+                    None => rest.is_empty(),
+                }
         }
     }
 }

@@ -1,6 +1,6 @@
 use plain_history::EditFault;
 use std::fmt;
-use xi_plain::{NoMemory, Text};
+use xi_plain::{NoMemory, Text, UnitDelta};
 
 /// How an engine differs from the plain history, or why the two could not be compared.
 #[derive(Drop)]
@@ -38,6 +38,7 @@ pub enum EngineFault {
     /// The delta that it tells of the last edit is none over the head text before.
     BadChange {
         rev: u64,
+        units: UnitDelta,
     },
     /// That delta leads to another text than the plain history shows.
     OtherChange {
@@ -71,7 +72,7 @@ impl fmt::Display for EngineFault {
             EngineFault::OtherKept { kept } => {
                 write!(f, "the engine does not keep {kept} characters")
             }
-            EngineFault::BadChange { rev } => {
+            EngineFault::BadChange { rev, units: _ } => {
                 write!(
                     f,
                     "the change of revision {rev} is no delta over the text before"
