@@ -59,14 +59,14 @@ IsOtherAnswer engine e faults.NoMemory = Unit {0}
 IsOtherAnswer engine e fault = ⊥
 
 -- the delta is one over the text
-abbrev pub IsOver : List ℕ → UnitDelta → Type 0
-IsOver text units = IsUnitDelta units × (units.base ≡ length text)
+abbrev pub IsDeltaOver : List ℕ → UnitDelta → Type 0
+IsDeltaOver text units = IsUnitDelta units × (units.base ≡ length text)
 
 -- what a fault says of the change that the engine tells: it leads to another text than the last revision shows, or it is no delta over
 -- the text before
 abbrev pub IsOtherChange : History → EngineFault → Type 0
 IsOtherChange plain (faults.OtherChange rev is shown) = (text_at plain (head plain) ≡ shown) × (is ≢ shown)
-IsOtherChange plain (faults.BadChange rev units) = IsOver (text_at plain (head plain - 1)) units → ⊥
+IsOtherChange plain (faults.BadChange rev units) = IsDeltaOver (text_at plain (head plain - 1)) units → ⊥
 IsOtherChange plain faults.NoMemory = Unit {0}
 IsOtherChange plain fault = ⊥
 

@@ -8,7 +8,7 @@ ghost use Rattle.rev_engine.specs.Engine.{StandsFor, asked_by};
 ghost use Rattle.rev_engine.specs.Fault.{refusal_by};
 ghost use Rattle.rev_engine.specs.Given.{MayAsk, after};
 ghost use Rattle.rev_engine.specs.State.{contents};
-ghost use Rattle.history_bodies.specs.Engines.{asked_of, refusal_in, EachIs, EngineDiffers, IsAskedEdit, IsLastChange, IsOther, IsOver, IsOtherAnswer, IsOtherChange, Matches};
+ghost use Rattle.history_bodies.specs.Engines.{asked_of, refusal_in, EachIs, EngineDiffers, IsAskedEdit, IsLastChange, IsOther, IsDeltaOver, IsOtherAnswer, IsOtherChange, Matches};
 
 use crate::engine_fault::EngineFault;
 use crate::same::is_same_text;
@@ -169,7 +169,7 @@ fn compare_change(alloc: Global, plain: &PlainHistory, units: UnitDelta) -> Resu
 
 /// Whether the delta is one over the text.
 fn is_over(text: &Text, units: &UnitDelta) -> bool
-    ensures { IsTrue result ↔ IsOver text.now units.now }
+    ensures { IsTrue result ↔ IsDeltaOver text.now units.now }
 {
     units.base == text.len()
         && are_runs(units.base, 0, units.kept.as_slice())

@@ -1,3 +1,5 @@
+ghost use Rattle.std.specs.Prelude.{◌≡◌};
+
 use std::fmt;
 
 /// What was done so far.
@@ -21,7 +23,10 @@ pub struct Tally {
 }
 
 impl Tally {
-    pub fn new() -> Tally {
+    /// Nothing was compared yet.
+    pub fn new() -> Tally
+        ensures { result ≡ record { edits = 0; stale = 0; undos = 0; refusals = 0; texts = 0; places = 0; dead_sets = 0; engine_texts = 0; deleted_again = 0 } }
+    {
         Tally {
             edits: 0,
             stale: 0,
