@@ -3,7 +3,7 @@ ghost use Rattle.cluster_core.specs.Boundaries.{ends_of, next_of, prev_of, IsLea
 
 use std::alloc::Global;
 use unicode_segmentation::{GraphemeCursor, UnicodeSegmentation};
-use xi_plain::{NoMemory, Offsets};
+use plain_text::{NoMemory, Offsets};
 
 /// The byte ends of the clusters, in the time of the line. Want of memory is its only error.
 pub fn clusters(alloc: Global, line: &str) -> Result<Offsets, NoMemory>

@@ -1,3 +1,4 @@
 pub mod SessionLemmas
 pub mod ShowsLemmas
 pub mod OpenLemmas
+pub mod ForCallers

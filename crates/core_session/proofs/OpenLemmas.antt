@@ -6,7 +6,7 @@ use Rattle.doc_session.specs.declared.event.Effects.{Effects}
 use Rattle.doc_session.specs.declared.event.Event.TheVariants.{Other}
 use Rattle.doc_session.specs.Document.{Document, loaded_document}
 use Rattle.doc_session.specs.Stands.{DocStandsFor}
-use Rattle.doc_session.specs.Step.{AreOf, event_step}
+use Rattle.doc_session.specs.Step.{AreEffectsOf, event_step}
 use Rattle.core_session.specs.declared.act.Done.{Done}
 use Rattle.core_session.specs.declared.act.Next.TheVariants.{Opened as Opens}
 use Rattle.core_session.specs.declared.act.Reply.TheVariants.{Opened}
@@ -19,7 +19,7 @@ stands-first doc text none stands = subst (λ t. DocStandsFor doc (loaded_docume
 
 pub IsOutcome-opened : (document : Option Doc) (path : Option (List ℕ)) (plain : Option Document) (made : Doc) (effects : Effects) (done : Done) →
     is_some document ≡ false → is_some path ≡ false → Stands document plain → Keeps made (event_step first_document Other).document →
-    AreOf (event_step first_document Other) effects → done ≡ record { reply = Opened; next = Some (Opens made); update = effects.update; scroll = effects.scroll } →
+    AreEffectsOf (event_step first_document Other) effects → done ≡ record { reply = Opened; next = Some (Opens made); update = effects.update; scroll = effects.scroll } →
     IsOutcome document (open_outcome plain path) done
 IsOutcome-opened (Some doc) path plain made effects done here there stands kept told is = absurd cc
 IsOutcome-opened None (Some path) plain made effects done here there stands kept told is = absurd cc

@@ -4,34 +4,34 @@ use Rattle.std.specs.Prelude.{if◌then◌else◌, ℤ, pos, codes, option_map}
 use Rattle.std.specs.List.{filter_map, cons_option, AllByRecursion}
 use Rattle.serde_json.specs.Data.{Data}
 use Rattle.json_rpc.specs.Line.{line_of, IsLineOf}
-use Rattle.json_rpc.proofs.Apart.{lines_of-lines}
+use Rattle.json_rpc.proofs.ForCallers.{lines_of-lines}
 use Rattle.xi_plain.specs.declared.command.Id.{Id}
 use Rattle.xi_plain.specs.declared.command.Id.TheVariants.{NoId, Num, Word}
 use Rattle.xi_plain.specs.declared.command.Fault.{Fault}
 use Rattle.xi_plain.specs.declared.command.Fault.TheVariants.{Parse, Invalid, NoMethod, BadParams, NotBuilt}
 use Rattle.xi_plain.specs.declared.command.Command.{Command}
 use Rattle.xi_plain.specs.declared.command.Entry.{Entry}
-use Rattle.xi_plain.specs.declared.screen.Update.{Update}
-use Rattle.xi_plain.specs.Edits.{Refusal}
-use Rattle.xi_plain.specs.Layout.{Point}
-use Rattle.xi_plain.specs.declared.delta.Run.{Run}
-use Rattle.xi_plain.specs.declared.screen.Line.{Line}
-use Rattle.xi_plain.specs.declared.screen.Op.{Op}
-use Rattle.xi_plain.specs.declared.screen.Op.TheVariants.{Copy, Skip, Invalidate, Ins}
+use Rattle.plain_screen.specs.declared.screen.Update.{Update}
+use Rattle.plain_edits.specs.Edits.{Refusal}
+use Rattle.doc_session.specs.Layout.{Position}
+use Rattle.plain_text.specs.declared.run.Run.{Run}
+use Rattle.plain_screen.specs.declared.screen.Line.{Line}
+use Rattle.plain_screen.specs.declared.screen.Op.{Op}
+use Rattle.plain_screen.specs.declared.screen.Op.TheVariants.{Copy, Skip, Invalidate, Ins}
 use Rattle.xi_plain.specs.declared.command.EditAct.TheVariants.{Insert}
 use Rattle.xi_plain.specs.declared.command.Act.{Act}
 use Rattle.xi_plain.specs.declared.command.Act.TheVariants.{Bad, Nothing, NewView, Edit, Closing}
-use Rattle.xi_plain.specs.Laws.{shown_lines}
-use Rattle.xi_plain.specs.Plan.{is_within, onto_left, onto_sent, onto_plan, is_sent, is_left, plan_from}
-use Rattle.xi_plain.proofs.ScreenLemmas.{screen_after-plan_from}
+use Rattle.plain_screen.specs.Plan.{shown_lines}
+use Rattle.plain_screen.specs.Plan.{is_within, onto_left, onto_sent, onto_plan, is_sent, is_left, plan_from}
+use Rattle.plain_screen.proofs.ForCallers.{screen_after-plan_from}
 use Rattle.std.proofs.lemmas.Bool.{cases_eq}
 use Rattle.std.proofs.lemmas.Bool.Decides.{nat_tests}
-use Rattle.xi_plain.specs.Screen.{Screen, screen_after}
+use Rattle.plain_screen.specs.Screen.{Screen, screen_after}
 use Rattle.json_rpc.specs.Response.{reply_data, error_data}
 use Rattle.view_update.specs.Notes.{scroll_data, alert_data}
 use Rattle.view_update.specs.Written.{update_data}
 use Rattle.view_update.specs.Reading.{ViewUpdate, line_update}
-use Rattle.view_update.proofs.Lines.{others_are_no_updates}
+use Rattle.view_update.proofs.ForCallers.{others_are_no_updates}
 use Rattle.doc_session.specs.InMemory.{Doc, doc_contents}
 use Rattle.doc_session.specs.Document.{Document, layout_of, no_request}
 use Rattle.doc_session.specs.declared.event.Event.TheVariants.{Front}
@@ -41,8 +41,8 @@ use Rattle.doc_session.specs.Step.{edited_document, refusal_at, event_step}
 use Rattle.core_session.specs.Answer.{Reply, accepted, refused, spent, silent, answers, refusal, refused_by, spent_refusal, code_of, message_of}
 use Rattle.core_session.specs.Session.{view_id, Outcome, outcome, opening_outcome, first_document, edit_came, insert_outcome, refusing, is_first_view, outcome_messages, update_notes, scroll_notes, messages, step, document_after, all_messages, lines_written, written, piece_of}
 use Rattle.core_session.specs.Shows.{updates_in, screen_told, rebuilt_from, rebuilt, IsShown, SendsWithin, SendWindow, ShowsEach}
-use Rattle.doc_session.proofs.ShowLemmas.{head-few}
-use Rattle.doc_session.proofs.StepLemmas.{DocStandsFor-doc_contents}
+use Rattle.doc_session.proofs.ForCallers.{head-few}
+use Rattle.doc_session.proofs.ForCallers.{DocStandsFor-doc_contents}
 use Rattle.core_session.specs.declared.act.Next.{Next}
 use Rattle.core_session.specs.Core.{Stands, MayBeAsked, IsToldBack, AreLinesOf, screen_of, plain_of, IsShowing, front_entry}
 use Rattle.core_session.specs.Next.{next_or}
@@ -144,7 +144,7 @@ updates_of-update_notes None told = updates_of-nil
 updates_of-update_notes (Some update) told =
     updates_of-some (update_data view_id update) (record { view = view_id; update = update }) told
 
-updates_of-scroll_notes : (scroll : Option Point) → AllByRecursion (λ m. IsLineOf m (line_of m)) (scroll_notes scroll) → updates_of (scroll_notes scroll) ≡ []
+updates_of-scroll_notes : (scroll : Option Position) → AllByRecursion (λ m. IsLineOf m (line_of m)) (scroll_notes scroll) → updates_of (scroll_notes scroll) ≡ []
 updates_of-scroll_notes None lines = updates_of-nil
 updates_of-scroll_notes (Some point) lines =
     updates_of-none (scroll_data view_id point.line point.col)

@@ -7,22 +7,7 @@ use Rattle.xi_plain.specs.declared.command.Fault.{Fault}
 use Rattle.xi_plain.specs.declared.command.Fault.TheVariants.{Parse, Invalid, NoMethod, BadParams, NotBuilt}
 use Rattle.json_rpc.specs.Response.{reply_data, error_data}
 use Rattle.view_update.specs.Notes.{alert_data}
-
--- the number of a fault, as JSON-RPC 2.0 has it, and as this core counts its own from 1 on
-abbrev pub code_of : Fault → ℤ
-code_of Parse = negsuc 32699
-code_of Invalid = negsuc 32599
-code_of (NoMethod name) = negsuc 32600
-code_of (BadParams member) = negsuc 32601
-code_of NotBuilt = pos 9
-
--- what it says
-abbrev pub message_of : Fault → List ℕ
-message_of Parse = codes "parse error"
-message_of Invalid = codes "invalid request"
-message_of (NoMethod name) = codes "method not found: " ++ name
-message_of (BadParams member) = codes "invalid params: " ++ member
-message_of NotBuilt = codes "not built"
+use Rattle.json_rpc.specs.Refusal.{code_of, message_of}
 
 -- what is to be answered: a result, a refusal of a line by itself, that so many characters may not be inserted, or nothing
 pub data Reply : Type 0 where

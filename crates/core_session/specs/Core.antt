@@ -5,9 +5,9 @@ use Rattle.std.specs.Str.{encode_utf8_all}
 use Rattle.serde_json.specs.Data.{Data}
 use Rattle.xi_plain.specs.declared.command.Command.{Command}
 use Rattle.xi_plain.specs.declared.command.Entry.{Entry}
-use Rattle.xi_plain.specs.declared.screen.Update.{Update}
-use Rattle.xi_plain.specs.History.{head}
-use Rattle.xi_plain.specs.Screen.{Screen}
+use Rattle.plain_screen.specs.declared.screen.Update.{Update}
+use Rattle.plain_edits.specs.History.{head}
+use Rattle.plain_screen.specs.Screen.{Screen}
 use Rattle.json_rpc.specs.Line.{line_of, IsLineOf}
 use Rattle.outside.specs.Faults.{Rose}
 use Rattle.outside.specs.Sink.{Gains}

@@ -3,7 +3,7 @@ use Rattle.std.specs.Prelude.{◌≡◌, Option, option_map}
 use Rattle.serde_json.specs.Data.{null}
 use Rattle.json_rpc.specs.Response.{text_data}
 use Rattle.doc_session.specs.InMemory.{Doc}
-use Rattle.doc_session.specs.PointView.{point_view}
+use Rattle.doc_session.specs.PositionView.{position_view}
 use Rattle.core_session.specs.declared.act.Reply.{Reply as Said}
 use Rattle.core_session.specs.declared.act.Reply.TheVariants.{Opened, Done as Accepted, Refused, Spent, Silent}
 use Rattle.core_session.specs.declared.act.Done.{Done}
@@ -24,5 +24,5 @@ reply_of Silent = silent
 pub record IsOutcome (before : Option Doc) (outcome : Outcome) (done : Done) : Type 0 where
   pub reply : reply_of done.reply ≡ outcome.reply
   pub update : done.update ≡ outcome.update
-  pub scroll : option_map point_view done.scroll ≡ outcome.scroll
+  pub scroll : option_map position_view done.scroll ≡ outcome.scroll
   pub stands : Stands (next_or done.next before) outcome.document

@@ -12,9 +12,9 @@ use Rattle.xi_plain.specs.declared.command.Act.{Act}
 use Rattle.xi_plain.specs.declared.command.Act.TheVariants.{Bad, Nothing, NewView, Edit, Closing}
 use Rattle.xi_plain.specs.declared.command.Command.{Command}
 use Rattle.xi_plain.specs.declared.command.Entry.{Entry}
-use Rattle.xi_plain.specs.declared.screen.Update.{Update}
-use Rattle.xi_plain.specs.Edits.{Refusal}
-use Rattle.xi_plain.specs.Layout.{Point}
+use Rattle.plain_screen.specs.declared.screen.Update.{Update}
+use Rattle.plain_edits.specs.Edits.{Refusal}
+use Rattle.doc_session.specs.Layout.{Position}
 use Rattle.json_rpc.specs.Line.{line_of}
 use Rattle.json_rpc.specs.Response.{text_data}
 use Rattle.view_update.specs.Written.{update_data}
@@ -34,14 +34,14 @@ pub record Outcome : Type 0 where
   pub reply : Reply
   pub document : Option Document
   pub update : Option Update
-  pub scroll : Option Point
+  pub scroll : Option Position
 
 -- the notes of an update and of a place to scroll to, where there are any
 abbrev pub update_notes : Option Update → List Data
 update_notes None = []
 update_notes (Some update) = update_data view_id update ∷ []
 
-abbrev pub scroll_notes : Option Point → List Data
+abbrev pub scroll_notes : Option Position → List Data
 scroll_notes None = []
 scroll_notes (Some point) = scroll_data view_id point.line point.col ∷ []
 

@@ -2,13 +2,13 @@
 use Rattle.std.specs.Prelude.{◌≡◌, ℕ, ◌+◌, ◌<◌, ◌≤◌, true, if◌then◌else◌, List, [], ◌∷◌, ◌++◌, length, Option, Some, None, ⊤}
 use Rattle.std.specs.List.{filter_map, AllByRecursion}
 use Rattle.std.specs.Str.{bytes_eq}
-use Rattle.xi_plain.specs.declared.delta.Run.{Run}
+use Rattle.plain_text.specs.declared.run.Run.{Run}
 use Rattle.xi_plain.specs.declared.command.Entry.{Entry}
-use Rattle.xi_plain.specs.declared.screen.Op.{Op}
-use Rattle.xi_plain.specs.declared.screen.Op.TheVariants.{Copy, Skip, Invalidate, Ins}
-use Rattle.xi_plain.specs.Screen.{Screen, screen_after}
-use Rattle.xi_plain.specs.Plan.{is_within}
-use Rattle.xi_plain.specs.Journal.{lines_of}
+use Rattle.plain_screen.specs.declared.screen.Op.{Op}
+use Rattle.plain_screen.specs.declared.screen.Op.TheVariants.{Copy, Skip, Invalidate, Ins}
+use Rattle.plain_screen.specs.Screen.{Screen, screen_after}
+use Rattle.plain_screen.specs.Plan.{is_within}
+use Rattle.plain_text.specs.InputLines.{lines_of}
 use Rattle.view_update.specs.Reading.{ViewUpdate, line_update}
 use Rattle.doc_session.specs.Document.{Document, layout_of}
 use Rattle.doc_session.specs.ScreenOf.{IsScreenOf}

@@ -5,7 +5,7 @@ ghost use Rattle.doc_session.specs.Fault.{DocRefuses};
 ghost use Rattle.doc_session.specs.InMemory.{Doc, doc_contents};
 ghost use Rattle.doc_session.specs.Ready.{MayTake, with_event};
 ghost use Rattle.doc_session.specs.Stands.{DocStandsFor};
-ghost use Rattle.doc_session.specs.Step.{AreOf, HasCaller, refusal_at, event_step};
+ghost use Rattle.doc_session.specs.Step.{AreEffectsOf, HasCaller, refusal_at, event_step};
 ghost use Rattle.core_session.specs.Core.{MayBeAsked, Keeps, Stands};
 ghost use Rattle.core_session.specs.Session.{outcome, edit_outcome, open_outcome, is_first_view, insert_outcome, refusing};
 ghost use Rattle.core_session.specs.Done.{IsOutcome};
@@ -15,7 +15,9 @@ use doc_session::{Doc, DocFault, Effects, Event, ReadyEvent};
 use std::alloc::Global;
 use std::marker::Brand;
 use std::sync::ledger::{Blank, Ledger};
-use xi_plain::{Act, Config, Copied, EditAct, Fault, NoMemory, Steps, Text, Update};
+use plain_text::{NoMemory, Steps, Text, TryClone};
+use plain_screen::Update;
+use xi_plain::{Act, Config, EditAct, Fault};
 
 /// The id of the first view.
 pub const FIRST_VIEW: &str = "view-id-1";
@@ -187,7 +189,7 @@ fn ready_alone(
     ensures may_take { IfOk result (λ made. MayTake doc.new made.0) }
     ensures kept { (plain : Document) → DocStandsFor doc.old plain
         → IfOk result (λ made. Keeps (with_event doc.new made.0) (event_step plain event).document) }
-    ensures effects { (plain : Document) → DocStandsFor doc.old plain → IfOk result (λ made. AreOf (event_step plain event) made.1) }
+    ensures effects { (plain : Document) → DocStandsFor doc.old plain → IfOk result (λ made. AreEffectsOf (event_step plain event) made.1) }
     ensures accepted { (plain : Document) → DocStandsFor doc.old plain → OnOk result (refusal_at plain event ≡ None) }
     ensures refused { (plain : Document) → DocStandsFor doc.old plain → IfErr result (DocRefuses (refusal_at plain event)) }
     ensures same { doc_contents doc.new ≡ doc_contents doc.old }
@@ -207,7 +209,7 @@ fn counted<L: Ledger>(
     ensures may_take { IfOk result (λ made. MayTake doc.new made.0) }
     ensures kept { (plain : Document) → DocStandsFor doc.old plain
         → IfOk result (λ made. Keeps (with_event doc.new made.0) (event_step plain event).document) }
-    ensures effects { (plain : Document) → DocStandsFor doc.old plain → IfOk result (λ made. AreOf (event_step plain event) made.1) }
+    ensures effects { (plain : Document) → DocStandsFor doc.old plain → IfOk result (λ made. AreEffectsOf (event_step plain event) made.1) }
     ensures accepted { (plain : Document) → DocStandsFor doc.old plain → OnOk result (refusal_at plain event ≡ None) }
     ensures refused { (plain : Document) → DocStandsFor doc.old plain → IfErr result (DocRefuses (refusal_at plain event)) }
     ensures same { doc_contents doc.new ≡ doc_contents doc.old }

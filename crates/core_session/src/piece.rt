@@ -1,23 +1,26 @@
 ghost use Rattle.std.specs.Prelude.{◌≡◌, ◌≤◌, ◌++◌, List, [], ◌∷◌, false, Option, Some, None, IfOk, option_map, codes};
-ghost use Rattle.std.specs.Str.{encode_utf8_all, IsAscii};
+ghost use Rattle.std.specs.Str.{encode_utf8_all};
+ghost use Rattle.json_rpc.specs.Refusal.{code_of, message_of};
 ghost use Rattle.json_rpc.specs.Request.{IsWireId};
 ghost use Rattle.json_rpc.specs.Line.{line_of};
 ghost use Rattle.json_rpc.specs.Response.{text_data, error_data};
 ghost use Rattle.serde_json.specs.Data.{depth};
 ghost use Rattle.serde_json.specs.Written.{has_float};
 ghost use Rattle.serde_json.specs.View.{view};
-ghost use Rattle.doc_session.specs.PointView.{point_view};
-ghost use Rattle.core_session.specs.Answer.{answers, refusal, named_refusal, refused_by, code_of, message_of, result_messages};
+ghost use Rattle.doc_session.specs.PositionView.{position_view};
+ghost use Rattle.core_session.specs.Answer.{answers, refusal, named_refusal, refused_by, result_messages};
 ghost use Rattle.core_session.specs.Session.{view_id, update_notes, scroll_notes};
 ghost use Rattle.core_session.specs.Core.{AreLinesOf, IsToldBack};
 ghost use Rattle.core_session.specs.Done.{reply_of};
 
 use crate::act::{Done, FIRST_VIEW, Reply};
-use json_rpc::{write_error, write_reply};
+use json_rpc::{code_of, message_of, write_error, write_reply};
 use serde_json::Value;
 use std::alloc::Global;
 use view_update::{write_alert, write_scroll, write_update};
-use xi_plain::{Fault, Id, NoMemory, Text, Update};
+use plain_text::{NoMemory, Text};
+use plain_screen::Update;
+use xi_plain::{Fault, Id};
 
 /// The number of the refusal of an edit that would insert more characters than may be.
 const SPENT: i64 = 3;
@@ -28,7 +31,7 @@ pub fn piece_of(alloc: Global, id: &Id, done: &Done) -> Result<Text, NoMemory>
     ensures told { IfOk result (λ _. IsToldBack done.now.update) }
     ensures lines { IfOk result (λ piece.
         AreLinesOf (answers id.now (reply_of done.now.reply) ++ (update_notes done.now.update
-        ++ scroll_notes (option_map point_view done.now.scroll))) (encode_utf8_all piece)) }
+        ++ scroll_notes (option_map position_view done.now.scroll))) (encode_utf8_all piece)) }
 {
     let mut piece = answer(alloc, id, &done.reply)?;
     piece.push_text(&update_note(alloc, &done.update)?)?;
@@ -44,7 +47,7 @@ fn answer(alloc: Global, id: &Id, reply: &Reply) -> Result<Text, NoMemory>
         Reply::Refused(fault) => refusal(alloc, id, fault),
         Reply::Opened => result_line(alloc, id, view_value(alloc)?),
         Reply::Done => result_line(alloc, id, Value::Null),
-        Reply::Spent => refused_by(alloc, id, SPENT, &literal(alloc, "spent")?),
+        Reply::Spent => refused_by(alloc, id, SPENT, &Text::from_ascii(alloc, "spent")?),
         Reply::Silent => Ok(Text::new(alloc)),
     }
 }
@@ -60,7 +63,7 @@ fn update_note(alloc: Global, update: &Option<Update>) -> Result<Text, NoMemory>
 }
 
 fn scroll_note(alloc: Global, scroll: Option<(u64, u64)>) -> Result<Text, NoMemory>
-    ensures { IfOk result (λ text. AreLinesOf (scroll_notes (option_map point_view scroll)) (encode_utf8_all text)) }
+    ensures { IfOk result (λ text. AreLinesOf (scroll_notes (option_map position_view scroll)) (encode_utf8_all text)) }
 {
     match scroll {
         Some((line, col)) => write_scroll(alloc, &first_view(alloc)?, line, col),
@@ -71,14 +74,7 @@ fn scroll_note(alloc: Global, scroll: Option<(u64, u64)>) -> Result<Text, NoMemo
 fn first_view(alloc: Global) -> Result<Text, NoMemory>
     ensures { IfOk result (λ view. view ≡ view_id) }
 {
-    literal(alloc, FIRST_VIEW)
-}
-
-fn literal(alloc: Global, ascii: &str) -> Result<Text, NoMemory>
-    requires { IsAscii ascii.now }
-    ensures { IfOk result (λ text. text ≡ ascii.now) }
-{
-    Text::from_str(alloc, ascii)
+    Text::from_ascii(alloc, FIRST_VIEW)
 }
 
 fn result_line(alloc: Global, id: &Id, value: Value) -> Result<Text, NoMemory>
@@ -132,37 +128,4 @@ fn error_line(alloc: Global, id: &Id, fault: &Fault) -> Result<Text, NoMemory>
         AreLinesOf (error_data id.now (code_of fault.now) (message_of fault.now) ∷ []) (encode_utf8_all text)) }
 {
     write_error(alloc, id, code_of(fault), &message_of(alloc, fault)?)
-}
-
-fn code_of(fault: &Fault) -> i64
-    ensures { result ≡ code_of fault.now }
-{
-    match fault {
-        Fault::Parse => -32700,
-        Fault::Invalid => -32600,
-        Fault::NoMethod(_) => -32601,
-        Fault::BadParams(_) => -32602,
-        Fault::NotBuilt => 9,
-    }
-}
-
-fn message_of(alloc: Global, fault: &Fault) -> Result<Text, NoMemory>
-    ensures { IfOk result (λ message. message ≡ message_of fault.now) }
-{
-    match fault {
-        Fault::Parse => literal(alloc, "parse error"),
-        Fault::Invalid => literal(alloc, "invalid request"),
-        Fault::NoMethod(name) => joined(alloc, "method not found: ", name),
-        Fault::BadParams(member) => joined(alloc, "invalid params: ", member),
-        Fault::NotBuilt => literal(alloc, "not built"),
-    }
-}
-
-fn joined(alloc: Global, front: &str, name: &Text) -> Result<Text, NoMemory>
-    requires { IsAscii front.now }
-    ensures { IfOk result (λ text. text ≡ front.now ++ name.now) }
-{
-    let mut text = literal(alloc, front)?;
-    text.push_text(name)?;
-    Ok(text)
 }

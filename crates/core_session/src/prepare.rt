@@ -12,7 +12,7 @@ use crate::session::Prepared;
 use doc_session::Doc;
 use front_wire::command_of;
 use std::alloc::Global;
-use xi_plain::NoMemory;
+use plain_text::NoMemory;
 
 /// Makes ready what a line comes to; the document is as before.
 pub fn prepare(alloc: Global, document: &mut Option<Doc>, line: &[u8]) -> Result<Prepared, NoMemory>

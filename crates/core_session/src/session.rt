@@ -14,7 +14,8 @@ use crate::write::write_piece;
 use doc_session::{Doc, ReadyEvent};
 use outside::Sink;
 use std::alloc::Global;
-use xi_plain::{Act, Command, Entry, Id, Text};
+use plain_text::Text;
+use xi_plain::{Act, Command, Entry, Id};
 
 /// What became of a line.
 #[derive(Clone, Copy, Debug, PartialEq, Eq)]

@@ -2,7 +2,7 @@ use super::{Core, Entered};
 use outside::MemSink;
 use std::alloc::Global;
 use std::test::Fail;
-use xi_plain::NoMemory;
+use plain_text::NoMemory;
 
 const FIRST_VIEW: &str = r#"{"id":0,"result":"view-id-1"}
 {"method":"update","params":{"update":{"ops":[{"lines":[{"cursor":[0],"ln":1,"styles":[],"text":""}],"n":1,"op":"ins"}],"pristine":true},"view_id":"view-id-1"}}

@@ -3,11 +3,11 @@ use Rattle.std.proofs.Common.{◌≡◌, ◌≢◌, ℕ, true, false, Bool, ◌+
 use Rattle.std.specs.Prelude.{if◌then◌else◌, nat_lt, nat_le, ◌==◌, ◌||◌, ◌&&◌, Result, Ok, Err, OnOk, OnErr}
 use Rattle.std.proofs.lemmas.Bool.{ltb-false, ltb-true}
 use Rattle.std.proofs.lemmas.Bool.Decides.{nat_tests}
-use Rattle.xi_plain.specs.declared.delta.Run.{Run}
-use Rattle.xi_plain.specs.declared.delta.Added.{Added}
-use Rattle.xi_plain.specs.Delta.{is_in_runs, text_at_gap}
-use Rattle.xi_plain.specs.UnitDelta.{AreRuns, AreAdds, AreApart, IsCanonical}
-use Rattle.delta_core.specs.Builder.{run_to, IsUnfinished, with_added, with_run}
+use Rattle.plain_text.specs.declared.run.Run.{Run}
+use Rattle.plain_edits.specs.declared.delta.Added.{Added}
+use Rattle.plain_edits.specs.Delta.{is_in_runs, text_at_gap}
+use Rattle.plain_edits.specs.UnitDelta.{AreRuns, AreAdds, AreApart, IsCanonical}
+use Rattle.delta_core.specs.Inner.{run_to, IsUnfinished, with_added, with_run}
 
 -- one more addition would be at this gap
 abbrev at_gap : ℕ → Added

@@ -5,9 +5,10 @@ use Rattle.std.proofs.lemmas.Bool.{false≢true, true≢false}
 use Rattle.subset_runs.specs.declared.stretch.Stretch.{Stretch}
 use Rattle.subset_runs.specs.Stretch.{IsFront}
 use Rattle.subset_runs.specs.Subset.{count, expand}
-use Rattle.subset_runs.proofs.FlagLemmas.{count_le_length, count-append, count-replicate_true, count-replicate_false}
-use Rattle.subset_runs.proofs.StretchLemmas.{front_part, front_len}
-use Rattle.delta_core.specs.Carry.{here, carried, IsCarried, IsNext}
+use Rattle.subset_runs.proofs.ForCallers.{count_le_length, count-append, count-replicate_true, count-replicate_false}
+use Rattle.subset_runs.proofs.ForCallers.{front_part, front_len}
+use Rattle.delta_core.specs.Carry.{here, carried, IsCarried}
+use Rattle.delta_core.specs.Inner.{IsNext}
 
 -- ---- how many insertions are at the front
 

@@ -1,4 +1,3 @@
-pub mod PlaceLemmas
 pub mod BuilderLemmas
 pub mod WalkLemmas
 pub mod StepLemmas
@@ -7,3 +6,4 @@ pub mod WireLaws
 pub mod UnitLemmas
 pub mod CarryLemmas
 pub mod SynthesisLemmas
+pub mod ForCallers

@@ -2,13 +2,14 @@
 use Rattle.std.proofs.Common.{◌≡◌, ℕ, zero, suc, true, false, Bool, not, ◌+◌, ◌≤◌, List, [], ◌∷◌, ◌++◌, length, take, drop, map, replicate, append-nil, append_assoc, length-append, length-drop, refl, ap, sym, ◌∙◌, arith}
 use Rattle.std.specs.Prelude.{if◌then◌else◌}
 use Rattle.std.specs.List.{range_with_len}
-use Rattle.xi_plain.specs.declared.delta.UnitDelta.{UnitDelta}
-use Rattle.xi_plain.specs.Woven.{woven}
-use Rattle.xi_plain.specs.UnitDelta.{unit_keeps, unit_adds}
+use Rattle.plain_edits.specs.declared.delta.UnitDelta.{UnitDelta}
+use Rattle.plain_text.specs.Woven.{woven}
+use Rattle.plain_edits.specs.UnitDelta.{unit_keeps, unit_adds}
 use Rattle.subset_runs.specs.Subset.{items_outside, expand}
 use Rattle.delta_core.specs.Units.{text_after}
 use Rattle.delta_core.specs.Factor.{dropped_flags, inserted_flags, union_text, IsFactored}
-use Rattle.delta_core.specs.Step.{Step, Kept, Dropped, New, step_of, steps_from, steps_of, base_count, text_of_steps, drops, news}
+use Rattle.delta_core.specs.Step.{Step, Kept, Dropped, New, drops}
+use Rattle.delta_core.specs.Inner.{step_of, steps_from, steps_of, base_count, text_of_steps, news}
 
 pub text_of_steps-kept : (n : ℕ) (steps : List Step) (text : List ℕ) → n ≤ length text → text_of_steps (replicate n Kept ++ steps) text ≡ take n text ++ text_of_steps steps (drop n text)
 text_of_steps-kept zero steps text within = refl

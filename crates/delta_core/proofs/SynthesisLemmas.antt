@@ -4,13 +4,14 @@ use Rattle.std.proofs.lemmas.List.{length-replicate}
 use Rattle.std.specs.Prelude.{if◌then◌else◌, ◌==◌, ◌||◌, ◌&&◌}
 use Rattle.std.proofs.lemmas.Bool.Decides.{nat_tests}
 use Rattle.std.proofs.Math.Bool.{or_assoc}
-use Rattle.xi_plain.specs.declared.delta.UnitDelta.{UnitDelta}
-use Rattle.xi_plain.specs.Woven.{woven}
-use Rattle.xi_plain.specs.Delta.{is_in_runs}
-use Rattle.xi_plain.specs.UnitDelta.{IsCanonical, unit_keeps, unit_adds}
+use Rattle.plain_edits.specs.declared.delta.UnitDelta.{UnitDelta}
+use Rattle.plain_text.specs.Woven.{woven}
+use Rattle.plain_edits.specs.Delta.{is_in_runs}
+use Rattle.plain_edits.specs.UnitDelta.{IsCanonical, unit_keeps, unit_adds}
 use Rattle.subset_runs.specs.Subset.{contains, complement, items_outside, shrink}
-use Rattle.delta_core.specs.Builder.{run_to}
-use Rattle.delta_core.specs.Synthesis.{appearing, member_from, IsBetween, IsGrown}
+use Rattle.delta_core.specs.Inner.{run_to}
+use Rattle.delta_core.specs.Synthesis.{appearing, IsBetween}
+use Rattle.delta_core.specs.Inner.{member_from, GrowsByBlock}
 use Rattle.delta_core.proofs.UnitLemmas.{applied-same}
 
 -- ---- flags and characters that are alike alive or dead
@@ -69,10 +70,10 @@ appearing_new (c ∷ cs) union before after at gap =
 
 -- ---- one stretch
 
-pub IsGrown-kept : (cs : List ℕ) (old new : UnitDelta) (n : ℕ) → length cs ≡ n → new.base ≡ old.base + n →
+pub GrowsByBlock-kept : (cs : List ℕ) (old new : UnitDelta) (n : ℕ) → length cs ≡ n → new.base ≡ old.base + n →
     ((index : ℕ) → unit_keeps new index ≡ (unit_keeps old index || is_in_runs (run_to old.base (old.base + n) ∷ []) index)) →
-    ((gap : ℕ) → unit_adds new gap ≡ unit_adds old gap) → IsGrown cs false false old new
-IsGrown-kept cs old new n same base kept added = record {
+    ((gap : ℕ) → unit_adds new gap ≡ unit_adds old gap) → GrowsByBlock cs false false old new
+GrowsByBlock-kept cs old new n same base kept added = record {
   base = omega arith;
   kept = λ before after index.
       rw (kept index, shrink_alive (length cs) false before after, member_from-all (length cs) old.base new.base index (shrink (complement after) before) (omega arith), base)
@@ -81,9 +82,9 @@ IsGrown-kept cs old new n same base kept added = record {
       rw (added gap, appearing_alive cs union before after false old.base new.base gap (omega arith)) refl;
 }
 
-pub IsGrown-passed : (cs : List ℕ) (old new : UnitDelta) (n : ℕ) → length cs ≡ n → new.base ≡ old.base + n →
-    ((index : ℕ) → unit_keeps new index ≡ unit_keeps old index) → ((gap : ℕ) → unit_adds new gap ≡ unit_adds old gap) → IsGrown cs false true old new
-IsGrown-passed cs old new n same base kept added = record {
+pub GrowsByBlock-passed : (cs : List ℕ) (old new : UnitDelta) (n : ℕ) → length cs ≡ n → new.base ≡ old.base + n →
+    ((index : ℕ) → unit_keeps new index ≡ unit_keeps old index) → ((gap : ℕ) → unit_adds new gap ≡ unit_adds old gap) → GrowsByBlock cs false true old new
+GrowsByBlock-passed cs old new n same base kept added = record {
   base = omega arith;
   kept = λ before after index.
       rw (kept index, shrink_alive (length cs) true before after, member_from-none (length cs) old.base new.base index (shrink (complement after) before) (omega arith)) refl;
@@ -91,9 +92,9 @@ IsGrown-passed cs old new n same base kept added = record {
       rw (added gap, appearing_alive cs union before after true old.base new.base gap (omega arith)) refl;
 }
 
-pub IsGrown-added : (cs : List ℕ) (old new : UnitDelta) → new.base ≡ old.base → ((index : ℕ) → unit_keeps new index ≡ unit_keeps old index) →
-    ((gap : ℕ) → unit_adds new gap ≡ unit_adds old gap ++ (if old.base == gap then cs else [])) → IsGrown cs true false old new
-IsGrown-added cs old new base kept added = record {
+pub GrowsByBlock-added : (cs : List ℕ) (old new : UnitDelta) → new.base ≡ old.base → ((index : ℕ) → unit_keeps new index ≡ unit_keeps old index) →
+    ((gap : ℕ) → unit_adds new gap ≡ unit_adds old gap ++ (if old.base == gap then cs else [])) → GrowsByBlock cs true false old new
+GrowsByBlock-added cs old new base kept added = record {
   base = omega arith;
   kept = λ before after index. rw (kept index, base, shrink_dead (length cs) false before after) refl;
   added = λ union before after gap.
@@ -101,8 +102,8 @@ IsGrown-added cs old new base kept added = record {
       (append_assoc (unit_adds old gap) (if old.base == gap then cs else []) (appearing old.base union before after gap));
 }
 
-pub IsGrown-none : (cs : List ℕ) (units : UnitDelta) → IsGrown cs true true units units
-IsGrown-none cs units = record {
+pub GrowsByBlock-none : (cs : List ℕ) (units : UnitDelta) → GrowsByBlock cs true true units units
+GrowsByBlock-none cs units = record {
   base = omega arith;
   kept = λ before after index. rw (shrink_dead (length cs) true before after) refl;
   added = λ union before after gap. rw (appearing_dead cs union before after units.base gap) refl;
@@ -174,7 +175,7 @@ if_zero false n = omega arith
 
 pub IsReading-next : (union : List ℕ) (all_before all_after : List Bool) (units new : UnitDelta) (rest front back : List ℕ) (before after own other : List Bool) (n : ℕ) (dead_before dead_after : Bool) →
     IsReading union all_before all_after units rest before after → before ≡ replicate n dead_before ++ own → after ≡ replicate n dead_after ++ other →
-    front ≡ take n rest → back ≡ drop n rest → IsGrown front dead_before dead_after units new → IsReading union all_before all_after new back own other
+    front ≡ take n rest → back ≡ drop n rest → GrowsByBlock front dead_before dead_after units new → IsReading union all_before all_after new back own other
 IsReading-next union all_before all_after units new rest front back before after own other n dead_before dead_after reading own_is other_is front_is back_is grown =
     let long_before : length before ≡ n + length own = ap length own_is ∙ length-append (replicate n dead_before) own ∙ ap (λ k. k + length own) (length-replicate n dead_before) in
     let long_after : length after ≡ n + length other = ap length other_is ∙ length-append (replicate n dead_after) other ∙ ap (λ k. k + length other) (length-replicate n dead_after) in

@@ -3,19 +3,20 @@ use Rattle.std.proofs.Common.{◌≡◌, ℕ, zero, suc, true, false, Bool, not,
 use Rattle.std.specs.Prelude.{if◌then◌else◌, nat_lt, ◌==◌, ◌||◌, unwrap_or, is_some, nat_le, ◌&&◌}
 use Rattle.std.proofs.lemmas.Str.{len_utf8_bounds}
 use Rattle.std.proofs.lemmas.Bool.{ltb-false, false≢true}
-use Rattle.xi_plain.specs.declared.delta.Run.{Run}
-use Rattle.xi_plain.specs.declared.delta.Misfit.{Misfit}
-use Rattle.xi_plain.specs.declared.delta.El.{El}
-use Rattle.xi_plain.specs.declared.delta.El.TheVariants.{Copy, Insert}
-use Rattle.xi_plain.specs.declared.delta.Delta.{Delta}
-use Rattle.xi_plain.specs.declared.delta.UnitDelta.{UnitDelta}
-use Rattle.xi_plain.specs.Text.{byte_len, gap_at, gap_of, is_place, place_of}
-use Rattle.xi_plain.specs.Delta.{copy_misfit, copies_misfit, or_later, is_in_runs, text_at_gap, kept_runs, insertions, keeps, adds, applied, Fits}
-use Rattle.xi_plain.specs.UnitDelta.{unit_keeps, unit_adds, IsCanonical}
-use Rattle.xi_plain.specs.Woven.{woven}
-use Rattle.delta_core.specs.Builder.{run_to}
-use Rattle.delta_core.specs.Units.{IsPut, IsUnitsOf}
-use Rattle.delta_core.proofs.PlaceLemmas.{IsPlaced-from, gap_from-seam}
+use Rattle.plain_text.specs.declared.run.Run.{Run}
+use Rattle.plain_edits.specs.declared.delta.Misfit.{Misfit}
+use Rattle.plain_edits.specs.declared.delta.El.{El}
+use Rattle.plain_edits.specs.declared.delta.El.TheVariants.{Copy, Insert}
+use Rattle.plain_edits.specs.declared.delta.Delta.{Delta}
+use Rattle.plain_edits.specs.declared.delta.UnitDelta.{UnitDelta}
+use Rattle.plain_text.specs.Text.{byte_len, gap_at, gap_of, is_place, place_of}
+use Rattle.plain_edits.specs.Delta.{copy_misfit, copies_misfit, or_later, is_in_runs, text_at_gap, kept_runs, insertions, keeps, adds, applied, Fits}
+use Rattle.plain_edits.specs.UnitDelta.{unit_keeps, unit_adds, IsCanonical}
+use Rattle.plain_text.specs.Woven.{woven}
+use Rattle.delta_core.specs.Inner.{run_to}
+use Rattle.delta_core.specs.Units.{IsUnitsOf}
+use Rattle.delta_core.specs.Inner.{PutsElement}
+use Rattle.plain_text.proofs.callers.PlaceLemmas.{IsPlaced-from, gap_from-seam}
 
 if_none : (b : Bool) (misfit : Misfit) (later : Option Misfit) → (if b then Some misfit else later) ≡ None → (b ≡ false) × (later ≡ None)
 if_none true misfit later none = absurd cc
@@ -69,12 +70,12 @@ gap_of-le text at is =
     let found = IsPlaced-from text at is in
     omega (arith, gap_le_place text found.0 found.1.within, found.1.place, found.1.of)
 
-pub IsPut-copy : (text : List ℕ) (at a b : ℕ) (old passed new : UnitDelta) (n m : ℕ) → old.base ≡ gap_of text at →
+pub PutsElement-copy : (text : List ℕ) (at a b : ℕ) (old passed new : UnitDelta) (n m : ℕ) → old.base ≡ gap_of text at →
     CopyFits text at a b → gap_of text at + n ≡ gap_of text a → gap_of text a + m ≡ gap_of text b →
     passed.base ≡ old.base + n → ((index : ℕ) → unit_keeps passed index ≡ unit_keeps old index) → ((gap : ℕ) → unit_adds passed gap ≡ unit_adds old gap) →
     new.base ≡ passed.base + m → ((index : ℕ) → unit_keeps new index ≡ (unit_keeps passed index || is_in_runs (run_to passed.base (passed.base + m) ∷ []) index)) →
-    ((gap : ℕ) → unit_adds new gap ≡ unit_adds passed gap) → IsPut text at (Copy a b) old new b
-IsPut-copy text at a b old passed new n m base good over through passed_base passed_kept passed_added new_base new_kept new_added =
+    ((gap : ℕ) → unit_adds new gap ≡ unit_adds passed gap) → PutsElement text at (Copy a b) old new b
+PutsElement-copy text at a b old passed new n m base good over through passed_base passed_kept passed_added new_base new_kept new_added =
     let first : passed.base ≡ gap_of text a = omega arith in
     let last : passed.base + m ≡ gap_of text b = omega arith in
     record {
@@ -97,10 +98,10 @@ IsPut-copy text at a b old passed new n m base good over through passed_base pas
         last true = refl
         last false = refl
 
-pub IsPut-insert : (text more : List ℕ) (at : ℕ) (old new : UnitDelta) → is_place text at ≡ true → old.base ≡ gap_of text at → new.base ≡ old.base →
+pub PutsElement-insert : (text more : List ℕ) (at : ℕ) (old new : UnitDelta) → is_place text at ≡ true → old.base ≡ gap_of text at → new.base ≡ old.base →
     ((index : ℕ) → unit_keeps new index ≡ unit_keeps old index) →
-    ((gap : ℕ) → unit_adds new gap ≡ unit_adds old gap ++ (if old.base == gap then more else [])) → IsPut text at (Insert more) old new at
-IsPut-insert text more at old new place base new_base new_kept new_added = record {
+    ((gap : ℕ) → unit_adds new gap ≡ unit_adds old gap ++ (if old.base == gap then more else [])) → PutsElement text at (Insert more) old new at
+PutsElement-insert text more at old new place base new_base new_kept new_added = record {
   place = place;
   base = new_base ∙ base;
   fits = λ els none. none;
@@ -142,7 +143,7 @@ IsReading-start text delta units good base none_kept none_added = record {
     if_fits false none = absurd cc
 
 pub IsReading-next : (text : List ℕ) (els : List El) (units new : UnitDelta) (at end : ℕ) (rest more : List El) (el : El) → IsReading text els units at rest →
-    rest ≡ el ∷ more → IsPut text at el units new end → IsReading text els new end more
+    rest ≡ el ∷ more → PutsElement text at el units new end → IsReading text els new end more
 IsReading-next text els units new at end rest more el reading next put = record {
   place = put.place;
   base = put.base;

@@ -3,13 +3,14 @@ use Rattle.std.proofs.Common.{◌≡◌, ◌≢◌, ℕ, zero, suc, true, false,
 use Rattle.std.proofs.lemmas.Bool.{cases_lt}
 use Rattle.std.specs.Prelude.{nat_lt, nat_le, ◌==◌, ◌&&◌, slice_get, min, Some, IsTrue}
 use Rattle.std.proofs.lemmas.Bool.Decides.{nat_tests}
-use Rattle.xi_plain.specs.declared.delta.Run.{Run}
-use Rattle.xi_plain.specs.declared.delta.Added.{Added}
-use Rattle.xi_plain.specs.declared.delta.UnitDelta.{UnitDelta}
-use Rattle.xi_plain.specs.Delta.{is_in_runs, text_at_gap}
-use Rattle.xi_plain.specs.UnitDelta.{AreRuns, AreAdds, IsUnitDelta}
-use Rattle.delta_core.specs.Step.{Step, New, step_of, steps_from, steps_of}
-use Rattle.delta_core.specs.Walk.{Rise, ReachesPast, next_stop, IsToCome, IsRestOfKept, IsStretch}
+use Rattle.plain_text.specs.declared.run.Run.{Run}
+use Rattle.plain_edits.specs.declared.delta.Added.{Added}
+use Rattle.plain_edits.specs.declared.delta.UnitDelta.{UnitDelta}
+use Rattle.plain_edits.specs.Delta.{is_in_runs, text_at_gap}
+use Rattle.plain_edits.specs.UnitDelta.{AreRuns, AreAdds, IsUnitDelta}
+use Rattle.delta_core.specs.Step.{Step, New}
+use Rattle.delta_core.specs.Inner.{step_of, steps_from, steps_of}
+use Rattle.delta_core.specs.Inner.{Rise, ReachesPast, next_stop, IsToCome, IsRestOfKept, IsStretch}
 
 Rise-weaker : (low from : ℕ) (runs : List Run) → low ≤ from → Rise from runs → Rise low runs
 Rise-weaker low from [] less rise = tt

@@ -5,24 +5,25 @@ use Rattle.std.specs.Char.{len_utf8}
 use Rattle.std.proofs.lemmas.Str.{len_utf8_bounds}
 use Rattle.std.proofs.lemmas.Bool.{le-ltb, cases_eq}
 use Rattle.std.proofs.lemmas.Bool.Decides.{nat_tests}
-use Rattle.xi_plain.specs.declared.delta.Run.{Run}
-use Rattle.xi_plain.specs.declared.delta.El.{El}
-use Rattle.xi_plain.specs.declared.delta.El.TheVariants.{Copy, Insert}
-use Rattle.xi_plain.specs.declared.delta.UnitDelta.{UnitDelta}
-use Rattle.xi_plain.specs.Woven.{woven}
-use Rattle.xi_plain.specs.Text.{byte_len, gap_of, is_place}
-use Rattle.xi_plain.specs.Delta.{copies_misfit, is_in_runs, text_at_gap, kept_runs, insertions, applied, Fits}
-use Rattle.xi_plain.specs.UnitDelta.{unit_keeps, unit_adds}
-use Rattle.delta_core.specs.Builder.{run_to}
-use Rattle.delta_core.specs.Walk.{Rise}
-use Rattle.delta_core.specs.Step.{Step, Kept, Dropped, steps_from, text_of_steps}
+use Rattle.plain_text.specs.declared.run.Run.{Run}
+use Rattle.plain_edits.specs.declared.delta.El.{El}
+use Rattle.plain_edits.specs.declared.delta.El.TheVariants.{Copy, Insert}
+use Rattle.plain_edits.specs.declared.delta.UnitDelta.{UnitDelta}
+use Rattle.plain_text.specs.Woven.{woven}
+use Rattle.plain_text.specs.Text.{byte_len, gap_of, is_place}
+use Rattle.plain_edits.specs.Delta.{copies_misfit, is_in_runs, text_at_gap, kept_runs, insertions, applied, Fits}
+use Rattle.plain_edits.specs.UnitDelta.{unit_keeps, unit_adds}
+use Rattle.delta_core.specs.Inner.{run_to}
+use Rattle.delta_core.specs.Inner.{Rise}
+use Rattle.delta_core.specs.Step.{Step, Kept, Dropped}
+use Rattle.delta_core.specs.Inner.{steps_from, text_of_steps}
 use Rattle.delta_core.specs.Wire.{copy_before, text_before, wire_from, wire_of, IsWireOf}
-use Rattle.delta_core.proofs.PlaceLemmas.{IsPlaced, IsPlaced-from, gap_from-seam, gaps_rise}
+use Rattle.plain_text.proofs.callers.PlaceLemmas.{IsPlaced, IsPlaced-from, gap_from-seam, gaps_rise}
 use Rattle.delta_core.proofs.UnitLemmas.{CopyFits, CopyFits-from}
 use Rattle.delta_core.proofs.WalkLemmas.{is_in_runs-before, steps_stretch, steps_from-same, added_next}
 use Rattle.std.proofs.Math.Seq.{take-nil, drop-nil}
-use Rattle.xi_plain.specs.UnitDelta.{IsUnitDelta}
-use Rattle.delta_core.specs.WireBuilder.{Gathered, whole}
+use Rattle.plain_edits.specs.UnitDelta.{IsUnitDelta}
+use Rattle.delta_core.specs.Inner.{Gathered, whole}
 use Rattle.delta_core.proofs.WireLemmas.{copy_before-nil, copy_before-touching, copy_before-apart, copy_before-text, IsWiring, wire_steps}
 use Rattle.delta_core.proofs.StepLemmas.{text_of_steps-kept, text_of_steps-dropped, text_of_steps-added, text_of_steps-steps}
 

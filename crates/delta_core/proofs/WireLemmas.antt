@@ -4,15 +4,16 @@ use Rattle.std.specs.Prelude.{if◌then◌else◌, ◌==◌}
 use Rattle.std.specs.Char.{len_utf8}
 use Rattle.std.proofs.lemmas.Bool.{cases_eq}
 use Rattle.std.proofs.lemmas.Bool.Decides.{nat_tests}
-use Rattle.xi_plain.specs.declared.delta.El.{El}
-use Rattle.xi_plain.specs.declared.delta.El.TheVariants.{Copy, Insert}
-use Rattle.xi_plain.specs.declared.delta.UnitDelta.{UnitDelta}
-use Rattle.xi_plain.specs.Text.{byte_len, place_of}
-use Rattle.xi_plain.specs.UnitDelta.{unit_keeps, unit_adds}
-use Rattle.delta_core.proofs.PlaceLemmas.{place_of-rises_strictly}
-use Rattle.delta_core.specs.Step.{Step, Kept, Dropped, New, step_of, steps_from, steps_of, base_count}
+use Rattle.plain_edits.specs.declared.delta.El.{El}
+use Rattle.plain_edits.specs.declared.delta.El.TheVariants.{Copy, Insert}
+use Rattle.plain_edits.specs.declared.delta.UnitDelta.{UnitDelta}
+use Rattle.plain_text.specs.Text.{byte_len, place_of}
+use Rattle.plain_edits.specs.UnitDelta.{unit_keeps, unit_adds}
+use Rattle.plain_text.proofs.callers.PlaceLemmas.{place_of-rises_strictly}
+use Rattle.delta_core.specs.Step.{Step, Kept, Dropped, New}
+use Rattle.delta_core.specs.Inner.{step_of, steps_from, steps_of, base_count}
 use Rattle.delta_core.specs.Wire.{copy_before, text_before, wire_from}
-use Rattle.delta_core.specs.WireBuilder.{Gathered, whole}
+use Rattle.delta_core.specs.Inner.{Gathered, whole}
 use Rattle.delta_core.proofs.StepLemmas.{base_count-kept, base_count-dropped, base_count-added, base_count-steps}
 
 -- ---- putting in front

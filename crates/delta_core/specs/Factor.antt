@@ -1,9 +1,9 @@
 -- A unit delta as two sets: what is dropped of the base, and what is inserted in the base with the insertions, its union.
 use Rattle.std.specs.Prelude.{◌≡◌, ℕ, Bool, true, false, not, List, [], ◌∷◌, length, map, replicate}
 use Rattle.std.specs.List.{range_with_len}
-use Rattle.xi_plain.specs.declared.delta.UnitDelta.{UnitDelta}
-use Rattle.xi_plain.specs.Woven.{woven}
-use Rattle.xi_plain.specs.UnitDelta.{unit_keeps, unit_adds}
+use Rattle.plain_edits.specs.declared.delta.UnitDelta.{UnitDelta}
+use Rattle.plain_text.specs.Woven.{woven}
+use Rattle.plain_edits.specs.UnitDelta.{unit_keeps, unit_adds}
 use Rattle.subset_runs.specs.Subset.{items_outside, expand}
 use Rattle.delta_core.specs.Units.{text_after}
 

@@ -4,7 +4,5 @@ pub mod Wire
 pub mod Factor
 pub mod Synthesis
 pub mod Carry
-pub mod Builder
-pub mod Walk
-pub mod WireBuilder
 pub mod Row
+pub mod Inner

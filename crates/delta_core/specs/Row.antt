@@ -1,7 +1,7 @@
 -- A worked row.
 use Rattle.std.specs.Prelude.{[], ◌∷◌}
-use Rattle.xi_plain.specs.declared.delta.UnitDelta.{UnitDelta}
-use Rattle.delta_core.specs.Builder.{run_to}
+use Rattle.plain_edits.specs.declared.delta.UnitDelta.{UnitDelta}
+use Rattle.delta_core.specs.Inner.{run_to}
 
 -- the edit of `abc` that has `X` in the place of `b`
 abbrev pub edit_of_abc : UnitDelta

@@ -1,7 +1,7 @@
 -- A unit delta as steps from the left end of its base to the right.
 use Rattle.std.specs.Prelude.{ℕ, zero, suc, ◌+◌, Bool, true, false, List, [], ◌∷◌, ◌++◌, map, replicate}
-use Rattle.xi_plain.specs.declared.delta.UnitDelta.{UnitDelta}
-use Rattle.xi_plain.specs.UnitDelta.{unit_keeps, unit_adds}
+use Rattle.plain_edits.specs.declared.delta.UnitDelta.{UnitDelta}
+use Rattle.plain_edits.specs.UnitDelta.{unit_keeps, unit_adds}
 use Rattle.delta_core.specs.declared.part.Part.{Part}
 use Rattle.delta_core.specs.declared.part.Part.TheVariants.{Keep, Drop, Add}
 
@@ -11,52 +11,9 @@ pub data Step : Type 0 where
   Dropped : Step
   New : ℕ → Step
 
--- what becomes of a character of the base
-abbrev pub step_of : Bool → Step
-step_of true = Kept
-step_of false = Dropped
-
--- the steps from a gap on, where that many characters of the base are right of it
-abbrev pub steps_from : (ℕ → Bool) → (ℕ → List ℕ) → ℕ → ℕ → List Step
-steps_from keeps adds gap zero = map New (adds gap)
-steps_from keeps adds gap (suc n) = map New (adds gap) ++ step_of (keeps gap) ∷ steps_from keeps adds (gap + 1) n
-
--- the steps of a unit delta
-abbrev pub steps_of : UnitDelta → List Step
-steps_of units = steps_from (unit_keeps units) (unit_adds units) 0 units.base
-
--- the steps of a part
-abbrev pub part_steps : Part → List Step
-part_steps (Keep n) = replicate n Kept
-part_steps (Drop n) = replicate n Dropped
-part_steps (Add text) = map New text.now
-
--- how many characters of the base the steps go over
-abbrev pub base_count : List Step → ℕ
-base_count [] = 0
-base_count (Kept ∷ steps) = base_count steps + 1
-base_count (Dropped ∷ steps) = base_count steps + 1
-base_count (New c ∷ steps) = base_count steps
-
--- what the steps make of a text
-abbrev pub text_of_steps : List Step → List ℕ → List ℕ
-text_of_steps [] text = []
-text_of_steps (New c ∷ steps) text = c ∷ text_of_steps steps text
-text_of_steps (Kept ∷ steps) [] = []
-text_of_steps (Kept ∷ steps) (c ∷ text) = c ∷ text_of_steps steps text
-text_of_steps (Dropped ∷ steps) [] = []
-text_of_steps (Dropped ∷ steps) (c ∷ text) = text_of_steps steps text
-
 -- for each character of the base whether it is dropped
 abbrev pub drops : List Step → List Bool
 drops [] = []
 drops (Kept ∷ steps) = false ∷ drops steps
 drops (Dropped ∷ steps) = true ∷ drops steps
 drops (New c ∷ steps) = drops steps
-
--- for each step whether it adds a character
-abbrev pub news : List Step → List Bool
-news [] = []
-news (Kept ∷ steps) = false ∷ news steps
-news (Dropped ∷ steps) = false ∷ news steps
-news (New c ∷ steps) = true ∷ news steps

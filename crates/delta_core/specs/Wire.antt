@@ -1,13 +1,13 @@
 -- The delta of the notices.
 use Rattle.std.specs.Prelude.{◌≡◌, ℕ, ◌+◌, Bool, if◌then◌else◌, ◌==◌, List, [], ◌∷◌, ◌++◌}
 use Rattle.std.specs.Char.{len_utf8}
-use Rattle.xi_plain.specs.declared.delta.El.{El}
-use Rattle.xi_plain.specs.declared.delta.El.TheVariants.{Copy, Insert}
-use Rattle.xi_plain.specs.declared.delta.Delta.{Delta}
-use Rattle.xi_plain.specs.declared.delta.UnitDelta.{UnitDelta}
-use Rattle.xi_plain.specs.Text.{byte_len}
-use Rattle.xi_plain.specs.Delta.{Fits, keeps, adds, applied}
-use Rattle.xi_plain.specs.UnitDelta.{unit_keeps, unit_adds}
+use Rattle.plain_edits.specs.declared.delta.El.{El}
+use Rattle.plain_edits.specs.declared.delta.El.TheVariants.{Copy, Insert}
+use Rattle.plain_edits.specs.declared.delta.Delta.{Delta}
+use Rattle.plain_edits.specs.declared.delta.UnitDelta.{UnitDelta}
+use Rattle.plain_text.specs.Text.{byte_len}
+use Rattle.plain_edits.specs.Delta.{Fits, keeps, adds, applied}
+use Rattle.plain_edits.specs.UnitDelta.{unit_keeps, unit_adds}
 use Rattle.delta_core.specs.Units.{text_after}
 
 -- a copy in front of other elements: one with the first of them where that is a copy that begins where this ends; an empty one is left out

@@ -1,12 +1,12 @@
 ghost use Rattle.std.specs.Prelude.{◌≡◌, length, IfOk};
-ghost use Rattle.xi_plain.specs.UnitDelta.{IsUnitDelta};
+ghost use Rattle.plain_edits.specs.UnitDelta.{IsUnitDelta};
 ghost use Rattle.delta_core.specs.Units.{text_after};
 
 use crate::part::Part;
-use crate::places::split_at_gap;
 use crate::unit_walk::UnitWalk;
 use std::alloc::Global;
-use xi_plain::{NoMemory, Text, UnitDelta};
+use plain_text::{NoMemory, Text, split_at_gap};
+use plain_edits::UnitDelta;
 
 /// The text that the unit delta makes of a text. This costs the bytes of the two and the elements of the delta.
 pub fn apply(alloc: Global, text: &Text, units: &UnitDelta) -> Result<Text, NoMemory>

@@ -1,14 +1,15 @@
 ghost use Rattle.std.specs.Prelude.{◌≡◌, ◌≢◌, ◌+◌, ◌^◌, ◌<◌, [], length, IfOk};
 ghost use Rattle.subset_runs.specs.Subset.{count};
-ghost use Rattle.delta_core.specs.Carry.{IsCarried, IsNext, IsTurn, here};
+ghost use Rattle.delta_core.specs.Carry.{IsCarried, here};
+ghost use Rattle.delta_core.specs.Inner.{IsNext, IsCarryStep};
 
 use std::alloc::Global;
 use subset_runs::{Stretch, Subset, Walk};
-use xi_plain::NoMemory;
+use plain_text::NoMemory;
 
 // What comes next: insertions of the one, insertions of the other, or characters of the base.
 #[derive(Clone, Copy)]
-enum Turn {
+enum CarryStep {
     Own,
     Other,
     Base,
@@ -44,22 +45,22 @@ fn next_carried(own: &mut Walk, other: &mut Walk, after: bool) -> Stretch
 {
     let ins = inserted_len(own);
     let later = inserted_len(other);
-    match next_turn(ins, later, after) {
-        Turn::Own => {
+    match next_step(ins, later, after) {
+        CarryStep::Own => {
             own.skip(ins);
             Stretch {
                 len: ins,
                 member: true,
             }
         }
-        Turn::Other => {
+        CarryStep::Other => {
             other.skip(later);
             Stretch {
                 len: later,
                 member: false,
             }
         }
-        Turn::Base => {
+        CarryStep::Base => {
             let len = own.front().len.min(other.front().len);
             own.skip(len);
             other.skip(len);
@@ -69,15 +70,15 @@ fn next_carried(own: &mut Walk, other: &mut Walk, after: bool) -> Stretch
 }
 
 // Whose turn it is at a gap with so many insertions of the two.
-fn next_turn(ins: u64, later: u64, after: bool) -> Turn
-    ensures { IsTurn ins later after result }
+fn next_step(ins: u64, later: u64, after: bool) -> CarryStep
+    ensures { IsCarryStep ins later after result }
 {
     if 0 < ins && (!after || later == 0) {
-        Turn::Own
+        CarryStep::Own
     } else if 0 < later {
-        Turn::Other
+        CarryStep::Other
     } else {
-        Turn::Base
+        CarryStep::Base
     }
 }
 

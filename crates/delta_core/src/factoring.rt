@@ -1,13 +1,15 @@
 ghost use Rattle.std.specs.Prelude.{◌≡◌, ◌+◌, ◌<◌, ◌^◌, ◌++◌, length, IfOk, OnOk};
-ghost use Rattle.xi_plain.specs.UnitDelta.{IsUnitDelta};
+ghost use Rattle.plain_edits.specs.UnitDelta.{IsUnitDelta};
 ghost use Rattle.delta_core.specs.Factor.{IsFactored, inserted_flags};
-ghost use Rattle.delta_core.specs.Step.{base_count, drops, news, part_steps};
+ghost use Rattle.delta_core.specs.Step.{drops};
+ghost use Rattle.delta_core.specs.Inner.{base_count, news, part_steps};
 
 use crate::part::Part;
 use crate::unit_walk::UnitWalk;
 use std::alloc::Global;
 use subset_runs::Subset;
-use xi_plain::{NoMemory, UnitDelta};
+use plain_text::NoMemory;
+use plain_edits::UnitDelta;
 
 /// What the unit delta drops of its base, and what it inserts in the base with the insertions. This costs the elements of the delta
 /// and the bytes that it adds.
@@ -41,7 +43,7 @@ fn put_part(dropped: &mut Subset, inserted: &mut Subset, part: Part) -> Result<(
             dropped.append(n, true)?;
             inserted.append(n, false)?;
         }
-        Part::Add(text) => inserted.append(text.len(), true)?,
+        Part::Add(text) => inserted.append(text.char_count(), true)?,
     }
     Ok(())
 }

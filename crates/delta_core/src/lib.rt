@@ -1,6 +1,6 @@
 //! Deltas: what an edit is, in bytes and in characters.
 //!
-//! A delta on the wire and a unit delta are the plain types of `xi_plain`, and mean what its definitions say. A contract sees a
+//! A delta on the wire and a unit delta are the plain types of `plain_edits`, and mean what its definitions say. A contract sees a
 //! text as its list of characters, and a subset as its list of flags. The calls go from the one form to the other and back, apply
 //! a unit delta to a text, take it apart into two subsets, make it from two subsets, and carry insertions over other ones.
 #![tactic(auto)]
@@ -10,7 +10,6 @@ mod carry;
 mod factoring;
 mod misfits;
 mod part;
-mod places;
 mod synthesis;
 #[cfg(test)]
 mod tests;
@@ -24,7 +23,6 @@ pub use application::apply;
 pub use carry::carry_ins;
 pub use factoring::factor;
 pub use misfits::fits;
-pub use places::split_at_gap;
 pub use synthesis::synthesize;
 pub use unit_form::to_units;
 pub use wire_form::to_wire;

@@ -1,8 +1,8 @@
 ghost use Rattle.std.specs.Prelude.{◌≡◌, Some, None, IfErr, OnOk};
-ghost use Rattle.xi_plain.specs.Delta.{Fits, copy_misfit, misfit_of};
+ghost use Rattle.plain_edits.specs.Delta.{Fits, copy_misfit, misfit_of};
 
-use crate::places::is_place;
-use xi_plain::{Delta, El, Misfit, Text};
+use plain_text::Text;
+use plain_edits::{Delta, El, Misfit};
 
 /// Whether the delta fits the text, or else its first misfit: the base length is looked at first, and then each copy in the order of
 /// the list. This takes no memory, and costs the elements of the delta.
@@ -38,10 +38,10 @@ fn copy_misfit(text: &Text, end: u64, a: u64, b: u64) -> Option<Misfit>
     if text.byte_len() < b {
         return Some(Misfit { kind: 3, at: b });
     }
-    if !is_place(text, a) {
+    if !text.is_place(a) {
         return Some(Misfit { kind: 4, at: a });
     }
-    if !is_place(text, b) {
+    if !text.is_place(b) {
         return Some(Misfit { kind: 4, at: b });
     }
     None

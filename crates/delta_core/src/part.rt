@@ -1,4 +1,4 @@
-use xi_plain::Text;
+use plain_text::Text;
 
 /// What a unit delta does next: to characters of its base, or at a gap.
 #[derive(Clone, Copy)]

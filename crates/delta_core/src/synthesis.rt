@@ -1,12 +1,13 @@
 ghost use Rattle.std.specs.Prelude.{◌≡◌, ◌≢◌, ◌+◌, ◌<◌, ◌^◌, [], ◌++◌, length, replicate, IfOk, OnOk};
 ghost use Rattle.std.specs.Str.{chars};
-ghost use Rattle.delta_core.specs.Synthesis.{IsBetween, IsGrown};
+ghost use Rattle.delta_core.specs.Synthesis.{IsBetween};
+ghost use Rattle.delta_core.specs.Inner.{GrowsByBlock};
 
-use crate::places::split_at_gap;
 use crate::unit_builder::UnitBuilder;
 use std::alloc::Global;
 use subset_runs::{Subset, Walk};
-use xi_plain::{NoMemory, Text, UnitDelta};
+use plain_text::{NoMemory, Text, split_at_gap};
+use plain_edits::UnitDelta;
 
 // Some characters in a row of a union that are alike alive or dead.
 #[derive(Clone, Copy)]
@@ -64,7 +65,7 @@ fn next_block(before: &mut Walk, after: &mut Walk) -> Block
 fn put_characters(units: &mut UnitBuilder, characters: &str, block: Block) -> Result<(), NoMemory>
     requires all { length (chars characters.now) ≡ block.len }
     requires room { units.old.base + block.len < 2 ^ 64 }
-    ensures { OnOk result (IsGrown (chars characters.now) block.dead_before block.dead_after units.old units.new) }
+    ensures { OnOk result (GrowsByBlock (chars characters.now) block.dead_before block.dead_after units.old units.new) }
 {
     match (block.dead_before, block.dead_after) {
         (false, false) => {

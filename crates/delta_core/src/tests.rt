@@ -5,7 +5,8 @@ use crate::{apply, carry_ins, factor, fits, synthesize, to_units, to_wire};
 use std::alloc::Global;
 use std::test::Fail;
 use subset_runs::Subset;
-use xi_plain::{Added, Adds, Delta, El, Els, Misfit, NoMemory, Run, Runs, Text, UnitDelta};
+use plain_text::{NoMemory, Run, Runs, Text};
+use plain_edits::{Added, Adds, Delta, El, Els, Misfit, UnitDelta};
 
 // An element of a row: a copy, or an insertion of one of the texts.
 #[derive(Clone, Copy)]
@@ -166,7 +167,7 @@ fn a_delta_in_all_its_forms(rt: HostRuntime) -> Result<(), Fail> {
         let in_units = to_units(alloc, &text, &given)?;
         assert_eq!(rt;
             in_units,
-            units(alloc, text.len(), form.runs, form.additions)?
+            units(alloc, text.char_count(), form.runs, form.additions)?
         );
         assert_eq!(rt;
             to_wire(alloc, &text, &in_units)?,
@@ -260,10 +261,10 @@ fn two_subsets_as_a_unit_delta(rt: HostRuntime) -> Result<(), Fail> {
         ("abc", (1, 2), (1, 2), [(0, 2)].as_slice(), [].as_slice()),
     ] {
         let union = Text::from_str(alloc, union)?;
-        let before = Subset::of_ranges(alloc, union.len(), &[before])?;
-        let after = Subset::of_ranges(alloc, union.len(), &[after])?;
+        let before = Subset::of_ranges(alloc, union.char_count(), &[before])?;
+        let after = Subset::of_ranges(alloc, union.char_count(), &[after])?;
         let made = synthesize(alloc, &union, &before, &after)?;
-        assert_eq!(rt; made.base, union.len().saturating_sub(before.count()));
+        assert_eq!(rt; made.base, union.char_count().saturating_sub(before.count()));
         assert_eq!(rt; made, units(alloc, made.base, runs, additions)?);
     }
     Ok(())

@@ -1,13 +1,14 @@
 ghost use Rattle.std.specs.Prelude.{◌≡◌, ℕ, ◌+◌, ◌^◌, ◌<◌, ◌||◌, false, if◌then◌else◌, ◌==◌, [], ◌∷◌, ◌++◌, IfOk, OnOk, OnErr};
 ghost use Rattle.std.specs.Str.{chars};
-ghost use Rattle.xi_plain.specs.Delta.{is_in_runs};
-ghost use Rattle.xi_plain.specs.UnitDelta.{IsCanonical, unit_adds, unit_keeps};
-ghost use Rattle.delta_core.specs.Builder.{run_to, with_added, with_run};
+ghost use Rattle.plain_edits.specs.Delta.{is_in_runs};
+ghost use Rattle.plain_edits.specs.UnitDelta.{IsCanonical, unit_adds, unit_keeps};
+ghost use Rattle.delta_core.specs.Inner.{run_to, with_added, with_run};
 
 use std::alloc::Global;
 use std::marker::Model;
 use std::mem;
-use xi_plain::{Added, Adds, NoMemory, Run, Runs, Text, UnitDelta};
+use plain_text::{NoMemory, Run, Runs, Text};
+use plain_edits::{Added, Adds, UnitDelta};
 
 // A unit delta in the making, over what is known of its base so far. To a contract it is that unit delta, which need not be canonical.
 #[derive(Drop)]
@@ -26,11 +27,11 @@ pub(crate) struct UnitBuilder {
 
 impl Model for UnitBuilder {
     ghost use Rattle.std.specs.Prelude.{[], ◌∷◌, ◌++◌};
-    ghost use Rattle.xi_plain.specs.declared.delta.UnitDelta.{UnitDelta};
+    ghost use Rattle.plain_edits.specs.declared.delta.UnitDelta.{UnitDelta};
 
     ghost Value = { UnitDelta };
 
-    ghost use Rattle.delta_core.specs.Builder.{IsUnfinished, run_to};
+    ghost use Rattle.delta_core.specs.Inner.{IsUnfinished, run_to};
 
     ghost view = { λ b. record { base = b.base; kept = b.kept ++ run_to b.from b.base ∷ []; added = b.added ++ (record { gap = b.base; text = b.here }) ∷ [] } };
 

@@ -1,12 +1,13 @@
 ghost use Rattle.std.specs.Prelude.{◌≡◌, [], ◌∷◌, None, IfOk, IsTrue};
-ghost use Rattle.xi_plain.specs.Text.{gap_of, is_place};
-ghost use Rattle.xi_plain.specs.Delta.{Fits, copies_misfit};
-ghost use Rattle.delta_core.specs.Units.{IsPut, IsUnitsOf};
+ghost use Rattle.plain_text.specs.Text.{gap_of, is_place};
+ghost use Rattle.plain_edits.specs.Delta.{Fits, copies_misfit};
+ghost use Rattle.delta_core.specs.Units.{IsUnitsOf};
+ghost use Rattle.delta_core.specs.Inner.{PutsElement};
 
-use crate::places::gaps_between;
 use crate::unit_builder::UnitBuilder;
 use std::alloc::Global;
-use xi_plain::{Delta, El, NoMemory, Text, UnitDelta};
+use plain_text::{NoMemory, Text};
+use plain_edits::{Delta, El, UnitDelta};
 
 /// The delta in characters. This costs the bytes of the text and the elements of the delta with theirs.
 pub fn to_units(alloc: Global, text: &Text, delta: &Delta) -> Result<UnitDelta, NoMemory>
@@ -18,7 +19,7 @@ pub fn to_units(alloc: Global, text: &Text, delta: &Delta) -> Result<UnitDelta, 
     for el in delta.els.as_slice() {
         at = put_el(&mut units, text, at, el)?;
     }
-    units.pass(gaps_between(text, at, text.byte_len()))?;
+    units.pass(text.gaps_between(at, text.byte_len()))?;
     Ok(units.into_units()?)
 }
 
@@ -27,12 +28,12 @@ fn put_el(units: &mut UnitBuilder, text: &Text, at: u64, el: &El) -> Result<u64,
     requires place { IsTrue (is_place text.now at) }
     requires base { units.old.base ≡ gap_of text.now at }
     requires fits { copies_misfit text.now at (el.now ∷ []) ≡ None }
-    ensures { IfOk result (IsPut text.now at el.now units.old units.new) }
+    ensures { IfOk result (PutsElement text.now at el.now units.old units.new) }
 {
     match el {
         El::Copy { a, b } => {
-            units.pass(gaps_between(text, at, *a))?;
-            units.keep(gaps_between(text, *a, *b))?;
+            units.pass(text.gaps_between(at, *a))?;
+            units.keep(text.gaps_between(*a, *b))?;
             Ok(*b)
         }
         El::Insert { text: added } => {

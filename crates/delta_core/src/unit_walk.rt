@@ -1,11 +1,12 @@
 ghost use Rattle.std.specs.Prelude.{◌≡◌, ◌≢◌, ◌<◌, ◌≤◌, ◌↔◌, ℕ, [], ◌∷◌, ◌++◌, length, drop, IsTrue, IfSome, IfNone};
-ghost use Rattle.xi_plain.specs.UnitDelta.{IsUnitDelta};
-ghost use Rattle.delta_core.specs.Step.{steps_of, part_steps};
-ghost use Rattle.delta_core.specs.Walk.{ReachesPast, IsRestOfKept, IsStretch, Rise, next_stop};
+ghost use Rattle.plain_edits.specs.UnitDelta.{IsUnitDelta};
+ghost use Rattle.delta_core.specs.Inner.{steps_of, part_steps};
+ghost use Rattle.delta_core.specs.Inner.{ReachesPast, IsRestOfKept, IsStretch, Rise, next_stop};
 
 use crate::part::Part;
 use std::marker::Model;
-use xi_plain::{Added, Run, Text, UnitDelta};
+use plain_text::{Run, Text};
+use plain_edits::{Added, UnitDelta};
 
 // A walk over a unit delta from the left end of its base on. To a contract it is the steps that are still ahead.
 #[derive(Drop)]
@@ -20,9 +21,10 @@ pub(crate) struct UnitWalk<'a> {
 
 impl<'a> Model for UnitWalk<'a> {
     ghost use Rattle.std.specs.Prelude.{◌-◌, List};
-    ghost use Rattle.xi_plain.specs.Delta.{is_in_runs, text_at_gap};
-    ghost use Rattle.delta_core.specs.Step.{Step, steps_from};
-    ghost use Rattle.delta_core.specs.Walk.{IsToCome};
+    ghost use Rattle.plain_edits.specs.Delta.{is_in_runs, text_at_gap};
+    ghost use Rattle.delta_core.specs.Step.{Step};
+    ghost use Rattle.delta_core.specs.Inner.{steps_from};
+    ghost use Rattle.delta_core.specs.Inner.{IsToCome};
 
     ghost Value = { List Step };
 

@@ -1,12 +1,13 @@
 ghost use Rattle.std.specs.Prelude.{◌≡◌, ℕ, ◌<◌, ◌≤◌, List, [], ◌++◌, IfOk, OnOk, OnErr};
-ghost use Rattle.xi_plain.specs.declared.delta.El.{El as ElValue};
+ghost use Rattle.plain_edits.specs.declared.delta.El.{El as ElValue};
 ghost use Rattle.delta_core.specs.Wire.{copy_before, text_before};
-ghost use Rattle.delta_core.specs.WireBuilder.{whole};
+ghost use Rattle.delta_core.specs.Inner.{whole};
 
 use std::alloc::Global;
 use std::marker::Model;
 use std::mem;
-use xi_plain::{El, Els, NoMemory, Text};
+use plain_text::{NoMemory, Text};
+use plain_edits::{El, Els};
 
 // The elements of the notices in the making. To a contract it is these elements, and the copy and the text that may still grow.
 #[derive(Drop)]
@@ -22,7 +23,7 @@ pub(crate) struct WireBuilder {
 
 impl Model for WireBuilder {
     ghost use Rattle.std.specs.Prelude.{◌≤◌};
-    ghost use Rattle.delta_core.specs.WireBuilder.{Gathered};
+    ghost use Rattle.delta_core.specs.Inner.{Gathered};
 
     ghost Value = { Gathered };
 

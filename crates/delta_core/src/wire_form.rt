@@ -1,13 +1,13 @@
 ghost use Rattle.std.specs.Prelude.{◌≡◌, length, IfOk};
-ghost use Rattle.xi_plain.specs.UnitDelta.{IsUnitDelta};
+ghost use Rattle.plain_edits.specs.UnitDelta.{IsUnitDelta};
 ghost use Rattle.delta_core.specs.Wire.{IsWireOf};
 
 use crate::part::Part;
-use crate::places::split_at_gap;
 use crate::unit_walk::UnitWalk;
 use crate::wire_builder::WireBuilder;
 use std::alloc::Global;
-use xi_plain::{Delta, NoMemory, Text, UnitDelta};
+use plain_text::{NoMemory, Text, split_at_gap};
+use plain_edits::{Delta, UnitDelta};
 
 /// The delta of the notices over the text before: its copies are the longest runs that stand side by side in both texts, and the
 /// text between two copies is one insertion. This costs the bytes of the text and the elements of the delta with theirs.

@@ -5,11 +5,13 @@ use Rattle.std.specs.List.{count_by, sum_by, range_with_len, filter, AllByRecurs
 use Rattle.std.proofs.lemmas.Bool.{lt-leb, le-leb, ne_eqb, eq-eqb}
 use Rattle.std.proofs.lemmas.List.Sums.{sum_by-cons}
 use Rattle.subset_runs.specs.Subset.{contains, items_outside}
-use Rattle.xi_plain.specs.Woven.{woven, nth_index}
-use Rattle.xi_plain.specs.History.{Tagged, History, head, is_visible, edit, IsTaggedBy, IsSound}
-use Rattle.xi_plain.specs.Edits.{PlainEdit, edited, inserted_at, is_dropped_by, deleted_by}
-use Rattle.xi_plain.specs.Caret.{is_from, index_after, index_of_gap, moved_caret, mapped_gap}
-use Rattle.xi_plain.proofs.HistoryLemmas.{AllByRecursion-inserted_at, is_visible-append, is_visible-deleted_later, is_visible-later}
+use Rattle.plain_text.specs.Woven.{woven, nth_index}
+use Rattle.plain_edits.specs.History.{Tagged, History, head, is_visible, edit, IsTaggedBy, IsSound}
+use Rattle.plain_edits.specs.Edits.{PlainEdit, edited, inserted_at, is_deleted_by, with_deletion}
+use Rattle.plain_edits.specs.Caret.{index_after, moved_caret, mapped_gap}
+use Rattle.plain_edits.specs.Place.{index_right_of}
+use Rattle.plain_edits.specs.History.{is_there}
+use Rattle.plain_edits.proofs.callers.HistoryLemmas.{AllByRecursion-inserted_at, is_visible-append, is_visible-deleted_later, is_visible-later}
 use Rattle.delta_core.specs.Synthesis.{appearing}
 
 -- ---- sums over numbers that follow one another
@@ -302,28 +304,28 @@ module _ (h : History) (e : PlainEdit) (sound : IsSound h) where
   was = is_visible later.revisions (head h)
 
   becomes : ℕ → Tagged → Tagged
-  becomes index t = if is_dropped_by h e index t then deleted_by (head h + 1) t else t
+  becomes index t = if is_deleted_by h e index t then with_deletion (head h + 1) t else t
 
   -- a character that was there is as visible at the old head as before
   was-visible : (index : ℕ) (t : Tagged) → IsTaggedBy (head h) t →
-      (is_from (head h) (becomes index t) ≡ true) × (was (becomes index t) ≡ is_visible h.revisions (head h) t)
+      (is_there (head h) (becomes index t) ≡ true) × (was (becomes index t) ≡ is_visible h.revisions (head h) t)
   unfolding becomes
-  was-visible index t is = by (is_dropped_by h e index t)
+  was-visible index t is = by (is_deleted_by h e index t)
     where
       same : was t ≡ is_visible h.revisions (head h) t
       same = is_visible-append h.revisions (edit e.base e.group e.priority e.author ∷ []) (head h) t (omega arith) is
 
-      by : (b : Bool) → (is_from (head h) (if b then deleted_by (head h + 1) t else t) ≡ true) ×
-          (was (if b then deleted_by (head h + 1) t else t) ≡ is_visible h.revisions (head h) t)
+      by : (b : Bool) → (is_there (head h) (if b then with_deletion (head h + 1) t else t) ≡ true) ×
+          (was (if b then with_deletion (head h + 1) t else t) ≡ is_visible h.revisions (head h) t)
       by true = (le-leb t.inserted (head h) is.inserted, is_visible-deleted_later later.revisions (head h) (head h + 1) t (omega arith) ∙ same)
       by false = (le-leb t.inserted (head h) is.inserted, same)
 
   -- the character right of a gap, by its index after the edit
-  pub index_after-edited : (gap : ℕ) → index_after h later (index_of_gap h gap) ≡ nth_index was gap later.characters
+  pub index_after-edited : (gap : ℕ) → index_after h later (index_right_of h (head h) gap) ≡ nth_index was gap later.characters
   unfolding becomes
   index_after-edited gap =
-      nth-woven (IsTaggedBy (head h)) (is_from (head h)) was (is_visible h.revisions (head h)) (inserted_at h e) becomes
-      (AllByRecursion-inserted_at (λ t. is_from (head h) t ≡ false) h e (λ c. lt-leb (head h + 1) (head h) (omega arith)))
+      nth-woven (IsTaggedBy (head h)) (is_there (head h)) was (is_visible h.revisions (head h)) (inserted_at h e) becomes
+      (AllByRecursion-inserted_at (λ t. is_there (head h) t ≡ false) h e (λ c. lt-leb (head h + 1) (head h) (omega arith)))
       (AllByRecursion-inserted_at (λ t. was t ≡ false) h e
       (λ c. is_visible-later later.revisions (head h) (record { character = c; inserted = head h + 1; deleted = [] }) (omega arith)))
       was-visible 0 h.characters sound gap

@@ -6,25 +6,26 @@ use Rattle.std.specs.Coded.{le_prop}
 use Rattle.std.specs.Prelude.{if◌then◌else◌, unwrap_or, is_some}
 use Rattle.std.proofs.lemmas.Bool.{eq-eqb}
 use Rattle.std.proofs.lemmas.List.{take_all}
-use Rattle.xi_plain.specs.declared.delta.El.TheVariants.{Copy, Insert}
-use Rattle.xi_plain.specs.Delta.{Fits, copies_misfit, keeps, adds, applied}
-use Rattle.xi_plain.specs.Edits.{inserted_len}
-use Rattle.xi_plain.specs.History.{History, head, text_at}
-use Rattle.xi_plain.specs.Numbers.{has}
-use Rattle.xi_plain.specs.Text.{byte_len, place_of, gap_of, is_place}
-use Rattle.xi_plain.proofs.EditLemmas.{text_at-edited_at_head}
-use Rattle.xi_plain.proofs.TextLemmas.{gap_from-place}
-use Rattle.delta_core.proofs.UnitLemmas.{is_place-end, gap_of-end, place_within}
-use Rattle.delta_core.proofs.WireLaws.{CopyFits-to, applied-shown}
+use Rattle.plain_edits.specs.declared.delta.El.TheVariants.{Copy, Insert}
+use Rattle.plain_edits.specs.Delta.{Fits, copies_misfit, keeps, adds, applied}
+use Rattle.plain_edits.specs.Delta.{inserted_len}
+use Rattle.plain_edits.specs.History.{History, head, text_at}
+use Rattle.plain_text.specs.Numbers.{has}
+use Rattle.plain_text.specs.Text.{byte_len, place_of, gap_of, is_place}
+use Rattle.plain_edits.proofs.callers.EditLemmas.{text_at-edited_at_head}
+use Rattle.plain_text.proofs.callers.TextLemmas.{gap_from-place}
+use Rattle.delta_core.proofs.ForCallers.{is_place-end, gap_of-end, place_within}
+use Rattle.delta_core.proofs.ForCallers.{CopyFits-to, applied-shown}
 use Rattle.rev_engine.specs.State.{State, contents}
 use Rattle.rev_engine.specs.Steps.{with_edit}
-use Rattle.rev_engine.specs.Given.{Asked, after, meant}
-use Rattle.rev_engine.proofs.StandLemmas.{IsFresh-given, StandsFor-contents}
-use Rattle.rev_engine.proofs.SpentLemmas.{inserted_count-plain}
+use Rattle.rev_engine.specs.Given.{AskedEdit, after, meant}
+use Rattle.rev_engine.proofs.ForCallers.{IsFresh-given, StandsFor-contents}
+use Rattle.rev_engine.proofs.ForCallers.{inserted_count-plain}
 use Rattle.doc_session.specs.declared.moved.Moved.{Moved}
 use Rattle.doc_session.specs.Asking.{insertion_delta, insertion_at}
-use Rattle.doc_session.specs.Moved.{IsMoved}
-use Rattle.doc_session.specs.Whole.{ShowsHead, ShowsSomeHead, IsOf, IsOfSome}
+use Rattle.doc_session.specs.Inner.{IsMoved}
+use Rattle.doc_session.specs.Whole.{ShowsHead, IsStateOf, IsStateOfSome}
+use Rattle.doc_session.specs.Inner.{ShowsSomeHead}
 use Rattle.doc_session.proofs.MoveLemmas.{head-after, head-stands}
 
 -- the text with characters put in at a gap
@@ -85,18 +86,18 @@ pub text_at-inserted : (h : History) (engine : State) (text : List ℕ) (gap : �
     text_at (after h (insertion_at (head h) text gap chars)) (head (after h (insertion_at (head h) text gap chars))) ≡ put_in gap chars text
 text_at-inserted h engine text gap chars shows inside =
     let fresh = IsFresh-given engine.limit h shows.stands.given in
-    let asked : Asked = insertion_at (head h) text gap chars in
+    let asked : AskedEdit = insertion_at (head h) text gap chars in
     ap (text_at (after h asked)) (head-after h asked) ∙
     text_at-edited_at_head h (meant h asked) fresh.plain.sound refl (ap (λ groups. has groups asked.group) (fresh.plain.none (head h))) ∙
     ap (λ t. applied (keeps t asked.delta) (adds t asked.delta) t) (sym shows.text_is) ∙ applied-insertion text gap chars inside
 
 -- ---- what edits leave is whole
 
-pub whole-moved : (engine now : State) (text : List ℕ) (caret plugins gap : ℕ) (asked : Asked) (moved : Moved) → contents now ≡ contents engine →
-    IsOfSome engine text caret plugins → ((h : History) → ShowsHead h engine text → IsMoved h now asked moved) → gap ≤ length moved.text →
-    (plugins ≡ 0 → 1 ≤ inserted_len asked.delta.els) → IsOfSome (with_edit now moved.ready) moved.text gap plugins
+pub whole-moved : (engine now : State) (text : List ℕ) (caret plugins gap : ℕ) (asked : AskedEdit) (moved : Moved) → contents now ≡ contents engine →
+    IsStateOfSome engine text caret plugins → ((h : History) → ShowsHead h engine text → IsMoved h now asked moved) → gap ≤ length moved.text →
+    (plugins ≡ 0 → 1 ≤ inserted_len asked.delta.els) → IsStateOfSome (with_edit now moved.ready) moved.text gap plugins
 whole-moved engine now text caret plugins gap asked moved same whole each inside some =
-    ∥∥₁_map whole (λ (s : (h : History) × IsOf h engine text caret plugins).
+    ∥∥₁_map whole (λ (s : (h : History) × IsStateOf h engine text caret plugins).
     let is : IsMoved s.0 now asked moved = each s.0 s.1.shown in (
       after s.0 asked,
       record {
@@ -115,31 +116,31 @@ whole-moved engine now text caret plugins gap asked moved same whole each inside
       },
     ))
 
-pub shown-whole : (engine : State) (text : List ℕ) (caret plugins : ℕ) → IsOfSome engine text caret plugins → ShowsSomeHead engine text
-shown-whole engine text caret plugins whole = ∥∥₁_map whole (λ (s : (h : History) × IsOf h engine text caret plugins). (s.0, s.1.shown))
+pub shown-whole : (engine : State) (text : List ℕ) (caret plugins : ℕ) → IsStateOfSome engine text caret plugins → ShowsSomeHead engine text
+shown-whole engine text caret plugins whole = ∥∥₁_map whole (λ (s : (h : History) × IsStateOf h engine text caret plugins). (s.0, s.1.shown))
 
-pub inside-whole : (engine : State) (text : List ℕ) (caret plugins : ℕ) → IsOfSome engine text caret plugins → caret ≤ length text
-inside-whole engine text caret plugins whole = ∥∥₁_elim whole le_prop (λ (s : (h : History) × IsOf h engine text caret plugins). s.1.inside)
+pub inside-whole : (engine : State) (text : List ℕ) (caret plugins : ℕ) → IsStateOfSome engine text caret plugins → caret ≤ length text
+inside-whole engine text caret plugins whole = ∥∥₁_elim whole le_prop (λ (s : (h : History) × IsStateOf h engine text caret plugins). s.1.inside)
 
 -- so many characters has the text after an insertion at the caret
-pub inside-inserted : (engine now : State) (text : List ℕ) (caret plugins : ℕ) (chars : List ℕ) (asked : Asked) (moved : Moved) →
-    IsOfSome engine text caret plugins → asked ≡ insertion_at (head engine.revisions) text caret chars →
+pub inside-inserted : (engine now : State) (text : List ℕ) (caret plugins : ℕ) (chars : List ℕ) (asked : AskedEdit) (moved : Moved) →
+    IsStateOfSome engine text caret plugins → asked ≡ insertion_at (head engine.revisions) text caret chars →
     ((h : History) → ShowsHead h engine text → IsMoved h now asked moved) → length moved.text ≡ length text + length chars
 inside-inserted engine now text caret plugins chars asked moved whole is each =
-    ∥∥₁_elim whole (ℕ_set _ _) (λ (s : (h : History) × IsOf h engine text caret plugins).
+    ∥∥₁_elim whole (ℕ_set _ _) (λ (s : (h : History) × IsStateOf h engine text caret plugins).
     let here : asked ≡ insertion_at (head s.0) text caret chars =
     is ∙ ap (λ n. insertion_at n text caret chars) (head-stands engine s.0 s.1.shown.stands) in
     ap length ((each s.0 s.1.shown).shown.text_is ∙
-    ap (λ (a : Asked). text_at (after s.0 a) (head (after s.0 a))) here ∙
+    ap (λ (a : AskedEdit). text_at (after s.0 a) (head (after s.0 a))) here ∙
     text_at-inserted s.0 engine text caret chars s.1.shown s.1.inside) ∙ length-put_in caret chars text s.1.inside)
 
 -- what is whole is that of each history that it shows
-pub IsOf-whole : (h : History) (engine : State) (text : List ℕ) (caret plugins : ℕ) → IsOfSome engine text caret plugins → ShowsHead h engine text →
-    IsOf h engine text caret plugins
-IsOf-whole h engine text caret plugins whole shows = record {
+pub IsStateOf-whole : (h : History) (engine : State) (text : List ℕ) (caret plugins : ℕ) → IsStateOfSome engine text caret plugins → ShowsHead h engine text →
+    IsStateOf h engine text caret plugins
+IsStateOf-whole h engine text caret plugins whole shows = record {
   shown = shows;
   inside = inside-whole engine text caret plugins whole;
-  few = λ none. ∥∥₁_elim whole le_prop (λ (s : (h : History) × IsOf h engine text caret plugins).
+  few = λ none. ∥∥₁_elim whole le_prop (λ (s : (h : History) × IsStateOf h engine text caret plugins).
       omega (
         arith,
         s.1.few none,
@@ -148,9 +149,9 @@ IsOf-whole h engine text caret plugins whole shows = record {
         s.1.shown.stands.spent,
         shows.stands.spent,
       ));
-  within = ∥∥₁_elim whole le_prop (λ (s : (h : History) × IsOf h engine text caret plugins).
+  within = ∥∥₁_elim whole le_prop (λ (s : (h : History) × IsStateOf h engine text caret plugins).
       omega (arith, s.1.within, s.1.shown.stands.spent, shows.stands.spent));
-  bound = ∥∥₁_elim whole le_prop (λ (s : (h : History) × IsOf h engine text caret plugins). s.1.bound);
+  bound = ∥∥₁_elim whole le_prop (λ (s : (h : History) × IsStateOf h engine text caret plugins). s.1.bound);
 }
 
 -- ---- the room for more revisions tells nothing
@@ -161,9 +162,9 @@ ShowsHead-contents h engine now text same shows = record {
   text_is = shows.text_is;
 }
 
-pub IsOf-contents : (h : History) (engine now : State) (text : List ℕ) (caret plugins : ℕ) → contents now ≡ contents engine →
-    IsOf h engine text caret plugins → IsOf h now text caret plugins
-IsOf-contents h engine now text caret plugins same is =
+pub IsStateOf-contents : (h : History) (engine now : State) (text : List ℕ) (caret plugins : ℕ) → contents now ≡ contents engine →
+    IsStateOf h engine text caret plugins → IsStateOf h now text caret plugins
+IsStateOf-contents h engine now text caret plugins same is =
     let limit = ap (λ (e : State). e.limit) same in
     record {
       shown = ShowsHead-contents h engine now text same is.shown;
@@ -173,7 +174,7 @@ IsOf-contents h engine now text caret plugins same is =
       bound = omega (arith, is.bound, limit);
     }
 
-pub IsOfSome-contents : (engine now : State) (text : List ℕ) (caret plugins : ℕ) → contents now ≡ contents engine →
-    IsOfSome engine text caret plugins → IsOfSome now text caret plugins
-IsOfSome-contents engine now text caret plugins same whole =
-    ∥∥₁_map whole (λ (s : (h : History) × IsOf h engine text caret plugins). (s.0, IsOf-contents s.0 engine now text caret plugins same s.1))
+pub IsStateOfSome-contents : (engine now : State) (text : List ℕ) (caret plugins : ℕ) → contents now ≡ contents engine →
+    IsStateOfSome engine text caret plugins → IsStateOfSome now text caret plugins
+IsStateOfSome-contents engine now text caret plugins same whole =
+    ∥∥₁_map whole (λ (s : (h : History) × IsStateOf h engine text caret plugins). (s.0, IsStateOf-contents s.0 engine now text caret plugins same s.1))

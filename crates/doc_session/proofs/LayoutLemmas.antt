@@ -6,10 +6,11 @@ use Rattle.std.proofs.lemmas.Bool.{cases_eq}
 use Rattle.std.proofs.lemmas.Bool.Decides.{nat_tests}
 use Rattle.std.proofs.lemmas.List.{length_push, take_at, take_all}
 use Rattle.std.specs.Char.{len_utf8}
-use Rattle.xi_plain.specs.declared.screen.Line.{Line}
-use Rattle.xi_plain.specs.Numbers.{has}
-use Rattle.xi_plain.specs.Text.{byte_len, place_of}
-use Rattle.xi_plain.specs.Layout.{logical_lines, cursor_of, layout_line, layout_from, layout, Point, point_from, point_of}
+use Rattle.plain_screen.specs.declared.screen.Line.{Line}
+use Rattle.plain_text.specs.Numbers.{has}
+use Rattle.plain_text.specs.Text.{byte_len, place_of}
+use Rattle.plain_text.specs.Lines.{logical_lines}
+use Rattle.doc_session.specs.Layout.{cursor_of, layout_line, layout_from, layout, Position, position_from, position_of}
 
 -- the lines with characters put before the first
 abbrev pub joined : List ℕ → List (List ℕ) → List (List ℕ)
@@ -137,8 +138,8 @@ cursor_of-past caret start gaps line low past =
     ap (map (place_of line)) (own_gaps_none caret start 0 gaps (λ gap lower high. λ hit. omega arith))
 
 -- the place of a gap in what is left of a text, after a line begun
-abbrev pub point_rest : ℕ → ℕ → List ℕ → List ℕ → Point
-point_rest index gap begun text = point_from index (length begun + gap) (joined begun (logical_lines text))
+abbrev pub point_rest : ℕ → ℕ → List ℕ → List ℕ → Position
+point_rest index gap begun text = position_from index (length begun + gap) (joined begun (logical_lines text))
 
 -- what a walk makes of one character more, of an LF and of the end
 pub layout_step-other : (carets : List ℕ) (made : List Line) (number start c : ℕ) (begun pushed text rest : List ℕ) (all : List Line) →
@@ -187,29 +188,29 @@ lt_yes m n below = grind (arith, nat_tests)
 lt_no : (m n : ℕ) → n ≤ m → nat_lt m n ≡ false
 lt_no m n above = grind (arith, nat_tests)
 
-point_from-in : (index gap : ℕ) (line : List ℕ) (lines : List (List ℕ)) → gap < length line →
-    point_from index gap (line ∷ lines) ≡ record { line = index; col = place_of line gap }
-point_from-in index gap line [] below = refl
-point_from-in index gap line (next ∷ lines) below =
-    ap (λ b. if b then record { line = index; col = place_of line gap } else point_from (index + 1) (gap - length line) (next ∷ lines))
+position_from-in : (index gap : ℕ) (line : List ℕ) (lines : List (List ℕ)) → gap < length line →
+    position_from index gap (line ∷ lines) ≡ record { line = index; col = place_of line gap }
+position_from-in index gap line [] below = refl
+position_from-in index gap line (next ∷ lines) below =
+    ap (λ b. if b then record { line = index; col = place_of line gap } else position_from (index + 1) (gap - length line) (next ∷ lines))
     (lt_yes gap (length line) below)
 
 -- a point after the first line
-point_from-line : (index gap : ℕ) (line text : List ℕ) → length line ≤ gap →
-    point_from index gap (line ∷ logical_lines text) ≡ point_from (index + 1) (gap - length line) (logical_lines text)
-point_from-line index gap line [] above =
-    ap (λ b. if b then record { line = index; col = place_of line gap } else point_from (index + 1) (gap - length line) ([] ∷ []))
+position_from-line : (index gap : ℕ) (line text : List ℕ) → length line ≤ gap →
+    position_from index gap (line ∷ logical_lines text) ≡ position_from (index + 1) (gap - length line) (logical_lines text)
+position_from-line index gap line [] above =
+    ap (λ b. if b then record { line = index; col = place_of line gap } else position_from (index + 1) (gap - length line) ([] ∷ []))
     (lt_no gap (length line) above)
-point_from-line index gap line (c ∷ text) above = by_case (c == 10) (logical_lines text)
+position_from-line index gap line (c ∷ text) above = by_case (c == 10) (logical_lines text)
   where
     pass : (next : List ℕ) (lines : List (List ℕ)) →
-        point_from index gap (line ∷ next ∷ lines) ≡ point_from (index + 1) (gap - length line) (next ∷ lines)
+        position_from index gap (line ∷ next ∷ lines) ≡ position_from (index + 1) (gap - length line) (next ∷ lines)
     pass next lines =
-        ap (λ b. if b then record { line = index; col = place_of line gap } else point_from (index + 1) (gap - length line) (next ∷ lines))
+        ap (λ b. if b then record { line = index; col = place_of line gap } else position_from (index + 1) (gap - length line) (next ∷ lines))
         (lt_no gap (length line) above)
 
     by_case : (b : Bool) (lines : List (List ℕ)) →
-        point_from index gap (line ∷ lines_by b c lines) ≡ point_from (index + 1) (gap - length line) (lines_by b c lines)
+        position_from index gap (line ∷ lines_by b c lines) ≡ position_from (index + 1) (gap - length line) (lines_by b c lines)
     by_case true lines = pass (c ∷ []) lines
     by_case false [] = pass (c ∷ []) []
     by_case false (next ∷ lines) = pass (c ∷ next) lines
@@ -223,30 +224,30 @@ point_rest-here index gap begun [] is = ap (λ n. record { line = index; col = n
 point_rest-here index gap begun (c ∷ text) is = by_case (c == 10) (logical_lines text)
   where
     inside : (line : List ℕ) (lines : List (List ℕ)) →
-        point_from index (length begun + gap) ((begun ++ c ∷ line) ∷ lines) ≡ record { line = index; col = byte_len begun }
+        position_from index (length begun + gap) ((begun ++ c ∷ line) ∷ lines) ≡ record { line = index; col = byte_len begun }
     inside line lines =
-        point_from-in index (length begun + gap) (begun ++ c ∷ line) lines (omega (arith, length-append begun (c ∷ line))) ∙
+        position_from-in index (length begun + gap) (begun ++ c ∷ line) lines (omega (arith, length-append begun (c ∷ line))) ∙
         ap (λ n. record { line = index; col = n }) (place_of-begun begun (c ∷ line) gap is)
 
     by_case : (b : Bool) (lines : List (List ℕ)) →
-        point_from index (length begun + gap) (joined begun (lines_by b c lines)) ≡ record { line = index; col = byte_len begun }
+        position_from index (length begun + gap) (joined begun (lines_by b c lines)) ≡ record { line = index; col = byte_len begun }
     by_case true lines = inside [] lines
     by_case false [] = inside [] []
     by_case false (line ∷ lines) = inside line lines
 
 pub point_rest-end : (index gap : ℕ) (begun : List ℕ) → point_rest index gap begun [] ≡ record { line = index; col = byte_len begun }
 point_rest-end index gap begun =
-    ap (point_from index (length begun + gap)) (joined-end begun) ∙
+    ap (position_from index (length begun + gap)) (joined-end begun) ∙
     ap (λ line. record { line = index; col = byte_len line }) (take_all (length begun + gap) begun (omega arith))
 
 pub point_rest-newline : (index gap less c : ℕ) (begun text : List ℕ) → c ≡ 10 → gap ≡ less + 1 →
     point_rest index gap begun (c ∷ text) ≡ point_rest (index + 1) less [] text
 point_rest-newline index gap less c begun text is more =
     let all : length (begun ++ c ∷ []) ≡ length begun + 1 = length_push begun c in
-    ap (point_from index (length begun + gap)) (joined-newline begun text c is) ∙
-    point_from-line index (length begun + gap) (begun ++ c ∷ []) text (omega arith) ∙
-    ap (λ n. point_from (index + 1) n (logical_lines text)) (left all) ∙
-    ap (point_from (index + 1) (0 + less)) (sym (joined-nil text))
+    ap (position_from index (length begun + gap)) (joined-newline begun text c is) ∙
+    position_from-line index (length begun + gap) (begun ++ c ∷ []) text (omega arith) ∙
+    ap (λ n. position_from (index + 1) n (logical_lines text)) (left all) ∙
+    ap (position_from (index + 1) (0 + less)) (sym (joined-nil text))
   where
     left : length (begun ++ c ∷ []) ≡ length begun + 1 → length begun + gap - length (begun ++ c ∷ []) ≡ 0 + less
     left all = omega arith
@@ -254,8 +255,8 @@ point_rest-newline index gap less c begun text is more =
 pub point_rest-other : (index gap less c : ℕ) (begun text : List ℕ) → c ≢ 10 → gap ≡ less + 1 →
     point_rest index gap begun (c ∷ text) ≡ point_rest index less (begun ++ c ∷ []) text
 point_rest-other index gap less c begun text not more =
-    ap (point_from index (length begun + gap)) (joined-other begun text c not) ∙
-    ap (λ n. point_from index n (joined (begun ++ c ∷ []) (logical_lines text)))
+    ap (position_from index (length begun + gap)) (joined-other begun text c not) ∙
+    ap (λ n. position_from index n (joined (begun ++ c ∷ []) (logical_lines text)))
     (omega (arith, length_push begun c))
 
 pub byte_len-push : (begun : List ℕ) (c : ℕ) → byte_len (begun ++ c ∷ []) ≡ byte_len begun + len_utf8 c
@@ -266,15 +267,15 @@ byte_len-push (b ∷ begun) c = let rest = byte_len-push begun c in omega arith
 pub record IsWalkTo (line bytes left : ℕ) (rest whole : List ℕ) (gap : ℕ) : Type 0 where
   pub begun : List ℕ
   pub col : bytes ≡ byte_len begun
-  pub same : point_rest line left begun rest ≡ point_of whole gap
+  pub same : point_rest line left begun rest ≡ position_of whole gap
 
 pub walk_start : (line col left : ℕ) (rest whole : List ℕ) (gap : ℕ) → line ≡ 0 → col ≡ 0 → left ≡ gap → rest ≡ whole → IsWalkTo line col left rest whole gap
 walk_start line col left rest whole gap first none is same = record {
   begun = [];
   col = none;
   same =
-      ap (λ n. point_rest n left [] rest) first ∙ ap (point_from 0 (0 + left)) (joined-nil rest) ∙
-      ap (λ n. point_from 0 n (logical_lines rest)) (omega arith) ∙ ap (λ text. point_of text gap) same;
+      ap (λ n. point_rest n left [] rest) first ∙ ap (position_from 0 (0 + left)) (joined-nil rest) ∙
+      ap (λ n. position_from 0 n (logical_lines rest)) (omega arith) ∙ ap (λ text. position_of text gap) same;
 }
 
 pub walk_newline : (line col left less c : ℕ) (text rest whole : List ℕ) (gap : ℕ) → text ≡ c ∷ rest → c ≡ 10 → left ≡ less + 1 →
@@ -296,12 +297,12 @@ walk_other line col wider left less c text rest whole gap split not more wide wa
 }
 
 pub walk_here : (line col left : ℕ) (rest whole : List ℕ) (gap : ℕ) → left ≡ 0 → IsWalkTo line col left rest whole gap →
-    record { line = line; col = col } ≡ point_of whole gap
+    record { line = line; col = col } ≡ position_of whole gap
 walk_here line col left rest whole gap is walk =
     ap (λ n. record { line = line; col = n }) walk.col ∙ sym (point_rest-here line left walk.begun rest is) ∙ walk.same
 
 pub walk_end : (line col left : ℕ) (rest whole : List ℕ) (gap : ℕ) → rest ≡ [] → IsWalkTo line col left rest whole gap →
-    record { line = line; col = col } ≡ point_of whole gap
+    record { line = line; col = col } ≡ position_of whole gap
 walk_end line col left rest whole gap none walk =
     ap (λ n. record { line = line; col = n }) walk.col ∙ sym (point_rest-end line left walk.begun) ∙
     ap (point_rest line left walk.begun) (sym none) ∙ walk.same

@@ -9,3 +9,4 @@ pub mod PlanLemmas
 pub mod TellLemmas
 pub mod ScreenLemmas
 pub mod ShowLemmas
+pub mod ForCallers

@@ -10,19 +10,20 @@ use Rattle.std.proofs.lemmas.List.{length-map, length_push}
 use Rattle.std.proofs.lemmas.Str.{len_utf8_bounds}
 use Rattle.subset_runs.specs.Subset.{items_outside}
 use Rattle.xi_plain.specs.declared.config.Notice.{Notice}
-use Rattle.xi_plain.specs.declared.delta.Delta.{Delta}
-use Rattle.xi_plain.specs.declared.delta.Misfit.{Misfit}
-use Rattle.xi_plain.specs.declared.delta.Run.{Run}
-use Rattle.xi_plain.specs.declared.delta.Added.{Added}
-use Rattle.xi_plain.specs.declared.delta.UnitDelta.{UnitDelta}
-use Rattle.xi_plain.specs.Caret.{moved_caret}
-use Rattle.xi_plain.specs.Woven.{nth_index}
-use Rattle.xi_plain.specs.Delta.{misfit_of}
-use Rattle.xi_plain.specs.Edits.{Refusal, unknown, collected, spent, edit_refusal, inserted_len, misfit_or_spent}
-use Rattle.xi_plain.specs.History.{Tagged, History, head, is_visible, visible_at, text_at, inserted_count, IsSound}
-use Rattle.xi_plain.specs.Text.{byte_len}
-use Rattle.xi_plain.specs.UnitDelta.{AreRuns, AreAdds, IsUnitDelta, unit_keeps, unit_adds}
-use Rattle.xi_plain.proofs.HistoryLemmas.{text_at-edited}
+use Rattle.plain_edits.specs.declared.delta.Delta.{Delta}
+use Rattle.plain_edits.specs.declared.delta.Misfit.{Misfit}
+use Rattle.plain_text.specs.declared.run.Run.{Run}
+use Rattle.plain_edits.specs.declared.delta.Added.{Added}
+use Rattle.plain_edits.specs.declared.delta.UnitDelta.{UnitDelta}
+use Rattle.plain_edits.specs.Caret.{moved_caret}
+use Rattle.plain_text.specs.Woven.{nth_index}
+use Rattle.plain_edits.specs.Delta.{misfit_of}
+use Rattle.plain_edits.specs.Edits.{Refusal, unknown, collected, spent, edit_refusal, misfit_or_spent}
+use Rattle.plain_edits.specs.Delta.{inserted_len}
+use Rattle.plain_edits.specs.History.{Tagged, History, head, is_visible, visible_at, text_at, inserted_count, IsSound}
+use Rattle.plain_text.specs.Text.{byte_len}
+use Rattle.plain_edits.specs.UnitDelta.{AreRuns, AreAdds, IsUnitDelta, unit_keeps, unit_adds}
+use Rattle.plain_edits.proofs.callers.HistoryLemmas.{text_at-edited}
 use Rattle.delta_core.specs.Units.{text_after}
 use Rattle.delta_core.specs.Wire.{wire_from, wire_of}
 use Rattle.rev_list.specs.Hidden.{hidden_at}
@@ -30,27 +31,28 @@ use Rattle.rev_rebase.specs.Rebase.{characters_of}
 use Rattle.rev_engine.specs.declared.edit.Change.{Change}
 use Rattle.rev_engine.specs.State.{State}
 use Rattle.rev_engine.specs.Engine.{StandsFor, IsChange}
-use Rattle.rev_engine.specs.Given.{Asked, after, meant}
-use Rattle.rev_engine.proofs.StandLemmas.{IsFresh-given, outside_visible}
-use Rattle.rev_engine.proofs.SpentLemmas.{inserted_count-plain}
+use Rattle.rev_engine.specs.Given.{AskedEdit, after, meant}
+use Rattle.rev_engine.proofs.ForCallers.{IsFresh-given, outside_visible}
+use Rattle.rev_engine.proofs.ForCallers.{inserted_count-plain}
 use Rattle.selection_core.specs.Mapped.{new_gap}
 use Rattle.doc_session.specs.declared.moved.Moved.{Moved}
-use Rattle.doc_session.specs.Moved.{IsMoved, IsTakenBy}
+use Rattle.doc_session.specs.Inner.{IsMoved, IsTakenBy}
 use Rattle.doc_session.specs.Effects.{notice_of, change_delta}
-use Rattle.doc_session.specs.Whole.{ShowsHead, ShowsSomeHead, IsChangeOf, LeadsTo}
+use Rattle.doc_session.specs.Whole.{ShowsHead}
+use Rattle.doc_session.specs.Inner.{ShowsSomeHead, IsChangeOf, LeadsTo}
 use Rattle.doc_session.proofs.CaretLemmas.{mapped-moved, moved_caret-before, moved_caret-after, left-le}
 
 -- what a history shows, by its flags
 shown-at : (h : History) (rev : ℕ) → items_outside (hidden_at h rev) (characters_of h) ≡ text_at h rev
 shown-at h rev = outside_visible (is_visible h.revisions rev) h.characters
 
-pub head-after : (h : History) (asked : Asked) → head (after h asked) ≡ head h + 1
+pub head-after : (h : History) (asked : AskedEdit) → head (after h asked) ≡ head h + 1
 head-after h asked = length_push h.revisions _
 
 pub sound-shown : (h : History) (engine : State) (text : List ℕ) → ShowsHead h engine text → IsSound h
 sound-shown h engine text shown = (IsFresh-given engine.limit h shown.stands.given).plain.sound
 
-module _ (h : History) (engine : State) (text : List ℕ) (shown : ShowsHead h engine text) (asked : Asked) (rev : ℕ) (units : UnitDelta)
+module _ (h : History) (engine : State) (text : List ℕ) (shown : ShowsHead h engine text) (asked : AskedEdit) (rev : ℕ) (units : UnitDelta)
     (change : IsChange h (after h asked) (record { rev = rev; units = units })) where
   abbrev next : History
   next = after h asked
@@ -129,7 +131,7 @@ none_within false false x y None limit total is =
     apart : Some (spent total) ≡ None → ⊥
     apart is = cc
 
-pub spent-within : (h : History) (limit : ℕ) (asked : Asked) → edit_refusal h limit asked.base asked.delta ≡ None → inserted_count (after h asked) ≤ limit
+pub spent-within : (h : History) (limit : ℕ) (asked : AskedEdit) → edit_refusal h limit asked.base asked.delta ≡ None → inserted_count (after h asked) ≤ limit
 spent-within h limit asked accepted =
     omega (
       arith,
@@ -155,7 +157,7 @@ pub IsChangeOf-prop : (text : List ℕ) (units : UnitDelta) → IsProp (IsChange
 IsChangeOf-prop text units = hlevel (IsUnitDelta-prop units, ℕ_set)
 
 -- what holds whatever the history: the change is one of the text
-pub IsChangeOf-shown : (engine : State) (text : List ℕ) (asked : Asked) (change : Change) → ShowsSomeHead engine text →
+pub IsChangeOf-shown : (engine : State) (text : List ℕ) (asked : AskedEdit) (change : Change) → ShowsSomeHead engine text →
     ((h : History) → StandsFor engine h → IsChange h (after h asked) change) → IsChangeOf text change.units
 IsChangeOf-shown engine text asked change shown each =
     ∥∥₁_elim shown (IsChangeOf-prop text change.units)
@@ -165,7 +167,7 @@ pub head-stands : (engine : State) (h : History) → StandsFor engine h → head
 head-stands engine h stands = ap head stands.revisions
 
 -- a change leads into the text that it makes
-pub LeadsTo-shown : (engine : State) (text made : List ℕ) (asked : Asked) (change : Change) → ShowsSomeHead engine text → length made < 2 ^ 64 →
+pub LeadsTo-shown : (engine : State) (text made : List ℕ) (asked : AskedEdit) (change : Change) → ShowsSomeHead engine text → length made < 2 ^ 64 →
     made ≡ text_after change.units text → ((h : History) → ShowsHead h engine text → IsChange h (after h asked) change) → LeadsTo made change.units
 LeadsTo-shown engine text made asked change shown long is each = record {
   inside = λ right gap.
@@ -184,7 +186,7 @@ length-byte_len [] = omega arith
 length-byte_len (c ∷ text) = omega (arith, length-byte_len text, len_utf8_bounds c)
 
 -- what the edit leaves
-pub IsMoved-taken : (h : History) (engine now : State) (text : List ℕ) (asked : Asked) (moved : Moved) → ShowsHead h engine text →
+pub IsMoved-taken : (h : History) (engine now : State) (text : List ℕ) (asked : AskedEdit) (moved : Moved) → ShowsHead h engine text →
     IsTakenBy h now asked moved.ready → moved.text ≡ text_after moved.ready.change.units text →
     moved.notice.view ≡ [] → moved.notice.author ≡ asked.author → moved.notice.rev ≡ moved.ready.change.rev → moved.notice.new_len ≡ byte_len moved.text →
     moved.notice.delta ≡ wire_of text moved.ready.change.units → IsMoved h now asked moved

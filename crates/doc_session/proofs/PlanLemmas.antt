@@ -4,10 +4,10 @@ use Rattle.std.specs.Prelude.{if◌then◌else◌, ◌||◌}
 use Rattle.std.proofs.lemmas.Bool.Decides.{nat_tests}
 use Rattle.std.proofs.lemmas.Grind.{common_steps}
 use Rattle.std.proofs.lemmas.List.{drop_all, take_all}
-use Rattle.xi_plain.specs.declared.screen.Line.{Line}
-use Rattle.xi_plain.specs.declared.screen.Op.{Op}
-use Rattle.xi_plain.specs.declared.screen.Op.TheVariants.{Invalidate, Ins}
-use Rattle.xi_plain.specs.Plan.{is_within, is_sent, is_left, onto_left, onto_sent, onto_plan, plan_from, update_plan}
+use Rattle.plain_screen.specs.declared.screen.Line.{Line}
+use Rattle.plain_screen.specs.declared.screen.Op.{Op}
+use Rattle.plain_screen.specs.declared.screen.Op.TheVariants.{Invalidate, Ins}
+use Rattle.plain_screen.specs.Plan.{is_within, is_sent, is_left, onto_left, onto_sent, onto_plan, plan_from, update_plan}
 use Rattle.doc_session.specs.Document.{first_window, no_request}
 
 -- what is told of lines that are left invalid, and of lines that are sent before them

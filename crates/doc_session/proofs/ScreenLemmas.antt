@@ -2,11 +2,11 @@
 use Rattle.std.proofs.Common.{◌≡◌, ℕ, zero, suc, ◌+◌, Bool, true, false, List, [], ◌∷◌, length, map, Option, Some, None, refl, ap, sym, subst, ◌∙◌, arith}
 use Rattle.std.specs.Prelude.{if◌then◌else◌, ◌||◌, slice_get, option_map}
 use Rattle.std.specs.List.{enumerate_from}
-use Rattle.xi_plain.specs.declared.delta.Run.{Run}
-use Rattle.xi_plain.specs.declared.screen.Line.{Line}
-use Rattle.xi_plain.specs.Screen.{Screen, screen_after}
-use Rattle.xi_plain.specs.Plan.{is_within}
-use Rattle.xi_plain.specs.Laws.{shown_lines}
+use Rattle.plain_text.specs.declared.run.Run.{Run}
+use Rattle.plain_screen.specs.declared.screen.Line.{Line}
+use Rattle.plain_screen.specs.Screen.{Screen, screen_after}
+use Rattle.plain_screen.specs.Plan.{is_within}
+use Rattle.plain_screen.specs.Plan.{shown_lines}
 use Rattle.doc_session.specs.Document.{Document, layout_of, no_request}
 use Rattle.doc_session.specs.Effects.{ops_of, told}
 use Rattle.doc_session.specs.ScreenOf.{IsScreenOf}

@@ -5,29 +5,30 @@ use Rattle.std.specs.List.{enumerate_from, onto_first}
 use Rattle.std.specs.Str.{bytes_eq, chars, encode_utf8_all}
 use Rattle.std.proofs.lemmas.Bool.{eq-eqb, ne_eqb, eqb-true}
 use Rattle.std.proofs.lemmas.Slice.Eq.{bytes_eq-Decides}
-use Rattle.xi_plain.specs.declared.delta.Run.{Run}
-use Rattle.xi_plain.specs.declared.screen.Line.{Line}
-use Rattle.xi_plain.specs.declared.screen.Update.{Update}
-use Rattle.xi_plain.specs.History.{head}
-use Rattle.xi_plain.specs.Layout.{layout, layout_from, logical_lines, Point, point_of}
-use Rattle.xi_plain.specs.Screen.{Screen, screen_after}
-use Rattle.xi_plain.specs.Plan.{is_within, update_plan}
-use Rattle.xi_plain.specs.Laws.{shown_lines}
-use Rattle.xi_plain.proofs.ScreenLemmas.{screen_after-plan_from}
+use Rattle.plain_text.specs.declared.run.Run.{Run}
+use Rattle.plain_screen.specs.declared.screen.Line.{Line}
+use Rattle.plain_screen.specs.declared.screen.Update.{Update}
+use Rattle.plain_edits.specs.History.{head}
+use Rattle.doc_session.specs.Layout.{layout, layout_from, Position, position_of}
+use Rattle.plain_text.specs.Lines.{logical_lines}
+use Rattle.plain_screen.specs.Screen.{Screen, screen_after}
+use Rattle.plain_screen.specs.Plan.{is_within, update_plan}
+use Rattle.plain_screen.specs.Plan.{shown_lines}
+use Rattle.plain_screen.proofs.ForCallers.{screen_after-plan_from}
 use Rattle.rev_engine.specs.State.{State}
-use Rattle.rev_engine.specs.Given.{Asked, after}
+use Rattle.rev_engine.specs.Given.{AskedEdit, after}
 use Rattle.rev_engine.specs.Steps.{with_edit}
 use Rattle.doc_session.specs.InMemory.{Doc}
 use Rattle.doc_session.specs.declared.moved.Moved.{Moved}
 use Rattle.doc_session.specs.Document.{Document, text_of, layout_of, is_pristine, no_request, first_window}
 use Rattle.doc_session.specs.Effects.{ops_of, update_of, told, differ, are_valid, is_window_valid, wants_update, update_after, settled, scroll_after, is_same_point}
-use Rattle.doc_session.specs.Lacking.{is_lacking}
-use Rattle.doc_session.specs.Moved.{IsMoved}
-use Rattle.doc_session.specs.Planned.{planned}
+use Rattle.doc_session.specs.Inner.{is_lacking}
+use Rattle.doc_session.specs.Inner.{IsMoved}
+use Rattle.doc_session.specs.Inner.{planned}
 use Rattle.doc_session.specs.Stands.{DocStandsFor}
 use Rattle.doc_session.specs.Step.{edited_document}
-use Rattle.doc_session.specs.Whole.{IsOf, IsOfSome}
-use Rattle.doc_session.proofs.InsertLemmas.{IsOf-whole}
+use Rattle.doc_session.specs.Whole.{IsStateOf, IsStateOfSome}
+use Rattle.doc_session.proofs.InsertLemmas.{IsStateOf-whole}
 use Rattle.doc_session.proofs.MoveLemmas.{head-after, head-stands}
 
 -- ---- the screen
@@ -114,7 +115,7 @@ module _ (doc : Doc) (plain : Document) (stands : DocStandsFor doc plain) where
       (same_bytes (text_of plain)) (eq-eqb plain.caret plain.caret refl) ∙
       ap₂ (λ pristine valid. pristine || not valid) (differ-same (is_pristine plain)) (screen_valid doc.valid stands.screen)
 
-  module _ (asked : Asked) (gap : ℕ) where
+  module _ (asked : AskedEdit) (gap : ℕ) where
     abbrev next : Document
     next = edited_document plain asked gap
 
@@ -196,8 +197,8 @@ bytes_texts xs ys a b a_is b_is xs_is ys_is = by (bytes_eq a b) (bytes_eq xs ys)
 
 -- ---- a document in memory after an edit
 
-pub DocStandsFor-settled : (doc made : Doc) (plain : Document) (asked : Asked) (moved : Moved) → DocStandsFor doc plain →
-    IsMoved plain.history doc.engine asked moved → IsOfSome (with_edit doc.engine moved.ready) moved.text made.caret doc.plugins →
+pub DocStandsFor-settled : (doc made : Doc) (plain : Document) (asked : AskedEdit) (moved : Moved) → DocStandsFor doc plain →
+    IsMoved plain.history doc.engine asked moved → IsStateOfSome (with_edit doc.engine moved.ready) moved.text made.caret doc.plugins →
     made.engine ≡ with_edit doc.engine moved.ready → made.text ≡ moved.text → made.lines ≡ layout moved.text (made.caret ∷ []) → made.plugins ≡ doc.plugins → made.valid ≡ true →
     DocStandsFor made (settled plain (edited_document plain asked made.caret))
 DocStandsFor-settled doc made plain asked moved stands is whole engine_is text_is lines_is plugins_is valid_is = by (wants_update plain next) refl
@@ -205,8 +206,8 @@ DocStandsFor-settled doc made plain asked moved stands is whole engine_is text_i
     next : Document
     next = edited_document plain asked made.caret
 
-    parts : IsOf (after plain.history asked) made.engine made.text made.caret made.plugins
-    parts = rw (engine_is, text_is, plugins_is) (IsOf-whole (after plain.history asked) (with_edit doc.engine moved.ready) moved.text made.caret doc.plugins whole is.shown)
+    parts : IsStateOf (after plain.history asked) made.engine made.text made.caret made.plugins
+    parts = rw (engine_is, text_is, plugins_is) (IsStateOf-whole (after plain.history asked) (with_edit doc.engine moved.ready) moved.text made.caret doc.plugins whole is.shown)
 
     shown_by : (valid : Bool) → valid ≡ true → shown_lines plain.window no_request (layout_of next) ≡ screen_by valid next
     shown_by true is = refl
@@ -238,7 +239,7 @@ DocStandsFor-settled doc made plain asked moved stands is whole engine_is text_i
     }
 
 -- the update of an edit
-pub update-settled : (doc : Doc) (plain : Document) (asked : Asked) (moved : Moved) (gap : ℕ) (wanted : Bool) (lines : List Line) (update : Option Update) →
+pub update-settled : (doc : Doc) (plain : Document) (asked : AskedEdit) (moved : Moved) (gap : ℕ) (wanted : Bool) (lines : List Line) (update : Option Update) →
     DocStandsFor doc plain → IsMoved plain.history doc.engine asked moved → lines ≡ layout moved.text (gap ∷ []) →
     wanted ≡ is_lacking doc.valid (head doc.engine.revisions) doc.text doc.caret moved.text gap →
     update ≡ (if wanted then Some (planned lines false) else None) → update ≡ update_after plain (edited_document plain asked gap)
@@ -256,13 +257,13 @@ update-settled doc plain asked moved gap wanted lines update stands is lines_is 
         (sym (pristine_next doc plain stands asked gap))
 
 -- its scroll
-pub scroll-settled : (doc : Doc) (plain : Document) (asked : Asked) (moved : Moved) (gap : ℕ) (was now : Point) (scroll : Option Point) →
-    DocStandsFor doc plain → IsMoved plain.history doc.engine asked moved → was ≡ point_of doc.text doc.caret → now ≡ point_of moved.text gap →
+pub scroll-settled : (doc : Doc) (plain : Document) (asked : AskedEdit) (moved : Moved) (gap : ℕ) (was now : Position) (scroll : Option Position) →
+    DocStandsFor doc plain → IsMoved plain.history doc.engine asked moved → was ≡ position_of doc.text doc.caret → now ≡ position_of moved.text gap →
     scroll ≡ (if is_same_point was now then None else Some now) → scroll ≡ scroll_after plain (edited_document plain asked gap)
 scroll-settled doc plain asked moved gap was now scroll stands is was_is now_is scroll_is =
     scroll_is ∙
-    ap₂ (λ was now. if is_same_point was now then None else Some now) (was_is ∙ ap₂ point_of stands.parts.shown.text_is stands.caret)
-    (now_is ∙ ap (λ t. point_of t gap) is.shown.text_is)
+    ap₂ (λ was now. if is_same_point was now then None else Some now) (was_is ∙ ap₂ position_of stands.parts.shown.text_is stands.caret)
+    (now_is ∙ ap (λ t. position_of t gap) is.shown.text_is)
 
 -- ---- a document in memory where nothing changed
 
@@ -270,7 +271,7 @@ pub DocStandsFor-still : (doc made : Doc) (plain : Document) → DocStandsFor do
     made.caret ≡ doc.caret → made.plugins ≡ doc.plugins → made.valid ≡ true → DocStandsFor made (settled plain plain)
 DocStandsFor-still doc made plain stands engine_is text_is lines_is caret_is plugins_is valid_is = by (wants_update plain plain) refl
   where
-    parts : IsOf plain.history made.engine made.text made.caret made.plugins
+    parts : IsStateOf plain.history made.engine made.text made.caret made.plugins
     parts = rw (engine_is, text_is, caret_is, plugins_is) stands.parts
 
     shown_by : (valid : Bool) → valid ≡ true → shown_lines plain.window no_request (layout_of plain) ≡ screen_by valid plain

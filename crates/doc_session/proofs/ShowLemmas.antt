@@ -2,9 +2,9 @@
 use Rattle.std.proofs.Common.{◌≡◌, ℕ, ◌+◌, ◌≤◌, Bool, true, false, [], ◌∷◌, length, Option, Some, None, refl, ap, sym, ◌∙◌, arith}
 use Rattle.std.specs.Prelude.{if◌then◌else◌, not, ◌^◌}
 use Rattle.xi_plain.specs.declared.command.EditAct.TheVariants.{Insert}
-use Rattle.xi_plain.specs.History.{head}
-use Rattle.xi_plain.specs.Laws.{shown_lines}
-use Rattle.rev_engine.specs.Given.{Asked}
+use Rattle.plain_edits.specs.History.{head}
+use Rattle.plain_screen.specs.Plan.{shown_lines}
+use Rattle.rev_engine.specs.Given.{AskedEdit}
 use Rattle.doc_session.specs.InMemory.{Doc}
 use Rattle.doc_session.specs.declared.ready.Edited.{Edited}
 use Rattle.doc_session.specs.declared.ready.ReadyEvent.{ReadyEvent}
@@ -38,7 +38,7 @@ shown-by plain next same shown =
     ap (shown_lines (settled plain next).window no_request) (sym (layout-settled (wants_update plain next) next)))
 
 module _ (doc : Doc) (plain : Document) (stands : DocStandsFor doc plain) where
-  shown-edited : (asked : Asked) (gap : ℕ) → IsUpToDate (settled plain (edited_document plain asked gap))
+  shown-edited : (asked : AskedEdit) (gap : ℕ) → IsUpToDate (settled plain (edited_document plain asked gap))
   shown-edited asked gap =
       shown-by plain (edited_document plain asked gap) refl
       (screen-settled doc plain stands asked gap (text_of (edited_document plain asked gap)) refl)

@@ -4,14 +4,14 @@ use Rattle.std.proofs.Math.Logic.{∥∥₁_elim}
 use Rattle.std.specs.Coded.{Coded-set, coded_bool}
 use Rattle.std.specs.Prelude.{◌^◌, IsTrue}
 use Rattle.xi_plain.specs.declared.command.EditAct.TheVariants.{Insert}
-use Rattle.xi_plain.specs.Edits.{inserted_len}
-use Rattle.xi_plain.specs.History.{History, head}
-use Rattle.xi_plain.specs.Numbers.{has}
+use Rattle.plain_edits.specs.Delta.{inserted_len}
+use Rattle.plain_edits.specs.History.{History, head}
+use Rattle.plain_text.specs.Numbers.{has}
 use Rattle.rev_engine.specs.declared.edit.Edit.{Edit}
 use Rattle.rev_engine.specs.State.{State, contents}
 use Rattle.rev_engine.specs.Engine.{asked_by}
-use Rattle.rev_engine.specs.Given.{Asked, MayAsk}
-use Rattle.rev_engine.proofs.StandLemmas.{IsFresh-given}
+use Rattle.rev_engine.specs.Given.{AskedEdit, MayAsk}
+use Rattle.rev_engine.proofs.ForCallers.{IsFresh-given}
 use Rattle.selection_core.specs.Mapped.{new_gap}
 use Rattle.doc_session.specs.InMemory.{Doc, doc_contents}
 use Rattle.doc_session.specs.declared.event.Body.TheVariants.{Null}
@@ -19,20 +19,20 @@ use Rattle.doc_session.specs.declared.event.Event.TheVariants.{Front}
 use Rattle.doc_session.specs.declared.moved.Moved.{Moved}
 use Rattle.doc_session.specs.Asking.{front_edit, insertion_at, plugin_edit, asked_refusal}
 use Rattle.doc_session.specs.Document.{Document}
-use Rattle.doc_session.specs.Moved.{IsMoved}
+use Rattle.doc_session.specs.Inner.{IsMoved}
 use Rattle.doc_session.specs.Stands.{DocStandsFor}
 use Rattle.doc_session.specs.Step.{caret_by, edit_step, refusal_at, event_step}
-use Rattle.doc_session.specs.Whole.{ShowsHead, IsOf, IsOfSome}
-use Rattle.doc_session.proofs.InsertLemmas.{IsOf-contents}
+use Rattle.doc_session.specs.Whole.{ShowsHead, IsStateOf, IsStateOfSome}
+use Rattle.doc_session.proofs.InsertLemmas.{IsStateOf-contents}
 use Rattle.doc_session.proofs.MoveLemmas.{head-stands, new_gap-moved}
 use Rattle.doc_session.proofs.SettleLemmas.{screen_by}
 
 -- an edit in the group of its own revision may be asked for
-pub MayAsk-whole : (engine : State) (text : List ℕ) (caret plugins group : ℕ) → IsOfSome engine text caret plugins → 1 ≤ group →
+pub MayAsk-whole : (engine : State) (text : List ℕ) (caret plugins group : ℕ) → IsStateOfSome engine text caret plugins → 1 ≤ group →
     head engine.revisions < 2 ^ 63 - 1 → MayAsk engine.revisions group
 MayAsk-whole engine text caret plugins group whole counts numbered = record {
   group_counts = counts;
-  group_kept = ∥∥₁_elim whole (Coded-set coded_bool _ _) (λ (s : (h : History) × IsOf h engine text caret plugins).
+  group_kept = ∥∥₁_elim whole (Coded-set coded_bool _ _) (λ (s : (h : History) × IsStateOf h engine text caret plugins).
       ap (λ (h : History). has h.collected group) s.1.shown.stands.revisions ∙
       ap (λ groups. has groups group) (IsFresh-given engine.limit s.0 s.1.shown.stands.given).collected);
   has_number = numbered;
@@ -45,14 +45,14 @@ asked-given plain caller rev edit given is rev_is =
     ap asked_by is ∙
     ap (λ n. record { base = edit.rev; delta = edit.delta; group = n; priority = edit.priority; author = caller }) rev_is
 
-pub IsMoved-plain : (doc : Doc) (now : State) (plain : Document) (asked other : Asked) (moved : Moved) → DocStandsFor doc plain → other ≡ asked →
+pub IsMoved-plain : (doc : Doc) (now : State) (plain : Document) (asked other : AskedEdit) (moved : Moved) → DocStandsFor doc plain → other ≡ asked →
     ((h : History) → ShowsHead h doc.engine doc.text → IsMoved h now other moved) → IsMoved plain.history now asked moved
 IsMoved-plain doc now plain asked other moved stands same each =
-    let At : Asked → Type 0 = λ a. IsMoved plain.history now a moved in
+    let At : AskedEdit → Type 0 = λ a. IsMoved plain.history now a moved in
     subst At same (each plain.history stands.parts.shown)
 
 -- its caret is where the caret rule takes it
-pub caret-given : (doc : Doc) (now : State) (plain : Document) (asked : Asked) (moved : Moved) (right : Bool) (gap : ℕ) → DocStandsFor doc plain →
+pub caret-given : (doc : Doc) (now : State) (plain : Document) (asked : AskedEdit) (moved : Moved) (right : Bool) (gap : ℕ) → DocStandsFor doc plain →
     IsMoved plain.history now asked moved → gap ≡ new_gap moved.ready.change.units right doc.caret → gap ≡ caret_by plain asked right
 caret-given doc now plain asked moved right gap stands is gap_is =
     gap_is ∙
@@ -60,7 +60,7 @@ caret-given doc now plain asked moved right gap stands is gap_is =
     ap (λ gap. caret_by (record plain { caret = gap }) asked right) stands.caret
 
 -- the front end's edit
-pub asked-front : (doc : Doc) (plain : Document) (chars : List ℕ) (other : Asked) → DocStandsFor doc plain →
+pub asked-front : (doc : Doc) (plain : Document) (chars : List ℕ) (other : AskedEdit) → DocStandsFor doc plain →
     other ≡ insertion_at (head doc.engine.revisions) doc.text doc.caret chars → other ≡ front_edit plain chars
 asked-front doc plain chars other stands is =
     is ∙ ap (λ n. insertion_at n doc.text doc.caret chars) (head-stands doc.engine plain.history stands.parts.shown.stands) ∙
@@ -75,7 +75,7 @@ pub refusal_at-front : (plain : Document) (chars : List ℕ) → chars ≢ [] �
 refusal_at-front plain [] some = absurd (some refl)
 refusal_at-front plain (c ∷ chars) some = refl
 
-pub some-inserted : (head : ℕ) (text : List ℕ) (gap : ℕ) (chars : List ℕ) (asked : Asked) → asked ≡ insertion_at head text gap chars → chars ≢ [] →
+pub some-inserted : (head : ℕ) (text : List ℕ) (gap : ℕ) (chars : List ℕ) (asked : AskedEdit) → asked ≡ insertion_at head text gap chars → chars ≢ [] →
     1 ≤ inserted_len asked.delta.els
 some-inserted head text gap [] asked is some = absurd (some refl)
 some-inserted head text gap (c ∷ chars) asked is some = rw is (omega arith)
@@ -88,7 +88,7 @@ DocStandsFor-doc_contents doc now plain same stands =
     let caret : now.caret ≡ doc.caret = ap (λ (d : Doc). d.caret) same in
     let plugins : now.plugins ≡ doc.plugins = ap (λ (d : Doc). d.plugins) same in
     record {
-      parts = rw (text, caret, plugins) (IsOf-contents plain.history doc.engine now.engine doc.text doc.caret doc.plugins engine stands.parts);
+      parts = rw (text, caret, plugins) (IsStateOf-contents plain.history doc.engine now.engine doc.text doc.caret doc.plugins engine stands.parts);
       limit = ap (λ (e : State). e.limit) engine ∙ stands.limit;
       plugins = plugins ∙ stands.plugins;
       caret = caret ∙ stands.caret;

@@ -5,10 +5,11 @@ use Rattle.std.specs.List.{concat, onto_first}
 use Rattle.std.proofs.lemmas.Bool.{cases_lt}
 use Rattle.std.proofs.lemmas.List.{take-append-le}
 use Rattle.std.proofs.Math.Seq.{take-append-add}
-use Rattle.xi_plain.specs.declared.screen.Line.{Line}
-use Rattle.xi_plain.specs.Text.{byte_len, place_of, gap_from}
-use Rattle.xi_plain.specs.Layout.{logical_lines, layout_from, layout}
-use Rattle.xi_plain.proofs.TextLemmas.{gap_from-place}
+use Rattle.plain_screen.specs.declared.screen.Line.{Line}
+use Rattle.plain_text.specs.Text.{byte_len, place_of, gap_from}
+use Rattle.plain_text.specs.Lines.{logical_lines}
+use Rattle.doc_session.specs.Layout.{layout_from, layout}
+use Rattle.plain_text.proofs.callers.TextLemmas.{gap_from-place}
 use Rattle.doc_session.proofs.LayoutLemmas.{cursor_of-one, cursor_of-past}
 
 -- the logical lines, one after the other, are the text

@@ -1,12 +1,12 @@
 -- The edits that a document is asked for, and why one is refused.
 use Rattle.std.specs.Prelude.{ℕ, ◌+◌, List, [], ◌∷◌, Option}
-use Rattle.xi_plain.specs.declared.delta.Delta.{Delta}
-use Rattle.xi_plain.specs.declared.delta.El.TheVariants.{Copy, Insert}
-use Rattle.xi_plain.specs.Text.{byte_len, place_of}
-use Rattle.xi_plain.specs.History.{head}
-use Rattle.xi_plain.specs.Edits.{Refusal, edit_refusal}
+use Rattle.plain_edits.specs.declared.delta.Delta.{Delta}
+use Rattle.plain_edits.specs.declared.delta.El.TheVariants.{Copy, Insert}
+use Rattle.plain_text.specs.Text.{byte_len, place_of}
+use Rattle.plain_edits.specs.History.{head}
+use Rattle.plain_edits.specs.Edits.{Refusal, edit_refusal}
 use Rattle.rev_engine.specs.declared.edit.Edit.{Edit}
-use Rattle.rev_engine.specs.Given.{Asked}
+use Rattle.rev_engine.specs.Given.{AskedEdit}
 use Rattle.doc_session.specs.Document.{Document, text_of}
 
 -- the priority of the front end's edits
@@ -21,7 +21,7 @@ insertion_delta text gap chars = record {
 }
 
 -- the insertion of characters at a gap of the head text, against the head; the group of an edit is its revision number
-abbrev pub insertion_at : ℕ → List ℕ → ℕ → List ℕ → Asked
+abbrev pub insertion_at : ℕ → List ℕ → ℕ → List ℕ → AskedEdit
 insertion_at head text gap chars = record {
   base = head;
   delta = insertion_delta text gap chars;
@@ -31,11 +31,11 @@ insertion_at head text gap chars = record {
 }
 
 -- that of the front end, at the caret
-abbrev pub front_edit : Document → List ℕ → Asked
+abbrev pub front_edit : Document → List ℕ → AskedEdit
 front_edit document chars = insertion_at (head document.history) (text_of document) document.caret chars
 
 -- the edit of a plugin, which says itself its base, its delta and its priority
-abbrev pub plugin_edit : Document → ℕ → Edit → Asked
+abbrev pub plugin_edit : Document → ℕ → Edit → AskedEdit
 plugin_edit document caller edit = record {
   base = edit.rev;
   delta = edit.delta;
@@ -45,5 +45,5 @@ plugin_edit document caller edit = record {
 }
 
 -- why an edit is refused, if it is
-abbrev pub asked_refusal : Document → Asked → Option Refusal
+abbrev pub asked_refusal : Document → AskedEdit → Option Refusal
 asked_refusal document asked = edit_refusal document.history document.limit asked.base asked.delta

@@ -1,10 +1,10 @@
 -- THE PLAIN DOCUMENT: what a document with one view is, by the history of its text.
 use Rattle.std.specs.Prelude.{ℕ, Bool, ◌==◌, List, [], ◌∷◌}
-use Rattle.xi_plain.specs.declared.delta.Run.{Run}
-use Rattle.xi_plain.specs.declared.screen.Line.{Line}
-use Rattle.xi_plain.specs.History.{History, head, loaded, text_at}
-use Rattle.xi_plain.specs.Layout.{layout, Point, point_of}
-use Rattle.xi_plain.specs.Screen.{Screen}
+use Rattle.plain_text.specs.declared.run.Run.{Run}
+use Rattle.plain_screen.specs.declared.screen.Line.{Line}
+use Rattle.plain_edits.specs.History.{History, head, loaded, text_at}
+use Rattle.doc_session.specs.Layout.{layout, Position, position_of}
+use Rattle.plain_screen.specs.Screen.{Screen}
 
 -- a document: its history, the most characters that may be inserted after loading, how many plugins there are, its caret as a gap of
 -- the head text, the lines that its view shows, the revision that was loaded or last saved, and the screen that its front end has
@@ -24,8 +24,8 @@ text_of document = text_at document.history (head document.history)
 abbrev pub layout_of : Document → List Line
 layout_of document = layout (text_of document) (document.caret ∷ [])
 
-abbrev pub caret_point : Document → Point
-caret_point document = point_of (text_of document) document.caret
+abbrev pub caret_point : Document → Position
+caret_point document = position_of (text_of document) document.caret
 
 abbrev pub is_pristine : Document → Bool
 is_pristine document = head document.history == document.saved

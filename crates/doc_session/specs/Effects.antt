@@ -3,16 +3,16 @@ use Rattle.std.specs.Prelude.{ℕ, ◌+◌, Bool, true, false, not, ◌&&◌, �
 use Rattle.std.specs.Str.{bytes_eq}
 use Rattle.subset_runs.specs.Subset.{contains, complement, shrink}
 use Rattle.xi_plain.specs.declared.config.Notice.{Notice}
-use Rattle.xi_plain.specs.declared.delta.Delta.{Delta}
-use Rattle.xi_plain.specs.declared.delta.Run.{Run}
-use Rattle.xi_plain.specs.declared.screen.Line.{Line}
-use Rattle.xi_plain.specs.declared.screen.Op.{Op}
-use Rattle.xi_plain.specs.declared.screen.Update.{Update}
-use Rattle.xi_plain.specs.Text.{byte_len}
-use Rattle.xi_plain.specs.History.{History, head, text_at}
-use Rattle.xi_plain.specs.Layout.{Point}
-use Rattle.xi_plain.specs.Screen.{Screen, screen_after}
-use Rattle.xi_plain.specs.Plan.{is_within, update_plan}
+use Rattle.plain_edits.specs.declared.delta.Delta.{Delta}
+use Rattle.plain_text.specs.declared.run.Run.{Run}
+use Rattle.plain_screen.specs.declared.screen.Line.{Line}
+use Rattle.plain_screen.specs.declared.screen.Op.{Op}
+use Rattle.plain_screen.specs.declared.screen.Update.{Update}
+use Rattle.plain_text.specs.Text.{byte_len}
+use Rattle.plain_edits.specs.History.{History, head, text_at}
+use Rattle.doc_session.specs.Layout.{Position}
+use Rattle.plain_screen.specs.Screen.{Screen, screen_after}
+use Rattle.plain_screen.specs.Plan.{is_within, update_plan}
 use Rattle.delta_core.specs.Synthesis.{appearing}
 use Rattle.delta_core.specs.Wire.{wire_from}
 use Rattle.rev_list.specs.Hidden.{hidden_at}
@@ -63,10 +63,10 @@ abbrev pub settled : Document → Document → Document
 settled before after = if wants_update before after then told after else after
 
 -- THE OCCASION OF A SCROLL: line or byte column of the caret changed; and the place that is written
-abbrev pub is_same_point : Point → Point → Bool
+abbrev pub is_same_point : Position → Position → Bool
 is_same_point before after = before.line == after.line && before.col == after.col
 
-abbrev pub scroll_after : Document → Document → Option Point
+abbrev pub scroll_after : Document → Document → Option Position
 scroll_after before after = if is_same_point (caret_point before) (caret_point after) then None else Some (caret_point after)
 
 -- THE CHANGE from the head text of a history to that of a later one: which characters stay, and which appear at each gap

@@ -1,9 +1,9 @@
 -- What a fault of a document says in the words of the definitions.
 use Rattle.std.specs.Prelude.{Option}
-use Rattle.xi_plain.specs.Edits.{Refusal}
-use Rattle.rev_engine.specs.declared.fault.EditFault.{EditFault}
-use Rattle.rev_engine.specs.declared.fault.EditFault.TheVariants as Edit
-use Rattle.rev_engine.specs.Fault as engine
+use Rattle.plain_edits.specs.Edits.{Refusal}
+use Rattle.plain_edits.specs.declared.fault.EditFault.{EditFault}
+use Rattle.plain_edits.specs.declared.fault.EditFault.TheVariants as Edit
+use Rattle.plain_edits.specs.EditFault.{Refuses}
 use Rattle.doc_session.specs.declared.fault.DocFault.{DocFault}
 use Rattle.doc_session.specs.declared.fault.DocFault.TheVariants.{Unknown, Collected, Misfit, Spent, NoMemory}
 
@@ -17,4 +17,4 @@ edit_fault NoMemory = Edit.NoMemory
 
 -- the fault is this refusal, or want of memory
 abbrev pub DocRefuses : Option Refusal → DocFault → Type 0
-DocRefuses refusal fault = engine.Refuses refusal (edit_fault fault)
+DocRefuses refusal fault = Refuses refusal (edit_fault fault)

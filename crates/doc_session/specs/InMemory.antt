@@ -1,6 +1,6 @@
 -- What contracts see of a document in memory.
 use Rattle.std.specs.Prelude.{ℕ, Bool, List}
-use Rattle.xi_plain.specs.declared.screen.Line.{Line}
+use Rattle.plain_screen.specs.declared.screen.Line.{Line}
 use Rattle.rev_engine.specs.State.{State, contents}
 
 -- its revisions, the head text, the layout of it, the caret as a gap of it, how many plugins there are, and whether the front end has

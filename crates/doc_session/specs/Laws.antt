@@ -1,9 +1,9 @@
 -- Laws: what the definitions of a document come to, whatever the document.
 use Rattle.std.specs.Prelude.{◌≡◌, ℕ, ◌≤◌, List, [], ◌∷◌, ◌++◌, length, take, drop, Some}
-use Rattle.xi_plain.specs.Delta.{Fits, keeps, adds, applied}
-use Rattle.xi_plain.specs.Layout.{layout}
-use Rattle.xi_plain.specs.Screen.{screen_after}
-use Rattle.xi_plain.specs.Laws.{shown_lines}
+use Rattle.plain_edits.specs.Delta.{Fits, keeps, adds, applied}
+use Rattle.doc_session.specs.Layout.{layout}
+use Rattle.plain_screen.specs.Screen.{screen_after}
+use Rattle.plain_screen.specs.Plan.{shown_lines}
 use Rattle.doc_session.specs.Asking.{insertion_delta}
 use Rattle.doc_session.specs.Document.{Document, layout_of, no_request}
 use Rattle.doc_session.specs.Effects.{ops_of, told}

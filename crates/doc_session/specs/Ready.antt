@@ -4,7 +4,7 @@ use Rattle.rev_engine.specs.Steps.{MayPut, with_edit}
 use Rattle.doc_session.specs.declared.ready.Edited.{Edited}
 use Rattle.doc_session.specs.declared.ready.ReadyEvent.{ReadyEvent}
 use Rattle.doc_session.specs.InMemory.{Doc}
-use Rattle.doc_session.specs.Whole.{IsOfSome}
+use Rattle.doc_session.specs.Whole.{IsStateOfSome}
 
 -- the document with the event: its front end has the lines of the window, and the edit is in, where it is one
 abbrev pub with_edited : Doc → Option Edited → Doc
@@ -25,7 +25,7 @@ with_event doc ready = with_edited doc ready.edited
 abbrev pub MayTakeEdited : Doc → Option Edited → Type 0
 MayTakeEdited doc None = ⊤
 MayTakeEdited doc (Some edited) =
-    MayPut doc.engine edited.ready × IsOfSome (with_edit doc.engine edited.ready) edited.text edited.caret doc.plugins
+    MayPut doc.engine edited.ready × IsStateOfSome (with_edit doc.engine edited.ready) edited.text edited.caret doc.plugins
 
 -- THE EVENT MAY BE PUT IN: so may its edit, where it is one
 abbrev pub MayTake : Doc → ReadyEvent → Type 0

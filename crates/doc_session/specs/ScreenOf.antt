@@ -1,9 +1,9 @@
 -- What a front end's screen shows of a layout.
 use Rattle.std.specs.Prelude.{◌≡◌, ℕ, true, List, length, Some, slice_get, option_map}
-use Rattle.xi_plain.specs.declared.delta.Run.{Run}
-use Rattle.xi_plain.specs.declared.screen.Line.{Line}
-use Rattle.xi_plain.specs.Screen.{Screen}
-use Rattle.xi_plain.specs.Plan.{is_within}
+use Rattle.plain_text.specs.declared.run.Run.{Run}
+use Rattle.plain_screen.specs.declared.screen.Line.{Line}
+use Rattle.plain_screen.specs.Screen.{Screen}
+use Rattle.plain_screen.specs.Plan.{is_within}
 use Rattle.doc_session.specs.Document.{Document, layout_of}
 
 -- the screen has as many lines as the layout, each valid line of it is the layout's line, and each line of the window is valid

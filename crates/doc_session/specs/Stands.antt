@@ -1,14 +1,14 @@
 -- What a document in memory stands for.
 use Rattle.std.specs.Prelude.{◌≡◌, if◌then◌else◌, []}
-use Rattle.xi_plain.specs.Laws.{shown_lines}
+use Rattle.plain_screen.specs.Plan.{shown_lines}
 use Rattle.doc_session.specs.InMemory.{Doc}
 use Rattle.doc_session.specs.Document.{Document, layout_of, first_window, no_request}
-use Rattle.doc_session.specs.Whole.{IsOf}
+use Rattle.doc_session.specs.Whole.{IsStateOf}
 
 -- the document in memory stands for the plain one: they have the same history, limit, plugins, caret and layout, and the front end's
 -- screen is as the last update left it, or empty where there was none
 pub record DocStandsFor (doc : Doc) (plain : Document) : Type 0 where
-  pub parts : IsOf plain.history doc.engine doc.text doc.caret doc.plugins
+  pub parts : IsStateOf plain.history doc.engine doc.text doc.caret doc.plugins
   pub limit : doc.engine.limit ≡ plain.limit
   pub plugins : doc.plugins ≡ plain.plugins
   pub caret : doc.caret ≡ plain.caret

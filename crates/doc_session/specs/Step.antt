@@ -2,13 +2,13 @@
 use Rattle.std.specs.Prelude.{◌≡◌, ℕ, ◌+◌, ◌≤◌, Bool, [], ◌∷◌, length, Option, Some, None, option_map, ⊤}
 use Rattle.xi_plain.specs.declared.config.Notice.{Notice}
 use Rattle.xi_plain.specs.declared.command.EditAct.TheVariants.{Insert}
-use Rattle.xi_plain.specs.declared.screen.Update.{Update}
-use Rattle.xi_plain.specs.Caret.{moved_caret}
-use Rattle.xi_plain.specs.History.{head}
-use Rattle.xi_plain.specs.Edits.{Refusal}
-use Rattle.xi_plain.specs.Layout.{Point}
+use Rattle.plain_screen.specs.declared.screen.Update.{Update}
+use Rattle.plain_edits.specs.Caret.{moved_caret}
+use Rattle.plain_edits.specs.History.{head}
+use Rattle.plain_edits.specs.Edits.{Refusal}
+use Rattle.doc_session.specs.Layout.{Position}
 use Rattle.rev_engine.specs.declared.edit.Edit.{Edit as Given}
-use Rattle.rev_engine.specs.Given.{Asked, after}
+use Rattle.rev_engine.specs.Given.{AskedEdit, after}
 use Rattle.doc_session.specs.declared.event.Body.{Body}
 use Rattle.doc_session.specs.declared.event.Body.TheVariants.{Null, Edited}
 use Rattle.doc_session.specs.declared.event.Effects.{Effects}
@@ -17,22 +17,22 @@ use Rattle.doc_session.specs.declared.event.Event.TheVariants.{Front, Edit, Othe
 use Rattle.doc_session.specs.Document.{Document}
 use Rattle.doc_session.specs.Asking.{front_edit, plugin_edit, asked_refusal}
 use Rattle.doc_session.specs.Effects.{update_after, settled, scroll_after, notice_of}
-use Rattle.doc_session.specs.PointView.{point_view}
+use Rattle.doc_session.specs.PositionView.{position_view}
 
 -- what an event comes to: the document after it, its answer, what the front end is told, and what the plugins are
 pub record EventStep : Type 0 where
   pub document : Document
   pub body : Body
   pub update : Option Update
-  pub scroll : Option Point
+  pub scroll : Option Position
   pub notice : Option Notice
 
 -- the document after an edit, with its caret at this gap, before its front end was told
-abbrev pub edited_document : Document → Asked → ℕ → Document
+abbrev pub edited_document : Document → AskedEdit → ℕ → Document
 edited_document document asked gap = record document { history = after document.history asked; caret = gap }
 
 -- an edit is taken, and the caret stands at this gap after it
-abbrev pub edit_step : Document → Asked → ℕ → Body → EventStep
+abbrev pub edit_step : Document → AskedEdit → ℕ → Body → EventStep
 edit_step document asked gap body = record {
   document = settled document (edited_document document asked gap);
   body = body;
@@ -42,7 +42,7 @@ edit_step document asked gap body = record {
 }
 
 -- where the caret rule takes the caret at an edit: `after_cursor` or not
-abbrev pub caret_by : Document → Asked → Bool → ℕ
+abbrev pub caret_by : Document → AskedEdit → Bool → ℕ
 caret_by document asked after_cursor = moved_caret document.history (after document.history asked) after_cursor document.caret
 
 -- nothing changes; what the front end lacks it is told
@@ -84,8 +84,8 @@ HasCaller plugins (Edit caller edit named) = (1 ≤ caller) × (caller ≤ plugi
 HasCaller plugins Other = ⊤
 
 -- the effects are those of the step
-pub record AreOf (step : EventStep) (effects : Effects) : Type 0 where
+pub record AreEffectsOf (step : EventStep) (effects : Effects) : Type 0 where
   pub body : effects.body ≡ step.body
   pub update : effects.update ≡ step.update
-  pub scroll : option_map point_view effects.scroll ≡ step.scroll
+  pub scroll : option_map position_view effects.scroll ≡ step.scroll
   pub notice : effects.notice ≡ step.notice

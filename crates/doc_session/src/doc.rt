@@ -1,35 +1,38 @@
 ghost use Rattle.std.specs.Prelude.{◌≡◌, ◌+◌, ◌-◌, ◌^◌, ◌<◌, ◌≤◌, length, Some, None, IfOk, IfErr, OnOk, OnErr};
-ghost use Rattle.xi_plain.specs.Collection.{kept};
-ghost use Rattle.xi_plain.specs.History.{head};
+ghost use Rattle.plain_edits.specs.Collection.{kept};
+ghost use Rattle.plain_edits.specs.History.{head};
 ghost use Rattle.xi_plain.specs.declared.command.EditAct.TheVariants.{Insert};
 ghost use Rattle.rev_engine.specs.Engine.{asked_by};
-ghost use Rattle.rev_engine.specs.Given.{Asked};
+ghost use Rattle.rev_engine.specs.Given.{AskedEdit};
 ghost use Rattle.rev_engine.specs.Steps.{MayPut, with_edit};
 ghost use Rattle.doc_session.specs.Asking.{insertion_at, plugin_edit, asked_refusal};
 ghost use Rattle.doc_session.specs.Document.{Document, layout_of, loaded_document, text_of};
 ghost use Rattle.doc_session.specs.Fault.{DocRefuses};
 ghost use Rattle.doc_session.specs.InMemory.{doc_contents};
-ghost use Rattle.doc_session.specs.Lacking.{is_lacking};
-ghost use Rattle.doc_session.specs.Moved.{IsMoved};
+ghost use Rattle.doc_session.specs.Inner.{is_lacking};
+ghost use Rattle.doc_session.specs.Inner.{IsMoved};
 ghost use Rattle.doc_session.specs.Ready.{MayTake, MayTakeEdited, with_edited, with_event};
 ghost use Rattle.doc_session.specs.ScreenOf.{IsUpToDate};
 ghost use Rattle.doc_session.specs.Stands.{DocStandsFor};
-ghost use Rattle.doc_session.specs.Step.{AreOf, HasCaller, edit_step, plugin_step, refusal_at, event_step, still_step};
-ghost use Rattle.doc_session.specs.Whole.{IsOfSome};
+ghost use Rattle.doc_session.specs.Step.{AreEffectsOf, HasCaller, edit_step, plugin_step, refusal_at, event_step, still_step};
+ghost use Rattle.doc_session.specs.Whole.{IsStateOfSome};
 ghost use Rattle.doc_session.specs.declared.event.Event.TheVariants.{Front};
 
-use crate::caret::caret_after;
 use crate::event::{Body, Effects, Event};
 use crate::fault::DocFault;
-use crate::layout::{layout_of, point_of};
+use crate::layout::{layout_of, position_of};
 use crate::moved::{Moved, moved_by};
 use crate::plan::{scroll_of, update_if};
 use crate::ready::{Edited, ReadyEvent};
+use selection_core::gap_after;
 use rev_engine::{Edit, Engine};
 use std::alloc::Global;
 use std::marker::Model;
 use std::sync::ledger::Ledger;
-use xi_plain::{Config, Copied, Delta, EditAct, El, Els, Lines, NoMemory, Steps, Text};
+use plain_text::{NoMemory, Steps, Text, TryClone};
+use plain_edits::{Delta, El, Els};
+use plain_screen::Lines;
+use xi_plain::{Config, EditAct};
 
 /// The priority of the front end's edits.
 const FRONT_PRIORITY: u32 = 65_536;
@@ -52,7 +55,7 @@ impl Model for Doc {
 
     ghost Value = { Doc };
 
-    ghost use Rattle.doc_session.specs.Whole.{IsOfSome};
+    ghost use Rattle.doc_session.specs.Whole.{IsStateOfSome};
 
     ghost view = { λ d. record {
       engine = d.engine;
@@ -63,7 +66,7 @@ impl Model for Doc {
       valid = d.valid;
     } };
 
-    ghost invariant = { λ d. IsOfSome d.engine d.text d.caret d.plugins };
+    ghost invariant = { λ d. IsStateOfSome d.engine d.text d.caret d.plugins };
 }
 
 impl Doc {
@@ -104,7 +107,7 @@ impl Doc {
         requires has_number { head self.old.engine.revisions < 2 ^ 63 - 1 }
         ensures stands { (plain : Document) → DocStandsFor self.old plain
             → OnOk result (DocStandsFor self.new (event_step plain event).document) }
-        ensures effects { (plain : Document) → DocStandsFor self.old plain → IfOk result (AreOf (event_step plain event)) }
+        ensures effects { (plain : Document) → DocStandsFor self.old plain → IfOk result (AreEffectsOf (event_step plain event)) }
         ensures accepted { (plain : Document) → DocStandsFor self.old plain → OnOk result (refusal_at plain event ≡ None) }
         ensures refused { (plain : Document) → DocStandsFor self.old plain → IfErr result (DocRefuses (refusal_at plain event)) }
         ensures shown { (plain : Document) → DocStandsFor self.old plain → IsUpToDate (event_step plain event).document }
@@ -132,7 +135,7 @@ impl Doc {
         ensures stands { (plain : Document) → DocStandsFor self.old plain
             → IfOk result (λ made. DocStandsFor (with_event self.new made.0) (event_step plain event).document) }
         ensures effects { (plain : Document) → DocStandsFor self.old plain
-            → IfOk result (λ made. AreOf (event_step plain event) made.1) }
+            → IfOk result (λ made. AreEffectsOf (event_step plain event) made.1) }
         ensures accepted { (plain : Document) → DocStandsFor self.old plain → OnOk result (refusal_at plain event ≡ None) }
         ensures refused { (plain : Document) → DocStandsFor self.old plain → IfErr result (DocRefuses (refusal_at plain event)) }
         ensures shown { (plain : Document) → DocStandsFor self.old plain → IsUpToDate (event_step plain event).document }
@@ -186,7 +189,7 @@ impl Doc {
         ensures stands { (plain : Document) → DocStandsFor self.old plain
             → IfOk result (λ made. DocStandsFor (with_event self.new made.0) (event_step plain (Front (Insert chars.now))).document) }
         ensures effects { (plain : Document) → DocStandsFor self.old plain
-            → IfOk result (λ made. AreOf (event_step plain (Front (Insert chars.now))) made.1) }
+            → IfOk result (λ made. AreEffectsOf (event_step plain (Front (Insert chars.now))) made.1) }
         ensures accepted { (plain : Document) → DocStandsFor self.old plain
             → OnOk result (refusal_at plain (Front (Insert chars.now)) ≡ None) }
         ensures refused { (plain : Document) → DocStandsFor self.old plain
@@ -198,7 +201,7 @@ impl Doc {
         }
         let typed = self.insertion(alloc, chars)?;
         let moved = moved_by(alloc, &mut self.engine, &self.text, &typed)?;
-        let caret = self.caret + chars.len();
+        let caret = self.caret + chars.char_count();
         Ok(self.settled(alloc, moved, caret, Body::Null)?)
     }
 
@@ -240,7 +243,7 @@ impl Doc {
         ensures stands { (plain : Document) → DocStandsFor self.old plain
             → IfOk result (λ made. DocStandsFor (with_event self.new made.0) (plugin_step plain caller edit).document) }
         ensures effects { (plain : Document) → DocStandsFor self.old plain
-            → IfOk result (λ made. AreOf (plugin_step plain caller edit) made.1) }
+            → IfOk result (λ made. AreEffectsOf (plugin_step plain caller edit) made.1) }
         ensures accepted { (plain : Document) → DocStandsFor self.old plain
             → OnOk result (asked_refusal plain (plugin_edit plain caller edit) ≡ None) }
         ensures refused { (plain : Document) → DocStandsFor self.old plain
@@ -252,7 +255,7 @@ impl Doc {
         let edit = given(edit, caller, rev);
         let moved = moved_by(alloc, &mut self.engine, &self.text, &edit)?;
         let units = &moved.ready.change.units;
-        let caret = caret_after(alloc, self.caret, units, after_cursor)?;
+        let caret = gap_after(units, after_cursor, self.caret);
         Ok(self.settled(alloc, moved, caret, Body::Edited { rev, group: rev })?)
     }
 
@@ -265,14 +268,14 @@ impl Doc {
         body: Body,
     ) -> Result<(ReadyEvent, Effects), NoMemory>
         requires may_put { MayPut self.now.engine moved.ready }
-        requires whole { IsOfSome (with_edit self.now.engine moved.ready) moved.text caret self.now.plugins }
+        requires whole { IsStateOfSome (with_edit self.now.engine moved.ready) moved.text caret self.now.plugins }
         ensures may_take { IfOk result (λ made. MayTake self.now made.0) }
-        ensures stands { (plain : Document) (asked : Asked) → DocStandsFor self.now plain
+        ensures stands { (plain : Document) (asked : AskedEdit) → DocStandsFor self.now plain
             → IsMoved plain.history self.now.engine asked moved
             → IfOk result (λ made. DocStandsFor (with_event self.now made.0) (edit_step plain asked caret body).document) }
-        ensures effects { (plain : Document) (asked : Asked) → DocStandsFor self.now plain
+        ensures effects { (plain : Document) (asked : AskedEdit) → DocStandsFor self.now plain
             → IsMoved plain.history self.now.engine asked moved
-            → IfOk result (λ made. AreOf (edit_step plain asked caret body) made.1) }
+            → IfOk result (λ made. AreEffectsOf (edit_step plain asked caret body) made.1) }
     {
         let Moved {
             ready,
@@ -282,7 +285,7 @@ impl Doc {
         let lines = layout_of(alloc, &text, caret)?;
         let wanted = self.lacks(&text, caret);
         let update = update_if(alloc, wanted, &lines, false)?;
-        let scroll = scroll_of(point_of(&self.text, self.caret), point_of(&text, caret));
+        let scroll = scroll_of(position_of(&self.text, self.caret), position_of(&text, caret));
         let edited = Edited {
             ready,
             text,
@@ -319,7 +322,7 @@ impl Doc {
         ensures stands { (plain : Document) → DocStandsFor self.now plain
             → IfOk result (λ made. DocStandsFor (with_event self.now made.0) (still_step plain).document) }
         ensures effects { (plain : Document) → DocStandsFor self.now plain
-            → IfOk result (λ made. AreOf (still_step plain) made.1) }
+            → IfOk result (λ made. AreEffectsOf (still_step plain) made.1) }
     {
         let pristine = self.engine.head() == 0;
         let update = update_if(alloc, !self.valid, &self.lines, pristine)?;

@@ -1,5 +1,6 @@
 use rev_engine::Edit;
-use xi_plain::{EditAct, Notice, Update};
+use plain_screen::Update;
+use xi_plain::{EditAct, Notice};
 
 /// What happens to a document.
 #[derive(Debug, PartialEq, Eq, Drop)]

@@ -1,9 +1,10 @@
 ghost use Rattle.std.specs.Prelude.{◌≡◌};
+ghost use Rattle.doc_session.specs.Fault.{edit_fault};
 
-use rev_engine::EditFault;
 use std::error::Error;
 use std::fmt;
-use xi_plain::{Misfit, NoMemory};
+use plain_text::NoMemory;
+use plain_edits::{EditFault, Misfit};
 
 /// Why an event is refused. They are looked for in this order.
 #[derive(Clone, Copy, Debug, PartialEq, Eq, Drop)]
@@ -19,25 +20,29 @@ pub enum DocFault {
     NoMemory,
 }
 
+impl DocFault {
+    /// The fault of an edit that it is.
+    pub fn edit_fault(&self) -> EditFault
+        ensures { result ≡ edit_fault self.now }
+    {
+        match self {
+            DocFault::Unknown(head) => EditFault::Unknown(*head),
+            DocFault::Collected(floor) => EditFault::Collected(*floor),
+            DocFault::Misfit(first) => EditFault::Misfit(*first),
+            DocFault::Spent(total) => EditFault::Spent(*total),
+            DocFault::NoMemory => EditFault::NoMemory,
+        }
+    }
+}
+
 impl fmt::Display for DocFault {
     ghost use Rattle.std.specs.Prelude.{Some};
-    ghost use Rattle.rev_engine.specs.Fault.{engine_fault_text};
-    ghost use Rattle.doc_session.specs.Fault.{edit_fault};
+    ghost use Rattle.plain_edits.specs.EditFault.{edit_fault_text};
 
-    ghost output = { λ fault. Some (engine_fault_text (edit_fault fault)) };
+    ghost output = { λ fault. Some (edit_fault_text (edit_fault fault)) };
 
     fn fmt<W: fmt::Write>(&self, f: &mut fmt::Formatter<W>) -> fmt::Result {
-        match self {
-            DocFault::Unknown(head) => write!(f, "unknown base: the head is {head}"),
-            DocFault::Collected(floor) => write!(f, "collected base: the floor is {floor}"),
-            DocFault::Misfit(first) => {
-                let kind = first.kind;
-                let at = first.at;
-                write!(f, "misfit of kind {kind} at {at}")
-            }
-            DocFault::Spent(total) => write!(f, "spent: {total} characters in all"),
-            DocFault::NoMemory => f.write_str("out of memory"),
-        }
+        fmt::Display::fmt(&self.edit_fault(), f)
     }
 }
 
@@ -54,8 +59,6 @@ impl From<NoMemory> for DocFault {
 }
 
 impl From<EditFault> for DocFault {
-    ghost use Rattle.doc_session.specs.Fault.{edit_fault};
-
     ghost from_gives = { λ given fault. edit_fault fault ≡ given };
 
     fn from(given: EditFault) -> DocFault {

@@ -1,10 +1,11 @@
 ghost use Rattle.std.specs.Prelude.{◌≡◌, [], ◌∷◌, IfOk};
 ghost use Rattle.std.specs.Str.{chars};
-ghost use Rattle.xi_plain.specs.Layout.{cursor_of, layout_line, layout, point_of};
-ghost use Rattle.doc_session.specs.PointView.{point_view};
+ghost use Rattle.doc_session.specs.Layout.{cursor_of, layout_line, layout, position_of};
+ghost use Rattle.doc_session.specs.PositionView.{position_view};
 
 use std::alloc::Global;
-use xi_plain::{Line, Lines, NoMemory, Offsets, Text, Triples};
+use plain_text::{NoMemory, Offsets, Text};
+use plain_screen::{Line, Lines, Triples};
 
 /// The layout of a text with one caret, in one walk over its characters.
 pub(crate) fn layout_of(alloc: Global, text: &Text, caret: u64) -> Result<Lines, NoMemory>
@@ -74,14 +75,14 @@ fn cursor_in(
 }
 
 /// The place of a gap on the layout, a line and an offset in it, in one walk up to it.
-pub(crate) fn point_of(text: &Text, gap: u64) -> (u64, u64)
-    ensures { point_view result ≡ point_of text.now gap }
+pub(crate) fn position_of(text: &Text, gap: u64) -> (u64, u64)
+    ensures { position_view result ≡ position_of text.now gap }
 {
     point_in(text.as_str(), gap)
 }
 
 fn point_in(text: &str, gap: u64) -> (u64, u64)
-    ensures { point_view result ≡ point_of (chars text.now) gap }
+    ensures { position_view result ≡ position_of (chars text.now) gap }
 {
     let mut line: u64 = 0;
     let mut col: u64 = 0;

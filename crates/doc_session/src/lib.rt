@@ -5,7 +5,6 @@
 //! what the front end and the plugins are told.
 #![tactic(auto)]
 
-mod caret;
 mod doc;
 mod event;
 mod fault;
@@ -14,6 +13,7 @@ mod layout;
 mod moved;
 mod plan;
 mod ready;
+pub mod rows;
 #[cfg(test)]
 mod tests;
 

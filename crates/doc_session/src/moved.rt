@@ -1,20 +1,22 @@
 // What an edit comes to, beside the text that there is: nothing is changed where it is refused, or where memory is wanting.
 ghost use Rattle.std.specs.Prelude.{◌≡◌, None, IfOk, IfErr};
-ghost use Rattle.xi_plain.specs.Edits.{edit_refusal};
-ghost use Rattle.xi_plain.specs.History.{History};
+ghost use Rattle.plain_edits.specs.Edits.{edit_refusal};
+ghost use Rattle.plain_edits.specs.History.{History};
 ghost use Rattle.rev_engine.specs.Engine.{asked_by};
 ghost use Rattle.rev_engine.specs.Given.{MayAsk};
 ghost use Rattle.rev_engine.specs.State.{contents};
 ghost use Rattle.rev_engine.specs.Steps.{MayPut};
 ghost use Rattle.doc_session.specs.Fault.{DocRefuses};
-ghost use Rattle.doc_session.specs.Moved.{IsMoved, IsTakenBy};
-ghost use Rattle.doc_session.specs.Whole.{IsChangeOf, ShowsSomeHead, LeadsTo, ShowsHead};
+ghost use Rattle.doc_session.specs.Inner.{IsMoved, IsTakenBy};
+ghost use Rattle.doc_session.specs.Whole.{ShowsHead};
+ghost use Rattle.doc_session.specs.Inner.{IsChangeOf, ShowsSomeHead, LeadsTo};
 
 use crate::fault::DocFault;
 use delta_core::{apply, to_wire};
 use rev_engine::{Edit, Engine, Ready};
 use std::alloc::Global;
-use xi_plain::{Notice, Text};
+use plain_text::Text;
+use xi_plain::Notice;
 
 /// An edit that was made ready for the engine, with the head text after it and what the plugins are told.
 #[derive(Drop)]

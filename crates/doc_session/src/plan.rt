@@ -1,12 +1,13 @@
 ghost use Rattle.std.specs.Prelude.{◌≡◌, [], IfOk, option_map, Some, None, if◌then◌else◌};
-ghost use Rattle.xi_plain.specs.Plan.{update_plan};
+ghost use Rattle.plain_screen.specs.Plan.{update_plan};
 ghost use Rattle.doc_session.specs.Document.{first_window, no_request};
 ghost use Rattle.doc_session.specs.Effects.{is_same_point};
-ghost use Rattle.doc_session.specs.PointView.{point_view};
-ghost use Rattle.doc_session.specs.Planned.{planned};
+ghost use Rattle.doc_session.specs.PositionView.{position_view};
+ghost use Rattle.doc_session.specs.Inner.{planned};
 
 use std::alloc::Global;
-use xi_plain::{Copied, Line, Lines, NoMemory, Op, Ops, Update};
+use plain_text::{NoMemory, TryClone};
+use plain_screen::{Line, Lines, Op, Ops, Update};
 
 /// How many lines the window of a view shows.
 const WINDOW: usize = 10;
@@ -67,9 +68,9 @@ fn copies(alloc: Global, lines: &[Line]) -> Result<Lines, NoMemory>
 
 /// The place of the caret, where it is another than before.
 pub(crate) fn scroll_of(before: (u64, u64), after: (u64, u64)) -> Option<(u64, u64)>
-    ensures { option_map point_view result
-        ≡ (if is_same_point (point_view before) (point_view after) then None
-        else Some (point_view after)) }
+    ensures { option_map position_view result
+        ≡ (if is_same_point (position_view before) (position_view after) then None
+        else Some (position_view after)) }
 {
     if before == after { None } else { Some(after) }
 }

@@ -1,5 +1,6 @@
 use rev_engine::Ready;
-use xi_plain::{Lines, Text};
+use plain_text::Text;
+use plain_screen::Lines;
 
 /// An event that was made ready: its memory is taken, and what is left is to put it in.
 #[derive(Drop)]

@@ -1,5 +1,5 @@
 ghost use Rattle.std.specs.Prelude.{◌≡◌, ◌-◌, ◌^◌, ◌<◌, IfOk};
-ghost use Rattle.xi_plain.specs.History.{head};
+ghost use Rattle.plain_edits.specs.History.{head};
 ghost use Rattle.doc_session.specs.Step.{HasCaller};
 
 use super::*;
@@ -9,7 +9,10 @@ use std::marker::Brand;
 use std::process::Abort;
 use std::sync::ledger::{Blank, Ledger};
 use std::test::Fail;
-use xi_plain::{Config, Delta, EditAct, El, Els, Misfit, NoMemory, Op, Steps, Text, Update};
+use plain_text::{NoMemory, Steps, Text};
+use plain_edits::{Delta, El, Els, Misfit};
+use plain_screen::{Op, Update};
+use xi_plain::{Config, EditAct};
 
 const CONFIG: Config = Config {
     tab: 4,

@@ -9,7 +9,8 @@ ghost use Rattle.front_wire.specs.Fair.{IsText, IsTextIfAny, HasTexts};
 
 use serde_json::{Map, Value};
 use std::alloc::Global;
-use xi_plain::{Act, EditAct, Fault, NoMemory, Text};
+use plain_text::{NoMemory, Text};
+use xi_plain::{Act, EditAct, Fault};
 
 /// What a method asks with its parameters.
 pub fn act_of(alloc: Global, method: &Text, params: Value) -> Result<Act, NoMemory>

@@ -1,7 +1,8 @@
 use super::command_of;
 use std::alloc::Global;
 use std::test::Fail;
-use xi_plain::{Act, Command, EditAct, Fault, Id, NoMemory, Text};
+use plain_text::{NoMemory, Text};
+use xi_plain::{Act, Command, EditAct, Fault, Id};
 
 fn insert(alloc: Global, view: &str, chars: &str) -> Result<Act, NoMemory> {
     Ok(Act::Edit {

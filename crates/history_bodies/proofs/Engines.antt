@@ -1,6 +1,6 @@
 -- Which of its parts a fault of an engine is.
 use Rattle.std.proofs.Common.{Result, Ok, Err, IfErr, inr}
-use Rattle.xi_plain.specs.History.{History}
+use Rattle.plain_edits.specs.History.{History}
 use Rattle.rev_engine.specs.State.{State}
 use Rattle.history_script.specs.declared.step.NewEdit.{NewEdit}
 use Rattle.history_bodies.specs.declared.engine_fault.EngineFault.{EngineFault}

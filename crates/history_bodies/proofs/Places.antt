@@ -1,11 +1,11 @@
 -- What the tests say that come before a list is asked for places.
 use Rattle.std.proofs.Common.{◌≡◌, ◌↔◌, ℕ, ◌+◌, ◌^◌, ◌<◌, ◌≤◌, List, Bool, length, ap, arith}
 use Rattle.subset_runs.specs.Subset.{count}
-use Rattle.xi_plain.specs.declared.delta.UnitDelta.{UnitDelta}
-use Rattle.xi_plain.specs.History.{History, head}
+use Rattle.plain_edits.specs.declared.delta.UnitDelta.{UnitDelta}
+use Rattle.plain_edits.specs.History.{History, head}
 use Rattle.rev_list.specs.Hidden.{hidden_then}
 use Rattle.rev_rebase.specs.Rebase.{added_text}
-use Rattle.rev_rebase.proofs.PlacesLemmas.{length-visible_at}
+use Rattle.rev_rebase.proofs.ForCallers.{length-visible_at}
 use Rattle.history_bodies.specs.Places.{MayPlace}
 
 -- a delta against a kept revision may be placed where what is not dead then is as long as its base, and there is room for its text

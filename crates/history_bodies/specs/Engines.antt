@@ -1,16 +1,16 @@
 -- What an engine says beside the plain history.
 use Rattle.std.specs.Prelude.{◌≡◌, ◌≢◌, ◌⊎◌, ℕ, ◌-◌, ◌≤◌, List, length, Option, Some, None, ◌<◌, false}
-use Rattle.xi_plain.specs.Numbers.{has}
-use Rattle.xi_plain.specs.declared.delta.UnitDelta.{UnitDelta}
-use Rattle.xi_plain.specs.UnitDelta.{IsUnitDelta}
-use Rattle.xi_plain.specs.History.{History, head, text_at}
-use Rattle.xi_plain.specs.Edits.{Refusal, edit_refusal}
-use Rattle.xi_plain.specs.Collection.{kept}
+use Rattle.plain_text.specs.Numbers.{has}
+use Rattle.plain_edits.specs.declared.delta.UnitDelta.{UnitDelta}
+use Rattle.plain_edits.specs.UnitDelta.{IsUnitDelta}
+use Rattle.plain_edits.specs.History.{History, head, text_at}
+use Rattle.plain_edits.specs.Edits.{Refusal, edit_refusal}
+use Rattle.plain_edits.specs.Collection.{kept}
 use Rattle.plain_history.specs.declared.fault.EditFault.{EditFault}
 use Rattle.plain_history.specs.EditFault.{refusal_of}
 use Rattle.delta_core.specs.Units.{text_after}
 use Rattle.rev_engine.specs.State.{State}
-use Rattle.rev_engine.specs.Given.{Asked, after}
+use Rattle.rev_engine.specs.Given.{AskedEdit, after}
 use Rattle.rev_engine.specs.Engine.{StandsFor}
 use Rattle.history_script.specs.declared.step.NewEdit.{NewEdit}
 use Rattle.history_bodies.specs.declared.engine_fault.EngineFault.{EngineFault}
@@ -27,7 +27,7 @@ pub record Matches (plain history : History) : Type 0 where
   pub texts : (rev : ℕ) → rev ≤ head plain → text_at history rev ≡ text_at plain rev
 
 -- the edit as an engine is asked for it
-abbrev pub asked_of : NewEdit → Asked
+abbrev pub asked_of : NewEdit → AskedEdit
 asked_of new = record { base = new.base; delta = new.delta; group = new.group; priority = new.priority; author = new.author }
 
 -- why the edit is refused in a history, with the engine's limit

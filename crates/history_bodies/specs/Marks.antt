@@ -1,9 +1,9 @@
 -- Which characters of a history a set of positions has.
 use Rattle.std.specs.Prelude.{◌≡◌, ◌≢◌, ℕ, ◌≤◌, Bool, ◌||◌, if◌then◌else◌, ◌==◌, nat_lt, nat_le, List, [], ◌∷◌, map}
 use Rattle.std.specs.List.{list_any}
-use Rattle.xi_plain.specs.Numbers.{has}
-use Rattle.xi_plain.specs.Woven.{woven}
-use Rattle.xi_plain.specs.History.{Tagged, History, edit, head, text_at}
+use Rattle.plain_text.specs.Numbers.{has}
+use Rattle.plain_text.specs.Woven.{woven}
+use Rattle.plain_edits.specs.History.{Tagged, History, edit, head, text_at}
 use Rattle.subset_runs.specs.Subset.{contains}
 use Rattle.rev_list.specs.declared.edit.RevEdit.{RevEdit}
 use Rattle.rev_list.specs.Edit.{edit_revision}

@@ -1,9 +1,9 @@
 -- Where a list of revisions puts an edit that it does not have yet, beside what the plain history inserted and deleted.
 use Rattle.std.specs.Prelude.{◌≡◌, ◌≢◌, ℕ, ◌+◌, ◌^◌, ◌<◌, ◌≤◌, List, length, map}
 use Rattle.std.specs.List.{filter}
-use Rattle.xi_plain.specs.declared.delta.UnitDelta.{UnitDelta}
-use Rattle.xi_plain.specs.Delta.{Fits}
-use Rattle.xi_plain.specs.History.{Tagged, History, head, visible_at, text_at}
+use Rattle.plain_edits.specs.declared.delta.UnitDelta.{UnitDelta}
+use Rattle.plain_edits.specs.Delta.{Fits}
+use Rattle.plain_edits.specs.History.{Tagged, History, head, visible_at, text_at}
 use Rattle.delta_core.specs.Units.{IsUnitsOf}
 use Rattle.rev_list.specs.WithoutText.{insertion_flags, deletion_flags}
 use Rattle.rev_rebase.specs.declared.stale.Rebased.{Rebased}

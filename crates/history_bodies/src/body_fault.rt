@@ -2,7 +2,8 @@ use crate::engine_fault::EngineFault;
 use crate::place_fault::PlaceFault;
 use std::alloc::AllocError;
 use std::fmt;
-use xi_plain::{Misfit, NoMemory, Text};
+use plain_text::{NoMemory, Text};
+use plain_edits::Misfit;
 
 /// How another body differs from the plain history, or why the two could not be compared.
 #[derive(Drop)]

@@ -6,7 +6,7 @@ use crate::body_fault::BodyFault;
 use history_script::NewEdit;
 use plain_history::PlainHistory;
 use std::alloc::Global;
-use xi_plain::Misfit;
+use plain_edits::Misfit;
 
 /// Whether both find the same first misfit of the edit's delta over the text of its base, or none.
 pub fn compare(alloc: Global, plain: &PlainHistory, edit: &NewEdit) -> Result<(), BodyFault>

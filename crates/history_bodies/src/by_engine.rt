@@ -1,8 +1,8 @@
 //! The revision engine beside the plain history.
 
 ghost use Rattle.std.specs.Prelude.{◌≡◌, ◌≢◌, ◌↔◌, ◌≤◌, length, IsTrue, IfOk, IfErr, IfSome, IfNone, OnOk, ◌<◌, ◌^◌};
-ghost use Rattle.xi_plain.specs.History.{head, loaded, text_at};
-ghost use Rattle.xi_plain.specs.UnitDelta.{AreAdds, AreRuns, IsUnitDelta};
+ghost use Rattle.plain_edits.specs.History.{head, loaded, text_at};
+ghost use Rattle.plain_edits.specs.UnitDelta.{AreAdds, AreRuns, IsUnitDelta};
 ghost use Rattle.plain_history.specs.EditFault.{refusal_of};
 ghost use Rattle.rev_engine.specs.Engine.{StandsFor, asked_by};
 ghost use Rattle.rev_engine.specs.Fault.{refusal_by};
@@ -17,7 +17,8 @@ use plain_history::{EditFault, PlainHistory};
 use rev_engine::{Change, Edit, Engine};
 use rev_list::RevFault;
 use std::alloc::Global;
-use xi_plain::{Added, Copied, NoMemory, Run, Text, UnitDelta};
+use plain_text::{NoMemory, Run, Text, TryClone};
+use plain_edits::{Added, UnitDelta};
 
 /// An engine bounds what is inserted by at most this many characters.
 const LIMIT: u64 = 1 << 60;

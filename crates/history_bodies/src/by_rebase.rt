@@ -2,8 +2,8 @@
 
 ghost use Rattle.std.specs.Prelude.{◌≡◌, ◌+◌, ◌^◌, ◌<◌, ◌≤◌, ◌↔◌, length, IsTrue, IfOk, IfErr, IfSome, IfNone, OnOk};
 ghost use Rattle.subset_runs.specs.Subset.{count};
-ghost use Rattle.xi_plain.specs.History.{head, text_at, visible_at};
-ghost use Rattle.xi_plain.specs.UnitDelta.{IsUnitDelta};
+ghost use Rattle.plain_edits.specs.History.{head, text_at, visible_at};
+ghost use Rattle.plain_edits.specs.UnitDelta.{IsUnitDelta};
 ghost use Rattle.delta_core.specs.Units.{IsUnitsOf};
 ghost use Rattle.rev_list.specs.Hidden.{hidden_then};
 ghost use Rattle.rev_rebase.specs.Rebase.{added_text};
@@ -18,7 +18,8 @@ use rev_list::RevList;
 use rev_rebase::{Rebased, rebase};
 use std::alloc::Global;
 use subset_runs::Subset;
-use xi_plain::{Copied, NoMemory, Text, UnitDelta};
+use plain_text::{NoMemory, Text, TryClone};
+use plain_edits::UnitDelta;
 
 /// Asks the list, which does not have the last edit of the plain history yet, where it puts it, and compares each place of the union
 /// after it; gives how many there are.

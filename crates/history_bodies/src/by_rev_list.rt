@@ -1,7 +1,7 @@
 //! The list of revisions beside the plain history.
 
 ghost use Rattle.std.specs.Prelude.{◌≡◌, IsTrue, IfOk, IfErr, OnOk};
-ghost use Rattle.xi_plain.specs.History.{head};
+ghost use Rattle.plain_edits.specs.History.{head};
 ghost use Rattle.rev_list.specs.Edit.{MayPush};
 ghost use Rattle.history_bodies.specs.Marks.{text_without, Agree, AgreeAt, Differ, IsOfRevision};
 
@@ -13,7 +13,7 @@ use plain_history::{PlainHistory, Tagged};
 use rev_list::{RevEdit, RevFault, RevList};
 use std::alloc::{AllocError, Global};
 use subset_runs::Subset;
-use xi_plain::{NoMemory, Text};
+use plain_text::{NoMemory, Text};
 
 /// Takes the last edit of the plain history into the list, and compares the two at each revision; gives how many were compared.
 pub fn follow(

@@ -1,6 +1,7 @@
 use plain_history::EditFault;
 use std::fmt;
-use xi_plain::{NoMemory, Text, UnitDelta};
+use plain_text::{NoMemory, Text};
+use plain_edits::UnitDelta;
 
 /// How an engine differs from the plain history, or why the two could not be compared.
 #[derive(Drop)]

@@ -1,6 +1,6 @@
 ghost use Rattle.std.specs.Prelude.{◌≡◌, map, nat_le, IfOk};
 ghost use Rattle.std.specs.List.{list_any};
-ghost use Rattle.xi_plain.specs.Numbers.{has};
+ghost use Rattle.plain_text.specs.Numbers.{has};
 ghost use Rattle.history_bodies.specs.Marks.{is_marked};
 
 use plain_history::Tagged;

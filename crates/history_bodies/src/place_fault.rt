@@ -1,6 +1,6 @@
 use std::alloc::AllocError;
 use std::fmt;
-use xi_plain::{NoMemory, Text};
+use plain_text::{NoMemory, Text};
 
 /// How the places that `rev_rebase` gives an edit differ from those of the plain history, or why the two could not be compared.
 /// Positions are of the union after the edit.

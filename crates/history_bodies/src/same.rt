@@ -4,7 +4,7 @@ ghost use Rattle.std.specs.Prelude.{◌≡◌, ◌↔◌, IsTrue};
 ghost use Rattle.history_bodies.specs.Sets.{IsFirstDifference};
 
 use subset_runs::Subset;
-use xi_plain::Text;
+use plain_text::Text;
 
 /// Whether two texts have the same characters.
 pub fn is_same_text(one: &Text, other: &Text) -> bool

@@ -1,6 +1,6 @@
 use crate::{BodyFault, EngineFault, PlaceFault};
 use std::test::Fail;
-use xi_plain::Misfit;
+use plain_edits::Misfit;
 
 #[test]
 fn a_body_that_differs_is_told(rt: HostRuntime) -> Result<(), Fail> {

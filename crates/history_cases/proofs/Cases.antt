@@ -1,7 +1,7 @@
 -- What an edit leaves of a case.
 use Rattle.std.proofs.Common.{◌≡◌, ◌∙◌, sym, ap, ℕ, None, Result, Ok, Err, OnOk}
-use Rattle.xi_plain.specs.History.{History}
-use Rattle.xi_plain.specs.Edits.{edit_refusal, edited, plain_edit}
+use Rattle.plain_edits.specs.History.{History}
+use Rattle.plain_edits.specs.Edits.{edit_refusal, edited, plain_edit}
 use Rattle.history_script.specs.declared.step.NewEdit.{NewEdit}
 use Rattle.history_cases.specs.Case.{Case, edit_leaves, taken_edit}
 

@@ -1,7 +1,7 @@
 -- What the lines of a case say of a history, and what each of them leaves.
 use Rattle.std.specs.Prelude.{◌≡◌, ◌≢◌, ℕ, ◌<◌, ◌≤◌, ◌⊎◌, List, [], ◌∷◌, Option, Some, None}
-use Rattle.xi_plain.specs.History.{History, head, loaded, text_at}
-use Rattle.xi_plain.specs.Edits.{Refusal as EditRefusal, unknown, collected, misfit, spent, MayUndo, edit_refusal, edited, undid, plain_edit}
+use Rattle.plain_edits.specs.History.{History, head, loaded, text_at}
+use Rattle.plain_edits.specs.Edits.{Refusal as EditRefusal, unknown, collected, misfit, spent, MayUndo, edit_refusal, edited, undid, plain_edit}
 use Rattle.plain_history.specs.declared.fault.EditFault.{EditFault}
 use Rattle.plain_history.specs.declared.fault.EditFault.TheVariants.{Unknown, Collected, Unfit, Spent, NoMemory}
 use Rattle.history_script.specs.declared.step.NewEdit.{NewEdit}

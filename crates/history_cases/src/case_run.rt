@@ -1,5 +1,5 @@
 ghost use Rattle.std.specs.Prelude.{◌≡◌, ◌≢◌, ◌-◌, ◌^◌, ◌<◌, ◌↔◌, ℕ, Some, None, IsTrue, IfOk, IfErr, OnOk, OnErr};
-ghost use Rattle.xi_plain.specs.History.{head, loaded};
+ghost use Rattle.plain_edits.specs.History.{head, loaded};
 ghost use Rattle.history_cases.specs.Case.{new_case, taken_edit, Acts, IsCause, IsOfList, IsRefused, IsUndone, IsUnsaid, LineHolds, MayCome, Runs, ShowsText, StopsAt};
 
 use crate::failure::{Difference, Failure};
@@ -11,7 +11,7 @@ use rev_engine::Engine;
 use rev_list::RevList;
 use std::alloc::Global;
 use std::marker::Model;
-use xi_plain::{Copied, Listed, NoMemory, Text};
+use plain_text::{List, NoMemory, Text, TryClone};
 
 /// At most this many revisions.
 const MOST: u64 = 1_000_000;
@@ -225,7 +225,7 @@ impl CaseRun {
     }
 
     /// Says what is undone from now on, or keeps that it is refused.
-    fn undo(&mut self, alloc: Global, groups: &Listed<u64>) -> Result<(), BodyFault>
+    fn undo(&mut self, alloc: Global, groups: &List<u64>) -> Result<(), BodyFault>
         ensures undone { OnOk result (IsUndone self.old groups.now self.new) }
         ensures fault { IfErr result (MayCome self.old) }
     {

@@ -1,7 +1,7 @@
 use history_bodies::BodyFault;
 use history_script::{BadLine, Refusal};
 use std::fmt;
-use xi_plain::{NoMemory, Text};
+use plain_text::{NoMemory, Text};
 
 /// Why a case does not hold, at the first line where it does not.
 #[derive(Drop)]

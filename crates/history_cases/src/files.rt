@@ -8,7 +8,7 @@ use history_script::{NotRead, read_lines};
 use std::alloc::Global;
 use std::fs;
 use std::rt::Files;
-use xi_plain::Text;
+use plain_text::Text;
 
 /// The names of the files of cases in the folder that the program runs in, in order.
 pub fn case_names(rt: &HostRuntime) -> anyhow::Result<Vec<String>> {

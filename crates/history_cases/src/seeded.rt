@@ -8,7 +8,8 @@ use history_bodies::BodyFault;
 use history_script::NewEdit;
 use plain_history::PlainHistory;
 use std::alloc::Global;
-use xi_plain::{Delta, El, Els, Listed, NoMemory, Text};
+use plain_text::{List, NoMemory, Text};
+use plain_edits::{Delta, El, Els};
 
 const EDITS: u64 = 30;
 
@@ -91,7 +92,7 @@ fn drawn_delta(alloc: Global, draws: &mut Draws, text: &Text) -> Result<Delta, N
 
 /// Up to three stretches of up to three characters, each with another text in its place.
 fn drawn_elements(alloc: Global, draws: &mut Draws, text: &Text) -> Result<Els, NoMemory> {
-    let mut els = Listed::new(alloc);
+    let mut els = List::new(alloc);
     let len = text.len();
     let mut at = 0_u64;
     for _ in 0..draws.below(3).saturating_add(1) {
@@ -116,7 +117,7 @@ fn drawn_elements(alloc: Global, draws: &mut Draws, text: &Text) -> Result<Els, 
 
 /// Two copies between bytes anywhere in the text or just past it.
 fn unfit_elements(alloc: Global, draws: &mut Draws, byte_len: u64) -> Result<Els, NoMemory> {
-    let mut els = Listed::new(alloc);
+    let mut els = List::new(alloc);
     let most = byte_len.saturating_add(2);
     for _ in 0..2 {
         let a = draws.below(most);

@@ -1,5 +1,5 @@
 use std::fmt;
-use xi_plain::NoMemory;
+use plain_text::NoMemory;
 
 /// Why a line of a case is none.
 #[derive(Clone, Copy)]

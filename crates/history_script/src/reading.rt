@@ -6,14 +6,15 @@ ghost use Rattle.history_script.specs.Steps.{GroupCounts, IsLine};
 use crate::{BadLine, Line, NewEdit, NotRead, Refusal, Step};
 use plain_history::EditFault;
 use std::alloc::Global;
-use xi_plain::{Delta, El, Els, Listed, Misfit, Text};
+use plain_text::{List, Text};
+use plain_edits::{Delta, El, Els, Misfit};
 
 /// The steps that a text says, each with the number of its line; else the first line that says none, or that wants memory.
-pub fn read_lines(alloc: Global, content: &str) -> Result<Listed<Line>, NotRead>
+pub fn read_lines(alloc: Global, content: &str) -> Result<List<Line>, NotRead>
     ensures lines { IfOk result (All IsLine) }
     ensures counts { IfErr result (λ bad. 0 < bad.number) }
 {
-    let mut lines = Listed::new(alloc);
+    let mut lines = List::new(alloc);
     let mut number = 0_u64;
     for line in content.lines() {
         number = number.saturating_add(1);
@@ -31,7 +32,7 @@ fn push_line(
     alloc: Global,
     number: u64,
     line: &str,
-    lines: &mut Listed<Line>,
+    lines: &mut List<Line>,
 ) -> Result<(), BadLine>
     requires counts { 0 < number }
     requires lines { All IsLine lines.old }
@@ -88,8 +89,8 @@ fn number(word: &str) -> Result<u64, BadLine> {
     }
 }
 
-fn read_numbers(alloc: Global, text: &str) -> Result<Listed<u64>, BadLine> {
-    let mut numbers = Listed::new(alloc);
+fn read_numbers(alloc: Global, text: &str) -> Result<List<u64>, BadLine> {
+    let mut numbers = List::new(alloc);
     for word in text.split_whitespace() {
         numbers.push(number(word)?)?;
     }
@@ -142,7 +143,7 @@ fn read_edit(alloc: Global, words: &[&str]) -> Result<NewEdit, BadLine>
     let [base, group, priority, author, len, elements @ ..] = words else {
         return Err(BadLine::Element);
     };
-    let mut els = Listed::new(alloc);
+    let mut els = List::new(alloc);
     push_elements(alloc, elements, &mut els)?;
     Ok(NewEdit {
         base: field("base", base)?,

@@ -1,6 +1,7 @@
 use plain_history::EditFault;
 use std::fmt;
-use xi_plain::{Delta, Listed, Text};
+use plain_text::{List, Text};
+use plain_edits::Delta;
 
 /// An edit as a line or a seed gives it.
 #[derive(Drop)]
@@ -34,7 +35,7 @@ pub enum Step {
     Load(Text),
     Limit(u64),
     Edit(NewEdit),
-    Undo(Listed<u64>),
+    Undo(List<u64>),
     Shows { rev: u64, text: Text },
     Refused(Refusal),
 }

@@ -1,7 +1,7 @@
 -- Lines that are written one after the other come apart again.
 use Rattle.std.proofs.Common.{◌≡◌, ℕ, List, [], ◌∷◌, ◌++◌, map, refl, ap, ◌∙◌, append_assoc, append-nil}
 use Rattle.std.specs.List.{concat}
-use Rattle.xi_plain.specs.Journal.{ended_lines, unended, last_line, lines_of}
+use Rattle.plain_text.specs.InputLines.{ended_lines, unended, last_line, lines_of}
 use Rattle.serde_json.specs.Data.{Data}
 use Rattle.serde_json.specs.Written.{compact_text}
 use Rattle.json_rpc.specs.Line.{HasNoLf, line_of}

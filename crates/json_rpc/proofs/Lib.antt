@@ -9,3 +9,4 @@ pub mod ReadValues
 pub mod Asked
 pub mod Apart
 pub mod Writable
+pub mod ForCallers

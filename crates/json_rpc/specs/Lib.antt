@@ -4,3 +4,4 @@ pub mod Line
 pub mod Request
 pub mod Response
 pub mod Laws
+pub mod Refusal

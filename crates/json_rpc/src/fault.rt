@@ -4,7 +4,7 @@ ghost use Rattle.json_rpc.specs.Fault.{refusal_text};
 use std::alloc::AllocError;
 use std::error::Error;
 use std::fmt;
-use xi_plain::NoMemory;
+use plain_text::NoMemory;
 
 /// Why a line gives no request.
 #[derive(Clone, Copy, Debug, PartialEq, Eq, Hash)]

@@ -11,12 +11,16 @@
 mod fault;
 pub mod laws;
 mod read;
+mod refusal;
 mod rpc;
 #[cfg(test)]
 mod tests;
+mod value;
 mod write;
 
 pub use fault::RpcFault;
 pub use read::read_line;
+pub use refusal::{code_of, message_of};
 pub use rpc::Rpc;
+pub use value::{pair, text_value};
 pub use write::{write_error, write_note, write_reply};

@@ -11,7 +11,8 @@ use crate::fault::RpcFault;
 use crate::rpc::Rpc;
 use serde_json::{Error, Map, Number, Value};
 use std::alloc::Global;
-use xi_plain::{Id, Text};
+use plain_text::Text;
+use xi_plain::Id;
 
 const LINE_FEED: u8 = b'\n';
 

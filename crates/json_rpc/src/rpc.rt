@@ -1,5 +1,6 @@
 use serde_json::Value;
-use xi_plain::{Id, Text};
+use plain_text::Text;
+use xi_plain::Id;
 
 /// A request, or a notification where it has no id.
 #[derive(Drop)]

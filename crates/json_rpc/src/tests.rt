@@ -2,7 +2,8 @@ use crate::{read_line, write_error, write_note, write_reply};
 use serde_json::Value;
 use std::alloc::Global;
 use std::test::Fail;
-use xi_plain::{Id, NoMemory, Text};
+use plain_text::{NoMemory, Text};
+use xi_plain::Id;
 
 /// The fault; or the method, the params, and the line that answers the id with null.
 fn outcome(alloc: Global, line: &[u8]) -> Result<String, NoMemory> {

@@ -1,8 +1,5 @@
 ghost use Rattle.std.specs.Prelude.{◌≡◌, ◌≤◌, false, true, IfOk, Some, Ok};
 ghost use Rattle.std.specs.Str.{encode_utf8_all, all_scalars};
-ghost use Rattle.std.specs.Ordering.{nat_cmp};
-ghost use Rattle.std.specs.Cmp.Lexicographic.{slice_cmp};
-ghost use Rattle.std.specs.declared.cmp.Ordering.TheVariants.{Less};
 ghost use Rattle.serde_json.specs.Data.{depth, number};
 ghost use Rattle.serde_json.specs.Find.{of_integer};
 ghost use Rattle.serde_json.specs.Written.{has_float};
@@ -12,9 +9,11 @@ ghost use Rattle.json_rpc.specs.Line.{IsLineOf};
 ghost use Rattle.json_rpc.specs.Request.{IsWireId, IsTextId, line_request};
 ghost use Rattle.json_rpc.specs.Response.{text_data, id_data, pair_data, reply_data, failure_data, error_data, note_data, given, failed, line_response};
 
-use serde_json::{Map, Number, Value};
+use crate::value::{pair, text_value};
+use serde_json::{Number, Value};
 use std::alloc::Global;
-use xi_plain::{Id, NoMemory, Text};
+use plain_text::{NoMemory, Text};
+use xi_plain::Id;
 
 /// The line that answers the request of this id with a result. The cost is linear in the line. `Err` is want of memory alone.
 pub fn write_reply(alloc: Global, id: &Id, value: Value) -> Result<Text, NoMemory>
@@ -66,23 +65,6 @@ fn line(alloc: Global, value: &Value) -> Result<Text, NoMemory>
     Ok(Text::from_string(text))
 }
 
-fn pair(
-    alloc: Global,
-    name: &str,
-    value: Value,
-    later_name: &str,
-    later: Value,
-) -> Result<Value, NoMemory>
-    requires { slice_cmp nat_cmp name.now later_name.now ≡ Less }
-    ensures { IfOk result (λ made. view made
-        ≡ pair_data name.now (view value) later_name.now (view later)) }
-{
-    let mut members = Map::new(alloc);
-    serde_json::put(&mut members, alloc, later_name, later)?;
-    serde_json::put(&mut members, alloc, name, value)?;
-    Ok(Value::Object(members))
-}
-
 fn error_value(alloc: Global, code: i64, message: &Text) -> Result<Value, NoMemory>
     ensures value { IfOk result (λ value. view value ≡ failure_data code message.now) }
     ensures float { IfOk result (λ value. has_float (view value) ≡ false) }
@@ -112,11 +94,4 @@ fn number_value(n: i128) -> Value
         Some(number) => Value::Number(number),
         None => Value::Null,
     }
-}
-
-fn text_value(alloc: Global, text: &Text) -> Result<Value, NoMemory>
-    ensures value { IfOk result (λ value. view value ≡ text_data text.now) }
-    ensures characters { IfOk result (λ _. all_scalars text.now ≡ true) }
-{
-    Ok(Value::try_from_str(alloc, text.as_str())?)
 }

@@ -1,7 +1,7 @@
 -- Lemmas on lists that are made piece by piece.
 use Rattle.std.proofs.Common.{◌≡◌, ℕ, zero, suc, ◌+◌, List, [], ◌∷◌, ◌++◌, ap, sym, ◌∙◌, append_assoc, append-nil, arith}
 use Rattle.std.specs.List.{flat_map, range_with_len}
-use Rattle.xi_plain.specs.Woven.{woven}
+use Rattle.plain_text.specs.Woven.{woven}
 use Rattle.std.proofs.lemmas.List.Concat.{flat_map-append}
 
 -- one more number at the end of a range

@@ -2,11 +2,11 @@
 use Rattle.std.proofs.Common.{◌≡◌, ℕ, ◌+◌, Bool, true, false, nat_le, List, [], ◌∷◌, ◌++◌, refl, ap, sym, ◌∙◌, map, suc, arith}
 use Rattle.std.specs.List.{flat_map, range_with_len, count_by, insert, position_or_len}
 use Rattle.std.proofs.lemmas.List.Sums.{length-filter}
-use Rattle.xi_plain.specs.History.{Tagged, Revision, edit, History, is_visible}
-use Rattle.xi_plain.specs.Edits.{PlainEdit, inserted_at, edited, with_earlier}
+use Rattle.plain_edits.specs.History.{Tagged, Revision, edit, History, is_visible}
+use Rattle.plain_edits.specs.Edits.{PlainEdit, inserted_at, edited, with_earlier}
 use Rattle.plain_history.specs.declared.unit_edit.UnitEdit.{UnitEdit}
 use Rattle.plain_history.specs.UnitEdit.{edit_of}
-use Rattle.plain_history.specs.EditStep.{inserted_from}
+use Rattle.plain_history.specs.Inner.{inserted_from}
 use Rattle.plain_history.proofs.Lists.{flat_map-range_push}
 
 -- what is inserted at an index comes from the gaps before the last, and from the last

@@ -1,6 +1,3 @@
 pub mod Views
 pub mod UnitEdit
-pub mod EditFault
-pub mod EditStep
-pub mod Merged
-pub mod Lasting
+pub mod Inner

@@ -1,8 +1,8 @@
 -- What an edit in runs and insertions is in the words of the definitions.
 use Rattle.std.specs.Prelude.{ℕ, List}
-use Rattle.xi_plain.specs.declared.delta.Delta.{Delta}
-use Rattle.xi_plain.specs.Delta.{is_in_runs, text_at_gap, keeps, adds}
-use Rattle.xi_plain.specs.Edits.{PlainEdit}
+use Rattle.plain_edits.specs.declared.delta.Delta.{Delta}
+use Rattle.plain_edits.specs.Delta.{is_in_runs, text_at_gap, keeps, adds}
+use Rattle.plain_edits.specs.Edits.{PlainEdit}
 use Rattle.plain_history.specs.declared.unit_edit.UnitEdit.{UnitEdit}
 
 -- the edit that keeps the characters in the runs and adds at each gap the texts of the insertions there

@@ -1,6 +1,6 @@
 -- What contracts see of a revision.
 use Rattle.std.specs.Prelude.{ℕ, List, Option, Some, None}
-use Rattle.xi_plain.specs.History.{Revision, edit, undo}
+use Rattle.plain_edits.specs.History.{Revision, edit, undo}
 use Rattle.plain_history.specs.declared.revision.Step.{Step}
 use Rattle.plain_history.specs.declared.revision.Step.TheVariants.{Edit, Undo}
 

@@ -2,8 +2,8 @@
 
 ghost use Rattle.std.specs.Prelude.{◌≡◌};
 ghost use Rattle.std.specs.List.{list_any};
-ghost use Rattle.xi_plain.specs.Collection.{is_clean, is_collected, is_dropped};
-ghost use Rattle.plain_history.specs.Lasting.{is_lasting};
+ghost use Rattle.plain_edits.specs.Collection.{is_clean, is_collected, is_dropped};
+ghost use Rattle.plain_history.specs.Inner.{is_lasting};
 
 use crate::history::PlainHistory;
 use crate::revision::Revision;

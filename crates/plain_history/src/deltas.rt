@@ -1,12 +1,13 @@
 //! What a delta says over a base text: its first misfit, what it keeps, and what it adds.
 
 ghost use Rattle.std.specs.Prelude.{◌≡◌, ℕ, ◌+◌, ◌≤◌, ◌^◌, IfOk};
-ghost use Rattle.xi_plain.specs.Text.{is_place, gap_of};
-ghost use Rattle.xi_plain.specs.Delta.{copy_misfit, copies_misfit, misfit_of, kept_runs, insertions, is_in_runs, text_at_gap};
-ghost use Rattle.xi_plain.specs.Edits.{inserted_len};
+ghost use Rattle.plain_text.specs.Text.{is_place, gap_of};
+ghost use Rattle.plain_edits.specs.Delta.{copy_misfit, copies_misfit, misfit_of, kept_runs, insertions, is_in_runs, text_at_gap};
+ghost use Rattle.plain_edits.specs.Delta.{inserted_len};
 
 use std::alloc::Global;
-use xi_plain::{Added, Adds, Copied, Delta, El, Listed, Misfit, NoMemory, Run, Runs, Text};
+use plain_text::{List, NoMemory, Run, Runs, Text, TryClone};
+use plain_edits::{Added, Adds, Delta, El, Misfit};
 
 /// Whether the byte offset is a place of the text.
 fn is_place(text: &Text, at: u64) -> bool
@@ -74,7 +75,7 @@ fn gap_of(text: &Text, at: u64) -> u64
 pub fn kept_runs(alloc: Global, text: &Text, els: &[El]) -> Result<Runs, NoMemory>
     ensures { IfOk result (λ made. made ≡ kept_runs text.now els.now) }
 {
-    let mut made = Listed::new(alloc);
+    let mut made = List::new(alloc);
     for el in els {
         if let El::Copy { a, b } = el {
             made.push(Run {
@@ -90,7 +91,7 @@ pub fn kept_runs(alloc: Global, text: &Text, els: &[El]) -> Result<Runs, NoMemor
 pub fn insertions(alloc: Global, text: &Text, els: &[El]) -> Result<Adds, NoMemory>
     ensures { IfOk result (λ made. made ≡ insertions text.now 0 els.now) }
 {
-    let mut made = Listed::new(alloc);
+    let mut made = List::new(alloc);
     let mut gap = 0;
     for el in els {
         match el {
@@ -102,20 +103,6 @@ pub fn insertions(alloc: Global, text: &Text, els: &[El]) -> Result<Adds, NoMemo
         }
     }
     Ok(made)
-}
-
-/// How many characters the elements insert, which need not fit 64 bits.
-pub fn inserted_len(els: &[El]) -> u128
-    ensures total { result ≡ inserted_len els.now }
-    ensures room { result + 2 ^ 64 ≤ 2 ^ 128 }
-{
-    let mut total: u128 = 0;
-    for el in els {
-        if let El::Insert { text } = el {
-            total += u128::from(text.len());
-        }
-    }
-    total
 }
 
 /// Whether the character with this index is in one of the runs.

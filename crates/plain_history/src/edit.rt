@@ -2,10 +2,11 @@
 
 ghost use Rattle.std.specs.Prelude.{◌≡◌, ℕ, ◌+◌, ◌<◌, ◌≤◌, ◌^◌, ◌++◌, length, map, IfOk, OnOk};
 ghost use Rattle.std.specs.Str.{chars};
-ghost use Rattle.xi_plain.specs.History.{head};
-ghost use Rattle.xi_plain.specs.Edits.{edited, inserted_at, is_dropped_by};
+ghost use Rattle.plain_edits.specs.History.{head};
+ghost use Rattle.plain_edits.specs.Edits.{edited, inserted_at, is_deleted_by};
 ghost use Rattle.plain_history.specs.UnitEdit.{edit_of};
-ghost use Rattle.plain_history.specs.EditStep.{inserted_by, inserted_from, kept_or_deleted};
+ghost use Rattle.plain_history.specs.Inner.{inserted_from, kept_or_deleted};
+ghost use Rattle.plain_edits.specs.History.{inserted_by};
 
 use crate::deltas::{is_in_runs, text_at_gap};
 use crate::history::PlainHistory;
@@ -13,10 +14,10 @@ use crate::tagged::Tagged;
 use crate::unit_edit::UnitEdit;
 use crate::visible::{count_visible, is_visible};
 use std::alloc::Global;
-use xi_plain::{Copied, Listed, NoMemory};
+use plain_text::{List, NoMemory, TryClone};
 
 /// Puts the characters of a text at the end, inserted by a revision.
-fn push_text(alloc: Global, rev: u64, text: &str, made: &mut Listed<Tagged>) -> Result<(), NoMemory>
+fn push_text(alloc: Global, rev: u64, text: &str, made: &mut List<Tagged>) -> Result<(), NoMemory>
     ensures { OnOk result (made.new ≡ made.old ++ map (inserted_by rev) (chars text.now)) }
 {
     for character in text.chars() {
@@ -26,10 +27,10 @@ fn push_text(alloc: Global, rev: u64, text: &str, made: &mut Listed<Tagged>) -> 
 }
 
 /// The characters of a text, inserted by a revision.
-pub fn tagged_text(alloc: Global, rev: u64, text: &str) -> Result<Listed<Tagged>, NoMemory>
+pub fn tagged_text(alloc: Global, rev: u64, text: &str) -> Result<List<Tagged>, NoMemory>
     ensures { IfOk result (λ made. made ≡ map (inserted_by rev) (chars text.now)) }
 {
-    let mut made = Listed::new(alloc);
+    let mut made = List::new(alloc);
     push_text(alloc, rev, text, &mut made)?;
     Ok(made)
 }
@@ -41,7 +42,7 @@ fn push_gap(
     e: &UnitEdit,
     index: u64,
     gap: u64,
-    made: &mut Listed<Tagged>,
+    made: &mut List<Tagged>,
 ) -> Result<(), NoMemory>
     requires { head history.now + 1 < 2 ^ 64 }
     ensures { OnOk result (made.new ≡ made.old ++ inserted_from history.now (edit_of e.now) index gap) }
@@ -59,7 +60,7 @@ fn push_inserted(
     history: &PlainHistory,
     e: &UnitEdit,
     index: u64,
-    made: &mut Listed<Tagged>,
+    made: &mut List<Tagged>,
 ) -> Result<(), NoMemory>
     requires { head history.now + 1 < 2 ^ 64 }
     ensures { OnOk result (made.new ≡ made.old ++ inserted_at history.now (edit_of e.now) index) }
@@ -73,9 +74,9 @@ fn push_inserted(
 }
 
 /// Whether the edit drops the character with this index.
-fn is_dropped_by(history: &PlainHistory, e: &UnitEdit, index: usize, tagged: &Tagged) -> bool
+fn is_deleted_by(history: &PlainHistory, e: &UnitEdit, index: usize, tagged: &Tagged) -> bool
     requires { index ≤ length history.now.characters }
-    ensures { result ≡ is_dropped_by history.now (edit_of e.now) index tagged.now }
+    ensures { result ≡ is_deleted_by history.now (edit_of e.now) index tagged.now }
 {
     is_visible(history.revisions(), e.base, tagged)
         && !is_in_runs(
@@ -96,8 +97,8 @@ fn after_edit(
     requires inside { index ≤ length history.now.characters }
     ensures { IfOk result (λ made. made ≡ kept_or_deleted history.now (edit_of e.now) index tagged.now) }
 {
-    if is_dropped_by(history, e, index, tagged) {
-        tagged.deleted_by(alloc, history.head() + 1)
+    if is_deleted_by(history, e, index, tagged) {
+        tagged.with_deletion(alloc, history.head() + 1)
     } else {
         tagged.copy(alloc)
     }
@@ -108,11 +109,11 @@ pub fn edited(
     alloc: Global,
     history: &PlainHistory,
     e: &UnitEdit,
-) -> Result<Listed<Tagged>, NoMemory>
+) -> Result<List<Tagged>, NoMemory>
     requires { head history.now + 1 < 2 ^ 64 }
     ensures { IfOk result (λ made. made ≡ (edited history.now (edit_of e.now)).characters) }
 {
-    let mut made = Listed::new(alloc);
+    let mut made = List::new(alloc);
     let characters = history.characters();
     for (index, tagged) in characters.iter().enumerate() {
         push_inserted(alloc, history, e, index as u64, &mut made)?;

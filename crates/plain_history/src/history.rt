@@ -1,31 +1,31 @@
 ghost use Rattle.std.specs.Prelude.{◌≡◌, ℕ, ◌+◌, ◌<◌, ◌≤◌, ◌^◌, ◌-◌, ◌↔◌, None, IsTrue, IfOk, IfErr, OnOk, OnErr};
-ghost use Rattle.xi_plain.specs.History.{loaded, head, text_at, inserted_count, is_visible};
-ghost use Rattle.xi_plain.specs.Place.{insertion_place};
-ghost use Rattle.xi_plain.specs.Edits.{plain_edit, edited, undid, MayUndo, edit_refusal};
-ghost use Rattle.xi_plain.specs.Collection.{is_clean, kept};
+ghost use Rattle.plain_edits.specs.History.{loaded, head, text_at, inserted_count, is_visible};
+ghost use Rattle.plain_edits.specs.Place.{insertion_place};
+ghost use Rattle.plain_edits.specs.Edits.{plain_edit, edited, undid, MayUndo, edit_refusal};
+ghost use Rattle.plain_edits.specs.Collection.{is_clean, kept};
 ghost use Rattle.plain_history.specs.UnitEdit.{edit_of};
-ghost use Rattle.plain_history.specs.EditFault.{IsFault};
+ghost use Rattle.plain_edits.specs.EditFault.{Refuses};
 
-use crate::fault::EditFault;
 use crate::revision::Revision;
 use crate::tagged::Tagged;
 use crate::unit_edit::UnitEdit;
 use crate::{collection, deltas, edit, place, undo, visible};
 use std::alloc::Global;
 use std::marker::Model;
-use xi_plain::{Delta, Listed, NoMemory, Text};
+use plain_text::{List, NoMemory, Text};
+use plain_edits::{Delta, EditFault};
 
 /// A history: the characters that ever were, and the revisions. Revisions count from 1, and revision 0 is the loaded text.
 #[derive(Drop)]
 pub struct PlainHistory {
-    characters: Listed<Tagged>,
-    revisions: Listed<Revision>,
+    characters: List<Tagged>,
+    revisions: List<Revision>,
     floor: u64,
-    collected: Listed<u64>,
+    collected: List<u64>,
 }
 
 impl Model for PlainHistory {
-    ghost use Rattle.xi_plain.specs.History.{History};
+    ghost use Rattle.plain_edits.specs.History.{History};
 
     ghost Value = { History };
 
@@ -39,9 +39,9 @@ impl PlainHistory {
     {
         Ok(PlainHistory {
             characters: edit::tagged_text(alloc, 0, text.as_str())?,
-            revisions: Listed::new(alloc),
+            revisions: List::new(alloc),
             floor: 0,
-            collected: Listed::new(alloc),
+            collected: List::new(alloc),
         })
     }
 
@@ -110,21 +110,21 @@ impl PlainHistory {
         delta: &Delta,
     ) -> Result<(), EditFault>
         ensures accepted { OnOk result (edit_refusal self.now limit base delta.now ≡ None) }
-        ensures refused { IfErr result (IsFault (edit_refusal self.now limit base delta.now)) }
+        ensures refused { IfErr result (Refuses (edit_refusal self.now limit base delta.now)) }
     {
         let head = self.head();
         if head < base {
-            return Err(EditFault::Unknown { head });
+            return Err(EditFault::Unknown(head));
         }
         if base < self.floor {
-            return Err(EditFault::Collected { floor: self.floor });
+            return Err(EditFault::Collected(self.floor));
         }
         if let Some(first) = deltas::misfit(&self.text_at(alloc, base)?, delta) {
-            return Err(EditFault::Unfit { first });
+            return Err(EditFault::Misfit(first));
         }
-        let total = u128::from(self.inserted_count()) + deltas::inserted_len(delta.els.as_slice());
+        let total = u128::from(self.inserted_count()) + delta.inserted_len();
         if u128::from(limit) < total {
-            return Err(EditFault::Spent { total });
+            return Err(EditFault::Spent(total));
         }
         Ok(())
     }
@@ -142,7 +142,7 @@ impl PlainHistory {
     ) -> Result<u64, EditFault>
         requires { head self.old < 2 ^ 63 - 1 }
         ensures accepted { OnOk result (edit_refusal self.old limit base delta.now ≡ None) }
-        ensures refused { IfErr result (IsFault (edit_refusal self.old limit base delta.now)) }
+        ensures refused { IfErr result (Refuses (edit_refusal self.old limit base delta.now)) }
         ensures made { OnOk result (self.new ≡ edited self.old (plain_edit self.old base delta.now group priority author)) }
         ensures number { IfOk result (λ rev. rev ≡ head self.old + 1) }
         ensures unchanged { OnErr result (self.new ≡ self.old) }
@@ -166,7 +166,7 @@ impl PlainHistory {
     }
 
     /// Says which groups are undone from now on, and gives the number of the revision that says it.
-    pub fn undo(&mut self, groups: Listed<u64>) -> Result<u64, NoMemory>
+    pub fn undo(&mut self, groups: List<u64>) -> Result<u64, NoMemory>
         requires head { head self.old < 2 ^ 63 - 1 }
         requires may { MayUndo self.old groups }
         ensures made { OnOk result (self.new ≡ undid self.old groups) }

@@ -2,9 +2,9 @@
 
 ghost use Rattle.std.specs.Prelude.{◌≡◌, ℕ, ◌≤◌, ◌-◌, ◌==◌, not, nat_lt, length, take, drop};
 ghost use Rattle.std.specs.List.{position_or_len, suffix_len, before_first, after_last};
-ghost use Rattle.xi_plain.specs.Woven.{nth_index};
-ghost use Rattle.xi_plain.specs.History.{is_visible};
-ghost use Rattle.xi_plain.specs.Place.{eldest, is_by, goes_right, left_in_run};
+ghost use Rattle.plain_text.specs.Woven.{nth_index};
+ghost use Rattle.plain_edits.specs.History.{is_visible};
+ghost use Rattle.plain_edits.specs.Place.{eldest, is_by, goes_right, left_in_run};
 
 use crate::revision::Revision;
 use crate::tagged::Tagged;

@@ -1,12 +1,12 @@
 ghost use Rattle.std.specs.Prelude.{◌≡◌, Some, List, map};
 ghost use Rattle.std.specs.Option.{option_copied};
-ghost use Rattle.xi_plain.specs.History.{edit, undo, edit_group, edit_priority};
-ghost use Rattle.xi_plain.specs.Edits.{is_edit_of};
-ghost use Rattle.xi_plain.specs.Collection.{is_based_from};
+ghost use Rattle.plain_edits.specs.History.{edit, undo, edit_group, edit_priority};
+ghost use Rattle.plain_edits.specs.Edits.{is_edit_of};
+ghost use Rattle.plain_edits.specs.Collection.{is_based_from};
 ghost use Rattle.plain_history.specs.Views.{undone_by};
 
 use std::marker::Model;
-use xi_plain::Listed;
+use plain_text::List;
 
 /// A revision: an edit against a base, or an undo, which says all groups that are undone from it on.
 #[derive(Drop)]
@@ -23,12 +23,12 @@ enum Step {
         author: u64,
     },
     Undo {
-        groups: Listed<u64>,
+        groups: List<u64>,
     },
 }
 
 impl Model for Revision {
-    ghost use Rattle.xi_plain.specs.History.{Revision as RevisionData};
+    ghost use Rattle.plain_edits.specs.History.{Revision as RevisionData};
 
     ghost Value = { RevisionData };
 
@@ -51,7 +51,7 @@ impl Revision {
         }
     }
 
-    pub fn undo(groups: Listed<u64>) -> Revision
+    pub fn undo(groups: List<u64>) -> Revision
         ensures { result ≡ undo groups }
     {
         Revision {
@@ -80,7 +80,7 @@ impl Revision {
     }
 
     /// The groups that an undo says.
-    pub fn undone(&self) -> Option<&Listed<u64>>
+    pub fn undone(&self) -> Option<&List<u64>>
         ensures { option_copied result ≡ undone_by self.now }
     {
         match &self.step {

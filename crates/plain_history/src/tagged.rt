@@ -1,20 +1,20 @@
 ghost use Rattle.std.specs.Prelude.{◌≡◌, [], ◌∷◌, ◌++◌, IfOk};
-ghost use Rattle.xi_plain.specs.Edits.{deleted_by};
+ghost use Rattle.plain_edits.specs.Edits.{with_deletion};
 
 use std::alloc::Global;
 use std::marker::Model;
-use xi_plain::{Copied, Listed, NoMemory};
+use plain_text::{List, NoMemory, TryClone};
 
 /// A character with the revision that inserted it and the revisions that delete it, which rise.
 #[derive(Drop)]
 pub struct Tagged {
     character: char,
     inserted: u64,
-    deleted: Listed<u64>,
+    deleted: List<u64>,
 }
 
 impl Model for Tagged {
-    ghost use Rattle.xi_plain.specs.History.{Tagged as TaggedCharacter};
+    ghost use Rattle.plain_edits.specs.History.{Tagged as TaggedCharacter};
 
     ghost Value = { TaggedCharacter };
 
@@ -29,7 +29,7 @@ impl Tagged {
         Tagged {
             character,
             inserted,
-            deleted: Listed::new(alloc),
+            deleted: List::new(alloc),
         }
     }
 
@@ -52,8 +52,8 @@ impl Tagged {
     }
 
     /// The character, deleted by one more revision.
-    pub fn deleted_by(&self, alloc: Global, rev: u64) -> Result<Tagged, NoMemory>
-        ensures { IfOk result (λ made. made ≡ deleted_by rev self.now) }
+    pub fn with_deletion(&self, alloc: Global, rev: u64) -> Result<Tagged, NoMemory>
+        ensures { IfOk result (λ made. made ≡ with_deletion rev self.now) }
     {
         let mut deleted = self.deleted.copy(alloc)?;
         deleted.push(rev)?;
@@ -65,7 +65,7 @@ impl Tagged {
     }
 }
 
-impl Copied for Tagged {
+impl TryClone for Tagged {
     fn copy(&self, alloc: Global) -> Result<Tagged, NoMemory> {
         Ok(Tagged {
             character: self.character,

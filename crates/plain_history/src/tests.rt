@@ -4,7 +4,8 @@ use super::*;
 use std::alloc::Global;
 use std::process::Abort;
 use std::test::Fail;
-use xi_plain::{Delta, El, Listed, Misfit, NoMemory, Text};
+use plain_text::{List, NoMemory, Text};
+use plain_edits::{Delta, El, Misfit};
 
 /// What comes to a history: an edit against a base of `len` bytes, which puts a text in the place of the bytes from `from` up to
 /// `to`, or an undo.
@@ -23,7 +24,7 @@ enum Step<'a> {
 }
 
 fn change(alloc: Global, len: u64, from: u64, to: u64, added: &str) -> Result<Delta, NoMemory> {
-    let mut els = Listed::new(alloc);
+    let mut els = List::new(alloc);
     els.push(El::Copy { a: 0, b: from })?;
     els.push(El::Insert {
         text: Text::from_str(alloc, added)?,
@@ -32,10 +33,10 @@ fn change(alloc: Global, len: u64, from: u64, to: u64, added: &str) -> Result<De
     Ok(Delta { els, base_len: len })
 }
 
-fn listed(alloc: Global, numbers: &[u64]) -> Result<Listed<u64>, NoMemory>
+fn listed(alloc: Global, numbers: &[u64]) -> Result<List<u64>, NoMemory>
     ensures { IfOk result (λ made. made ≡ numbers.now) }
 {
-    Ok(Listed::from_vec(Vec::from_slice(alloc, numbers)?))
+    Ok(List::from_vec(Vec::from_slice(alloc, numbers)?))
 }
 
 fn take(
@@ -182,44 +183,36 @@ fn misfits_and_other_faults_come_in_their_order(rt: HostRuntime) -> Result<(), F
     let alloc = rt.alloc();
     let mut history = PlainHistory::loaded(alloc, &Text::from_str(alloc, "aé")?)?;
     for (base, len, from, to, fault) in [
-        (1, 4, 0, 0, EditFault::Unknown { head: 0 }),
+        (1, 4, 0, 0, EditFault::Unknown(0)),
         (
             0,
             4,
             0,
             0,
-            EditFault::Unfit {
-                first: Misfit { kind: 1, at: 4 },
-            },
+            EditFault::Misfit(Misfit { kind: 1, at: 4 }),
         ),
         (
             0,
             3,
             3,
             1,
-            EditFault::Unfit {
-                first: Misfit { kind: 2, at: 1 },
-            },
+            EditFault::Misfit(Misfit { kind: 2, at: 1 }),
         ),
         (
             0,
             3,
             4,
             3,
-            EditFault::Unfit {
-                first: Misfit { kind: 3, at: 4 },
-            },
+            EditFault::Misfit(Misfit { kind: 3, at: 4 }),
         ),
         (
             0,
             3,
             2,
             3,
-            EditFault::Unfit {
-                first: Misfit { kind: 4, at: 2 },
-            },
+            EditFault::Misfit(Misfit { kind: 4, at: 2 }),
         ),
-        (0, 3, 1, 1, EditFault::Spent { total: 5 }),
+        (0, 3, 1, 1, EditFault::Spent(5)),
     ] {
         let delta = change(alloc, len, from, to, "added")?;
         assert!(rt; history.head() < 100);

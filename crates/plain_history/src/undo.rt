@@ -2,9 +2,9 @@
 
 ghost use Rattle.std.specs.Prelude.{◌≡◌, ℕ, ◌<◌, ◌↔◌, IsTrue, true};
 ghost use Rattle.std.specs.List.{AllByRecursion, list_any};
-ghost use Rattle.xi_plain.specs.Numbers.{has};
-ghost use Rattle.xi_plain.specs.History.{head, undone};
-ghost use Rattle.xi_plain.specs.Edits.{is_edit_of};
+ghost use Rattle.plain_text.specs.Numbers.{has};
+ghost use Rattle.plain_edits.specs.History.{head, undone};
+ghost use Rattle.plain_edits.specs.Edits.{is_edit_of};
 
 use crate::history::PlainHistory;
 use crate::visible::{has, undone};

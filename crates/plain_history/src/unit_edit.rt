@@ -3,7 +3,8 @@ ghost use Rattle.plain_history.specs.UnitEdit.{edit_of, over_text};
 
 use crate::deltas;
 use std::alloc::Global;
-use xi_plain::{Adds, Copied, Delta, NoMemory, Runs, Text};
+use plain_text::{NoMemory, Runs, Text, TryClone};
+use plain_edits::{Adds, Delta};
 
 /// An edit in characters of its base's text: those in the runs are kept, and each text is added at its gap.
 #[derive(Drop)]
@@ -40,7 +41,7 @@ impl UnitEdit {
     }
 }
 
-impl Copied for UnitEdit {
+impl TryClone for UnitEdit {
     fn copy(&self, alloc: Global) -> Result<UnitEdit, NoMemory> {
         Ok(UnitEdit {
             base: self.base,

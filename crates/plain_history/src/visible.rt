@@ -3,13 +3,13 @@
 ghost use Rattle.std.specs.Prelude.{◌≡◌, ℕ, ◌||◌, take, nat_lt, [], map, IfOk};
 ghost use Rattle.std.specs.List.{filter, list_all, count_by};
 ghost use Rattle.std.specs.Option.{option_copied};
-ghost use Rattle.xi_plain.specs.Numbers.{has};
-ghost use Rattle.xi_plain.specs.History.{revision_at, group_of, priority_of, undone, is_undone, is_visible, undone_after};
+ghost use Rattle.plain_text.specs.Numbers.{has};
+ghost use Rattle.plain_edits.specs.History.{revision_at, group_of, priority_of, undone, is_undone, is_visible, undone_after};
 
 use crate::revision::Revision;
 use crate::tagged::Tagged;
 use std::alloc::Global;
-use xi_plain::{NoMemory, Text};
+use plain_text::{NoMemory, Text};
 
 /// Whether the number is in the list.
 pub fn has(numbers: &[u64], n: u64) -> bool

@@ -2,7 +2,7 @@
 use Rattle.std.proofs.Common.{◌≡◌, ℕ, List, Some, Result, Ok, Err, ap, ◌∙◌, subst}
 use Rattle.std.specs.Prelude.{◌↔◌, IfOk}
 use Rattle.xi_plain.specs.declared.command.Entry.{Entry}
-use Rattle.xi_plain.specs.declared.memory.NoMemory.{NoMemory}
+use Rattle.plain_text.specs.declared.memory.NoMemory.{NoMemory}
 use Rattle.xi_top.specs.Run.{Told, RunsAlone}
 use Rattle.protocol_cases.specs.declared.script.Script.{Script}
 use Rattle.protocol_cases.specs.declared.verdict.Verdict.{Verdict}

@@ -1,9 +1,9 @@
 -- Lemmas on the first line of bytes.
 use Rattle.std.proofs.Common.{◌≡◌, ℕ, ◌<◌, List, [], ◌∷◌, ◌++◌, length, refl, ap, sym, ◌∙◌, append-nil, length-append, arith}
-use Rattle.xi_plain.specs.Journal.{ended_lines, unended, last_line, lines_of}
-use Rattle.xi_plain.proofs.JournalLemmas.{ended_lines-append, unended-append}
+use Rattle.plain_text.specs.InputLines.{ended_lines, unended, last_line, lines_of}
+use Rattle.plain_text.proofs.callers.InputLemmas.{ended_lines-append, unended-append}
 use Rattle.xi_top.specs.Intake.{EndsLine, HasNoEnd}
-use Rattle.xi_top.proofs.LineLemmas.{ended_lines-line, unended-line, ended_lines-no_end, unended-no_end}
+use Rattle.xi_top.proofs.ForCallers.{ended_lines-line, unended-line, ended_lines-no_end, unended-no_end}
 use Rattle.protocol_cases.specs.Lines.{IsCut}
 
 -- a line that LF ends stands before the lines of the rest

@@ -4,7 +4,7 @@ use Rattle.std.specs.Prelude.{unwrap_or}
 use Rattle.std.specs.List.{concat, filter_map, last_or}
 use Rattle.std.specs.List.{cons_option}
 use Rattle.std.proofs.lemmas.List.Elements.{filter_map-append}
-use Rattle.xi_plain.specs.Journal.{lines_of}
+use Rattle.plain_text.specs.InputLines.{lines_of}
 use Rattle.protocol_cases.specs.declared.said.Way.{Way}
 use Rattle.protocol_cases.specs.declared.said.Way.TheVariants.{Input, Output}
 use Rattle.protocol_cases.specs.declared.script.Script.{Script}

@@ -5,8 +5,8 @@ use Rattle.std.proofs.lemmas.Bool.Decides.{nat_tests}
 use Rattle.std.specs.Str.{bytes_eq}
 use Rattle.std.proofs.lemmas.Slice.Eq.{bytes_eq-Decides}
 use Rattle.std.specs.List.{concat}
-use Rattle.xi_plain.specs.Journal.{lines_of}
-use Rattle.xi_plain.proofs.JournalLemmas.{concat-lines_of}
+use Rattle.plain_text.specs.InputLines.{lines_of}
+use Rattle.plain_text.proofs.callers.InputLemmas.{concat-lines_of}
 use Rattle.protocol_cases.specs.declared.verdict.Difference.{Difference}
 use Rattle.protocol_cases.specs.declared.verdict.Verdict.{Verdict}
 use Rattle.protocol_cases.specs.declared.verdict.Verdict.TheVariants.{Passes, BadLine, Differs, Status}

@@ -1,6 +1,6 @@
 -- Lines, one after the other.
 use Rattle.std.specs.Prelude.{◌≡◌, ℕ, ◌<◌, ◌-◌, ◌==◌, if◌then◌else◌, List, [], ◌∷◌, ◌++◌, length, take, slice_index}
-use Rattle.xi_plain.specs.Journal.{lines_of}
+use Rattle.plain_text.specs.InputLines.{lines_of}
 
 -- the first line of the bytes and what stands after it; both are empty at the end
 abbrev pub IsCut : List ℕ → List ℕ → List ℕ → Type 0

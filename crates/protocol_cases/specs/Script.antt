@@ -1,7 +1,7 @@
 -- What a script says.
 use Rattle.std.specs.Prelude.{ℕ, ◌+◌, ◌-◌, ◌^◌, List, [], ◌∷◌, ◌++◌, map, Option, Some, None, unwrap_or, Result, Ok, Err}
 use Rattle.std.specs.List.{concat, filter_map, last_or}
-use Rattle.xi_plain.specs.Journal.{lines_of}
+use Rattle.plain_text.specs.InputLines.{lines_of}
 use Rattle.protocol_cases.specs.declared.said.Way.{Way}
 use Rattle.protocol_cases.specs.declared.said.Way.TheVariants.{Input, Output}
 use Rattle.protocol_cases.specs.declared.script.Script.{Script}

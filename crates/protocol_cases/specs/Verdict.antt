@@ -1,7 +1,7 @@
 -- What becomes of a case.
 use Rattle.std.specs.Prelude.{ℕ, ◌+◌, ◌==◌, if◌then◌else◌, List, [], ◌∷◌, Option, Some, None}
 use Rattle.std.specs.Str.{bytes_eq}
-use Rattle.xi_plain.specs.Journal.{lines_of}
+use Rattle.plain_text.specs.InputLines.{lines_of}
 use Rattle.protocol_cases.specs.declared.verdict.Difference.{Difference}
 use Rattle.protocol_cases.specs.declared.verdict.Verdict.{Verdict}
 use Rattle.protocol_cases.specs.declared.verdict.Verdict.TheVariants.{Passes, Differs, Status}

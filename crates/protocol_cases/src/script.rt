@@ -6,7 +6,7 @@ use crate::lines::{content_of, first_line};
 use crate::said::{Said, Way, said_of};
 use crate::side::Side;
 use std::alloc::Global;
-use xi_plain::NoMemory;
+use plain_text::NoMemory;
 
 /// What a script says: the two ends of a run, and the status that it ends with.
 #[derive(Drop)]

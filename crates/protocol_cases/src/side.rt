@@ -7,7 +7,7 @@ use crate::said::Part;
 use outside::{MemSink, MemSource};
 use std::alloc::Global;
 use std::marker::Model;
-use xi_plain::NoMemory;
+use plain_text::NoMemory;
 
 /// How many bytes a call moves at most where a script says nothing of it: all that there is room for.
 const UNLIMITED: u64 = u64::MAX;

@@ -1,18 +1,18 @@
 ghost use Rattle.std.specs.Prelude.{◌≡◌, ◌↔◌, IfOk, IsTrue};
-ghost use Rattle.xi_plain.specs.Journal.{lines_of};
+ghost use Rattle.plain_text.specs.InputLines.{lines_of};
 ghost use Rattle.protocol_cases.specs.Verdict.{verdict_of, on_status, first_difference};
 
 use crate::lines::first_line;
 use std::alloc::Global;
-use xi_plain::{Listed, NoMemory};
+use plain_text::{List, NoMemory};
 
 /// The first line at which two outputs differ. A line has its LF, where it has one, and is empty where there is none.
 #[derive(Drop)]
 pub struct Difference {
     /// From 1.
     pub line: u64,
-    pub expected: Listed<u8>,
-    pub got: Listed<u8>,
+    pub expected: List<u8>,
+    pub got: List<u8>,
 }
 
 /// What became of a case.
@@ -85,8 +85,8 @@ impl Difference {
     {
         Ok(Difference {
             line,
-            expected: Listed::from_vec(Vec::from_slice(alloc, expected)?),
-            got: Listed::from_vec(Vec::from_slice(alloc, got)?),
+            expected: List::from_vec(Vec::from_slice(alloc, expected)?),
+            got: List::from_vec(Vec::from_slice(alloc, got)?),
         })
     }
 }

@@ -3,10 +3,10 @@ use Rattle.std.proofs.Common.{◌≡◌, ◌≢◌, ℕ, zero, suc, ◌<◌, ◌
 use Rattle.std.specs.List.{AllByRecursion}
 use Rattle.std.proofs.lemmas.Bool.{both_ways, eqb-true, eqb-false}
 use Rattle.std.proofs.lemmas.List.Elements.{filter-append}
-use Rattle.xi_plain.specs.History.{Tagged, Revision}
-use Rattle.xi_plain.specs.Place.{eldest, is_by, goes_right, left_in_run}
-use Rattle.xi_plain.proofs.WovenLemmas.{filter-no, filter_none, filter_all}
-use Rattle.rev_rebase.proofs.RunSteps.{last_cut, first_cut, filter-cut, left_in_run-right, left_in_run-left}
+use Rattle.plain_edits.specs.History.{Tagged, Revision}
+use Rattle.plain_edits.specs.Place.{eldest, is_by, goes_right, left_in_run}
+use Rattle.plain_text.proofs.callers.ListLemmas.{filter-no, filter_none, filter_all}
+use Rattle.rev_rebase.proofs.ForCallers.{last_cut, first_cut, filter-cut, left_in_run-right, left_in_run-left}
 
 -- the items that pass stand before those that fail
 abbrev pub Falls : {X : Type 0} → (X → Bool) → List X → Type 0

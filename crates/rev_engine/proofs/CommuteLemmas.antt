@@ -3,14 +3,15 @@ use Rattle.std.proofs.Common.{◌≡◌, ◌≢◌, ℕ, ◌+◌, ◌-◌, ◌^�
 use Rattle.std.specs.List.{AllByRecursion, sum_by, list_any}
 use Rattle.std.proofs.lemmas.List.Sums.{sum_by-cons}
 use Rattle.std.proofs.lemmas.List.Sorted.{IsPermutation-refl, IsPermutation-trans, IsPermutation-middle, IsPermutation-map, length_permutation, sum_by-IsPermutation}
-use Rattle.xi_plain.specs.Numbers.{has}
-use Rattle.xi_plain.specs.Delta.{keeps, adds, misfit_of}
-use Rattle.xi_plain.specs.History.{Tagged, History, loaded, head, undone, text_at, inserted_count, IsSound}
-use Rattle.xi_plain.specs.Edits.{PlainEdit, edited, is_edit_of, inserted_len}
-use Rattle.xi_plain.proofs.HistoryLemmas.{IsSound-loaded, IsSound-edited, text_at-edited, undone-edit}
-use Rattle.rev_engine.specs.Given.{Asked, meant, after, after_all, IsTaken, AreTaken, IsGiven}
+use Rattle.plain_text.specs.Numbers.{has}
+use Rattle.plain_edits.specs.Delta.{keeps, adds, misfit_of}
+use Rattle.plain_edits.specs.History.{Tagged, History, loaded, head, undone, text_at, inserted_count, IsSound}
+use Rattle.plain_edits.specs.Edits.{PlainEdit, edited, is_edit_of}
+use Rattle.plain_edits.specs.Delta.{inserted_len}
+use Rattle.plain_edits.proofs.callers.HistoryLemmas.{IsSound-loaded, IsSound-edited, text_at-edited, undone-edit}
+use Rattle.rev_engine.specs.Given.{AskedEdit, meant, after, after_all, IsTaken, AreTaken, IsGiven}
 use Rattle.rev_engine.specs.Commute.{DifferInPriority, IsForHead, AreForHead, ShowsMerged, EditsCommute}
-use Rattle.rev_rebase.proofs.RunSteps.{AllByRecursion-parts}
+use Rattle.rev_rebase.proofs.ForCallers.{AllByRecursion-parts}
 use Rattle.rev_engine.proofs.LaidLemmas.{laid_nothing}
 use Rattle.rev_engine.proofs.MergeLemmas.{head-edited, Done, seen_in, IsMerging, text_at-merging}
 use Rattle.rev_engine.proofs.StepLemmas.{dones_after, at_after, IsMerging-edited}
@@ -33,7 +34,7 @@ record IsPlain (history : History) : Type 0 where
   spent : undone history.revisions (head history) ≡ []
   collected : history.collected ≡ []
 
-IsPlain-all : (history : History) (edits : List Asked) → IsPlain history → IsPlain (after_all history edits)
+IsPlain-all : (history : History) (edits : List AskedEdit) → IsPlain history → IsPlain (after_all history edits)
 IsPlain-all history [] plain = plain
 IsPlain-all history (asked ∷ edits) plain =
     let e = meant history asked in
@@ -63,7 +64,7 @@ TakesEdits-given limit history given =
 -- ---- one edit in its turn
 
 -- the text of the first head stands, and there is room for the edits to come
-record IsReady (limit : ℕ) (first last : History) (edits : List Asked) : Type 0 where
+record IsReady (limit : ℕ) (first last : History) (edits : List AskedEdit) : Type 0 where
   sound : IsSound last
   floor : last.floor ≡ first.floor
   collected : last.collected ≡ first.collected
@@ -72,10 +73,10 @@ record IsReady (limit : ℕ) (first last : History) (edits : List Asked) : Type 
   room : inserted_count last + sum_by (λ asked. inserted_len asked.delta.els) edits ≤ limit
   numbers : head last + length edits ≤ 2 ^ 63 - 1
 
-module _ (limit : ℕ) (first last : History) (asked : Asked) (edits : List Asked) (takes : TakesEdits first) (is : IsForHead first asked)
+module _ (limit : ℕ) (first last : History) (asked : AskedEdit) (edits : List AskedEdit) (takes : TakesEdits first) (is : IsForHead first asked)
     (ready : IsReady limit first last (asked ∷ edits)) where
   room_here : inserted_count last + inserted_len asked.delta.els + sum_by (λ other. inserted_len other.delta.els) edits ≤ limit
-  room_here = omega (arith, ready.room, sum_by-cons (λ (other : Asked). inserted_len other.delta.els) asked edits)
+  room_here = omega (arith, ready.room, sum_by-cons (λ (other : AskedEdit). inserted_len other.delta.els) asked edits)
 
   same_text : text_at last asked.base ≡ text_at first asked.base
   same_text = ap (text_at last) is.base ∙ ready.text ∙ ap (text_at first) (sym is.base)
@@ -121,7 +122,7 @@ module _ (limit : ℕ) (first last : History) (asked : Asked) (edits : List Aske
 -- ---- all edits
 
 -- the history after the edits shows them merged in some order
-record Comes (limit : ℕ) (first : History) (done : List PlainEdit) (last : History) (order : List Asked) : Type 0 where
+record Comes (limit : ℕ) (first : History) (done : List PlainEdit) (last : History) (order : List AskedEdit) : Type 0 where
   taken : AreTaken limit last order
   final : List PlainEdit
   dones : List Done
@@ -129,7 +130,7 @@ record Comes (limit : ℕ) (first : History) (done : List PlainEdit) (last : His
   state : IsMerging first final (after_all last order) dones at
   moved : IsPermutation (done ++ map (meant first) order) final
 
-comes : (limit : ℕ) (first : History) → TakesEdits first → (order : List Asked) (done : List PlainEdit) (last : History) (dones : List Done)
+comes : (limit : ℕ) (first : History) → TakesEdits first → (order : List AskedEdit) (done : List PlainEdit) (last : History) (dones : List Done)
     (at : ℕ → Tagged → Tagged) → IsMerging first done last dones at → IsReady limit first last order → AllByRecursion (IsForHead first) order →
     Differ (λ e. e.priority) (done ++ map (meant first) order) → Comes limit first done last order
 comes limit first takes [] done last dones at state ready each differ = record {
@@ -171,7 +172,7 @@ AllByRecursion-to_map : {X Y : Type 0} (P : Y → Type 0) (f : X → Y) (xs : Li
 AllByRecursion-to_map P f [] each = tt
 AllByRecursion-to_map P f (x ∷ xs) each = (each.0, AllByRecursion-to_map P f xs each.1)
 
-Differ-meant : (history : History) (edits : List Asked) → DifferInPriority edits → Differ (λ e. e.priority) (map (meant history) edits)
+Differ-meant : (history : History) (edits : List AskedEdit) → DifferInPriority edits → Differ (λ e. e.priority) (map (meant history) edits)
 Differ-meant history [] differ = tt
 Differ-meant history (asked ∷ edits) differ = (
   AllByRecursion-to_map (λ e. e.priority ≢ asked.priority) (meant history) edits differ.0,
@@ -194,7 +195,7 @@ IsMerging-none first sound = record {
 }
 
 -- in a history that takes edits
-pub edits_commute_in : (limit : ℕ) (history : History) (edits order : List Asked) → TakesEdits history → AreForHead limit history edits →
+pub edits_commute_in : (limit : ℕ) (history : History) (edits order : List AskedEdit) → TakesEdits history → AreForHead limit history edits →
     IsPermutation edits order → AreTaken limit history order × ShowsMerged history edits (after_all history order)
 edits_commute_in limit history edits order takes for_head moved =
     let text : List ℕ = text_at history (head history) in
@@ -210,7 +211,7 @@ edits_commute_in limit history edits order takes for_head moved =
       collected = refl;
       later = omega arith;
       text = refl;
-      room = omega (arith, for_head.room, sum_by-IsPermutation (λ (asked : Asked). inserted_len asked.delta.els) edits order moved);
+      room = omega (arith, for_head.room, sum_by-IsPermutation (λ (asked : AskedEdit). inserted_len asked.delta.els) edits order moved);
       numbers = omega (arith, for_head.numbers, length_permutation edits order moved);
     })
     (AllByRecursion-permutation (IsForHead history) edits order moved for_head.each)

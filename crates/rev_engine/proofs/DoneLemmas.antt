@@ -2,28 +2,29 @@
 use Rattle.std.proofs.Common.{◌≡◌, ℕ, ◌+◌, ◌^◌, ◌<◌, Bool, List, [], ◌∷◌, length, map, length-append, refl, ap, ap₂, sym, ◌∙◌, subst, None, arith}
 use Rattle.std.specs.List.{AllByRecursion, flat_map, range_with_len}
 use Rattle.subset_runs.specs.Subset.{count, expand_in}
-use Rattle.xi_plain.specs.declared.delta.UnitDelta.{UnitDelta}
-use Rattle.xi_plain.specs.UnitDelta.{unit_adds}
-use Rattle.xi_plain.specs.History.{Tagged, History, edit as revision, head, text_at, IsTaggedBy}
-use Rattle.xi_plain.specs.Edits.{PlainEdit, edited, edit_refusal, inserted_len}
+use Rattle.plain_edits.specs.declared.delta.UnitDelta.{UnitDelta}
+use Rattle.plain_edits.specs.UnitDelta.{unit_adds}
+use Rattle.plain_edits.specs.History.{Tagged, History, edit as revision, head, text_at, IsTaggedBy}
+use Rattle.plain_edits.specs.Edits.{PlainEdit, edited, edit_refusal}
+use Rattle.plain_edits.specs.Delta.{inserted_len}
 use Rattle.delta_core.specs.Units.{IsUnitsOf}
 use Rattle.delta_core.specs.Synthesis.{IsBetween}
 use Rattle.rev_list.specs.declared.edit.RevEdit.{RevEdit}
 use Rattle.rev_list.specs.Edit.{after_edit}
 use Rattle.rev_list.specs.Hidden.{hidden_at}
 use Rattle.rev_list.specs.WithoutText.{without_character, without_text, insertion_flags, in_positions}
-use Rattle.rev_list.proofs.TextLemmas.{grown_flags, hidden_without_text, step_without_text}
-use Rattle.rev_list.proofs.HistoryLemmas.{IsPlain, hidden_at-later, length-after_edit}
+use Rattle.rev_list.proofs.ForCallers.{grown_flags, hidden_without_text, step_without_text}
+use Rattle.rev_list.proofs.ForCallers.{IsPlain, hidden_at-later, length-after_edit}
 use Rattle.rev_rebase.specs.Rebase.{added_text, characters_of, put_in}
-use Rattle.rev_rebase.proofs.TextlessLemmas.{insertion_flags-textless, deletion_flags-textless}
-use Rattle.rev_rebase.proofs.PlacesLemmas.{step-text}
+use Rattle.rev_rebase.proofs.ForCallers.{insertion_flags-textless, deletion_flags-textless}
+use Rattle.rev_rebase.proofs.ForCallers.{step-text}
 use Rattle.rev_engine.specs.declared.edit.Edit.{Edit}
 use Rattle.rev_engine.specs.declared.edit.Change.{Change}
 use Rattle.rev_engine.specs.declared.step.Fitting.{Fitting}
 use Rattle.rev_engine.specs.declared.step.Ready.{Ready}
 use Rattle.rev_engine.specs.Given.{MayAsk, after, meant}
 use Rattle.rev_engine.specs.State.{State, IsHeld}
-use Rattle.rev_engine.specs.Steps.{IsBased, IsFitting, IsMade, in_characters, shown_at}
+use Rattle.rev_engine.specs.Inner.{IsBasedOn, IsFitting, IsMadeReady, in_characters, shown_at}
 use Rattle.rev_engine.specs.Engine.{IsChange, StandsFor, asked_by}
 use Rattle.rev_engine.proofs.SpentLemmas.{count-insertion_flags, inserted_count-plain, length-added_text}
 use Rattle.rev_engine.proofs.ReadyLemmas.{length-put_in}
@@ -31,9 +32,9 @@ use Rattle.rev_engine.proofs.StandLemmas.{IsFresh-given, IsGiven-after, accepted
 
 -- ---- what a fitting edit asks for
 
-pub IsBased-fitting : (engine : State) (edit : Edit) (fitting : Fitting) → length engine.union ≡ length engine.revisions.characters →
-    IsFitting engine edit fitting → IsBased engine.union engine.revisions edit fitting.units
-IsBased-fitting engine edit fitting positions is = record {
+pub IsBasedOn-fitting : (engine : State) (edit : Edit) (fitting : Fitting) → length engine.union ≡ length engine.revisions.characters →
+    IsFitting engine edit fitting → IsBasedOn engine.union engine.revisions edit fitting.units
+IsBasedOn-fitting engine edit fitting positions is = record {
   base_kept = is.base_kept;
   base_known = is.base_known;
   alive = is.units.base ∙ length-shown_at engine.union engine.revisions edit.rev positions;
@@ -59,7 +60,7 @@ accepted-stands engine edit fitting h stands is =
 -- ---- the parts after it go together
 
 module _ (engine : State) (edit : Edit) (fitting : Fitting) (ready : Ready) (held : IsHeld engine.union engine.revisions engine.limit engine.spent)
-    (is : IsFitting engine edit fitting) (made : IsMade engine.union engine.revisions edit fitting ready) where
+    (is : IsFitting engine edit fitting) (made : IsMadeReady engine.union engine.revisions edit fitting ready) where
   grown : length (insertion_flags engine.revisions (in_characters edit fitting.units)) ≡
       length engine.union + count (insertion_flags engine.revisions (in_characters edit fitting.units))
   grown =
@@ -69,7 +70,7 @@ module _ (engine : State) (edit : Edit) (fitting : Fitting) (ready : Ready) (hel
   members : count (insertion_flags engine.revisions (in_characters edit fitting.units)) ≡ length (added_text fitting.units)
   members =
       count-insertion_flags engine.revisions (in_characters edit fitting.units) ∙
-      ap (λ n. length (flat_map (unit_adds fitting.units) (range_with_len 0 (n + 1)))) (sym (IsBased-fitting engine edit fitting held.positions is).alive)
+      ap (λ n. length (flat_map (unit_adds fitting.units) (range_with_len 0 (n + 1)))) (sym (IsBasedOn-fitting engine edit fitting held.positions is).alive)
 
   length-union : length ready.union ≡ length (insertion_flags engine.revisions (in_characters edit fitting.units))
   length-union =
@@ -122,7 +123,7 @@ positions-textless h e =
 
 module _ (engine : State) (edit : Edit) (fitting : Fitting) (ready : Ready) (h : History) (positions : length engine.union ≡ length engine.revisions.characters)
     (stands : StandsFor engine h) (may : MayAsk engine.revisions edit.group)
-    (is : IsFitting engine edit fitting) (made : IsMade engine.union engine.revisions edit fitting ready) where
+    (is : IsFitting engine edit fitting) (made : IsMadeReady engine.union engine.revisions edit fitting ready) where
   after_is : after h (asked_by edit) ≡ edited h (in_characters edit fitting.units)
   after_is =
       ap (edited h) (same_edit h edit fitting.units (subst (λ text. IsUnitsOf text edit.delta fitting.units) (shown-stands engine h edit.rev stands) is.units))
@@ -138,7 +139,7 @@ module _ (engine : State) (edit : Edit) (fitting : Fitting) (ready : Ready) (h :
       made.union_is ∙
       (ap (λ xs. put_in (insertion_flags engine.revisions (in_characters edit fitting.units)) (added_text fitting.units) xs) stands.union ∙
       sym (step-text engine.revisions edit.rev fitting.units edit.priority (insertion_flags engine.revisions (in_characters edit fitting.units)) (added_text fitting.units)
-      (IsBased-fitting engine edit fitting positions is).alive refl refl h (sym stands.revisions)))
+      (IsBasedOn-fitting engine edit fitting positions is).alive refl refl h (sym stands.revisions)))
 
   asked : MayAsk (without_text h) edit.group
   asked = subst (λ g. MayAsk g edit.group) stands.revisions may

@@ -4,8 +4,8 @@ use Rattle.std.proofs.lemmas.List.{length-drop}
 use Rattle.subset_runs.specs.declared.stretch.Stretch.{Stretch}
 use Rattle.subset_runs.specs.Stretch.{IsFront}
 use Rattle.subset_runs.specs.Subset.{count, items_outside}
-use Rattle.subset_runs.proofs.FlagLemmas.{count_le_length}
-use Rattle.subset_runs.proofs.StretchLemmas.{front_len, items_outside-gone, count_added_next, count_moved_next}
+use Rattle.subset_runs.proofs.ForCallers.{count_le_length}
+use Rattle.subset_runs.proofs.ForCallers.{front_len, items_outside-gone, count_added_next, count_moved_next}
 use Rattle.rev_rebase.specs.Rebase.{put_in}
 
 part : (by : List Bool) (s : Stretch) (member : Bool) → IsFront by s → s.member ≡ member → by ≡ replicate s.len member ++ drop s.len by

@@ -5,12 +5,12 @@ use Rattle.std.proofs.Math.Seq.{take-append_seam, get_or-append_seam}
 use Rattle.std.proofs.lemmas.List.{append_assoc}
 use Rattle.std.proofs.lemmas.List.Elements.{All-from_recursion}
 use Rattle.std.proofs.lemmas.List.Sums.{suffix_len_is}
-use Rattle.xi_plain.specs.Woven.{woven, nth_index}
-use Rattle.xi_plain.specs.History.{Tagged, History}
-use Rattle.xi_plain.specs.Place.{index_right_of, left_in_run, insertion_place}
-use Rattle.xi_plain.proofs.WovenLemmas.{nth_index-yes, nth_index-no, filter-yes, filter-no}
-use Rattle.xi_plain.proofs.PlaceLemmas.{suffix_len_stops, length-left, length-later_run, le-insertion_place}
-use Rattle.rev_rebase.proofs.RunSteps.{drop-suffix_len-cut}
+use Rattle.plain_text.specs.Woven.{woven, nth_index}
+use Rattle.plain_edits.specs.History.{Tagged, History}
+use Rattle.plain_edits.specs.Place.{index_right_of, left_in_run, insertion_place}
+use Rattle.plain_text.proofs.callers.ListLemmas.{nth_index-yes, nth_index-no, filter-yes, filter-no}
+use Rattle.plain_edits.proofs.callers.PlaceLemmas.{suffix_len_stops, length-left, length-later_run, le-insertion_place}
+use Rattle.rev_rebase.proofs.ForCallers.{drop-suffix_len-cut}
 
 -- at each gap of the items that are seen a block, at each of these what becomes of it, and what becomes of each other item
 abbrev pub laid : {X Y : Type 0} → (X → Bool) → (ℕ → List Y) → (ℕ → X → List Y) → (X → List Y) → ℕ → List X → List Y

@@ -11,3 +11,4 @@ pub mod StepLemmas
 pub mod OrderLemmas
 pub mod TakenLemmas
 pub mod CommuteLemmas
+pub mod ForCallers

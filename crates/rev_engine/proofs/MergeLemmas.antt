@@ -4,16 +4,17 @@ use Rattle.std.specs.List.{AllByRecursion, list_all}
 use Rattle.std.proofs.lemmas.Bool.{leb-true, leb-false}
 use Rattle.std.proofs.lemmas.List.{append_assoc, length_push}
 use Rattle.std.proofs.lemmas.List.Folds.{flat_map-map}
-use Rattle.xi_plain.specs.Numbers.{has}
-use Rattle.xi_plain.specs.History.{Tagged, edit, History, head, priority_of, undone, is_visible, text_at, IsTaggedBy, IsSound}
-use Rattle.xi_plain.specs.Edits.{PlainEdit, deleted_by, edited, with_earlier, by_priority, merged}
-use Rattle.xi_plain.proofs.WovenLemmas.{AllByRecursion-append, AllByRecursion-weaker, AllByRecursion-map, filter_all, flat_map_same, map-flat_map}
-use Rattle.xi_plain.proofs.HistoryLemmas.{IsTaggedBy-more, IsTaggedBy-deleted, is_visible-append, is_visible-deleted_later, shown, shown-append}
-use Rattle.xi_plain.proofs.EditLemmas.{is_visible-deleted_by, is_visible-edited}
-use Rattle.rev_rebase.proofs.RunSteps.{AllByRecursion-parts}
+use Rattle.plain_text.specs.Numbers.{has}
+use Rattle.plain_edits.specs.History.{Tagged, edit, History, head, priority_of, undone, is_visible, text_at, IsTaggedBy, IsSound}
+use Rattle.plain_edits.specs.Edits.{PlainEdit, with_deletion, edited, with_earlier, by_priority, merged}
+use Rattle.plain_text.proofs.callers.ListLemmas.{AllByRecursion-append, AllByRecursion-weaker, AllByRecursion-map, filter_all, flat_map_same, map-flat_map}
+use Rattle.plain_edits.proofs.callers.HistoryLemmas.{IsTaggedBy-more, IsTaggedBy-deleted, is_visible-append, is_visible-deleted_later, shown, shown-append}
+use Rattle.plain_edits.proofs.callers.EditLemmas.{is_visible-with_deletion, is_visible-edited}
+use Rattle.rev_rebase.proofs.ForCallers.{AllByRecursion-parts}
 use Rattle.rev_engine.proofs.BlockLemmas.{stays}
 use Rattle.rev_engine.proofs.LaidLemmas.{at-laid, laid_same, laid-woven}
-use Rattle.rev_engine.proofs.WalkLemmas.{newly, in_blocks}
+use Rattle.rev_engine.proofs.WalkLemmas.{in_blocks}
+use Rattle.plain_edits.specs.History.{inserted_by}
 
 -- ---- what becomes of an old character
 
@@ -41,7 +42,7 @@ pub record StaysOf (last : History) (base : ℕ) (kept : Bool) (x y : Tagged) : 
 
 pub StaysOf-edited : (last : History) (e : PlainEdit) (base : ℕ) (kept : Bool) (x y : Tagged) → base ≤ head last →
     has (undone last.revisions (head last)) e.group ≡ false → StaysOf last base kept x y → (keeps : Bool) →
-    StaysOf (edited last e) base (keeps && kept) x (if not keeps then deleted_by (head last + 1) y else y)
+    StaysOf (edited last e) base (keeps && kept) x (if not keeps then with_deletion (head last + 1) y else y)
 StaysOf-edited last e base kept x y later live stays true = record {
   inserted = stays.inserted;
   character = stays.character;
@@ -52,13 +53,13 @@ StaysOf-edited last e base kept x y later live stays true = record {
 StaysOf-edited last e base kept x y later live stays false = record {
   inserted = stays.inserted;
   character = stays.character;
-  tagged = subst (λ now. IsTaggedBy now (deleted_by (head last + 1) y)) (sym (head-edited last e)) (IsTaggedBy-deleted (head last) y stays.tagged);
+  tagged = subst (λ now. IsTaggedBy now (with_deletion (head last + 1) y)) (sym (head-edited last e)) (IsTaggedBy-deleted (head last) y stays.tagged);
   at_base =
       is_visible-deleted_later (edited last e).revisions base (head last + 1) y (omega arith) ∙
       is_visible-at_base last e base y later stays.tagged ∙ stays.at_base;
   at_now =
-      ap (λ now. is_visible (edited last e).revisions now (deleted_by (head last + 1) y)) (head-edited last e) ∙
-      is_visible-deleted_by last e live y;
+      ap (λ now. is_visible (edited last e).revisions now (with_deletion (head last + 1) y)) (head-edited last e) ∙
+      is_visible-with_deletion last e live y;
 }
 
 -- ---- the edits that were taken, in rising order of priority
@@ -73,7 +74,7 @@ edits_of dones = map (λ d. d.edit) dones
 
 -- its text at a gap; and the block of all texts there
 abbrev pub text_of : ℕ → Done → List Tagged
-text_of n d = map (newly d.rev) (d.edit.added n)
+text_of n d = map (inserted_by d.rev) (d.edit.added n)
 
 abbrev pub blocks_of : List Done → ℕ → List Tagged
 blocks_of dones n = flat_map (text_of n) dones
@@ -153,7 +154,7 @@ pub record IsDone (base : ℕ) (history : History) (d : Done) : Type 0 where
   pub after : base < d.rev
   pub within : d.rev ≤ head history
   pub priority : priority_of history.revisions d.rev ≡ d.edit.priority
-  pub seen : (c : ℕ) → is_visible history.revisions (head history) (newly d.rev c) ≡ true
+  pub seen : (c : ℕ) → is_visible history.revisions (head history) (inserted_by d.rev c) ≡ true
 
 -- the characters that a history shows at its head
 abbrev pub seen_in : History → Tagged → Bool
@@ -196,9 +197,9 @@ text_at-merging first sound done last dones at state =
     keeps n c = if list_all (λ e. e.kept n) done then c ∷ [] else []
 
     new_seen : (n : ℕ) (d : Done) → IsDone (head first) last d → AllByRecursion (λ x. now x ≡ true) (text_of n d)
-    new_seen n d is = AllByRecursion-map (λ x. now x ≡ true) (newly d.rev) is.seen (d.edit.added n)
+    new_seen n d is = AllByRecursion-map (λ x. now x ≡ true) (inserted_by d.rev) is.seen (d.edit.added n)
 
-    alone : (rev : ℕ) (text : List ℕ) → map (λ x. x.character) (map (newly rev) text) ≡ text
+    alone : (rev : ℕ) (text : List ℕ) → map (λ x. x.character) (map (inserted_by rev) text) ≡ text
     alone rev [] = refl
     alone rev (c ∷ text) = ap (λ cs. c ∷ cs) (alone rev text)
 

@@ -5,9 +5,9 @@ use Rattle.std.proofs.lemmas.Bool.{leb-true, leb-false, eqb-true, eqb-false, eq-
 use Rattle.std.proofs.lemmas.List.Elements.{All-from_recursion, recursion_from_All}
 use Rattle.std.proofs.lemmas.List.Sums.{sum_by-cons, AllPass-from_list_all, list_all-from_AllPass}
 use Rattle.std.proofs.lemmas.List.Sorted.{All-permutation, sum_by-IsPermutation, IsPermutation-sym}
-use Rattle.xi_plain.specs.Woven.{woven}
-use Rattle.xi_plain.specs.Edits.{PlainEdit, with_earlier, by_priority, merged}
-use Rattle.xi_plain.proofs.WovenLemmas.{AllByRecursion-weaker, count_by-yes, count_by-no}
+use Rattle.plain_text.specs.Woven.{woven}
+use Rattle.plain_edits.specs.Edits.{PlainEdit, with_earlier, by_priority, merged}
+use Rattle.plain_text.proofs.callers.ListLemmas.{AllByRecursion-weaker, count_by-yes, count_by-no}
 use Rattle.rev_engine.proofs.StepLemmas.{AllByRecursion-with_earlier, AllByRecursion-by_priority}
 
 pub AllByRecursion-permutation : {X : Type 0} (P : X → Type 0) (xs ys : List X) → IsPermutation xs ys → AllByRecursion P xs → AllByRecursion P ys

@@ -3,22 +3,22 @@ use Rattle.std.proofs.Common.{◌≡◌, ℕ, ◌+◌, ◌≤◌, Bool, true, fa
 use Rattle.std.specs.List.{range_with_len}
 use Rattle.std.proofs.lemmas.List.{length-map}
 use Rattle.subset_runs.specs.Subset.{count, expand_in}
-use Rattle.subset_runs.proofs.RenumberingLemmas.{length-expand_as}
-use Rattle.xi_plain.specs.declared.delta.UnitDelta.{UnitDelta}
-use Rattle.xi_plain.specs.UnitDelta.{unit_adds}
-use Rattle.xi_plain.specs.History.{History, head}
+use Rattle.subset_runs.proofs.ForCallers.{length-expand_as}
+use Rattle.plain_edits.specs.declared.delta.UnitDelta.{UnitDelta}
+use Rattle.plain_edits.specs.UnitDelta.{unit_adds}
+use Rattle.plain_edits.specs.History.{History, head}
 use Rattle.rev_list.specs.declared.edit.RevEdit.{RevEdit}
 use Rattle.rev_list.specs.declared.edit.ReadyEdit.{ReadyEdit}
 use Rattle.rev_list.specs.Edit.{after_edit, MayPush}
 use Rattle.rev_list.specs.Hidden.{is_hidden, hidden_at}
 use Rattle.rev_list.specs.Kept.{IsReady}
 use Rattle.rev_list.specs.WithoutText.{insertion_flags, deletion_flags, in_positions}
-use Rattle.rev_list.proofs.TextLemmas.{grown_flags, same_flags}
-use Rattle.rev_list.proofs.HistoryLemmas.{length-after_edit}
+use Rattle.rev_list.proofs.ForCallers.{grown_flags, same_flags}
+use Rattle.rev_list.proofs.ForCallers.{length-after_edit}
 use Rattle.rev_rebase.specs.Rebase.{added_text, put_in}
 use Rattle.rev_engine.specs.declared.edit.Edit.{Edit}
 use Rattle.rev_engine.specs.Given.{MayAsk}
-use Rattle.rev_engine.specs.Steps.{IsBased, in_characters}
+use Rattle.rev_engine.specs.Inner.{IsBasedOn, in_characters}
 use Rattle.rev_engine.proofs.SpentLemmas.{count-insertion_flags}
 
 -- what an edit inserts and deletes, in positions
@@ -32,7 +32,7 @@ pub record IsPlaced (union : List ℕ) (revisions : History) (edit : Edit) (unit
   pub same_length : length deleted ≡ length inserted
 
 pub IsPlaced-based : (union : List ℕ) (revisions : History) (edit : Edit) (units : UnitDelta) (inserted deleted : List Bool) (text : List ℕ) →
-    IsBased union revisions edit units → inserted ≡ insertion_flags revisions (in_characters edit units) →
+    IsBasedOn union revisions edit units → inserted ≡ insertion_flags revisions (in_characters edit units) →
     deleted ≡ deletion_flags revisions (in_characters edit units) → text ≡ added_text units → IsPlaced union revisions edit units inserted deleted text
 IsPlaced-based union revisions edit units inserted deleted text based inserted_is deleted_is text_is = record {
   longer = omega (arith, grown, based.positions);
@@ -68,7 +68,7 @@ length-put_in (false ∷ at) text (c ∷ characters) longer members =
     omega (arith, length-put_in at text characters (omega (arith, longer)) (omega (arith, members)))
 
 pub MayPush-placed : (union : List ℕ) (revisions : History) (edit : Edit) (units : UnitDelta) (inserted deleted : List Bool) (text : List ℕ) (e : RevEdit) →
-    IsBased union revisions edit units → MayAsk revisions edit.group → IsPlaced union revisions edit units inserted deleted text →
+    IsBasedOn union revisions edit units → MayAsk revisions edit.group → IsPlaced union revisions edit units inserted deleted text →
     e ≡ record { base = edit.rev; priority = edit.priority; group = edit.group; author = edit.author; inserted = inserted; deleted = deleted } →
     MayPush revisions e
 MayPush-placed union revisions edit units inserted deleted text e based may placed is =

@@ -6,28 +6,29 @@ use Rattle.std.proofs.lemmas.Bool.{cases_eq, eq-eqb, ne_eqb, lt-ltb}
 use Rattle.std.proofs.lemmas.List.{length-map}
 use Rattle.std.proofs.lemmas.List.Sums.{sum_by-append, sum_by-cons}
 use Rattle.subset_runs.specs.Subset.{count}
-use Rattle.subset_runs.proofs.FlagLemmas.{count-append}
-use Rattle.xi_plain.specs.declared.delta.Delta.{Delta}
-use Rattle.xi_plain.specs.declared.delta.UnitDelta.{UnitDelta}
-use Rattle.xi_plain.specs.declared.delta.El.{El}
-use Rattle.xi_plain.specs.declared.delta.El.TheVariants.{Copy, Insert}
-use Rattle.xi_plain.specs.Text.{gap_at, gap_of}
-use Rattle.xi_plain.specs.Delta.{adds, insertions}
-use Rattle.xi_plain.specs.UnitDelta.{unit_adds}
-use Rattle.xi_plain.specs.Woven.{woven}
-use Rattle.xi_plain.specs.History.{Tagged, History, head, is_visible, visible_at, text_at, inserted_count}
-use Rattle.xi_plain.specs.Place.{insertion_place}
-use Rattle.xi_plain.specs.Edits.{PlainEdit, deleted_by, edited, gap_count, inserted_at, inserted_len, is_dropped_by, plain_edit}
-use Rattle.xi_plain.proofs.WovenLemmas.{count_by-yes, flat_map_same, nth_index-le}
-use Rattle.xi_plain.proofs.PlaceLemmas.{insertion_place-le}
-use Rattle.xi_plain.proofs.HistoryLemmas.{AllByRecursion-inserted_at}
-use Rattle.xi_plain.proofs.TextLemmas.{gap_at_iff}
+use Rattle.subset_runs.proofs.ForCallers.{count-append}
+use Rattle.plain_edits.specs.declared.delta.Delta.{Delta}
+use Rattle.plain_edits.specs.declared.delta.UnitDelta.{UnitDelta}
+use Rattle.plain_edits.specs.declared.delta.El.{El}
+use Rattle.plain_edits.specs.declared.delta.El.TheVariants.{Copy, Insert}
+use Rattle.plain_text.specs.Text.{gap_at, gap_of}
+use Rattle.plain_edits.specs.Delta.{adds, insertions}
+use Rattle.plain_edits.specs.UnitDelta.{unit_adds}
+use Rattle.plain_text.specs.Woven.{woven}
+use Rattle.plain_edits.specs.History.{Tagged, History, head, is_visible, visible_at, text_at, inserted_count}
+use Rattle.plain_edits.specs.Place.{insertion_place}
+use Rattle.plain_edits.specs.Edits.{PlainEdit, with_deletion, edited, gap_count, inserted_at, is_deleted_by, plain_edit}
+use Rattle.plain_edits.specs.Delta.{inserted_len}
+use Rattle.plain_text.proofs.callers.ListLemmas.{count_by-yes, flat_map_same, nth_index-le}
+use Rattle.plain_edits.proofs.callers.PlaceLemmas.{insertion_place-le}
+use Rattle.plain_edits.proofs.callers.HistoryLemmas.{AllByRecursion-inserted_at}
+use Rattle.plain_text.proofs.callers.TextLemmas.{gap_at_iff}
 use Rattle.delta_core.specs.Units.{IsUnitsOf}
 use Rattle.rev_list.specs.WithoutText.{insertion_flags}
 use Rattle.rev_rebase.specs.Rebase.{added_text, text_of_edit}
-use Rattle.rev_rebase.proofs.CarriedLemmas.{texts_at}
-use Rattle.rev_rebase.proofs.InsertionLemmas.{insertion_flags-at_gaps}
-use Rattle.rev_rebase.proofs.LaterLemmas.{count-at_gaps}
+use Rattle.rev_rebase.proofs.ForCallers.{texts_at}
+use Rattle.rev_rebase.proofs.ForCallers.{insertion_flags-at_gaps}
+use Rattle.rev_rebase.proofs.ForCallers.{count-at_gaps}
 
 -- ---- texts by their places are as long as the texts
 
@@ -146,18 +147,18 @@ count-trues (x ∷ xs) = omega (arith, count-trues xs)
 abbrev one : Tagged → ℕ
 one tagged = cond (is_later tagged) 1 0
 
-same_one : (rev : ℕ) (b : Bool) (tagged : Tagged) → one (if b then deleted_by rev tagged else tagged) ≡ one tagged
+same_one : (rev : ℕ) (b : Bool) (tagged : Tagged) → one (if b then with_deletion rev tagged else tagged) ≡ one tagged
 same_one rev true tagged = refl
 same_one rev false tagged = refl
 
 spent_woven : (rev : ℕ) (between : ℕ → List Tagged) (drops : ℕ → Tagged → Bool) → ((i : ℕ) → count_by is_later (between i) ≡ length (between i)) →
     (index : ℕ) (xs : List Tagged) →
-    count_by is_later (woven between (λ i t. (if drops i t then deleted_by rev t else t) ∷ []) index xs) ≡
+    count_by is_later (woven between (λ i t. (if drops i t then with_deletion rev t else t) ∷ []) index xs) ≡
     count_by is_later xs + count (woven (λ i. map (λ _. true) (between i)) (λ _ _. false ∷ []) index xs)
 spent_woven rev between drops new index [] = omega (arith, new index, count-trues (between index))
 spent_woven rev between drops new index (x ∷ xs) =
-    let tag : Tagged = if drops index x then deleted_by rev x else x in
-    let rest : List Tagged = woven between (λ i t. (if drops i t then deleted_by rev t else t) ∷ []) (index + 1) xs in
+    let tag : Tagged = if drops index x then with_deletion rev x else x in
+    let rest : List Tagged = woven between (λ i t. (if drops i t then with_deletion rev t else t) ∷ []) (index + 1) xs in
     let flags : List Bool = woven (λ i. map (λ _. true) (between i)) (λ _ _. false ∷ []) (index + 1) xs in
     omega (
       arith,
@@ -172,7 +173,7 @@ spent_woven rev between drops new index (x ∷ xs) =
     )
 
 inserted_count-flags : (h : History) (e : PlainEdit) → inserted_count (edited h e) ≡ inserted_count h + count (insertion_flags h e)
-inserted_count-flags h e = spent_woven (head h + 1) (inserted_at h e) (is_dropped_by h e) new 0 h.characters
+inserted_count-flags h e = spent_woven (head h + 1) (inserted_at h e) (is_deleted_by h e) new 0 h.characters
   where
     new : (i : ℕ) → count_by is_later (inserted_at h e i) ≡ length (inserted_at h e i)
     new i =

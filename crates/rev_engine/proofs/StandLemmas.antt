@@ -5,27 +5,29 @@ use Rattle.std.proofs.lemmas.Bool.{cases_lt, lt-ltb, le-ltb}
 use Rattle.std.proofs.lemmas.List.{length-map}
 use Rattle.std.proofs.lemmas.List.Sums.{fold-append}
 use Rattle.subset_runs.specs.Subset.{items_outside}
-use Rattle.xi_plain.specs.declared.delta.Delta.{Delta}
-use Rattle.xi_plain.specs.declared.delta.Misfit.{Misfit}
-use Rattle.xi_plain.specs.Delta.{Fits, misfit_of}
-use Rattle.xi_plain.specs.History.{Tagged, History, head, is_visible, inserted_count, loaded, text_at, undone, visible_at}
-use Rattle.xi_plain.specs.Edits.{PlainEdit, collected, edited, edit_refusal, inserted_len, misfit, misfit_or_spent, spent, unknown}
-use Rattle.xi_plain.specs.Collection.{is_dropped, kept}
-use Rattle.xi_plain.proofs.WovenLemmas.{count_by-no}
-use Rattle.xi_plain.proofs.HistoryLemmas.{IsSound-edited, IsSound-loaded}
+use Rattle.plain_edits.specs.declared.delta.Delta.{Delta}
+use Rattle.plain_edits.specs.declared.delta.Misfit.{Misfit}
+use Rattle.plain_edits.specs.Delta.{Fits, misfit_of}
+use Rattle.plain_edits.specs.History.{Tagged, History, head, is_visible, inserted_count, loaded, text_at, undone, visible_at}
+use Rattle.plain_edits.specs.Edits.{PlainEdit, collected, edited, edit_refusal, misfit, misfit_or_spent, spent, unknown}
+use Rattle.plain_edits.specs.Delta.{inserted_len}
+use Rattle.plain_edits.specs.Collection.{is_dropped, kept}
+use Rattle.plain_text.proofs.callers.ListLemmas.{count_by-no}
+use Rattle.plain_edits.proofs.callers.HistoryLemmas.{IsSound-edited, IsSound-loaded}
 use Rattle.rev_list.specs.declared.fault.RevFault.{RevFault}
 use Rattle.rev_list.specs.declared.fault.RevFault.TheVariants as Rev
 use Rattle.rev_list.specs.Hidden.{IsCollected, IsKeptAt, IsUnknown}
 use Rattle.rev_list.specs.WithoutText.{in_positions, without_text}
-use Rattle.rev_list.proofs.TagLemmas.{undone_after-edit}
-use Rattle.rev_list.proofs.HistoryLemmas.{IsPlain}
-use Rattle.rev_list.proofs.TextLemmas.{hidden_without_text}
+use Rattle.rev_list.proofs.ForCallers.{undone_after-edit}
+use Rattle.rev_list.proofs.ForCallers.{IsPlain}
+use Rattle.rev_list.proofs.ForCallers.{hidden_without_text}
 use Rattle.rev_rebase.specs.Rebase.{characters_of}
-use Rattle.rev_engine.specs.Given.{Asked, AreTaken, IsGiven, IsTaken, after, after_all, meant}
-use Rattle.rev_engine.specs.declared.fault.EditFault.{EditFault}
-use Rattle.rev_engine.specs.Fault.{Refuses, fault_of_base, refusal_by}
+use Rattle.rev_engine.specs.Given.{AskedEdit, AreTaken, IsGiven, IsTaken, after, after_all, meant}
+use Rattle.plain_edits.specs.declared.fault.EditFault.{EditFault}
+use Rattle.plain_edits.specs.EditFault.{Refuses, refusal_of}
+use Rattle.rev_list.specs.RevFault.{fault_of_base}
 use Rattle.rev_engine.specs.State.{State, contents}
-use Rattle.rev_engine.specs.Steps.{shown_at}
+use Rattle.rev_engine.specs.Inner.{shown_at}
 use Rattle.rev_engine.specs.Engine.{StandsFor}
 use Rattle.rev_engine.proofs.SpentLemmas.{count_by-all}
 
@@ -58,14 +60,14 @@ IsFresh-edited h e fresh = record {
   collected = fresh.collected;
 }
 
-IsFresh-all : (h : History) (edits : List Asked) → IsFresh h → IsFresh (after_all h edits)
+IsFresh-all : (h : History) (edits : List AskedEdit) → IsFresh h → IsFresh (after_all h edits)
 IsFresh-all h [] fresh = fresh
 IsFresh-all h (asked ∷ edits) fresh = IsFresh-all (after h asked) edits (IsFresh-edited h (meant h asked) fresh)
 
 pub IsFresh-given : (limit : ℕ) (h : History) → IsGiven limit h → IsFresh h
 IsFresh-given limit h given = rw given.is (IsFresh-all (loaded given.text) given.edits (IsFresh-loaded given.text))
 
-AreTaken-append : (limit : ℕ) (h : History) (edits : List Asked) (asked : Asked) → AreTaken limit h edits → IsTaken limit (after_all h edits) asked →
+AreTaken-append : (limit : ℕ) (h : History) (edits : List AskedEdit) (asked : AskedEdit) → AreTaken limit h edits → IsTaken limit (after_all h edits) asked →
     AreTaken limit h (edits ++ asked ∷ [])
 AreTaken-append limit h [] asked are is = (is, tt)
 AreTaken-append limit h (first ∷ edits) asked are is = (are.0, AreTaken-append limit (after h first) edits asked are.1 is)
@@ -73,7 +75,7 @@ AreTaken-append limit h (first ∷ edits) asked are is = (are.0, AreTaken-append
 pub IsGiven-loaded : (limit : ℕ) (text : List ℕ) → IsGiven limit (loaded text)
 IsGiven-loaded limit text = record { text = text; edits = []; taken = tt; is = refl }
 
-pub IsGiven-after : (limit : ℕ) (h : History) (asked : Asked) → IsGiven limit h → IsTaken limit h asked → IsGiven limit (after h asked)
+pub IsGiven-after : (limit : ℕ) (h : History) (asked : AskedEdit) → IsGiven limit h → IsTaken limit h asked → IsGiven limit (after h asked)
 IsGiven-after limit h asked given is = record {
   text = given.text;
   edits = given.edits ++ asked ∷ [];
@@ -190,7 +192,7 @@ module _ (engine : State) (h : History) (base : ℕ) (delta : Delta) (stands : S
       ((n : ℕ) → rev ≡ Rev.Collected n → IsCollected engine.revisions base n) → fault ≡ fault_of_base rev →
       Refuses (edit_refusal h engine.limit base delta) fault
   Refuses-base (Rev.Unknown n) fault above below is = λ _.
-      refusal-unknown h engine.limit base delta n (subst (λ revisions. IsUnknown revisions base n) stands.revisions (above n refl)) ∙ ap refusal_by (sym is)
+      refusal-unknown h engine.limit base delta n (subst (λ revisions. IsUnknown revisions base n) stands.revisions (above n refl)) ∙ ap refusal_of (sym is)
   Refuses-base (Rev.Collected n) fault above below is =
       let past = subst (λ revisions. IsCollected revisions base n) stands.revisions (below n refl) in
       absurd (omega (arith, past.0, (IsFresh-given engine.limit h stands.given).floor))

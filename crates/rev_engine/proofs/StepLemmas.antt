@@ -3,15 +3,16 @@ use Rattle.std.proofs.Common.{◌≡◌, ◌≢◌, ℕ, ◌+◌, ◌<◌, true,
 use Rattle.std.specs.List.{AllByRecursion, list_all}
 use Rattle.std.proofs.lemmas.Bool.{lt-ltb, le-ltb, le-leb, lt-leb}
 use Rattle.std.proofs.lemmas.List.{map-append}
-use Rattle.xi_plain.specs.Numbers.{has}
-use Rattle.xi_plain.specs.History.{Tagged, edit, History, head, edit_priority, priority_of, undone, is_visible, IsTaggedBy, IsSound}
-use Rattle.xi_plain.specs.Edits.{PlainEdit, edited, with_earlier, by_priority}
-use Rattle.xi_plain.proofs.WovenLemmas.{AllByRecursion-append, AllByRecursion-weaker, AllByRecursion-map}
-use Rattle.xi_plain.proofs.HistoryLemmas.{IsTaggedBy-more, IsSound-edited, revision_at-push, priority_of-append, undone-edit}
-use Rattle.xi_plain.proofs.EditLemmas.{is_visible-inserted_at}
-use Rattle.rev_rebase.proofs.RunSteps.{AllByRecursion-parts}
+use Rattle.plain_text.specs.Numbers.{has}
+use Rattle.plain_edits.specs.History.{Tagged, edit, History, head, edit_priority, priority_of, undone, is_visible, IsTaggedBy, IsSound}
+use Rattle.plain_edits.specs.Edits.{PlainEdit, edited, with_earlier, by_priority}
+use Rattle.plain_text.proofs.callers.ListLemmas.{AllByRecursion-append, AllByRecursion-weaker, AllByRecursion-map}
+use Rattle.plain_edits.proofs.callers.HistoryLemmas.{IsTaggedBy-more, IsSound-edited, revision_at-push, priority_of-append, undone-edit}
+use Rattle.plain_edits.proofs.callers.EditLemmas.{is_visible-inserted_at}
+use Rattle.rev_rebase.proofs.ForCallers.{AllByRecursion-parts}
 use Rattle.rev_engine.proofs.BlockLemmas.{stays, left_in_run-parts}
-use Rattle.rev_engine.proofs.WalkLemmas.{newly, after_edit, in_blocks, FitsBlocks, characters-edited}
+use Rattle.rev_engine.proofs.WalkLemmas.{after_edit, in_blocks, FitsBlocks, characters-edited}
+use Rattle.plain_edits.specs.History.{inserted_by}
 use Rattle.rev_engine.proofs.MergeLemmas.{head-edited, is_visible-at_head, is_visible-at_base, StaysOf-edited, Done, text_of, blocks_of, Rises, Parts, parts, Rises-insert, flat_map-append, AllByRecursion-flat_map_each, IsDone, seen_in, IsMerging}
 
 -- what holds of each edit holds of each in rising order of priority
@@ -68,14 +69,14 @@ module _ (first : History) (sound : IsSound first)
       AllByRecursion (λ tagged. nat_lt e.base tagged.inserted ≡ true) (blocks_of ds n)
   late n ds each =
       AllByRecursion-flat_map_each (λ tagged. nat_lt e.base tagged.inserted ≡ true) (IsDone (head first) last) (text_of n)
-      (λ d is. AllByRecursion-map (λ tagged. nat_lt e.base tagged.inserted ≡ true) (newly d.rev)
+      (λ d is. AllByRecursion-map (λ tagged. nat_lt e.base tagged.inserted ≡ true) (inserted_by d.rev)
       (λ c. lt-ltb e.base d.rev (omega (arith, is.after, at_base))) (d.edit.added n)) ds each
 
   front_stays : (n : ℕ) → AllByRecursion (λ tagged. stays last.revisions e.priority tagged ≡ true) (blocks_of cut.front n)
   front_stays n =
       AllByRecursion-flat_map_each (λ tagged. stays last.revisions e.priority tagged ≡ true)
       (λ d. IsDone (head first) last d × (d.edit.priority < e.priority)) (text_of n)
-      (λ d is. AllByRecursion-map (λ tagged. stays last.revisions e.priority tagged ≡ true) (newly d.rev)
+      (λ d is. AllByRecursion-map (λ tagged. stays last.revisions e.priority tagged ≡ true) (inserted_by d.rev)
       (λ c. le-leb (priority_of last.revisions d.rev) e.priority (omega (arith, is.0.priority, is.1))) (d.edit.added n))
       cut.front (both (IsDone (head first) last) (λ d. d.edit.priority < e.priority) cut.front each_parts.0 cut.below)
 
@@ -83,7 +84,7 @@ module _ (first : History) (sound : IsSound first)
   back_goes n =
       AllByRecursion-flat_map_each (λ tagged. stays last.revisions e.priority tagged ≡ false)
       (λ d. IsDone (head first) last d × (e.priority < d.edit.priority)) (text_of n)
-      (λ d is. AllByRecursion-map (λ tagged. stays last.revisions e.priority tagged ≡ false) (newly d.rev)
+      (λ d is. AllByRecursion-map (λ tagged. stays last.revisions e.priority tagged ≡ false) (inserted_by d.rev)
       (λ c. lt-leb (priority_of last.revisions d.rev) e.priority (omega (arith, is.0.priority, is.1))) (d.edit.added n))
       cut.back (both (IsDone (head first) last) (λ d. e.priority < d.edit.priority) cut.back each_parts.1 cut.above)
 
@@ -131,7 +132,7 @@ module _ (first : History) (sound : IsSound first)
     within = omega (arith, is.within, one_more);
     priority = priority_of-append last.revisions (edit e.base e.group e.priority e.author ∷ []) d.rev is.within ∙ is.priority;
     seen = λ c.
-        is_visible-at_head last e (newly d.rev c) (record { inserted = is.within; deleted = tt }) ∙ is.seen c;
+        is_visible-at_head last e (inserted_by d.rev c) (record { inserted = is.within; deleted = tt }) ∙ is.seen c;
   }
 
   IsDone-newest : IsDone (head first) (edited last e) newest
@@ -140,7 +141,7 @@ module _ (first : History) (sound : IsSound first)
     within = omega (arith, one_more);
     priority = ap edit_priority (revision_at-push last.revisions (edit e.base e.group e.priority e.author));
     seen = λ c.
-        ap (λ now. is_visible (edited last e).revisions now (newly (head last + 1) c)) one_more ∙ is_visible-inserted_at last e live_now c;
+        ap (λ now. is_visible (edited last e).revisions now (inserted_by (head last + 1) c)) one_more ∙ is_visible-inserted_at last e live_now c;
   }
 
   -- ONE MORE EDIT

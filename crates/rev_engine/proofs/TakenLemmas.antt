@@ -4,18 +4,19 @@ use Rattle.std.specs.List.{range_with_len, sum_by}
 use Rattle.std.proofs.lemmas.Bool.{cases_eq, le-ltb, eq-eqb, ne_eqb}
 use Rattle.std.proofs.lemmas.List.{length-map}
 use Rattle.std.proofs.lemmas.List.Sums.{sum_by-cons, sum_by-append, sum_by-le-sum_by, count_by-le-length}
-use Rattle.xi_plain.specs.declared.delta.El.{El}
-use Rattle.xi_plain.specs.declared.delta.El.TheVariants.{Copy, Insert}
-use Rattle.xi_plain.specs.declared.delta.Added.{Added}
-use Rattle.xi_plain.specs.declared.delta.Delta.{Delta}
-use Rattle.xi_plain.specs.Text.{gap_of}
-use Rattle.xi_plain.specs.Woven.{woven}
-use Rattle.xi_plain.specs.Delta.{insertions, misfit_of}
-use Rattle.xi_plain.specs.History.{Tagged, History, head, text_at, inserted_count}
-use Rattle.xi_plain.specs.Place.{insertion_place}
-use Rattle.xi_plain.specs.Edits.{PlainEdit, gap_count, inserted_at, is_dropped_by, deleted_by, Refusal, unknown, collected, spent, edit_refusal, inserted_len, misfit_or_spent}
-use Rattle.xi_plain.proofs.HistoryLemmas.{becomes}
-use Rattle.rev_engine.specs.Given.{Asked, meant, after}
+use Rattle.plain_edits.specs.declared.delta.El.{El}
+use Rattle.plain_edits.specs.declared.delta.El.TheVariants.{Copy, Insert}
+use Rattle.plain_edits.specs.declared.delta.Added.{Added}
+use Rattle.plain_edits.specs.declared.delta.Delta.{Delta}
+use Rattle.plain_text.specs.Text.{gap_of}
+use Rattle.plain_text.specs.Woven.{woven}
+use Rattle.plain_edits.specs.Delta.{insertions, misfit_of}
+use Rattle.plain_edits.specs.History.{Tagged, History, head, text_at, inserted_count}
+use Rattle.plain_edits.specs.Place.{insertion_place}
+use Rattle.plain_edits.specs.Edits.{PlainEdit, gap_count, inserted_at, is_deleted_by, with_deletion, Refusal, unknown, collected, spent, edit_refusal, misfit_or_spent}
+use Rattle.plain_edits.specs.Delta.{inserted_len}
+use Rattle.plain_edits.proofs.callers.HistoryLemmas.{becomes}
+use Rattle.rev_engine.specs.Given.{AskedEdit, meant, after}
 
 -- ---- sums
 
@@ -100,7 +101,7 @@ inserted-insertions text gap (Insert added ∷ els) =
     )
 inserted-insertions text gap (Copy a b ∷ els) = inserted-insertions text (gap_of text b) els
 
-pub inserted_count-after : (history : History) (asked : Asked) →
+pub inserted_count-after : (history : History) (asked : AskedEdit) →
     inserted_count (after history asked) ≤ inserted_count history + inserted_len asked.delta.els
 inserted_count-after history asked =
     omega (
@@ -130,9 +131,9 @@ inserted_count-after history asked =
     new_text gap = map new (e.added gap)
 
     stays : (i : ℕ) (x : Tagged) → count_by is_new (becomes history e i x) ≤ cond (is_new x) 1 0
-    stays i x = by_drop (is_dropped_by history e i x)
+    stays i x = by_drop (is_deleted_by history e i x)
       where
-        by_drop : (b : Bool) → count_by is_new ((if b then deleted_by (head history + 1) x else x) ∷ []) ≤ cond (is_new x) 1 0
+        by_drop : (b : Bool) → count_by is_new ((if b then with_deletion (head history + 1) x else x) ∷ []) ≤ cond (is_new x) 1 0
         by_drop true = omega arith
         by_drop false = omega arith
 

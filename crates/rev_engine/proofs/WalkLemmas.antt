@@ -6,22 +6,18 @@ use Rattle.std.proofs.lemmas.Bool.{cases_order, ltb-true}
 use Rattle.std.proofs.lemmas.List.{append_assoc, length_push}
 use Rattle.std.proofs.lemmas.List.Elements.{filter-append}
 use Rattle.std.proofs.lemmas.List.Sums.{length-filter}
-use Rattle.xi_plain.specs.Woven.{woven, nth_index}
-use Rattle.xi_plain.specs.History.{Tagged, History, head, is_visible}
-use Rattle.xi_plain.specs.Place.{index_right_of, left_in_run, insertion_place}
-use Rattle.xi_plain.specs.Edits.{PlainEdit, gap_count, inserted_at, deleted_by, edited}
-use Rattle.xi_plain.proofs.WovenLemmas.{AllByRecursion-weaker, nth_index_past, filter-yes, filter-no, filter_none, flat_map_none, flat_map_one}
-use Rattle.xi_plain.proofs.HistoryLemmas.{becomes, is_visible-later}
-use Rattle.rev_rebase.proofs.RunSteps.{nth_index-at}
+use Rattle.plain_text.specs.Woven.{woven, nth_index}
+use Rattle.plain_edits.specs.History.{inserted_by, Tagged, History, head, is_visible}
+use Rattle.plain_edits.specs.Place.{index_right_of, left_in_run, insertion_place}
+use Rattle.plain_edits.specs.Edits.{PlainEdit, gap_count, inserted_at, with_deletion, edited}
+use Rattle.plain_text.proofs.callers.ListLemmas.{AllByRecursion-weaker, nth_index_past, filter-yes, filter-no, filter_none, flat_map_none, flat_map_one}
+use Rattle.plain_edits.proofs.callers.HistoryLemmas.{becomes, is_visible-later}
+use Rattle.rev_rebase.proofs.ForCallers.{nth_index-at}
 use Rattle.rev_engine.proofs.LaidLemmas.{laid, laid-yes, laid-no, woven-cut, woven_one, Behind, insertion_place-behind, nth_index-beyond, lt-insertion_place}
-
--- a character that the edit inserts
-abbrev pub newly : ℕ → ℕ → Tagged
-newly rev c = record { character = c; inserted = rev; deleted = [] }
 
 -- the old character, deleted by the edit where it does not keep it
 abbrev pub after_edit : PlainEdit → ℕ → (ℕ → Tagged → Tagged) → ℕ → Tagged → Tagged
-after_edit e rev at n tagged = if not (e.kept n) then deleted_by rev (at n tagged) else at n tagged
+after_edit e rev at n tagged = if not (e.kept n) then with_deletion rev (at n tagged) else at n tagged
 
 -- the characters, in blocks of two parts each, and with the edit's text between the two
 abbrev pub in_blocks : (Tagged → Bool) → (ℕ → List Tagged) → (ℕ → Tagged → Tagged) → ℕ → List Tagged → List Tagged
@@ -49,7 +45,7 @@ module _ (history : History) (e : PlainEdit) (seen : Tagged → Bool) (Old : Tag
   block n = front n ++ back n
 
   abbrev text : ℕ → List Tagged
-  text n = map (newly (head history + 1)) (e.added n)
+  text n = map (inserted_by (head history + 1)) (e.added n)
 
   abbrev before : ℕ → List Tagged → List Tagged
   before = in_blocks seen block at
@@ -66,12 +62,12 @@ module _ (history : History) (e : PlainEdit) (seen : Tagged → Bool) (Old : Tag
   -- what is not visible at the base stays as it is
   becomes_unseen : (i : ℕ) (x : Tagged) → now x ≡ false → becomes history e i x ≡ x ∷ []
   becomes_unseen i x unseen =
-      ap (λ b. (if b && not (e.kept (count_by now (take i history.characters))) then deleted_by (head history + 1) x else x) ∷ []) unseen
+      ap (λ b. (if b && not (e.kept (count_by now (take i history.characters))) then with_deletion (head history + 1) x else x) ∷ []) unseen
 
   becomes_seen : (i n : ℕ) (x : Tagged) → now x ≡ true → count_by now (take i history.characters) ≡ n →
-      becomes history e i x ≡ (if not (e.kept n) then deleted_by (head history + 1) x else x) ∷ []
+      becomes history e i x ≡ (if not (e.kept n) then with_deletion (head history + 1) x else x) ∷ []
   becomes_seen i n x is count =
-      ap₂ (λ b k. (if b && not (e.kept k) then deleted_by (head history + 1) x else x) ∷ []) is count
+      ap₂ (λ b k. (if b && not (e.kept k) then with_deletion (head history + 1) x else x) ∷ []) is count
 
   inserted_none : (i : ℕ) → ((m : ℕ) → m < gap_count history e.base → place m ≢ i) → inserted_at history e i ≡ []
   inserted_none i none =

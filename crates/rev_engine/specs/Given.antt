@@ -1,13 +1,13 @@
 -- Which histories the calls of an engine give.
 use Rattle.std.specs.Prelude.{◌≡◌, ℕ, ◌-◌, ◌^◌, ◌<◌, ◌≤◌, false, List, [], ◌∷◌, None, ⊤}
 use Rattle.std.specs.List.{fold}
-use Rattle.xi_plain.specs.declared.delta.Delta.{Delta}
-use Rattle.xi_plain.specs.Numbers.{has}
-use Rattle.xi_plain.specs.History.{History, head, loaded}
-use Rattle.xi_plain.specs.Edits.{PlainEdit, edited, plain_edit, edit_refusal}
+use Rattle.plain_edits.specs.declared.delta.Delta.{Delta}
+use Rattle.plain_text.specs.Numbers.{has}
+use Rattle.plain_edits.specs.History.{History, head, loaded}
+use Rattle.plain_edits.specs.Edits.{PlainEdit, edited, plain_edit, edit_refusal}
 
 -- an edit as it is asked for: a delta against the text of a revision
-pub record Asked : Type 0 where
+pub record AskedEdit : Type 0 where
   pub base : ℕ
   pub delta : Delta
   pub group : ℕ
@@ -15,14 +15,14 @@ pub record Asked : Type 0 where
   pub author : ℕ
 
 -- what it means in a history
-abbrev pub meant : History → Asked → PlainEdit
+abbrev pub meant : History → AskedEdit → PlainEdit
 meant history asked = plain_edit history asked.base asked.delta asked.group asked.priority asked.author
 
 -- the history after it, and after many, one after the other
-abbrev pub after : History → Asked → History
+abbrev pub after : History → AskedEdit → History
 after history asked = edited history (meant history asked)
 
-abbrev pub after_all : History → List Asked → History
+abbrev pub after_all : History → List AskedEdit → History
 after_all history edits = fold after history edits
 
 -- the edit may be asked for: its group counts from 1 and is not collected, and the next revision has a number
@@ -32,18 +32,18 @@ pub record MayAsk (history : History) (group : ℕ) : Type 0 where
   pub has_number : head history < 2 ^ 63 - 1
 
 -- the edit is taken
-pub record IsTaken (limit : ℕ) (history : History) (asked : Asked) : Type 0 where
+pub record IsTaken (limit : ℕ) (history : History) (asked : AskedEdit) : Type 0 where
   pub may : MayAsk history asked.group
   pub accepted : edit_refusal history limit asked.base asked.delta ≡ None
 
 -- each edit is taken in its turn
-abbrev pub AreTaken : ℕ → History → List Asked → Type 0
+abbrev pub AreTaken : ℕ → History → List AskedEdit → Type 0
 AreTaken limit history [] = ⊤
 AreTaken limit history (asked ∷ edits) = IsTaken limit history asked × AreTaken limit (after history asked) edits
 
 -- THE HISTORIES that the calls of an engine with this limit give: a loaded text, and edits that were taken
 pub record IsGiven (limit : ℕ) (history : History) : Type 0 where
   pub text : List ℕ
-  pub edits : List Asked
+  pub edits : List AskedEdit
   pub taken : AreTaken limit (loaded text) edits
   pub is : history ≡ after_all (loaded text) edits

@@ -2,5 +2,5 @@ pub mod Given
 pub mod State
 pub mod Engine
 pub mod Steps
-pub mod Fault
 pub mod Commute
+pub mod Inner

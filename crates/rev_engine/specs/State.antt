@@ -1,5 +1,5 @@
 use Rattle.std.specs.Prelude.{◌≡◌, ℕ, ◌+◌, ◌^◌, ◌<◌, ◌≤◌, List, length}
-use Rattle.xi_plain.specs.History.{History}
+use Rattle.plain_edits.specs.History.{History}
 
 -- what contracts see of an engine
 pub record State : Type 0 where

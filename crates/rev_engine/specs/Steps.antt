@@ -1,11 +1,12 @@
 -- The steps of an edit, over the characters and the revisions of an engine, whatever the histories that it stands for.
 use Rattle.std.specs.Prelude.{◌≡◌, ℕ, ◌+◌, ◌-◌, ◌<◌, ◌≤◌, List, length}
 use Rattle.subset_runs.specs.Subset.{items_outside, expand_in}
-use Rattle.xi_plain.specs.declared.delta.UnitDelta.{UnitDelta}
-use Rattle.xi_plain.specs.Delta.{Fits}
-use Rattle.xi_plain.specs.History.{History, head, visible_at}
-use Rattle.xi_plain.specs.Edits.{PlainEdit, inserted_len}
-use Rattle.xi_plain.specs.UnitDelta.{unit_keeps, unit_adds}
+use Rattle.plain_edits.specs.declared.delta.UnitDelta.{UnitDelta}
+use Rattle.plain_edits.specs.Delta.{Fits}
+use Rattle.plain_edits.specs.History.{History, head, visible_at}
+use Rattle.plain_edits.specs.Edits.{PlainEdit}
+use Rattle.plain_edits.specs.Delta.{inserted_len}
+use Rattle.plain_edits.specs.UnitDelta.{unit_keeps, unit_adds}
 use Rattle.delta_core.specs.Units.{IsUnitsOf}
 use Rattle.delta_core.specs.Synthesis.{IsBetween}
 use Rattle.rev_list.specs.Edit.{after_edit}
@@ -17,47 +18,6 @@ use Rattle.rev_engine.specs.declared.edit.Edit.{Edit}
 use Rattle.rev_engine.specs.declared.step.Fitting.{Fitting}
 use Rattle.rev_engine.specs.declared.step.Ready.{Ready}
 use Rattle.rev_engine.specs.State.{State, IsHeld}
-
--- what of the characters is visible at a revision
-abbrev pub shown_at : List ℕ → History → ℕ → List ℕ
-shown_at union revisions rev = items_outside (hidden_at revisions rev) union
-
--- the edit in characters
-abbrev pub in_characters : Edit → UnitDelta → PlainEdit
-in_characters edit units = record {
-  base = edit.rev;
-  kept = unit_keeps units;
-  added = unit_adds units;
-  group = edit.group;
-  priority = edit.priority;
-  author = edit.author;
-}
-
--- THE EDIT FITS: its base is kept, its delta fits what that shows, and there is room for its characters under the limit
-pub record IsFitting (engine : State) (edit : Edit) (fitting : Fitting) : Type 0 where
-  pub base_kept : engine.revisions.floor ≤ edit.rev
-  pub base_known : edit.rev ≤ head engine.revisions
-  pub fits : Fits (shown_at engine.union engine.revisions edit.rev) edit.delta
-  pub units : IsUnitsOf (shown_at engine.union engine.revisions edit.rev) edit.delta fitting.units
-  pub spent : fitting.spent ≡ engine.spent + inserted_len edit.delta.els
-  pub within : fitting.spent ≤ engine.limit
-
--- what an edit asks of the revisions and the characters that it is put into
-pub record IsBased (union : List ℕ) (revisions : History) (edit : Edit) (units : UnitDelta) : Type 0 where
-  pub base_kept : revisions.floor ≤ edit.rev
-  pub base_known : edit.rev ≤ head revisions
-  pub alive : units.base ≡ length (visible_at revisions edit.rev)
-  pub positions : length union ≡ length revisions.characters
-
--- THE EDIT IS READY: its revision, the characters with its text put in, and what it changes of those that were visible
-pub record IsMade (union : List ℕ) (revisions : History) (edit : Edit) (fitting : Fitting) (ready : Ready) : Type 0 where
-  pub edit_is : ready.edit.edit ≡ in_positions revisions (in_characters edit fitting.units)
-  pub edit_ready : IsReady revisions ready.edit
-  pub union_is : ready.union ≡ put_in (insertion_flags revisions (in_characters edit fitting.units)) (added_text fitting.units) union
-  pub between : IsBetween ready.union
-      (expand_in (hidden_at revisions (head revisions)) (insertion_flags revisions (in_characters edit fitting.units))) ready.edit.dead ready.change.units
-  pub spent_is : ready.spent ≡ fitting.spent
-  pub rev_is : ready.change.rev ≡ head revisions + 1
 
 -- the engine with the edit put in, which uses up the room that was taken for it
 abbrev pub with_edit : State → Ready → State

@@ -1,4 +1,4 @@
-use xi_plain::{Delta, UnitDelta};
+use plain_edits::{Delta, UnitDelta};
 
 /// An edit, made for the text of a revision.
 #[derive(Debug, PartialEq, Eq, Drop)]

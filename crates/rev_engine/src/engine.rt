@@ -1,23 +1,24 @@
 ghost use Rattle.std.specs.Prelude.{◌≡◌, ◌^◌, ◌<◌, ◌≤◌, ◌↔◌, ℕ, false, None, length, IfOk, IfErr, OnErr, OnOk};
-ghost use Rattle.xi_plain.specs.Numbers.{has};
-ghost use Rattle.xi_plain.specs.History.{History, head, loaded, text_at};
-ghost use Rattle.xi_plain.specs.Collection.{kept};
-ghost use Rattle.xi_plain.specs.Edits.{edit_refusal};
+ghost use Rattle.plain_text.specs.Numbers.{has};
+ghost use Rattle.plain_edits.specs.History.{History, head, loaded, text_at};
+ghost use Rattle.plain_edits.specs.Collection.{kept};
+ghost use Rattle.plain_edits.specs.Edits.{edit_refusal};
 ghost use Rattle.rev_list.specs.Hidden.{IsCollected, IsKeptAt, IsUnknown};
 ghost use Rattle.rev_engine.specs.Engine.{IsChange, StandsFor, asked_by};
-ghost use Rattle.rev_engine.specs.Fault.{Refuses};
+ghost use Rattle.plain_edits.specs.EditFault.{Refuses};
 ghost use Rattle.rev_engine.specs.Given.{MayAsk, after};
 ghost use Rattle.rev_engine.specs.State.{contents};
-ghost use Rattle.rev_engine.specs.Steps.{IsFitting, MayPut, shown_at, with_edit};
+ghost use Rattle.rev_engine.specs.Steps.{MayPut, with_edit};
+ghost use Rattle.rev_engine.specs.Inner.{IsFitting, shown_at};
 
 use crate::flat::alive;
-use crate::step::{Fitting, Ready, inserted_len, made_ready};
+use crate::step::{Fitting, Ready, made_ready};
 use crate::{Change, Edit, EditFault};
 use delta_core::{fits, to_units};
 use rev_list::{RevFault, RevList};
 use std::alloc::Global;
 use std::marker::Model;
-use xi_plain::{Copied, NoMemory, Text};
+use plain_text::{NoMemory, Text, TryClone};
 
 /// A text that many edit, with all its revisions.
 #[derive(Drop)]
@@ -186,7 +187,7 @@ impl Engine {
         if let Err(misfit) = fits(&text, &edit.delta) {
             return Err(EditFault::Misfit(misfit));
         }
-        let total = u128::from(self.spent) + inserted_len(edit.delta.els.as_slice());
+        let total = u128::from(self.spent) + edit.delta.inserted_len();
         if u128::from(self.limit) < total {
             return Err(EditFault::Spent(total));
         }

@@ -9,7 +9,6 @@
 
 mod edit;
 mod engine;
-mod fault;
 mod flat;
 pub mod laws;
 mod step;
@@ -18,5 +17,5 @@ mod tests;
 
 pub use edit::{Change, Edit};
 pub use engine::Engine;
-pub use fault::EditFault;
+pub use plain_edits::EditFault;
 pub use step::Ready;

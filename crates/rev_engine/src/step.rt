@@ -1,10 +1,10 @@
 // The steps of an edit: that it fits, and then all that it takes memory for.
 ghost use Rattle.std.specs.Prelude.{◌≡◌, ◌+◌, ◌*◌, ◌^◌, ◌<◌, ◌≤◌, length, IfOk, OnOk};
-ghost use Rattle.xi_plain.specs.UnitDelta.{IsUnitDelta};
-ghost use Rattle.xi_plain.specs.Edits.{inserted_len};
+ghost use Rattle.plain_edits.specs.UnitDelta.{IsUnitDelta};
+ghost use Rattle.plain_edits.specs.Delta.{inserted_len};
 ghost use Rattle.rev_rebase.specs.Rebase.{added_text};
 ghost use Rattle.rev_engine.specs.Given.{MayAsk};
-ghost use Rattle.rev_engine.specs.Steps.{IsBased, IsMade};
+ghost use Rattle.rev_engine.specs.Inner.{IsBasedOn, IsMadeReady};
 
 use crate::flat::with_put_in;
 use crate::{Change, Edit};
@@ -12,7 +12,8 @@ use delta_core::synthesize;
 use rev_list::{ReadyEdit, RevEdit, RevList};
 use rev_rebase::{Rebased, rebase};
 use std::alloc::Global;
-use xi_plain::{El, NoMemory, Text, UnitDelta};
+use plain_text::{NoMemory, Text};
+use plain_edits::{El, UnitDelta};
 
 /// An edit that fits, in characters, and how many characters were inserted after loading when it is taken.
 #[derive(Drop)]
@@ -33,20 +34,6 @@ pub struct Ready {
     pub change: Change,
 }
 
-// How many characters the elements insert, in the time of their texts; they need not fit 64 bits.
-pub(crate) fn inserted_len(els: &[El]) -> u128
-    ensures total { result ≡ inserted_len els.now }
-    ensures room { result + 2 ^ 64 ≤ 2 ^ 128 }
-{
-    let mut total: u128 = 0;
-    for el in els {
-        if let El::Insert { text } = el {
-            total += u128::from(text.len());
-        }
-    }
-    total
-}
-
 // Takes all the memory of the edit and works out what it changes; the revisions stay as they are.
 pub(crate) fn made_ready(
     alloc: Global,
@@ -55,11 +42,11 @@ pub(crate) fn made_ready(
     edit: &Edit,
     fitting: &Fitting,
 ) -> Result<Ready, NoMemory>
-    requires based { IsBased union.now revs.old.history edit.now fitting.now.units }
+    requires based { IsBasedOn union.now revs.old.history edit.now fitting.now.units }
     requires may { MayAsk revs.old.history edit.now.group }
     requires well_formed { IsUnitDelta fitting.now.units }
     requires bound { length revs.old.history.characters + length (added_text fitting.now.units) < 2 ^ 64 }
-    ensures made { IfOk result (IsMade union.now revs.old.history edit.now fitting.now) }
+    ensures made { IfOk result (IsMadeReady union.now revs.old.history edit.now fitting.now) }
     ensures room { OnOk result (0 < revs.new.room) }
     ensures same { revs.new.history ≡ revs.old.history }
 {

@@ -3,7 +3,8 @@ use rev_list::RevFault;
 use std::alloc::Global;
 use std::process::Abort;
 use std::test::Fail;
-use xi_plain::{Delta, El, Els, Misfit, NoMemory, Run, Text};
+use plain_text::{NoMemory, Run, Text};
+use plain_edits::{Delta, El, Els, Misfit};
 
 // An edit of a row against a base of `len` bytes: it puts a text in the place of the bytes from `from` up to `to`.
 #[derive(Clone, Copy)]

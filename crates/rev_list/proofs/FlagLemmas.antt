@@ -5,8 +5,8 @@ use Rattle.std.specs.List.{fold}
 use Rattle.std.proofs.lemmas.List.{length-replicate}
 use Rattle.std.proofs.lemmas.List.Sums.{fold_more}
 use Rattle.subset_runs.specs.Subset.{count, union, minus, expand, shrink}
-use Rattle.subset_runs.proofs.TransformLaws.{length-at_each, items_outside-expand_as}
-use Rattle.subset_runs.proofs.RenumberingLemmas.{length-expand_as}
+use Rattle.subset_runs.proofs.ForCallers.{length-at_each, items_outside-expand_as}
+use Rattle.subset_runs.proofs.ForCallers.{length-expand_as}
 use Rattle.rev_list.specs.declared.edit.RevEdit.{RevEdit}
 use Rattle.rev_list.specs.Kept.{AreInTurn, dead_after, hidden_by, hidden_by_each, HoldsEdits}
 

@@ -6,14 +6,15 @@ use Rattle.std.proofs.lemmas.List.{length-map, length-drop, length-replicate, ta
 use Rattle.std.proofs.lemmas.List.Sums.{fold-append}
 use Rattle.std.proofs.lemmas.Option.{slice_get_past}
 use Rattle.subset_runs.specs.Subset.{count, union, expand, expand_in, expand_as}
-use Rattle.xi_plain.specs.Numbers.{has}
-use Rattle.xi_plain.specs.History.{Tagged, Revision, History, head, loaded, revision_at, undone, IsTaggedBy, IsSound}
-use Rattle.xi_plain.specs.Edits.{deleted_by}
+use Rattle.plain_text.specs.Numbers.{has}
+use Rattle.plain_edits.specs.History.{Tagged, Revision, History, head, loaded, revision_at, undone, IsTaggedBy, IsSound}
+use Rattle.plain_edits.specs.Edits.{with_deletion}
 use Rattle.rev_list.specs.declared.edit.RevEdit.{RevEdit}
 use Rattle.rev_list.specs.declared.edit.ReadyEdit.{ReadyEdit}
 use Rattle.rev_list.specs.Edit.{edit_revision, new_by, with_new, with_deleted, after_edit, MayPush}
 use Rattle.rev_list.specs.Hidden.{is_hidden, hidden_at, union_at, hidden_then, insertions_of, deletions_of, IsEditAt, AreEditsAfter}
-use Rattle.rev_list.specs.Kept.{AreInTurn, dead_after, dead_later, hidden_by, history_of, HoldsEdits, IsReady}
+use Rattle.rev_list.specs.Kept.{AreInTurn, dead_after, hidden_by, history_of, HoldsEdits, IsReady}
+use Rattle.rev_list.specs.Inner.{dead_later}
 use Rattle.rev_list.proofs.FlagLemmas.{AreInTurn-append, hidden_by_each-append}
 use Rattle.rev_list.proofs.TagLemmas.{undone_after-edit, is_visible-seen, seen_new_before, seen_new_now, seen_deleted_before, has_deleted_before, inserted_now}
 use Rattle.rev_list.proofs.StepLemmas.{length-with_new, map-with_new, map-with_deleted_same, filter-with_deleted_same, filter-with_new, filter-there, tagged_later, tagged-with_new, tagged-with_deleted, is_unseen, unseen-with_deleted, unseen_next, none_inserted_later, expand_in_none, none_deleted_by, deletions-with_deleted}
@@ -97,7 +98,7 @@ hidden_at-later h e n plain next h_n =
     ∙ ap (λ xs. expand_in xs e.inserted) (sym (hidden_at-seen h n plain)))))
 
 -- what is said of the characters that were there
-union_same : (f : Tagged → Bool) (h : History) (e : RevEdit) (n : ℕ) → ((t : Tagged) → f (deleted_by (head h + 1) t) ≡ f t) → IsNext h e → n ≤ head h → map f (union_at (after_edit h e) n) ≡ map f (union_at h n)
+union_same : (f : Tagged → Bool) (h : History) (e : RevEdit) (n : ℕ) → ((t : Tagged) → f (with_deletion (head h + 1) t) ≡ f t) → IsNext h e → n ≤ head h → map f (union_at (after_edit h e) n) ≡ map f (union_at h n)
 union_same f h e n same next h_n =
     filter-with_deleted_same f (head h + 1) n same (with_new (new_by (head h + 1)) h.characters e.inserted) e.deleted
     ∙ ap (λ xs. map f xs) (filter-with_new (head h + 1) n h.characters e.inserted (omega arith) next.grown)

@@ -3,3 +3,4 @@ pub mod TagLemmas
 pub mod StepLemmas
 pub mod HistoryLemmas
 pub mod TextLemmas
+pub mod ForCallers

@@ -3,12 +3,12 @@ use Rattle.std.proofs.Common.{◌≡◌, ℕ, ◌+◌, ◌<◌, ◌≤◌, Bool,
 use Rattle.std.specs.Prelude.{suc, zero, replicate, ◌==◌}
 use Rattle.std.specs.List.{filter, AllByRecursion}
 use Rattle.subset_runs.specs.Subset.{count, union, expand_as}
-use Rattle.subset_runs.proofs.FlagLemmas.{count_le_length}
-use Rattle.xi_plain.specs.Numbers.{has}
-use Rattle.xi_plain.specs.History.{Tagged, IsTaggedBy}
-use Rattle.xi_plain.specs.Edits.{deleted_by}
+use Rattle.subset_runs.proofs.ForCallers.{count_le_length}
+use Rattle.plain_text.specs.Numbers.{has}
+use Rattle.plain_edits.specs.History.{Tagged, IsTaggedBy}
+use Rattle.plain_edits.specs.Edits.{with_deletion}
 use Rattle.rev_list.specs.Edit.{new_by, with_new, with_deleted}
-use Rattle.rev_list.specs.Hidden.{is_there}
+use Rattle.plain_edits.specs.History.{is_there}
 use Rattle.rev_list.proofs.TagLemmas.{is_seen, there_new_before, there_by, seen_deleted_now, seen_next, not_inserted_later, has_deleted_now, has_no_later}
 
 pub length-with_new : {X : Type 0} (new : X) (xs : List X) (by : List Bool) → length by ≡ length xs + count by → length (with_new new xs by) ≡ length by
@@ -27,7 +27,7 @@ map-with_new f new [] (false ∷ by) h = absurd (omega (arith, count_le_length b
 map-with_new f new (x ∷ xs) (false ∷ by) h = ap (λ rest. f x ∷ rest) (map-with_new f new xs by (omega arith))
 
 -- a flag that the deletion does not change
-pub map-with_deleted_same : (f : Tagged → Bool) (rev : ℕ) → ((t : Tagged) → f (deleted_by rev t) ≡ f t) → (xs : List Tagged) (at : List Bool) → map f (with_deleted rev xs at) ≡ map f xs
+pub map-with_deleted_same : (f : Tagged → Bool) (rev : ℕ) → ((t : Tagged) → f (with_deletion rev t) ≡ f t) → (xs : List Tagged) (at : List Bool) → map f (with_deleted rev xs at) ≡ map f xs
 map-with_deleted_same f rev same [] at = refl
 map-with_deleted_same f rev same (x ∷ xs) [] = refl
 map-with_deleted_same f rev same (x ∷ xs) (true ∷ at) =
@@ -41,7 +41,7 @@ filter_cons : (f : Tagged → Bool) (b : Bool) (x y : Tagged) (xs ys : List Tagg
 filter_cons f true x y xs ys e h = cc
 filter_cons f false x y xs ys e h = h
 
-pub filter-with_deleted_same : (f : Tagged → Bool) (rev n : ℕ) → ((t : Tagged) → f (deleted_by rev t) ≡ f t) → (xs : List Tagged) (at : List Bool) → map f (filter (is_there n) (with_deleted rev xs at)) ≡ map f (filter (is_there n) xs)
+pub filter-with_deleted_same : (f : Tagged → Bool) (rev n : ℕ) → ((t : Tagged) → f (with_deletion rev t) ≡ f t) → (xs : List Tagged) (at : List Bool) → map f (filter (is_there n) (with_deleted rev xs at)) ≡ map f (filter (is_there n) xs)
 filter-with_deleted_same f rev n same [] at = refl
 filter-with_deleted_same f rev n same (x ∷ xs) [] = refl
 filter-with_deleted_same f rev n same (x ∷ xs) (true ∷ at) =
@@ -112,7 +112,7 @@ unseen-with_deleted rev [] [] h = refl
 unseen-with_deleted rev [] (flag ∷ at) h = refl
 unseen-with_deleted rev (x ∷ xs) [] h = absurd (omega arith)
 unseen-with_deleted rev (x ∷ xs) (true ∷ at) h =
-    let first : is_unseen rev (deleted_by rev x) ≡ (is_unseen rev x || true) = ap not (seen_deleted_now rev x) ∙ sym (or_true (is_unseen rev x)) in
+    let first : is_unseen rev (with_deletion rev x) ≡ (is_unseen rev x || true) = ap not (seen_deleted_now rev x) ∙ sym (or_true (is_unseen rev x)) in
     let rest = unseen-with_deleted rev xs at (omega arith) in
     cc
 unseen-with_deleted rev (x ∷ xs) (false ∷ at) h =

@@ -4,9 +4,9 @@ use Rattle.std.specs.Prelude.{suc, zero, nat_le, nat_lt, ◌==◌}
 use Rattle.std.specs.List.{list_all, AllByRecursion}
 use Rattle.std.proofs.lemmas.Bool.Decides.{nat_tests}
 use Rattle.std.proofs.lemmas.List.Folds.{list_all-append, list_any-append}
-use Rattle.xi_plain.specs.Numbers.{has}
-use Rattle.xi_plain.specs.History.{Tagged, Revision, edit, undo, undone, undone_after, group_of, is_undone, is_visible, IsTaggedBy}
-use Rattle.xi_plain.specs.Edits.{deleted_by}
+use Rattle.plain_text.specs.Numbers.{has}
+use Rattle.plain_edits.specs.History.{Tagged, Revision, edit, undo, undone, undone_after, group_of, is_undone, is_visible, IsTaggedBy}
+use Rattle.plain_edits.specs.Edits.{with_deletion}
 use Rattle.rev_list.specs.declared.edit.RevEdit.{RevEdit}
 use Rattle.rev_list.specs.Edit.{edit_revision, new_by}
 
@@ -92,12 +92,12 @@ and_and_false true true b e = cc
 and_and_false true false b e = refl
 and_and_false false x b e = refl
 
-pub seen_deleted_before : (rev n : ℕ) (t : Tagged) → n < rev → is_seen n (deleted_by rev t) ≡ is_seen n t
+pub seen_deleted_before : (rev n : ℕ) (t : Tagged) → n < rev → is_seen n (with_deletion rev t) ≡ is_seen n t
 seen_deleted_before rev n t h =
     ap (λ b. nat_le t.inserted n && b) (list_all-append (λ k. nat_lt n k) t.deleted (rev ∷ []))
     ∙ and_and_true (nat_le t.inserted n) (list_all (λ k. nat_lt n k) t.deleted) (nat_lt n rev) (lt_true n rev h)
 
-pub seen_deleted_now : (rev : ℕ) (t : Tagged) → is_seen rev (deleted_by rev t) ≡ false
+pub seen_deleted_now : (rev : ℕ) (t : Tagged) → is_seen rev (with_deletion rev t) ≡ false
 seen_deleted_now rev t =
     ap (λ b. nat_le t.inserted rev && b) (list_all-append (λ k. nat_lt rev k) t.deleted (rev ∷ []))
     ∙ and_and_false (nat_le t.inserted rev) (list_all (λ k. nat_lt rev k) t.deleted) (nat_lt rev rev) (lt_false rev rev (omega arith))
@@ -130,11 +130,11 @@ or_or_false : (x b : Bool) → b ≡ false → (x || (b || false)) ≡ x
 or_or_false true b e = refl
 or_or_false false b e = cc
 
-pub has_deleted_now : (rev : ℕ) (t : Tagged) → has (deleted_by rev t).deleted rev ≡ true
+pub has_deleted_now : (rev : ℕ) (t : Tagged) → has (with_deletion rev t).deleted rev ≡ true
 has_deleted_now rev t =
     list_any-append (λ m. m == rev) t.deleted (rev ∷ []) ∙ or_or_true (has t.deleted rev) (rev == rev) (eq_true rev)
 
-pub has_deleted_before : (rev n : ℕ) (t : Tagged) → n < rev → has (deleted_by rev t).deleted n ≡ has t.deleted n
+pub has_deleted_before : (rev n : ℕ) (t : Tagged) → n < rev → has (with_deletion rev t).deleted n ≡ has t.deleted n
 has_deleted_before rev n t h =
     list_any-append (λ m. m == n) t.deleted (rev ∷ []) ∙ or_or_false (has t.deleted n) (rev == n) (eq_false_above rev n h)
 

@@ -4,11 +4,11 @@ use Rattle.std.specs.Prelude.{replicate, ◌==◌, if◌then◌else◌}
 use Rattle.std.specs.List.{flat_map, range_with_len}
 use Rattle.std.proofs.lemmas.List.{map-append, length-map, replicate-append-replicate}
 use Rattle.subset_runs.specs.Subset.{count}
-use Rattle.subset_runs.proofs.FlagLemmas.{count-append}
-use Rattle.xi_plain.specs.Woven.{woven}
-use Rattle.xi_plain.specs.History.{Tagged, History, head}
-use Rattle.xi_plain.specs.Place.{insertion_place}
-use Rattle.xi_plain.specs.Edits.{PlainEdit, gap_count, inserted_at, is_dropped_by, deleted_by, edited}
+use Rattle.subset_runs.proofs.ForCallers.{count-append}
+use Rattle.plain_text.specs.Woven.{woven}
+use Rattle.plain_edits.specs.History.{Tagged, History, head}
+use Rattle.plain_edits.specs.Place.{insertion_place}
+use Rattle.plain_edits.specs.Edits.{PlainEdit, gap_count, inserted_at, is_deleted_by, with_deletion, edited}
 use Rattle.rev_list.specs.Edit.{new_by, with_new, with_deleted, after_edit}
 use Rattle.rev_list.specs.Hidden.{is_hidden, hidden_at}
 use Rattle.rev_list.specs.WithoutText.{without_character, without_text, insertion_flags, deletion_flags, in_positions}
@@ -65,19 +65,19 @@ front_alone : (rev : ℕ) (xs : List Tagged) → with_deleted rev (with_new (new
 front_alone rev [] = refl
 front_alone rev (x ∷ xs) = ap (λ rest. new_by rev ∷ rest) (front_alone rev xs)
 
-one_tag : (rev : ℕ) (b : Bool) (t : Tagged) → (if b then deleted_by rev (without_character t) else without_character t) ≡ without_character (if b then deleted_by rev t else t)
+one_tag : (rev : ℕ) (b : Bool) (t : Tagged) → (if b then with_deletion rev (without_character t) else without_character t) ≡ without_character (if b then with_deletion rev t else t)
 one_tag rev true t = refl
 one_tag rev false t = refl
 
 -- ---- the whole list
 
-characters_step : (rev : ℕ) (between : ℕ → List Tagged) (drops : ℕ → Tagged → Bool) → ((index : ℕ) → AreNew rev (between index)) → (index : ℕ) (xs : List Tagged) → with_deleted rev (with_new (new_by rev) (map without_character xs) (woven (λ i. map (λ _. true) (between i)) (λ _ _. false ∷ []) index xs)) (woven (λ i. map (λ _. false) (between i)) (λ i t. drops i t ∷ []) index xs) ≡ map without_character (woven between (λ i t. (if drops i t then deleted_by rev t else t) ∷ []) index xs)
+characters_step : (rev : ℕ) (between : ℕ → List Tagged) (drops : ℕ → Tagged → Bool) → ((index : ℕ) → AreNew rev (between index)) → (index : ℕ) (xs : List Tagged) → with_deleted rev (with_new (new_by rev) (map without_character xs) (woven (λ i. map (λ _. true) (between i)) (λ _ _. false ∷ []) index xs)) (woven (λ i. map (λ _. false) (between i)) (λ i t. drops i t ∷ []) index xs) ≡ map without_character (woven between (λ i t. (if drops i t then with_deletion rev t else t) ∷ []) index xs)
 characters_step rev between drops new index [] = front_alone rev (between index) ∙ sym (new index).same
 characters_step rev between drops new index (x ∷ xs) =
     let ins : List Bool = woven (λ i. map (λ _. true) (between i)) (λ _ _. false ∷ []) (index + 1) xs in
     let del : List Bool = woven (λ i. map (λ _. false) (between i)) (λ i t. drops i t ∷ []) (index + 1) xs in
-    let tag : Tagged = if drops index x then deleted_by rev x else x in
-    let all : List Tagged = woven between (λ i t. (if drops i t then deleted_by rev t else t) ∷ []) (index + 1) xs in
+    let tag : Tagged = if drops index x then with_deletion rev x else x in
+    let all : List Tagged = woven between (λ i t. (if drops i t then with_deletion rev t else t) ∷ []) (index + 1) xs in
     let rest : with_deleted rev (with_new (new_by rev) (map without_character xs) ins) del ≡ map without_character all =
     characters_step rev between drops new (index + 1) xs in
     let first = one_tag rev (drops index x) x in
@@ -89,7 +89,7 @@ characters_step rev between drops new index (x ∷ xs) =
 
 pub step_without_text : (h : History) (e : PlainEdit) → after_edit (without_text h) (in_positions h e) ≡ without_text (edited h e)
 step_without_text h e =
-    ap (λ (xs : List Tagged). record (without_text (edited h e)) { characters = xs }) (characters_step (head h + 1) (inserted_at h e) (is_dropped_by h e) (AreNew-inserted_at h e) 0 h.characters)
+    ap (λ (xs : List Tagged). record (without_text (edited h e)) { characters = xs }) (characters_step (head h + 1) (inserted_at h e) (is_deleted_by h e) (AreNew-inserted_at h e) 0 h.characters)
 
 -- ---- lengths
 
@@ -114,7 +114,7 @@ same_woven between drops index (x ∷ xs) =
     omega (arith, same_woven between drops (index + 1) xs, length-append (map (λ _. true) (between index)) (false ∷ ins), length-append (map (λ _. false) (between index)) (drops index x ∷ del), length-map (between index) (λ _. true), length-map (between index) (λ _. false))
 
 pub same_flags : (h : History) (e : PlainEdit) → length (deletion_flags h e) ≡ length (insertion_flags h e)
-same_flags h e = same_woven (inserted_at h e) (is_dropped_by h e) 0 h.characters
+same_flags h e = same_woven (inserted_at h e) (is_deleted_by h e) 0 h.characters
 
 -- ---- what is hidden
 

@@ -1,9 +1,9 @@
 -- What an edit adds to a history, where it says positions of the union.
 use Rattle.std.specs.Prelude.{◌≡◌, ℕ, ◌+◌, ◌-◌, ◌^◌, ◌<◌, ◌≤◌, Bool, true, false, if◌then◌else◌, List, [], ◌∷◌, ◌++◌, length}
 use Rattle.subset_runs.specs.Subset.{count}
-use Rattle.xi_plain.specs.Numbers.{has}
-use Rattle.xi_plain.specs.History.{Tagged, Revision, edit, History, head}
-use Rattle.xi_plain.specs.Edits.{deleted_by}
+use Rattle.plain_text.specs.Numbers.{has}
+use Rattle.plain_edits.specs.History.{inserted_by, Tagged, Revision, edit, History, head}
+use Rattle.plain_edits.specs.Edits.{with_deletion}
 use Rattle.rev_list.specs.declared.edit.RevEdit.{RevEdit}
 
 -- the revision of an edit
@@ -12,7 +12,7 @@ edit_revision e = edit e.base e.group e.priority e.author
 
 -- a character that the revision inserts
 abbrev pub new_by : ℕ → Tagged
-new_by rev = record { character = 0; inserted = rev; deleted = [] }
+new_by rev = inserted_by rev 0
 
 -- the items of a longer list: `new` at the positions `by`, and the old ones in order at the others
 abbrev pub with_new : {X : Type 0} → X → List X → List Bool → List X
@@ -26,7 +26,7 @@ abbrev pub with_deleted : ℕ → List Tagged → List Bool → List Tagged
 with_deleted rev [] at = []
 with_deleted rev (tagged ∷ characters) [] = tagged ∷ characters
 with_deleted rev (tagged ∷ characters) (flag ∷ at) =
-    (if flag then deleted_by rev tagged else tagged) ∷ with_deleted rev characters at
+    (if flag then with_deletion rev tagged else tagged) ∷ with_deleted rev characters at
 
 -- THE EDIT STEP, in positions of the union
 abbrev pub after_edit : History → RevEdit → History

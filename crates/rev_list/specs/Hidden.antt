@@ -1,8 +1,8 @@
 -- What the positions of the union are at a revision.
-use Rattle.std.specs.Prelude.{◌≡◌, ℕ, ◌+◌, ◌<◌, ◌≤◌, Bool, true, false, not, nat_le, ◌==◌, List, length, map, Option, Some, None, slice_get}
+use Rattle.std.specs.Prelude.{◌≡◌, ℕ, ◌+◌, ◌<◌, ◌≤◌, Bool, true, false, not, ◌==◌, List, length, map, Option, Some, None, slice_get}
 use Rattle.std.specs.List.{filter}
-use Rattle.xi_plain.specs.Numbers.{has}
-use Rattle.xi_plain.specs.History.{Tagged, Revision, edit, undo, History, head, revision_at, is_visible}
+use Rattle.plain_text.specs.Numbers.{has}
+use Rattle.plain_edits.specs.History.{Tagged, Revision, edit, undo, History, head, revision_at, is_there, is_visible}
 use Rattle.rev_list.specs.declared.edit.RevEdit.{RevEdit}
 use Rattle.rev_list.specs.Edit.{edit_revision}
 
@@ -13,10 +13,6 @@ is_hidden history rev tagged = not (is_visible history.revisions rev tagged)
 -- what of the present union is not visible at the revision
 abbrev pub hidden_at : History → ℕ → List Bool
 hidden_at history rev = map (is_hidden history rev) history.characters
-
--- whether the character was inserted by then
-abbrev pub is_there : ℕ → Tagged → Bool
-is_there rev tagged = nat_le tagged.inserted rev
 
 -- the union as it was after the revision
 abbrev pub union_at : History → ℕ → List Tagged

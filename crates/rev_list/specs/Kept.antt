@@ -2,7 +2,7 @@
 use Rattle.std.specs.Prelude.{◌≡◌, ℕ, ◌+◌, Bool, false, List, [], ◌∷◌, length, replicate}
 use Rattle.std.specs.List.{fold}
 use Rattle.subset_runs.specs.Subset.{count, expand, expand_in, union, minus}
-use Rattle.xi_plain.specs.History.{History, head, loaded}
+use Rattle.plain_edits.specs.History.{History, head, loaded}
 use Rattle.rev_list.specs.declared.edit.RevEdit.{RevEdit}
 use Rattle.rev_list.specs.declared.edit.ReadyEdit.{ReadyEdit}
 use Rattle.rev_list.specs.Edit.{after_edit, MayPush}
@@ -15,10 +15,6 @@ history_of len edits = fold after_edit (loaded (replicate len 0)) edits
 -- what is dead after an edit, where `dead` was before it
 abbrev pub dead_after : List Bool → RevEdit → List Bool
 dead_after dead e = union (expand dead e.inserted) e.deleted
-
--- the same for a revision before the edit: what the edit inserts is dead there, and what it deletes is as before
-abbrev pub dead_later : List Bool → RevEdit → List Bool
-dead_later dead e = expand_in dead e.inserted
 
 -- which positions an edit hides: those that it deletes, where they were not dead before it
 abbrev pub hidden_by : List Bool → RevEdit → List Bool

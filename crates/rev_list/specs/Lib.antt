@@ -4,3 +4,4 @@ pub mod RevFault
 pub mod Hidden
 pub mod Kept
 pub mod WithoutText
+pub mod Inner

@@ -1,5 +1,5 @@
 use Rattle.std.specs.Prelude.{ℕ}
-use Rattle.xi_plain.specs.History.{History}
+use Rattle.plain_edits.specs.History.{History}
 
 -- what contracts see of a list of revisions
 pub record Revisions : Type 0 where

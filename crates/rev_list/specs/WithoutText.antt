@@ -1,8 +1,8 @@
 -- The history of positions behind a history of characters, and the edit of positions behind an edit of text.
 use Rattle.std.specs.Prelude.{Bool, true, false, List, [], ◌∷◌, map}
-use Rattle.xi_plain.specs.Woven.{woven}
-use Rattle.xi_plain.specs.History.{Tagged, History}
-use Rattle.xi_plain.specs.Edits.{PlainEdit, inserted_at, is_dropped_by}
+use Rattle.plain_text.specs.Woven.{woven}
+use Rattle.plain_edits.specs.History.{Tagged, History}
+use Rattle.plain_edits.specs.Edits.{PlainEdit, inserted_at, is_deleted_by}
 use Rattle.rev_list.specs.declared.edit.RevEdit.{RevEdit}
 
 -- the character, without saying which
@@ -19,7 +19,7 @@ insertion_flags history e = woven (λ index. map (λ _. true) (inserted_at histo
 
 abbrev pub deletion_flags : History → PlainEdit → List Bool
 deletion_flags history e =
-    woven (λ index. map (λ _. false) (inserted_at history e index)) (λ index tagged. is_dropped_by history e index tagged ∷ []) 0 history.characters
+    woven (λ index. map (λ _. false) (inserted_at history e index)) (λ index tagged. is_deleted_by history e index tagged ∷ []) 0 history.characters
 
 -- the edit, in positions of the longer union
 abbrev pub in_positions : History → PlainEdit → RevEdit

@@ -2,7 +2,8 @@
 ghost use Rattle.std.specs.Prelude.{◌≡◌, ◌+◌, ◌≤◌, drop, length, IfOk};
 ghost use Rattle.std.specs.List.{fold};
 ghost use Rattle.subset_runs.specs.Subset.{count};
-ghost use Rattle.rev_list.specs.Kept.{AreInTurn, dead_after, dead_later, hidden_by};
+ghost use Rattle.rev_list.specs.Kept.{AreInTurn, dead_after, hidden_by};
+ghost use Rattle.rev_list.specs.Inner.{dead_later};
 
 use crate::{ReadyEdit, RevEdit};
 use std::alloc::{AllocError, Global};

@@ -1,9 +1,10 @@
 ghost use Rattle.std.specs.Prelude.{◌≡◌};
 
+use plain_edits::EditFault;
+use plain_text::NoMemory;
 use std::alloc::AllocError;
 use std::error::Error;
 use std::fmt;
-use xi_plain::NoMemory;
 
 /// Why a revision gives no answer.
 #[derive(Clone, Copy, Debug, PartialEq, Eq)]
@@ -49,5 +50,19 @@ impl From<NoMemory> for RevFault {
 
     fn from(_: NoMemory) -> Self {
         RevFault::NoMemory
+    }
+}
+
+impl From<RevFault> for EditFault {
+    ghost use Rattle.rev_list.specs.RevFault.{fault_of_base};
+
+    ghost from_gives = { λ revision fault. fault ≡ fault_of_base revision };
+
+    fn from(revision: RevFault) -> EditFault {
+        match revision {
+            RevFault::Unknown(head) => EditFault::Unknown(head),
+            RevFault::Collected(floor) => EditFault::Collected(floor),
+            RevFault::NoMemory => EditFault::NoMemory,
+        }
     }
 }

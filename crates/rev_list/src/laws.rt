@@ -2,8 +2,8 @@
 //! proof proves them.
 ghost use Rattle.std.specs.Prelude.{◌≡◌, ℕ, ◌+◌, length};
 ghost use Rattle.subset_runs.specs.Subset.{count};
-ghost use Rattle.xi_plain.specs.History.{History};
-ghost use Rattle.xi_plain.specs.Edits.{PlainEdit, edited};
+ghost use Rattle.plain_edits.specs.History.{History};
+ghost use Rattle.plain_edits.specs.Edits.{PlainEdit, edited};
 ghost use Rattle.rev_list.specs.Edit.{after_edit};
 ghost use Rattle.rev_list.specs.Hidden.{hidden_at};
 ghost use Rattle.rev_list.specs.WithoutText.{deletion_flags, in_positions, insertion_flags, without_text};

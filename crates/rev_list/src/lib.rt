@@ -1,8 +1,8 @@
 //! The list of revisions: from the floor to the head, what of the union text is dead at each.
 //!
 //! The union is all characters that were ever inserted, in order. The list has positions of the union and no text. To a contract
-//! a `RevList` is a record: `history`, the history of `xi_plain` in which every character is 0, and `room`, for how many further
-//! edits there is a place already. So what `xi_plain` says of a history (visible, undone, the insertion place) is said of the list.
+//! a `RevList` is a record: `history`, the history of `plain_edits` in which every character is 0, and `room`, for how many further
+//! edits there is a place already. So what `plain_edits` says of a history (visible, undone, the insertion place) is said of the list.
 //!
 //! [`laws::edit_step`] says that a push is the edit step of a history, whatever its text.
 //!

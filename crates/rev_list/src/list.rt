@@ -1,6 +1,6 @@
 ghost use Rattle.std.specs.Prelude.{◌≡◌, ◌≢◌, ℕ, ◌+◌, ◌-◌, ◌<◌, ◌≤◌, ◌↔◌, false, length, replicate, IfOk, IfSome, IfNone, OnOk, OnErr};
-ghost use Rattle.xi_plain.specs.Numbers.{has};
-ghost use Rattle.xi_plain.specs.History.{IsSound, head, loaded, revision_at};
+ghost use Rattle.plain_text.specs.Numbers.{has};
+ghost use Rattle.plain_edits.specs.History.{IsSound, head, loaded, revision_at};
 ghost use Rattle.rev_list.specs.Edit.{after_edit, MayPush};
 ghost use Rattle.rev_list.specs.Hidden.{AreEditsAfter, IsCollected, IsEditAt, IsKeptAt, IsUnknown, hidden_at, hidden_then, is_edit};
 ghost use Rattle.rev_list.specs.Kept.{IsReady};
@@ -11,7 +11,7 @@ use crate::{ReadyEdit, RevEdit, RevFault};
 use std::alloc::{AllocError, Global};
 use std::marker::Model;
 use subset_runs::Subset;
-use xi_plain::NoMemory;
+use plain_text::NoMemory;
 
 /// The revisions from the floor to the head, over the present union.
 #[derive(Debug, Drop)]

@@ -4,11 +4,11 @@ use Rattle.std.specs.List.{range_with_len}
 use Rattle.std.proofs.lemmas.List.{length-replicate}
 use Rattle.std.proofs.lemmas.Bool.{cases_eq, eq-eqb, ne_eqb}
 use Rattle.subset_runs.specs.Subset.{count}
-use Rattle.subset_runs.proofs.FlagLemmas.{count_le_length, count-append, count-replicate_true, count-replicate_false}
-use Rattle.xi_plain.specs.Woven.{woven, nth_index}
-use Rattle.xi_plain.proofs.WovenLemmas.{nth_index-here, nth_index-yes, nth_index-no, nth_index_only, filter-yes, filter-no, flat_map_none, flat_map_same}
+use Rattle.subset_runs.proofs.ForCallers.{count_le_length, count-append, count-replicate_true, count-replicate_false}
+use Rattle.plain_text.specs.Woven.{woven, nth_index}
+use Rattle.plain_text.proofs.callers.ListLemmas.{nth_index-here, nth_index-yes, nth_index-no, nth_index_only, filter-yes, filter-no, flat_map_none, flat_map_same}
 use Rattle.delta_core.specs.Carry.{here, carried}
-use Rattle.delta_core.proofs.CarryLemmas.{here_split, here_le_length, other_step, base_step, own_steps}
+use Rattle.delta_core.proofs.ForCallers.{here_split, here_le_length, other_step, base_step, own_steps}
 use Rattle.rev_rebase.specs.Until.{index_over}
 
 -- ---- flags by gaps

@@ -3,14 +3,14 @@ use Rattle.std.proofs.Common.{◌≡◌, ℕ, suc, ◌+◌, ◌<◌, ◌≤◌, 
 use Rattle.std.specs.List.{range_with_len}
 use Rattle.std.proofs.lemmas.Bool.Decides.{nat_tests}
 use Rattle.subset_runs.specs.Subset.{expand}
-use Rattle.xi_plain.specs.declared.delta.UnitDelta.{UnitDelta}
-use Rattle.xi_plain.specs.Woven.{woven}
-use Rattle.xi_plain.specs.UnitDelta.{unit_keeps}
-use Rattle.xi_plain.specs.History.{Tagged, History, is_visible, visible_at}
-use Rattle.xi_plain.specs.Place.{is_by}
-use Rattle.xi_plain.specs.Edits.{PlainEdit, inserted_at, is_dropped_by}
-use Rattle.xi_plain.proofs.WovenLemmas.{count_by-yes, count_by-no}
-use Rattle.xi_plain.proofs.HistoryLemmas.{is_visible-later}
+use Rattle.plain_edits.specs.declared.delta.UnitDelta.{UnitDelta}
+use Rattle.plain_text.specs.Woven.{woven}
+use Rattle.plain_edits.specs.UnitDelta.{unit_keeps}
+use Rattle.plain_edits.specs.History.{Tagged, History, is_visible, visible_at}
+use Rattle.plain_edits.specs.Place.{is_by}
+use Rattle.plain_edits.specs.Edits.{PlainEdit, inserted_at, is_deleted_by}
+use Rattle.plain_text.proofs.callers.ListLemmas.{count_by-yes, count_by-no}
+use Rattle.plain_edits.proofs.callers.HistoryLemmas.{is_visible-later}
 use Rattle.delta_core.specs.Factor.{dropped_flags}
 use Rattle.rev_list.specs.Hidden.{is_hidden, union_at, hidden_then, insertions_of}
 use Rattle.rev_list.specs.WithoutText.{insertion_flags, deletion_flags}
@@ -105,7 +105,7 @@ woven-expand between flag index (x ∷ xs) =
 pub deletion_flags-until : (h : History) (e : PlainEdit) (m : ℕ) → e.base ≤ m →
     deletion_flags (until h m) e ≡ expand (dropped_then h e.base e.kept m) (insertion_flags (until h m) e)
 deletion_flags-until h e m low =
-    woven-expand (inserted_at (until h m) e) (is_dropped_by (until h m) e) 0 (union_at h m) ∙
+    woven-expand (inserted_at (until h m) e) (is_deleted_by (until h m) e) 0 (union_at h m) ∙
     ap (λ flags. expand flags (insertion_flags (until h m) e))
     (drops-woven seen e.kept (λ i. count_by seen (take i (union_at h m))) 0 0 (union_at h m) numbers ∙
     drops_alike seen (is_visible h.revisions e.base) e.kept (λ t. is_visible-take h.revisions m e.base t low) 0 (union_at h m))

@@ -3,15 +3,15 @@ use Rattle.std.proofs.Common.{◌≡◌, ℕ, ◌+◌, ◌≤◌, Bool, true, fa
 use Rattle.std.specs.List.{range_with_len}
 use Rattle.std.proofs.lemmas.List.{length-map}
 use Rattle.std.proofs.lemmas.List.FromFn.{length-range_with_len}
-use Rattle.xi_plain.specs.declared.delta.UnitDelta.{UnitDelta}
-use Rattle.xi_plain.specs.Woven.{woven}
-use Rattle.xi_plain.specs.UnitDelta.{unit_adds}
-use Rattle.xi_plain.specs.History.{History, is_visible, visible_at}
-use Rattle.xi_plain.specs.Place.{is_by, goes_right, insertion_place}
-use Rattle.xi_plain.specs.Edits.{PlainEdit, gap_count, inserted_at}
-use Rattle.xi_plain.proofs.WovenLemmas.{flat_map_one, nth_index-le}
-use Rattle.xi_plain.proofs.PlaceLemmas.{insertion_place-le}
-use Rattle.xi_plain.proofs.EditLemmas.{text-inserted_at}
+use Rattle.plain_edits.specs.declared.delta.UnitDelta.{UnitDelta}
+use Rattle.plain_text.specs.Woven.{woven}
+use Rattle.plain_edits.specs.UnitDelta.{unit_adds}
+use Rattle.plain_edits.specs.History.{History, is_visible, visible_at}
+use Rattle.plain_edits.specs.Place.{is_by, goes_right, insertion_place}
+use Rattle.plain_edits.specs.Edits.{PlainEdit, gap_count, inserted_at}
+use Rattle.plain_text.proofs.callers.ListLemmas.{flat_map_one, nth_index-le}
+use Rattle.plain_edits.proofs.callers.PlaceLemmas.{insertion_place-le}
+use Rattle.plain_edits.proofs.callers.EditLemmas.{text-inserted_at}
 use Rattle.delta_core.specs.Carry.{carried}
 use Rattle.delta_core.specs.Factor.{inserted_flags}
 use Rattle.rev_list.specs.Hidden.{is_hidden, union_at, hidden_then, insertions_of}

@@ -2,10 +2,10 @@
 use Rattle.std.proofs.Common.{◌≡◌, ◌≢◌, ℕ, zero, suc, ◌+◌, ◌<◌, inl, inr, if◌then◌else◌, List, [], ◌∷◌, ◌++◌, drop, length, get_or, flat_map, suc-add, append-nil, append_assoc, refl, ap, ap₂, sym, ◌∙◌, arith}
 use Rattle.std.specs.List.{range_with_len}
 use Rattle.std.proofs.lemmas.Bool.{cases_eq, eq-eqb, ne_eqb}
-use Rattle.xi_plain.specs.declared.delta.Added.{Added}
-use Rattle.xi_plain.specs.declared.delta.UnitDelta.{UnitDelta}
-use Rattle.xi_plain.specs.Delta.{text_at_gap}
-use Rattle.xi_plain.specs.UnitDelta.{AreAdds, IsUnitDelta}
+use Rattle.plain_edits.specs.declared.delta.Added.{Added}
+use Rattle.plain_edits.specs.declared.delta.UnitDelta.{UnitDelta}
+use Rattle.plain_edits.specs.Delta.{text_at_gap}
+use Rattle.plain_edits.specs.UnitDelta.{AreAdds, IsUnitDelta}
 use Rattle.rev_rebase.specs.Rebase.{added_text}
 use Rattle.rev_rebase.proofs.TextLemmas.{flat_map_same_from}
 

@@ -3,16 +3,16 @@ use Rattle.std.proofs.Common.{◌≡◌, ℕ, zero, suc, ◌+◌, ◌^◌, ◌<�
 use Rattle.std.specs.List.{fold, range_with_len}
 use Rattle.std.proofs.lemmas.List.{length-map, length-replicate}
 use Rattle.subset_runs.specs.Subset.{count, expand}
-use Rattle.subset_runs.proofs.FlagLemmas.{count-append, count-replicate_true}
-use Rattle.xi_plain.specs.History.{History, head, edit_priority}
-use Rattle.xi_plain.specs.Place.{is_by, goes_right}
-use Rattle.xi_plain.specs.Edits.{PlainEdit}
+use Rattle.subset_runs.proofs.ForCallers.{count-append, count-replicate_true}
+use Rattle.plain_edits.specs.History.{History, head, edit_priority}
+use Rattle.plain_edits.specs.Place.{is_by, goes_right}
+use Rattle.plain_edits.specs.Edits.{PlainEdit}
 use Rattle.delta_core.specs.Carry.{carried}
 use Rattle.rev_list.specs.declared.edit.RevEdit.{RevEdit}
 use Rattle.rev_list.specs.Hidden.{union_at, IsEditAt, AreEditsAfter}
 use Rattle.rev_list.specs.WithoutText.{insertion_flags}
 use Rattle.rev_rebase.specs.Until.{until}
-use Rattle.rev_rebase.specs.Later.{insertions_after, deletions_after, Grow}
+use Rattle.rev_rebase.specs.Inner.{insertions_after, deletions_after, Grow}
 use Rattle.rev_rebase.proofs.CarriedLemmas.{at_gaps, count-carried, length-carried}
 use Rattle.rev_rebase.proofs.InsertionLemmas.{insertion_flags-step}
 use Rattle.rev_rebase.proofs.DeletionLemmas.{dropped_then, dropped_then-step}

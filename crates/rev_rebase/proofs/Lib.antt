@@ -9,3 +9,5 @@ pub mod TextlessLemmas
 pub mod LaterLemmas
 pub mod JoinedLemmas
 pub mod PlacesLemmas
+pub mod AskedLemmas
+pub mod ForCallers

@@ -5,14 +5,15 @@ use Rattle.std.proofs.lemmas.Bool.{cases_lt, cases_order, leb-true, ltb-false, n
 use Rattle.std.proofs.lemmas.List.{nil_from_length, drop_more, take-take}
 use Rattle.std.proofs.lemmas.List.Sums.{suffix_len_is}
 use Rattle.std.proofs.lemmas.List.Elements.{All-from_recursion, recursion_from_All, filter_passes}
-use Rattle.xi_plain.specs.Numbers.{has}
-use Rattle.xi_plain.specs.Woven.{nth_index}
-use Rattle.xi_plain.specs.History.{Tagged, Revision, History, head, revision_at, edit_group, edit_priority, undone_after, is_undone, is_visible, IsSound}
-use Rattle.xi_plain.specs.Place.{is_by, goes_right, left_in_run, index_right_of, later_run, insertion_place}
-use Rattle.xi_plain.proofs.WovenLemmas.{AllByRecursion-take, AllByRecursion-weaker, nth_index-le, nth_index-here, nth_index-yes, nth_index-no, nth_index_passes, nth_index_past, filter-yes, filter-no}
-use Rattle.xi_plain.proofs.PlaceLemmas.{suffix_len_none, is_visible-inserted, length-later_run}
-use Rattle.rev_list.specs.Hidden.{is_there, union_at}
-use Rattle.rev_list.proofs.StepLemmas.{filter-there}
+use Rattle.plain_text.specs.Numbers.{has}
+use Rattle.plain_text.specs.Woven.{nth_index}
+use Rattle.plain_edits.specs.History.{Tagged, Revision, History, head, revision_at, edit_group, edit_priority, undone_after, is_undone, is_visible, IsSound}
+use Rattle.plain_edits.specs.Place.{is_by, goes_right, left_in_run, index_right_of, later_run, insertion_place}
+use Rattle.plain_text.proofs.callers.ListLemmas.{AllByRecursion-take, AllByRecursion-weaker, nth_index-le, nth_index-here, nth_index-yes, nth_index-no, nth_index_passes, nth_index_past, filter-yes, filter-no}
+use Rattle.plain_edits.proofs.callers.PlaceLemmas.{suffix_len_none, is_visible-inserted, length-later_run}
+use Rattle.rev_list.specs.Hidden.{union_at}
+use Rattle.plain_edits.specs.History.{is_there}
+use Rattle.rev_list.proofs.ForCallers.{filter-there}
 use Rattle.rev_rebase.specs.Until.{until, index_over}
 use Rattle.rev_rebase.proofs.RunSteps.{last_cut, drop-suffix_len-cut, index_over-past, index_over-before, filter-cut, AllByRecursion-parts, AllByRecursion-filter, left_in_run-le, left_in_run-step}
 

@@ -4,19 +4,19 @@ use Rattle.std.specs.List.{fold, range_with_len}
 use Rattle.std.proofs.lemmas.List.{length-map}
 use Rattle.std.proofs.lemmas.List.FromFn.{length-range_with_len}
 use Rattle.subset_runs.specs.Subset.{count, expand}
-use Rattle.xi_plain.specs.declared.delta.UnitDelta.{UnitDelta}
-use Rattle.xi_plain.specs.UnitDelta.{unit_keeps, unit_adds}
-use Rattle.xi_plain.specs.History.{History, head, visible_at}
-use Rattle.xi_plain.specs.Edits.{edited}
+use Rattle.plain_edits.specs.declared.delta.UnitDelta.{UnitDelta}
+use Rattle.plain_edits.specs.UnitDelta.{unit_keeps, unit_adds}
+use Rattle.plain_edits.specs.History.{History, head, visible_at}
+use Rattle.plain_edits.specs.Edits.{edited}
 use Rattle.delta_core.specs.Carry.{carried}
 use Rattle.delta_core.specs.Factor.{dropped_flags, inserted_flags}
 use Rattle.rev_list.specs.declared.edit.RevEdit.{RevEdit}
 use Rattle.rev_list.specs.Hidden.{is_hidden, union_at, hidden_then, AreEditsAfter}
 use Rattle.rev_list.specs.WithoutText.{insertion_flags, deletion_flags, without_text}
-use Rattle.rev_list.proofs.TextLemmas.{grown_flags}
+use Rattle.rev_list.proofs.ForCallers.{grown_flags}
 use Rattle.rev_rebase.specs.Until.{until}
 use Rattle.rev_rebase.specs.Rebase.{unit_edit, added_text, text_of_edit, characters_of, put_in}
-use Rattle.rev_rebase.specs.Later.{insertions_after, deletions_after, Grow}
+use Rattle.rev_rebase.specs.Inner.{insertions_after, deletions_after, Grow}
 use Rattle.rev_rebase.proofs.CarriedLemmas.{at_gaps}
 use Rattle.rev_rebase.proofs.UntilLemmas.{alive_then, length-union_at}
 use Rattle.rev_rebase.proofs.TextLemmas.{edited-put_in}

@@ -6,11 +6,11 @@ use Rattle.std.proofs.lemmas.Bool.{cases_lt, eqb-true, eqb-false, eq-eqb, ne_eqb
 use Rattle.std.proofs.lemmas.List.{nil_from_length, get_or-append_right}
 use Rattle.std.proofs.lemmas.List.Elements.{filter-append, All-filter, All-from_recursion, recursion_from_All}
 use Rattle.std.proofs.lemmas.List.Sums.{suffix_len_is}
-use Rattle.xi_plain.specs.Woven.{nth_index}
-use Rattle.xi_plain.specs.History.{Tagged, Revision}
-use Rattle.xi_plain.specs.Place.{eldest, is_by, goes_right, left_in_run}
-use Rattle.xi_plain.proofs.WovenLemmas.{AllByRecursion-weaker, nth_index-here, nth_index-yes, nth_index-no, nth_index_past, filter-yes, filter-no, filter_none}
-use Rattle.xi_plain.proofs.PlaceLemmas.{suffix_len_none}
+use Rattle.plain_text.specs.Woven.{nth_index}
+use Rattle.plain_edits.specs.History.{Tagged, Revision}
+use Rattle.plain_edits.specs.Place.{eldest, is_by, goes_right, left_in_run}
+use Rattle.plain_text.proofs.callers.ListLemmas.{AllByRecursion-weaker, nth_index-here, nth_index-yes, nth_index-no, nth_index_past, filter-yes, filter-no, filter_none}
+use Rattle.plain_edits.proofs.callers.PlaceLemmas.{suffix_len_none}
 use Rattle.rev_rebase.specs.Until.{index_over}
 
 -- ---- a list, cut at an item that passes

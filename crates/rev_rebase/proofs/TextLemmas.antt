@@ -3,13 +3,13 @@ use Rattle.std.proofs.Common.{◌≡◌, ◌≢◌, ℕ, zero, suc, ◌+◌, ◌
 use Rattle.std.specs.List.{range_with_len}
 use Rattle.std.proofs.lemmas.Bool.{cases_eq, cases_lt, ne_eqb}
 use Rattle.std.proofs.lemmas.List.{map-append, length-map}
-use Rattle.xi_plain.specs.Woven.{woven}
-use Rattle.xi_plain.specs.History.{Tagged, History, head, is_visible}
-use Rattle.xi_plain.specs.Place.{insertion_place}
-use Rattle.xi_plain.specs.Edits.{PlainEdit, gap_count, inserted_at, is_dropped_by, deleted_by, edited}
-use Rattle.xi_plain.proofs.WovenLemmas.{at-woven, flat_map_none, flat_map_one, nth_index-le}
-use Rattle.xi_plain.proofs.PlaceLemmas.{insertion_place-le, insertion_place-lt}
-use Rattle.xi_plain.proofs.EditLemmas.{inserted_text_at, text-inserted_at}
+use Rattle.plain_text.specs.Woven.{woven}
+use Rattle.plain_edits.specs.History.{Tagged, History, head, is_visible}
+use Rattle.plain_edits.specs.Place.{insertion_place}
+use Rattle.plain_edits.specs.Edits.{PlainEdit, gap_count, inserted_at, is_deleted_by, with_deletion, edited}
+use Rattle.plain_text.proofs.callers.ListLemmas.{at-woven, flat_map_none, flat_map_one, nth_index-le}
+use Rattle.plain_edits.proofs.callers.PlaceLemmas.{insertion_place-le, insertion_place-lt}
+use Rattle.plain_edits.proofs.callers.EditLemmas.{inserted_text_at, text-inserted_at}
 use Rattle.rev_list.specs.WithoutText.{insertion_flags}
 use Rattle.rev_rebase.specs.Rebase.{text_of_edit, characters_of, put_in}
 use Rattle.rev_rebase.proofs.CarriedLemmas.{at_gaps, texts_at}
@@ -115,9 +115,9 @@ woven_alike between more at to here there index (x ∷ xs) =
 pub edited-put_in : (h : History) (e : PlainEdit) →
     characters_of (edited h e) ≡ put_in (insertion_flags h e) (text_of_edit h e) (characters_of h)
 edited-put_in h e =
-    at-woven (map character) (map-append character) (inserted_at h e) (λ index tagged. (if is_dropped_by h e index tagged then deleted_by (head h + 1) tagged else tagged) ∷ []) 0 h.characters ∙
-    woven_alike (λ i. map character (inserted_at h e i)) texts (λ index tagged. map character ((if is_dropped_by h e index tagged then deleted_by (head h + 1) tagged else tagged) ∷ [])) (λ _ tagged. tagged.character ∷ [])
-    (text-inserted_at h e) (λ index tagged. ap (λ c. c ∷ []) (same (is_dropped_by h e index tagged) tagged)) 0 h.characters ∙
+    at-woven (map character) (map-append character) (inserted_at h e) (λ index tagged. (if is_deleted_by h e index tagged then with_deletion (head h + 1) tagged else tagged) ∷ []) 0 h.characters ∙
+    woven_alike (λ i. map character (inserted_at h e i)) texts (λ index tagged. map character ((if is_deleted_by h e index tagged then with_deletion (head h + 1) tagged else tagged) ∷ [])) (λ _ tagged. tagged.character ∷ [])
+    (text-inserted_at h e) (λ index tagged. ap (λ c. c ∷ []) (same (is_deleted_by h e index tagged) tagged)) 0 h.characters ∙
     sym (woven-map texts (λ _ c. c ∷ []) character 0 h.characters) ∙
     sym (put_in-texts texts 0 (characters_of h)) ∙
     ap (λ text. put_in (at_gaps (λ i. length (texts i)) 0 (length (characters_of h))) text (characters_of h)) joined ∙
@@ -129,7 +129,7 @@ edited-put_in h e =
     texts : ℕ → List ℕ
     texts = inserted_text_at h e
 
-    same : (b : Bool) (tagged : Tagged) → (if b then deleted_by (head h + 1) tagged else tagged).character ≡ tagged.character
+    same : (b : Bool) (tagged : Tagged) → (if b then with_deletion (head h + 1) tagged else tagged).character ≡ tagged.character
     same true tagged = refl
     same false tagged = refl
 

@@ -4,10 +4,10 @@ use Rattle.std.specs.List.{prefix_len, suffix_len, before_first, after_last, pos
 use Rattle.std.proofs.lemmas.List.{map-append, length-map, take-map, drop-map, reverse-append}
 use Rattle.std.proofs.lemmas.List.Sums.{sum_by-cons}
 use Rattle.subset_runs.specs.Subset.{expand}
-use Rattle.xi_plain.specs.Woven.{woven, nth_index}
-use Rattle.xi_plain.specs.History.{Tagged, Revision, History, is_visible, visible_at}
-use Rattle.xi_plain.specs.Place.{index_right_of, later_run, eldest, is_by, goes_right, left_in_run, insertion_place}
-use Rattle.xi_plain.specs.Edits.{PlainEdit, gap_count, inserted_at, is_dropped_by}
+use Rattle.plain_text.specs.Woven.{woven, nth_index}
+use Rattle.plain_edits.specs.History.{Tagged, Revision, History, is_visible, visible_at}
+use Rattle.plain_edits.specs.Place.{index_right_of, later_run, eldest, is_by, goes_right, left_in_run, insertion_place}
+use Rattle.plain_edits.specs.Edits.{PlainEdit, gap_count, inserted_at, is_deleted_by}
 use Rattle.rev_list.specs.WithoutText.{without_character, without_text, insertion_flags, deletion_flags}
 use Rattle.rev_rebase.proofs.CarriedLemmas.{at_gaps, at_gaps_same, texts_at, texts_at_same}
 use Rattle.rev_rebase.proofs.InsertionLemmas.{many_at, insertion_flags-at_gaps}
@@ -148,20 +148,20 @@ insertion_flags-textless h e =
 
 pub deletion_flags-textless : (h : History) (e : PlainEdit) → deletion_flags (without_text h) e ≡ deletion_flags h e
 deletion_flags-textless h e =
-    woven-expand (inserted_at (without_text h) e) (is_dropped_by (without_text h) e) 0 (map without_character h.characters) ∙
+    woven-expand (inserted_at (without_text h) e) (is_deleted_by (without_text h) e) 0 (map without_character h.characters) ∙
     ap₂ expand dropped (insertion_flags-textless h e) ∙
-    sym (woven-expand (inserted_at h e) (is_dropped_by h e) 0 h.characters)
+    sym (woven-expand (inserted_at h e) (is_deleted_by h e) 0 h.characters)
   where
     seen : Tagged → Bool
     seen = is_visible h.revisions e.base
 
-    same : (index : ℕ) (tagged : Tagged) → is_dropped_by (without_text h) e index (without_character tagged) ∷ [] ≡ is_dropped_by h e index tagged ∷ []
+    same : (index : ℕ) (tagged : Tagged) → is_deleted_by (without_text h) e index (without_character tagged) ∷ [] ≡ is_deleted_by h e index tagged ∷ []
     same index tagged =
         ap (λ n. (seen tagged && not (e.kept n)) ∷ [])
         (ap (count_by seen) (take-map without_character index h.characters) ∙ count_by-map seen without_character (take index h.characters))
 
-    dropped : woven (λ _. []) (λ i t. is_dropped_by (without_text h) e i t ∷ []) 0 (map without_character h.characters) ≡
-        woven (λ _. []) (λ i t. is_dropped_by h e i t ∷ []) 0 h.characters
+    dropped : woven (λ _. []) (λ i t. is_deleted_by (without_text h) e i t ∷ []) 0 (map without_character h.characters) ≡
+        woven (λ _. []) (λ i t. is_deleted_by h e i t ∷ []) 0 h.characters
     dropped =
-        woven-map (λ _. []) (λ i t. is_dropped_by (without_text h) e i t ∷ []) without_character 0 h.characters ∙
-        woven_alike (λ _. []) (λ _. []) (λ i t. is_dropped_by (without_text h) e i (without_character t) ∷ []) (λ i t. is_dropped_by h e i t ∷ []) (λ i. refl) same 0 h.characters
+        woven-map (λ _. []) (λ i t. is_deleted_by (without_text h) e i t ∷ []) without_character 0 h.characters ∙
+        woven_alike (λ _. []) (λ _. []) (λ i t. is_deleted_by (without_text h) e i (without_character t) ∷ []) (λ i t. is_deleted_by h e i t ∷ []) (λ i. refl) same 0 h.characters

@@ -2,10 +2,11 @@
 use Rattle.std.proofs.Common.{◌≡◌, ℕ, zero, suc, ◌+◌, ◌≤◌, Bool, true, false, not, cond, List, [], ◌∷◌, length, filter, refl, ap, ap₂, sym, ◌∙◌, arith, take_all}
 use Rattle.std.proofs.lemmas.Bool.{le-leb, both_ways}
 use Rattle.std.proofs.lemmas.List.Sums.{length-filter, count_by-le-length}
-use Rattle.xi_plain.specs.Woven.{nth_index}
-use Rattle.xi_plain.specs.History.{History, head, is_visible, visible_at}
-use Rattle.xi_plain.proofs.PlaceLemmas.{is_visible-inserted}
-use Rattle.rev_list.specs.Hidden.{is_there, is_hidden, union_at}
+use Rattle.plain_text.specs.Woven.{nth_index}
+use Rattle.plain_edits.specs.History.{History, head, is_visible, visible_at}
+use Rattle.plain_edits.proofs.callers.PlaceLemmas.{is_visible-inserted}
+use Rattle.rev_list.specs.Hidden.{is_hidden, union_at}
+use Rattle.plain_edits.specs.History.{is_there}
 use Rattle.rev_rebase.specs.Until.{until}
 use Rattle.rev_rebase.proofs.PlaceSteps.{is_visible-take}
 

@@ -1,3 +1,3 @@
 pub mod Until
-pub mod Later
 pub mod Rebase
+pub mod Inner

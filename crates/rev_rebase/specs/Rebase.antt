@@ -1,10 +1,10 @@
 -- What a stale edit comes to.
-use Rattle.std.specs.Prelude.{◌≡◌, ℕ, ◌+◌, Bool, true, false, List, [], ◌∷◌, map}
+use Rattle.std.specs.Prelude.{◌≡◌, ℕ, ◌+◌, ◌^◌, ◌<◌, ◌≤◌, Bool, true, false, List, [], ◌∷◌, length, map}
 use Rattle.std.specs.List.{flat_map, range_with_len}
-use Rattle.xi_plain.specs.declared.delta.UnitDelta.{UnitDelta}
-use Rattle.xi_plain.specs.UnitDelta.{unit_keeps, unit_adds}
-use Rattle.xi_plain.specs.History.{History}
-use Rattle.xi_plain.specs.Edits.{PlainEdit, gap_count}
+use Rattle.plain_edits.specs.declared.delta.UnitDelta.{UnitDelta}
+use Rattle.plain_edits.specs.UnitDelta.{unit_keeps, unit_adds}
+use Rattle.plain_edits.specs.History.{History, head, visible_at}
+use Rattle.plain_edits.specs.Edits.{PlainEdit, gap_count}
 use Rattle.rev_list.specs.WithoutText.{insertion_flags, deletion_flags}
 
 -- a unit delta against a revision; the group and the author of an edit decide nothing about its places
@@ -38,7 +38,9 @@ put_in (true ∷ at) (c ∷ text) characters = c ∷ put_in at text characters
 put_in (false ∷ at) text [] = []
 put_in (false ∷ at) text (c ∷ characters) = c ∷ put_in at text characters
 
--- the places of a unit delta against a revision, in the union after the last one
-pub record ArePlaces (history : History) (base : ℕ) (units : UnitDelta) (priority : ℕ) (inserted deleted : List Bool) : Type 0 where
-  pub inserted_is : inserted ≡ insertion_flags history (unit_edit base units priority)
-  pub deleted_is : deleted ≡ deletion_flags history (unit_edit base units priority)
+-- it can be asked where a delta against the revision goes
+pub record MayRebase (history : History) (rev : ℕ) (units : UnitDelta) : Type 0 where
+  pub base_kept : history.floor ≤ rev
+  pub base_known : rev ≤ head history
+  pub alive : units.base ≡ length (visible_at history rev)
+  pub bound : length history.characters + length (added_text units) < 2 ^ 64

@@ -1,7 +1,7 @@
 -- A history as it was after a revision, and an index carried over what a revision inserted.
 use Rattle.std.specs.Prelude.{ℕ, zero, suc, ◌+◌, Bool, true, false, not, List, take}
-use Rattle.xi_plain.specs.Woven.{nth_index}
-use Rattle.xi_plain.specs.History.{History}
+use Rattle.plain_text.specs.Woven.{nth_index}
+use Rattle.plain_edits.specs.History.{History}
 use Rattle.rev_list.specs.Hidden.{union_at}
 
 -- the history as it was after the revision

@@ -2,14 +2,14 @@
 ghost use Rattle.std.specs.Prelude.{◌≡◌, ◌+◌, length, IfOk};
 ghost use Rattle.std.specs.List.{fold};
 ghost use Rattle.subset_runs.specs.Subset.{count};
-ghost use Rattle.rev_rebase.specs.Later.{Grow, deletions_after, insertions_after};
+ghost use Rattle.rev_rebase.specs.Inner.{Grow, deletions_after, insertions_after};
 
 use crate::order::goes_right;
 use delta_core::carry_ins;
 use rev_list::RevEdit;
 use std::alloc::Global;
 use subset_runs::Subset;
-use xi_plain::NoMemory;
+use plain_text::NoMemory;
 
 // Insertions with a priority, in the union that has those of the edits too.
 pub(crate) fn insertions_over(

@@ -1,9 +1,9 @@
 //! The laws that tie the places of a stale edit to histories with text, and the places of one revision to those of the next. The
 //! functions do nothing: their clauses are the laws, and their proofs prove them.
 ghost use Rattle.std.specs.Prelude.{◌≡◌, ℕ, ◌+◌, ◌≤◌};
-ghost use Rattle.xi_plain.specs.History.{History, IsSound, head};
-ghost use Rattle.xi_plain.specs.Place.{goes_right, index_right_of, insertion_place, is_by};
-ghost use Rattle.xi_plain.specs.Edits.{PlainEdit, edited};
+ghost use Rattle.plain_edits.specs.History.{History, IsSound, head};
+ghost use Rattle.plain_edits.specs.Place.{goes_right, index_right_of, insertion_place, is_by};
+ghost use Rattle.plain_edits.specs.Edits.{PlainEdit, edited};
 ghost use Rattle.rev_list.specs.Hidden.{union_at};
 ghost use Rattle.rev_list.specs.WithoutText.{deletion_flags, insertion_flags, without_text};
 ghost use Rattle.rev_rebase.specs.Rebase.{characters_of, put_in, text_of_edit};

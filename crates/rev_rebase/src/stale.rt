@@ -1,18 +1,20 @@
 ghost use Rattle.std.specs.Prelude.{◌≡◌, ◌+◌, ◌^◌, ◌<◌, ◌≤◌, ◌↔◌, length, IfOk, IsTrue};
 ghost use Rattle.subset_runs.specs.Subset.{count};
-ghost use Rattle.xi_plain.specs.UnitDelta.{IsUnitDelta};
-ghost use Rattle.xi_plain.specs.History.{History, head, visible_at};
-ghost use Rattle.xi_plain.specs.Edits.{edited};
+ghost use Rattle.plain_edits.specs.UnitDelta.{IsUnitDelta};
+ghost use Rattle.plain_edits.specs.History.{History, head, visible_at};
+ghost use Rattle.plain_edits.specs.Edits.{edited};
 ghost use Rattle.rev_list.specs.Hidden.{hidden_then};
 ghost use Rattle.rev_list.specs.WithoutText.{deletion_flags, insertion_flags, without_text};
-ghost use Rattle.rev_rebase.specs.Rebase.{ArePlaces, added_text, characters_of, put_in, unit_edit};
+ghost use Rattle.rev_rebase.specs.Rebase.{added_text, characters_of, put_in, unit_edit};
+ghost use Rattle.rev_rebase.specs.Inner.{ArePlaces};
 
 use crate::later::{deletions_over, insertions_over};
 use delta_core::{carry_ins, factor};
 use rev_list::RevList;
 use std::alloc::Global;
 use subset_runs::Subset;
-use xi_plain::{NoMemory, Text, UnitDelta};
+use plain_text::{NoMemory, Text};
+use plain_edits::UnitDelta;
 
 /// An edit in the positions of the union that it makes: what it inserts there and what it deletes, and the text that it inserts.
 #[derive(Debug, PartialEq, Eq, Drop)]
@@ -86,7 +88,7 @@ fn places(
 }
 
 // What of the union of a kept revision is dead then.
-fn dead_then(alloc: Global, revs: &RevList, rev: u64) -> Result<Subset, NoMemory>
+pub(crate) fn dead_then(alloc: Global, revs: &RevList, rev: u64) -> Result<Subset, NoMemory>
     requires kept { revs.now.history.floor ≤ rev }
     requires known { rev ≤ head revs.now.history }
     ensures { IfOk result (λ dead. dead ≡ hidden_then revs.now.history rev) }
@@ -98,7 +100,7 @@ fn dead_then(alloc: Global, revs: &RevList, rev: u64) -> Result<Subset, NoMemory
 }
 
 // The texts that a unit delta adds, joined.
-fn joined(alloc: Global, units: &UnitDelta) -> Result<Text, NoMemory>
+pub(crate) fn joined(alloc: Global, units: &UnitDelta) -> Result<Text, NoMemory>
     requires { IsUnitDelta units.now }
     ensures { IfOk result (λ made. made ≡ added_text units.now) }
 {

@@ -1,12 +1,13 @@
 ghost use Rattle.std.specs.Prelude.{◌≡◌, ◌≤◌, length, IfOk};
 ghost use Rattle.std.specs.List.{flat_map};
-ghost use Rattle.xi_plain.specs.UnitDelta.{IsUnitDelta};
+ghost use Rattle.plain_edits.specs.UnitDelta.{IsUnitDelta};
 
 use crate::{Rebased, rebase};
 use rev_list::{RevEdit, RevList};
 use std::alloc::Global;
 use std::test::Fail;
-use xi_plain::{Added, Adds, NoMemory, Run, Runs, Text, UnitDelta};
+use plain_text::{NoMemory, Run, Runs, Text};
+use plain_edits::{Added, Adds, UnitDelta};
 
 // An edit of a row: it cuts the characters of a range, and adds a text at a gap.
 #[derive(Clone, Copy)]
@@ -89,7 +90,7 @@ fn placed(alloc: Global, revs: &RevList, row: Row<'_>) -> Result<Option<Rebased>
         return Ok(None);
     }
     let text = Text::from_str(alloc, row.text)?;
-    let Some(_total) = revs.union_len().checked_add(text.len()) else {
+    let Some(_total) = revs.union_len().checked_add(text.char_count()) else {
         return Ok(None);
     };
     let units = units_of(alloc, len, row.cut, row.gap, text)?;

@@ -6,15 +6,15 @@ use Rattle.std.proofs.lemmas.Bool.{ltb-true, ltb-false, lt-ltb, le-ltb, le-leb, 
 use Rattle.std.proofs.lemmas.List.Sums.{sum_by-cons, count_by-le-length}
 use Rattle.std.proofs.lemmas.List.FromFn.{length-range_with_len}
 use Rattle.std.proofs.lemmas.List.Concat.{flat_map-cons}
-use Rattle.xi_plain.specs.declared.selection.Region.{Region}
-use Rattle.xi_plain.specs.declared.delta.Run.{Run}
-use Rattle.xi_plain.specs.declared.delta.Added.{Added}
-use Rattle.xi_plain.specs.declared.delta.UnitDelta.{UnitDelta}
-use Rattle.xi_plain.specs.Delta.{is_in_runs, text_at_gap}
-use Rattle.xi_plain.specs.UnitDelta.{AreRuns, IsUnitDelta, unit_keeps, unit_adds}
+use Rattle.plain_text.specs.declared.selection.Region.{Region}
+use Rattle.plain_text.specs.declared.run.Run.{Run}
+use Rattle.plain_edits.specs.declared.delta.Added.{Added}
+use Rattle.plain_edits.specs.declared.delta.UnitDelta.{UnitDelta}
+use Rattle.plain_edits.specs.Delta.{is_in_runs, text_at_gap}
+use Rattle.plain_edits.specs.UnitDelta.{AreRuns, IsUnitDelta, unit_keeps, unit_adds}
 use Rattle.selection_core.specs.Selection.{lesser_end, AreRightOf, IsSelection, merged_regions}
 use Rattle.selection_core.specs.Mapped.{new_gap, mapped_region, mapped_regions, length_after}
-use Rattle.selection_core.specs.Steps.{gaps_left, part_left}
+use Rattle.selection_core.specs.Inner.{gaps_left, part_left}
 use Rattle.selection_core.proofs.MergeLemmas.{AreInOrder, IsSelection-merged_regions, drop-next}
 
 -- ---- sums over the first numbers

@@ -3,7 +3,7 @@ use Rattle.std.proofs.Common.{◌≡◌, ◌≢◌, ℕ, suc, true, false, Bool,
 use Rattle.std.specs.Prelude.{min, max, ◌||◌, ◌&&◌, nat_lt, nat_le, ◌==◌}
 use Rattle.std.proofs.lemmas.Bool.{both_ways, ltb-true, ltb-false, eqb-true, lt-ltb, le-ltb, le-leb, lt-leb, eq-eqb, ne_eqb, and_parts, and_from, and_left, and_right, or_cases, cases_lt, cases_eq, cond_both}
 use Rattle.std.proofs.Common.{⊎_elim}
-use Rattle.xi_plain.specs.declared.selection.Region.{Region}
+use Rattle.plain_text.specs.declared.selection.Region.{Region}
 use Rattle.selection_core.specs.Selection.{lesser_end, greater_end, is_caret, is_forward, meets, spanning, joined, merged_from, merged_regions, comes_before, with_in_order, with_region, AreRightOf, IsSelection, last_caret}
 
 or_left : (x y : Bool) → x ≡ true → (x || y) ≡ true

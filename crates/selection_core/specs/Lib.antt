@@ -1,4 +1,4 @@
 pub mod Selection
 pub mod Mapped
-pub mod Steps
 pub mod Row
+pub mod Inner

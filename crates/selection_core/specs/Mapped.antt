@@ -1,10 +1,10 @@
 -- What an edit makes of a selection.
 use Rattle.std.specs.Prelude.{ℕ, ◌≤◌, Bool, false, List, map}
 use Rattle.std.specs.List.{AllByRecursion}
-use Rattle.xi_plain.specs.declared.selection.Region.{Region}
-use Rattle.xi_plain.specs.declared.delta.UnitDelta.{UnitDelta}
-use Rattle.xi_plain.specs.Caret.{mapped_gap}
-use Rattle.xi_plain.specs.UnitDelta.{unit_keeps, unit_adds}
+use Rattle.plain_text.specs.declared.selection.Region.{Region}
+use Rattle.plain_edits.specs.declared.delta.UnitDelta.{UnitDelta}
+use Rattle.plain_edits.specs.Caret.{mapped_gap}
+use Rattle.plain_edits.specs.UnitDelta.{unit_keeps, unit_adds}
 use Rattle.selection_core.specs.Selection.{greater_end, merged_regions}
 
 -- where an edit takes a gap, by the caret rule

@@ -1,8 +1,8 @@
 -- Worked edits.
 use Rattle.std.specs.Prelude.{ℕ, List, [], ◌∷◌}
-use Rattle.xi_plain.specs.declared.delta.Run.{Run}
-use Rattle.xi_plain.specs.declared.delta.Added.{Added}
-use Rattle.xi_plain.specs.declared.delta.UnitDelta.{UnitDelta}
+use Rattle.plain_text.specs.declared.run.Run.{Run}
+use Rattle.plain_edits.specs.declared.delta.Added.{Added}
+use Rattle.plain_edits.specs.declared.delta.UnitDelta.{UnitDelta}
 
 -- one text at one gap
 abbrev pub added_at : ℕ → List ℕ → List Added

@@ -1,6 +1,6 @@
 -- Regions of a selection: their ends, when two meet and what they become, and a selection with one region more.
 use Rattle.std.specs.Prelude.{◌≡◌, ℕ, ◌≤◌, min, max, Bool, true, false, ◌&&◌, ◌||◌, if◌then◌else◌, nat_lt, nat_le, ◌==◌, List, [], ◌∷◌, None}
-use Rattle.xi_plain.specs.declared.selection.Region.{Region}
+use Rattle.plain_text.specs.declared.selection.Region.{Region}
 
 -- the end of a region that is further left
 abbrev pub lesser_end : Region → ℕ

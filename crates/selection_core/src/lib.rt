@@ -10,4 +10,5 @@ mod selection;
 #[cfg(test)]
 mod tests;
 
+pub use mapping::gap_after;
 pub use selection::Selection;

@@ -1,11 +1,12 @@
 ghost use Rattle.std.specs.Prelude.{◌≡◌, ◌+◌, ◌^◌, ◌<◌, ◌≤◌, length, map, IfOk};
 ghost use Rattle.std.specs.List.{count_by, range_with_len, sum_by};
-ghost use Rattle.xi_plain.specs.UnitDelta.{IsUnitDelta, unit_adds, unit_keeps};
+ghost use Rattle.plain_edits.specs.UnitDelta.{IsUnitDelta, unit_adds, unit_keeps};
 ghost use Rattle.selection_core.specs.Mapped.{AreWithin, length_after, mapped_region, new_gap};
-ghost use Rattle.selection_core.specs.Steps.{gaps_left, part_left};
+ghost use Rattle.selection_core.specs.Inner.{gaps_left, part_left};
 
 use std::alloc::Global;
-use xi_plain::{Added, NoMemory, Region, Regions, UnitDelta};
+use plain_text::{NoMemory, Region, Regions};
+use plain_edits::{Added, UnitDelta};
 
 // The regions after an edit, in their order, and none merged.
 pub(crate) fn mapped(
@@ -30,8 +31,9 @@ pub(crate) fn mapped(
     Ok(list)
 }
 
-// Where the edit takes a gap.
-fn gap_after(units: &UnitDelta, after: bool, gap: u64) -> u64
+/// Where an edit takes a caret at this gap: it stays left of the character right of it; `after` the edit, right of the one left of it.
+/// This costs the elements of the edit, and the bytes that it adds.
+pub fn gap_after(units: &UnitDelta, after: bool, gap: u64) -> u64
     requires within { gap ≤ units.now.base }
     requires well_formed { IsUnitDelta units.now }
     requires bound { length_after units.now < 2 ^ 64 }
@@ -71,7 +73,7 @@ fn part_added(added: &Added, after: bool, gap: u64) -> u64
     ensures { result ≡ part_left (gaps_left after gap) added.now }
 {
     if added.gap < gap || added.gap == gap && !after {
-        added.text.len()
+        added.text.char_count()
     } else {
         0
     }

@@ -1,13 +1,14 @@
 ghost use Rattle.std.specs.Prelude.{◌≡◌, ◌≢◌, ◌^◌, ◌<◌, List, [], ◌∷◌, IfOk};
-ghost use Rattle.xi_plain.specs.declared.selection.Region.{Region as region_value};
-ghost use Rattle.xi_plain.specs.UnitDelta.{IsUnitDelta};
+ghost use Rattle.plain_text.specs.declared.selection.Region.{Region as region_value};
+ghost use Rattle.plain_edits.specs.UnitDelta.{IsUnitDelta};
 ghost use Rattle.selection_core.specs.Mapped.{AreWithin, length_after, mapped_regions};
 ghost use Rattle.selection_core.specs.Selection.{IsSelection, caret_of, last_caret, with_region};
 
 use crate::mapping::mapped;
 use crate::merging::{in_order, merged};
 use std::alloc::Global;
-use xi_plain::{NoMemory, Region, Regions, Sel, UnitDelta};
+use plain_text::{NoMemory, Region, Regions, Sel};
+use plain_edits::UnitDelta;
 
 /// What a selection does: the regions stay sorted, and no two meet.
 pub trait Selection: Sized {

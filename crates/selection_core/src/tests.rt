@@ -1,5 +1,5 @@
 ghost use Rattle.std.specs.Prelude.{◌≡◌, ◌^◌, ◌<◌, IsTrue, IfOk};
-ghost use Rattle.xi_plain.specs.UnitDelta.{IsUnitDelta};
+ghost use Rattle.plain_edits.specs.UnitDelta.{IsUnitDelta};
 ghost use Rattle.selection_core.specs.Mapped.{AreWithin, length_after};
 ghost use Rattle.std.specs.Str.{chars};
 ghost use Rattle.selection_core.specs.Row.{added_at, all_but, deleting_edit, inserting_edit, replacing_edit};
@@ -8,7 +8,8 @@ ghost use Rattle.selection_core.specs.Selection.{IsSelection};
 use crate::Selection;
 use std::alloc::Global;
 use std::test::Fail;
-use xi_plain::{Added, Adds, NoMemory, Region, Regions, Run, Runs, Sel, Text, UnitDelta};
+use plain_text::{NoMemory, Region, Regions, Run, Runs, Sel, Text};
+use plain_edits::{Added, Adds, UnitDelta};
 
 fn region(anchor: u64, caret: u64) -> Region {
     Region {

@@ -6,3 +6,4 @@ pub mod RenumberingLemmas
 pub mod TransformLaws
 pub mod MemberLaws
 pub mod EqualRuns
+pub mod ForCallers

@@ -10,7 +10,8 @@ use Rattle.std.proofs.lemmas.Option.{slice_get_past}
 use Rattle.std.proofs.lemmas.List.{drop_at, nil_from_length, get_or_past}
 use Rattle.std.proofs.lemmas.List.Folds.{list_any-append}
 use Rattle.std.proofs.lemmas.List.FromFn.{length-map-range_with_len, get_or-map-range_with_len}
-use Rattle.subset_runs.specs.Runs.{is_in, is_in_some, flags_in, AreSeparate, next_start, EndsAfter, AddsRun, IsStored, IsAhead, IsRest}
+use Rattle.subset_runs.specs.Runs.{is_in, is_in_some, flags_in, AreSeparate, next_start, EndsAfter, IsStored, IsAhead}
+use Rattle.subset_runs.specs.Inner.{AddsRun, IsRest}
 use Rattle.subset_runs.specs.Subset.{count, contains}
 use Rattle.subset_runs.specs.Stretch.{IsFront}
 use Rattle.subset_runs.proofs.FlagLemmas.{count-append, count_le_length, count-replicate_true, count-replicate_false}

@@ -3,5 +3,5 @@ pub mod Renumbering
 pub mod Runs
 pub mod Ranges
 pub mod Stretch
-pub mod Keep
 pub mod SubsetFault
+pub mod Inner

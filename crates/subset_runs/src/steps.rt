@@ -1,6 +1,6 @@
 // One step of a walk over two subsets: the stretch that the result has next.
 ghost use Rattle.std.specs.Prelude.{◌≡◌, ◌≢◌, ◌+◌, ◌<◌, ◌≤◌, ◌++◌, [], length, replicate};
-ghost use Rattle.subset_runs.specs.Keep.{is_kept};
+ghost use Rattle.subset_runs.specs.Inner.{is_kept};
 ghost use Rattle.subset_runs.specs.Subset.{at_each, complement, count, expand_as, shrink};
 
 use crate::{Stretch, Walk};

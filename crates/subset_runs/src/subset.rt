@@ -1,9 +1,10 @@
 ghost use Rattle.std.specs.Prelude.{◌≡◌, ℕ, ◌+◌, ◌^◌, ◌<◌, ◌≤◌, ◌↔◌, List, [], ◌++◌, Bool, true, false, length, replicate, IsTrue, IfOk, OnOk, OnErr, Contains};
 ghost use Rattle.subset_runs.specs.Subset.{at_each, count, contains, members, union, minus, complement, expand_as, expand, expand_in, shrink};
-ghost use Rattle.subset_runs.specs.Keep.{is_kept};
+ghost use Rattle.subset_runs.specs.Inner.{is_kept};
 ghost use Rattle.subset_runs.specs.Renumbering.{Expands, Shrinks};
 ghost use Rattle.subset_runs.specs.Ranges.{IsFirstFault, AreGood, HasRanges};
-ghost use Rattle.subset_runs.specs.Runs.{AreSeparate, AddsRun, flags_in, is_in_some, next_start};
+ghost use Rattle.subset_runs.specs.Runs.{AreSeparate, flags_in, is_in_some, next_start};
+ghost use Rattle.subset_runs.specs.Inner.{AddsRun};
 
 use crate::ranges::{first_fault, with_members_in};
 use crate::steps::{Keep, next_both, next_expanded, next_flipped, next_outside};

@@ -1,5 +1,6 @@
 ghost use Rattle.std.specs.Prelude.{◌≡◌, ◌≢◌, ℕ, ◌+◌, ◌↔◌, ◌≤◌, List, [], Bool, length, drop, IsTrue};
-ghost use Rattle.subset_runs.specs.Runs.{AreSeparate, EndsAfter, IsRest, flags_in, next_start};
+ghost use Rattle.subset_runs.specs.Runs.{AreSeparate, EndsAfter, flags_in, next_start};
+ghost use Rattle.subset_runs.specs.Inner.{IsRest};
 ghost use Rattle.subset_runs.specs.Stretch.{IsFront};
 
 use crate::Stretch;

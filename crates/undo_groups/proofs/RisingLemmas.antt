@@ -7,7 +7,7 @@ use Rattle.std.specs.BTreeMap.{is_at}
 use Rattle.std.proofs.lemmas.Cmp.{ranked}
 use Rattle.std.proofs.lemmas.List.Sorted.{searched}
 use Rattle.std.proofs.lemmas.Bool.Decides.{nat_tests}
-use Rattle.xi_plain.specs.Numbers.{has}
+use Rattle.plain_text.specs.Numbers.{has}
 use Rattle.undo_groups.specs.Numbers.{with_group, without_group, IsRising}
 
 -- ---- comparing

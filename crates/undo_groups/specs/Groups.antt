@@ -1,7 +1,7 @@
 -- The undo groups of a document: what a new group, an undo, a redo and a forgotten group make of them.
 use Rattle.std.specs.Prelude.{ℕ, ◌+◌, ◌-◌, ◌≤◌, ◌==◌, if◌then◌else◌, Bool, ◌||◌, List, [], ◌∷◌, ◌++◌, length, take, drop, slice_index}
 use Rattle.std.specs.List.{fold}
-use Rattle.xi_plain.specs.Numbers.{has}
+use Rattle.plain_text.specs.Numbers.{has}
 use Rattle.undo_groups.specs.Numbers.{with_group, without_group, IsRising}
 
 -- the undo groups, as the stack of them stands

@@ -1,7 +1,7 @@
 // Numbers in order, in a `Vec`.
 ghost use Rattle.std.specs.Prelude.{◌≡◌, ◌+◌, ◌<◌, ◌≤◌, length, vec_len, vec_capacity};
 ghost use Rattle.std.specs.List.{fold};
-ghost use Rattle.xi_plain.specs.Numbers.{has};
+ghost use Rattle.plain_text.specs.Numbers.{has};
 ghost use Rattle.undo_groups.specs.Numbers.{with_group, without_group, IsRising};
 
 pub(crate) fn is_among(numbers: &[u64], n: u64) -> bool

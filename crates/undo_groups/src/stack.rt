@@ -1,6 +1,6 @@
 ghost use Rattle.std.specs.Prelude.{◌≡◌, ◌+◌, ◌-◌, ◌^◌, ◌<◌, ◌≤◌, ◌↔◌, true, ◌++◌, ◌∷◌, [], length, take, drop, slice_get, vec_len, vec_capacity, IfOk, IfSome, IsNone, OnOk, OnErr};
 ghost use Rattle.std.specs.List.{fold};
-ghost use Rattle.xi_plain.specs.Numbers.{has};
+ghost use Rattle.plain_text.specs.Numbers.{has};
 ghost use Rattle.undo_groups.specs.Numbers.{with_group, IsRising};
 ghost use Rattle.undo_groups.specs.Groups.{no_groups, excess, after_opening, undone_one, redone_one, forgotten, is_known};
 
@@ -8,7 +8,7 @@ use crate::rising::{is_among, put_all, put_in, take_out};
 use std::alloc::Global;
 use std::collections::BTreeSet;
 use std::marker::Model;
-use xi_plain::NoMemory;
+use plain_text::NoMemory;
 
 /// How many groups an undo or a redo can reach at most.
 const LIVE: usize = 20;

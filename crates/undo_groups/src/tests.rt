@@ -2,7 +2,7 @@ use crate::Stack;
 use std::alloc::Global;
 use std::collections::BTreeSet;
 use std::test::Fail;
-use xi_plain::NoMemory;
+use plain_text::NoMemory;
 
 // The groups in order, and none where there is no answer.
 fn listed(alloc: Global, found: Option<BTreeSet<u64>>) -> Result<Option<Vec<u64>>, NoMemory> {

@@ -2,3 +2,4 @@ pub mod Plain
 pub mod Made
 pub mod ReadBack
 pub mod Lines
+pub mod ForCallers

@@ -4,14 +4,14 @@ use Rattle.std.specs.Str.{all_scalars, bytes_eq}
 use Rattle.std.proofs.lemmas.Bool.{false≢true}
 use Rattle.std.proofs.lemmas.Slice.Eq.{bytes_eq-Decides}
 use Rattle.xi_plain.specs.declared.command.Id.{Id}
-use Rattle.xi_plain.specs.declared.screen.Update.{Update}
+use Rattle.plain_screen.specs.declared.screen.Update.{Update}
 use Rattle.serde_json.specs.Data.{Data}
 use Rattle.json_rpc.specs.declared.fault.RpcFault.TheVariants.{Invalid}
 use Rattle.json_rpc.specs.Line.{line_of, IsLineOf}
 use Rattle.json_rpc.specs.Request.{request_of, or_fault, value_request, line_request}
 use Rattle.json_rpc.specs.Response.{note_data, reply_data, error_data}
-use Rattle.json_rpc.proofs.Lines.{IsLineOf-line_of}
-use Rattle.json_rpc.proofs.Responses.{line_request-note}
+use Rattle.json_rpc.proofs.ForCallers.{IsLineOf-line_of}
+use Rattle.json_rpc.proofs.ForCallers.{line_request-note}
 use Rattle.view_update.specs.Written.{update_params, update_data}
 use Rattle.view_update.specs.Reading.{as_chars, member_as, note_params, read_params, read_scroll, line_update, line_scroll, line_alert}
 use Rattle.view_update.specs.Fair.{IsFairUpdate}

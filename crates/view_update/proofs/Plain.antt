@@ -4,11 +4,11 @@ use Rattle.std.specs.List.{AllByRecursion}
 use Rattle.std.specs.Str.{all_scalars}
 use Rattle.std.proofs.lemmas.Int.{ints}
 use Rattle.json.proofs.Printed.Utf8.{IsUtf8-are_ascii}
-use Rattle.xi_plain.specs.declared.screen.Triple.{Triple}
-use Rattle.xi_plain.specs.declared.screen.Line.{Line}
-use Rattle.xi_plain.specs.declared.screen.Op.{Op}
-use Rattle.xi_plain.specs.declared.screen.Op.TheVariants.{Copy, Skip, Invalidate, Ins}
-use Rattle.xi_plain.specs.declared.screen.Update.{Update}
+use Rattle.plain_screen.specs.declared.screen.Triple.{Triple}
+use Rattle.plain_screen.specs.declared.screen.Line.{Line}
+use Rattle.plain_screen.specs.declared.screen.Op.{Op}
+use Rattle.plain_screen.specs.declared.screen.Op.TheVariants.{Copy, Skip, Invalidate, Ins}
+use Rattle.plain_screen.specs.declared.screen.Update.{Update}
 use Rattle.serde_json.specs.Data.{Data, number, object, Members, no_members, member, depth, members_depth}
 use Rattle.serde_json.specs.Find.{of_integer}
 use Rattle.serde_json.specs.Written.{has_float, members_have_float}

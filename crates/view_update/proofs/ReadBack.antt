@@ -5,11 +5,11 @@ use Rattle.std.specs.Str.{all_scalars}
 use Rattle.std.proofs.lemmas.Bool.{lt-ltb, eq-eqb}
 use Rattle.std.proofs.lemmas.Str.{chars-encodes}
 use Rattle.std.proofs.lemmas.Int.{ints}
-use Rattle.xi_plain.specs.declared.screen.Triple.{Triple}
-use Rattle.xi_plain.specs.declared.screen.Line.{Line}
-use Rattle.xi_plain.specs.declared.screen.Op.{Op}
-use Rattle.xi_plain.specs.declared.screen.Op.TheVariants.{Copy, Skip, Invalidate, Ins}
-use Rattle.xi_plain.specs.declared.screen.Update.{Update}
+use Rattle.plain_screen.specs.declared.screen.Triple.{Triple}
+use Rattle.plain_screen.specs.declared.screen.Line.{Line}
+use Rattle.plain_screen.specs.declared.screen.Op.{Op}
+use Rattle.plain_screen.specs.declared.screen.Op.TheVariants.{Copy, Skip, Invalidate, Ins}
+use Rattle.plain_screen.specs.declared.screen.Update.{Update}
 use Rattle.serde_json.specs.Data.{Data, number}
 use Rattle.serde_json.specs.Find.{of_integer}
 use Rattle.serde_json.specs.View.{items_of}

@@ -2,11 +2,11 @@
 use Rattle.std.specs.Prelude.{◌≡◌, ℕ, ◌^◌, ◌<◌, ◌-◌, pos, negsuc, ◌≤ℤ◌, List, length, true, Option, Some, None, ⊤}
 use Rattle.std.specs.List.{AllByRecursion}
 use Rattle.std.specs.Str.{all_scalars}
-use Rattle.xi_plain.specs.declared.screen.Triple.{Triple}
-use Rattle.xi_plain.specs.declared.screen.Line.{Line}
-use Rattle.xi_plain.specs.declared.screen.Op.{Op}
-use Rattle.xi_plain.specs.declared.screen.Op.TheVariants.{Copy, Skip, Invalidate, Ins}
-use Rattle.xi_plain.specs.declared.screen.Update.{Update}
+use Rattle.plain_screen.specs.declared.screen.Triple.{Triple}
+use Rattle.plain_screen.specs.declared.screen.Line.{Line}
+use Rattle.plain_screen.specs.declared.screen.Op.{Op}
+use Rattle.plain_screen.specs.declared.screen.Op.TheVariants.{Copy, Skip, Invalidate, Ins}
+use Rattle.plain_screen.specs.declared.screen.Update.{Update}
 
 -- a number of at most 64 bits
 abbrev pub IsCount : ℕ → Type 0

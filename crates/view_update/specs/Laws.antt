@@ -2,7 +2,7 @@
 use Rattle.std.specs.Prelude.{◌≡◌, ◌≢◌, ◌≤◌, ℕ, ℤ, List, codes, true, Some, None}
 use Rattle.std.specs.Str.{all_scalars}
 use Rattle.xi_plain.specs.declared.command.Id.{Id}
-use Rattle.xi_plain.specs.declared.screen.Update.{Update}
+use Rattle.plain_screen.specs.declared.screen.Update.{Update}
 use Rattle.serde_json.specs.Data.{Data, depth}
 use Rattle.json_rpc.specs.Line.{line_of, IsLineOf}
 use Rattle.json_rpc.specs.Response.{reply_data, error_data, note_data}

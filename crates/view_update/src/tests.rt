@@ -1,7 +1,8 @@
 use crate::{write_alert, write_scroll, write_update};
 use std::alloc::Global;
 use std::test::Fail;
-use xi_plain::{Line, Listed, NoMemory, Op, Text, Triple, Update};
+use plain_text::{List, NoMemory, Text};
+use plain_screen::{Line, Op, Triple, Update};
 
 /// A line with these carets and styles.
 fn line(
@@ -14,21 +15,21 @@ fn line(
     Ok(Line {
         text: Text::from_str(alloc, text)?,
         ln,
-        cursor: Listed::from_vec(cursor.to_vec(alloc)?),
-        styles: Listed::from_vec(styles.to_vec(alloc)?),
+        cursor: List::from_vec(cursor.to_vec(alloc)?),
+        styles: List::from_vec(styles.to_vec(alloc)?),
     })
 }
 
 /// The operation that adds one line.
 fn one_line(alloc: Global, new: Line) -> Result<Op, NoMemory> {
-    let mut lines = Listed::new(alloc);
+    let mut lines = List::new(alloc);
     lines.push(new)?;
     Ok(Op::Ins { lines })
 }
 
 /// The first update of a view: one empty line with a caret.
 fn opening(alloc: Global) -> Result<Update, NoMemory> {
-    let mut ops = Listed::new(alloc);
+    let mut ops = List::new(alloc);
     ops.push(one_line(alloc, line(alloc, "", Some(1), &[0], &[])?)?)?;
     Ok(Update {
         ops,
@@ -38,7 +39,7 @@ fn opening(alloc: Global) -> Result<Update, NoMemory> {
 
 /// An update with each operation, and a copy of each kind.
 fn each_operation(alloc: Global) -> Result<Update, NoMemory> {
-    let mut ops = Listed::new(alloc);
+    let mut ops = List::new(alloc);
     ops.push(Op::Copy { n: 4, ln: Some(7) })?;
     ops.push(Op::Copy { n: 1, ln: None })?;
     ops.push(Op::Skip { n: 2 })?;
@@ -62,12 +63,12 @@ fn each_operation(alloc: Global) -> Result<Update, NoMemory> {
             id: 2,
         },
     ];
-    let mut lines = Listed::new(alloc);
+    let mut lines = List::new(alloc);
     lines.push(line(alloc, "abc\n", Some(12), &[1, 4], &styles)?)?;
     lines.push(line(alloc, "d", None, &[], &[])?)?;
     ops.push(Op::Ins { lines })?;
     ops.push(Op::Ins {
-        lines: Listed::new(alloc),
+        lines: List::new(alloc),
     })?;
     Ok(Update {
         ops,
@@ -77,7 +78,7 @@ fn each_operation(alloc: Global) -> Result<Update, NoMemory> {
 
 /// A line whose text has characters that JSON escapes, and some that it doesn't.
 fn odd_text(alloc: Global) -> Result<Update, NoMemory> {
-    let mut ops = Listed::new(alloc);
+    let mut ops = List::new(alloc);
     let text = "\"\\/\t\u{1}\u{1f}\u{7f}\u{e9}\u{2028}\u{1f600}\r\n";
     ops.push(one_line(alloc, line(alloc, text, None, &[], &[])?)?)?;
     Ok(Update {

@@ -1,19 +1,18 @@
 ghost use Rattle.std.specs.Prelude.{◌≡◌, IfOk, OnOk, map, codes, true};
 ghost use Rattle.std.specs.List.{AllByRecursion};
 ghost use Rattle.std.specs.Str.{all_scalars};
-ghost use Rattle.std.specs.Ordering.{nat_cmp};
-ghost use Rattle.std.specs.Cmp.Lexicographic.{slice_cmp};
-ghost use Rattle.std.specs.declared.cmp.Ordering.TheVariants.{Less};
 ghost use Rattle.serde_json.specs.View.{view, members_view};
 ghost use Rattle.json_rpc.specs.Proper.{IsBelow};
-ghost use Rattle.json_rpc.specs.Response.{text_data, pair_data};
+ghost use Rattle.json_rpc.specs.Response.{text_data};
 ghost use Rattle.view_update.specs.Written.{count_data, list_data, triple_items, op_members, after_ln, line_data, op_data, ops_data, update_params};
 ghost use Rattle.view_update.specs.Notes.{scroll_params, alert_params};
 ghost use Rattle.view_update.specs.Fair.{IsCount, IsLn, IsFairTriple, IsFairLine, IsFairOp, IsFairUpdate};
 
+use json_rpc::{pair, text_value};
 use serde_json::{Map, Value, json, put};
 use std::alloc::Global;
-use xi_plain::{Line, NoMemory, Op, Text, Triple, Update};
+use plain_text::{NoMemory, Text};
+use plain_screen::{Line, Op, Triple, Update};
 
 /// The params of the note of an update, for the view with this id.
 pub fn params_value(alloc: Global, id: &Text, update: &Update) -> Result<Value, NoMemory>
@@ -152,13 +151,6 @@ fn styles_value(alloc: Global, triples: &[Triple]) -> Result<Value, NoMemory>
     Ok(Value::Array(made))
 }
 
-fn text_value(alloc: Global, text: &Text) -> Result<Value, NoMemory>
-    ensures value { IfOk result (λ value. view value ≡ text_data text.now) }
-    ensures characters { IfOk result (λ _. all_scalars text.now ≡ true) }
-{
-    Ok(Value::try_from_str(alloc, text.as_str())?)
-}
-
 /// Puts the number in front of members that come after it, where there is one.
 fn put_ln(members: &mut Map<String, Value>, alloc: Global, ln: Option<u64>) -> Result<(), NoMemory>
     requires first { IsBelow (codes "ln") (members_view members.old.entries) }
@@ -170,21 +162,4 @@ fn put_ln(members: &mut Map<String, Value>, alloc: Global, ln: Option<u64>) -> R
         Some(n) => Ok(put(members, alloc, "ln", Value::from(n))?),
         None => Ok(()),
     }
-}
-
-fn pair(
-    alloc: Global,
-    name: &str,
-    value: Value,
-    later_name: &str,
-    later: Value,
-) -> Result<Value, NoMemory>
-    requires { slice_cmp nat_cmp name.now later_name.now ≡ Less }
-    ensures { IfOk result (λ made. view made
-        ≡ pair_data name.now (view value) later_name.now (view later)) }
-{
-    let mut members = Map::new(alloc);
-    put(&mut members, alloc, later_name, later)?;
-    put(&mut members, alloc, name, value)?;
-    Ok(Value::Object(members))
 }

@@ -13,7 +13,8 @@ use crate::values::{alert_value, params_value, scroll_value};
 use json_rpc::write_note;
 use serde_json::Value;
 use std::alloc::Global;
-use xi_plain::{NoMemory, Text, Update};
+use plain_text::{NoMemory, Text};
+use plain_screen::Update;
 
 /// The line of the note that tells a front end of an update of the view with this id. The cost is that of the update.
 pub fn write_update(alloc: Global, view: &Text, update: &Update) -> Result<Text, NoMemory>

@@ -8,7 +8,7 @@ mod words;
 use crate::words::{Invocation, invocation_of, words};
 use outside::{StdSink, StdSource};
 use std::process::ExitCode;
-use xi_plain::{NoMemory, Text};
+use plain_text::{NoMemory, Text};
 use xi_top::xi_main;
 
 const VERSION: &str = "xi_core 0.1.0";

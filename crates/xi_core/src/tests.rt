@@ -1,6 +1,6 @@
 use crate::words::{Invocation, invocation_of, words};
 use std::test::Fail;
-use xi_plain::Text;
+use plain_text::Text;
 
 #[test]
 fn one_word_asks_for_help_or_the_version(rt: HostRuntime) -> Result<(), Fail> {

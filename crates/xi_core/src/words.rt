@@ -3,7 +3,7 @@ ghost use Rattle.std.specs.Prelude.{◌≡◌, ◌↔◌, [], ◌∷◌, IsTrue,
 use std::alloc::Global;
 use std::rt::Env;
 use std::{env, io};
-use xi_plain::{Listed, NoMemory, Text, Texts};
+use plain_text::{List, NoMemory, Text, Texts};
 
 /// What the words ask of the program.
 #[derive(Clone, Copy, Debug, PartialEq, Eq)]
@@ -23,7 +23,7 @@ pub fn words<R: Env + AllocGlobal>(rt: &R) -> Result<Texts, NoMemory> {
 }
 
 fn after_name(alloc: Global, args: env::Args) -> Result<Texts, NoMemory> {
-    let mut words = Listed::new(alloc);
+    let mut words = List::new(alloc);
     for word in args.skip(1) {
         words.push(Text::from_string(word))?;
     }
@@ -33,7 +33,7 @@ fn after_name(alloc: Global, args: env::Args) -> Result<Texts, NoMemory> {
 fn one_empty(alloc: Global) -> Result<Texts, NoMemory>
     ensures { IfOk result (λ words. words ≡ [] ∷ []) }
 {
-    let mut words = Listed::new(alloc);
+    let mut words = List::new(alloc);
     words.push(Text::new(alloc))?;
     Ok(words)
 }

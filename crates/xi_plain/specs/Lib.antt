@@ -1,16 +1,1 @@
-pub mod Numbers
-pub mod Text
-pub mod Woven
-pub mod Delta
-pub mod UnitDelta
-pub mod History
-pub mod Place
-pub mod Edits
-pub mod Collection
-pub mod Caret
-pub mod Layout
-pub mod Screen
-pub mod Plan
 pub mod Journal
-pub mod Rows
-pub mod Laws

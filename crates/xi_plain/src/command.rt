@@ -1,6 +1,4 @@
-use crate::listed::Listed;
-use crate::memory::{Copied, NoMemory};
-use crate::text::Text;
+use plain_text::{List, NoMemory, Text, TryClone};
 use std::alloc::Global;
 
 /// What a line names its answer by.
@@ -68,15 +66,9 @@ pub struct Entry {
 }
 
 /// The entries of a session, from the first.
-pub type Entries = Listed<Entry>;
+pub type Entries = List<Entry>;
 
-/// Texts, in order.
-pub type Texts = Listed<Text>;
-
-/// Bytes, in order.
-pub type Bytes = Listed<u8>;
-
-impl Copied for Id {
+impl TryClone for Id {
     fn copy(&self, alloc: Global) -> Result<Id, NoMemory> {
         match self {
             Id::NoId => Ok(Id::NoId),
@@ -86,7 +78,7 @@ impl Copied for Id {
     }
 }
 
-impl Copied for Fault {
+impl TryClone for Fault {
     fn copy(&self, alloc: Global) -> Result<Fault, NoMemory> {
         match self {
             Fault::Parse => Ok(Fault::Parse),
@@ -98,7 +90,7 @@ impl Copied for Fault {
     }
 }
 
-impl Copied for EditAct {
+impl TryClone for EditAct {
     fn copy(&self, alloc: Global) -> Result<EditAct, NoMemory> {
         match self {
             EditAct::Insert { chars } => Ok(EditAct::Insert {
@@ -108,7 +100,7 @@ impl Copied for EditAct {
     }
 }
 
-impl Copied for Act {
+impl TryClone for Act {
     fn copy(&self, alloc: Global) -> Result<Act, NoMemory> {
         match self {
             Act::Bad(fault) => Ok(Act::Bad(fault.copy(alloc)?)),
@@ -125,7 +117,7 @@ impl Copied for Act {
     }
 }
 
-impl Copied for Command {
+impl TryClone for Command {
     fn copy(&self, alloc: Global) -> Result<Command, NoMemory> {
         Ok(Command {
             id: self.id.copy(alloc)?,
@@ -134,7 +126,7 @@ impl Copied for Command {
     }
 }
 
-impl Copied for Entry {
+impl TryClone for Entry {
     fn copy(&self, alloc: Global) -> Result<Entry, NoMemory> {
         Ok(Entry {
             caller: self.caller,

@@ -1,6 +1,5 @@
-use crate::delta::Delta;
-use crate::memory::{Copied, NoMemory};
-use crate::text::Text;
+use plain_edits::Delta;
+use plain_text::{NoMemory, Text, TryClone};
 use std::alloc::Global;
 
 /// How texts are laid out and edited.
@@ -27,13 +26,13 @@ pub struct Notice {
     pub delta: Delta,
 }
 
-impl Copied for Config {
+impl TryClone for Config {
     fn copy(&self, _alloc: Global) -> Result<Config, NoMemory> {
         Ok(*self)
     }
 }
 
-impl Copied for Notice {
+impl TryClone for Notice {
     fn copy(&self, alloc: Global) -> Result<Notice, NoMemory> {
         Ok(Notice {
             view: self.view.copy(alloc)?,

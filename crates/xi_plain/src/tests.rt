@@ -6,8 +6,8 @@ fn text(alloc: Global, characters: &str) -> Result<Text, NoMemory> {
     Text::from_str(alloc, characters)
 }
 
-fn one<T: Drop>(alloc: Global, item: T) -> Result<Listed<T>, NoMemory> {
-    let mut list = Listed::new(alloc);
+fn one<T: Drop>(alloc: Global, item: T) -> Result<List<T>, NoMemory> {
+    let mut list = List::new(alloc);
     list.push(item)?;
     Ok(list)
 }
@@ -15,7 +15,7 @@ fn one<T: Drop>(alloc: Global, item: T) -> Result<Listed<T>, NoMemory> {
 #[test]
 fn a_text_is_counted_in_bytes_and_in_characters(rt: HostRuntime) -> Result<(), Fail> {
     let some = text(rt.alloc(), "aé\n𝄞")?;
-    assert_eq!(rt; (some.byte_len(), some.len()), (8, 4));
+    assert_eq!(rt; (some.byte_len(), some.char_count()), (8, 4));
     assert_eq!(rt; some.gap_at(3), Some(2));
     assert_eq!(rt; some.gap_at(2), None);
     assert_eq!(rt; some.gap_at(8), Some(4));

@@ -5,8 +5,8 @@ use Rattle.std.specs.Prelude.{if◌then◌else◌, ◌==◌}
 use Rattle.std.specs.List.{AllByRecursion}
 use Rattle.xi_plain.specs.declared.command.Command.{Command}
 use Rattle.xi_plain.specs.declared.command.Entry.{Entry}
-use Rattle.xi_plain.specs.Journal.{ended_lines, unended, last_line, lines_of}
-use Rattle.xi_plain.proofs.JournalLemmas.{ended_lines-append, unended-append}
+use Rattle.plain_text.specs.InputLines.{ended_lines, unended, last_line, lines_of}
+use Rattle.plain_text.proofs.callers.InputLemmas.{ended_lines-append, unended-append}
 use Rattle.front_wire.specs.Front.{command_of}
 use Rattle.outside.specs.Source.{Gives}
 use Rattle.xi_top.specs.declared.ending.Ending.{Ending}

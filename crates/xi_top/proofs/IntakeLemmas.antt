@@ -7,16 +7,16 @@ use Rattle.std.specs.Bool.{MatchBool}
 use Rattle.std.specs.List.{AllByRecursion}
 use Rattle.xi_plain.specs.declared.command.Command.{Command}
 use Rattle.xi_plain.specs.declared.command.Entry.{Entry}
-use Rattle.xi_plain.specs.Journal.{ended_lines, unended, last_line, lines_of}
+use Rattle.plain_text.specs.InputLines.{ended_lines, unended, last_line, lines_of}
 use Rattle.front_wire.specs.Front.{command_of}
 use Rattle.outside.specs.Sink.{Gains}
 use Rattle.outside.specs.Source.{Gives}
-use Rattle.outside.proofs.Calls.{Gives-append, Gains-append, Gains-none, Rose-earlier}
+use Rattle.outside.proofs.ForCallers.{Gives-append, Gains-append, Gains-none, Rose-earlier}
 use Rattle.core_session.specs.declared.session.Core.{Core}
 use Rattle.core_session.specs.Journal.{closing_entry, is_closing, closes, MayFollow, IsLegal, IsOpen, commands}
 use Rattle.core_session.specs.Session.{written}
 use Rattle.core_session.specs.Core.{IsServing, Takes, BreaksOff, IsAsBefore, journal_of, sink_of, piece_after, front_entry}
-use Rattle.core_session.proofs.SessionLemmas.{written-push, closes-command_of}
+use Rattle.core_session.proofs.ForCallers.{written-push, closes-command_of}
 use Rattle.xi_top.specs.declared.ending.Ending.{Ending}
 use Rattle.xi_top.specs.declared.ending.Ending.TheVariants.{Finished, NoMemory, SourceFault, SinkFault, TooMany, TooLong}
 use Rattle.xi_top.specs.Ending.{HasLongLine, short_lines, most_lines, too_long}

@@ -4,8 +4,8 @@ use Rattle.std.specs.Prelude.{if◌then◌else◌, ◌==◌}
 use Rattle.std.specs.List.{take_while, prefix_len, AllByRecursion}
 use Rattle.std.proofs.lemmas.Bool.Decides.{nat_tests}
 use Rattle.std.proofs.Math.Seq.{take-append_seam}
-use Rattle.xi_plain.specs.Journal.{ended_lines, unended, last_line, lines_of}
-use Rattle.xi_plain.proofs.JournalLemmas.{ended_lines-append, unended-append}
+use Rattle.plain_text.specs.InputLines.{ended_lines, unended, last_line, lines_of}
+use Rattle.plain_text.proofs.callers.InputLemmas.{ended_lines-append, unended-append}
 use Rattle.xi_top.specs.Ending.{short_lines, too_long}
 use Rattle.memchr.specs.Find.{Nowhere, Passes, is_byte}
 use Rattle.xi_top.specs.Intake.{IsShort, EndsLine, HasNoEnd}

@@ -1,7 +1,7 @@
 -- WHEN A RUN MUST END WELL: nothing outside stops it, and its input is one that a run can take.
 use Rattle.std.specs.Prelude.{◌≡◌, ℕ, ◌<◌, ◌≤◌, List, [], length, Some, ◌⊎◌}
 use Rattle.std.specs.List.{AllByRecursion}
-use Rattle.xi_plain.specs.Journal.{ended_lines, unended, lines_of}
+use Rattle.plain_text.specs.InputLines.{ended_lines, unended, lines_of}
 use Rattle.outside.specs.Faults.{Rose}
 use Rattle.xi_top.specs.Ending.{most_lines, too_long}
 use Rattle.xi_top.specs.Run.{Told}

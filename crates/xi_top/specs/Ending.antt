@@ -2,7 +2,7 @@
 use Rattle.std.specs.Prelude.{◌≡◌, ℕ, ◌^◌, ◌<◌, ◌≤◌, ◌⊎◌, nat_le, List, [], length, map, take}
 use Rattle.std.specs.List.{take_while}
 use Rattle.xi_plain.specs.declared.command.Command.{Command}
-use Rattle.xi_plain.specs.Journal.{ended_lines, unended, lines_of}
+use Rattle.plain_text.specs.InputLines.{ended_lines, unended, lines_of}
 use Rattle.front_wire.specs.Front.{command_of}
 use Rattle.xi_top.specs.declared.ending.Ending.{Ending}
 use Rattle.xi_top.specs.declared.ending.Ending.TheVariants.{Finished, NoMemory, SourceFault, SinkFault, TooMany, TooLong}

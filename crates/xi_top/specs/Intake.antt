@@ -2,7 +2,7 @@
 use Rattle.std.specs.Prelude.{◌≡◌, ℕ, ◌+◌, ◌*◌, ◌<◌, ◌≤◌, List, [], ◌∷◌, ◌++◌, length, map, Option, None, MatchOption, ⊤}
 use Rattle.std.specs.List.{AllByRecursion}
 use Rattle.xi_plain.specs.declared.command.Command.{Command}
-use Rattle.xi_plain.specs.Journal.{ended_lines, unended}
+use Rattle.plain_text.specs.InputLines.{ended_lines, unended}
 use Rattle.front_wire.specs.Front.{command_of}
 use Rattle.outside.specs.Faults.{Rose}
 use Rattle.outside.specs.Source.{Gives}

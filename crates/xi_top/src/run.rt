@@ -8,7 +8,8 @@ use crate::serve::serve;
 use core_session::Core;
 use outside::{Sink, Source};
 use std::alloc::Global;
-use xi_plain::{Entry, Text};
+use plain_text::Text;
+use xi_plain::Entry;
 
 /// What a run came to.
 #[derive(Drop)]

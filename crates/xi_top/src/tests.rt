@@ -4,7 +4,7 @@ use crate::{run_alone, xi_main};
 use outside::{MemSink, MemSource};
 use std::alloc::{AllocError, Global};
 use std::test::Fail;
-use xi_plain::Text;
+use plain_text::Text;
 
 const OPEN: &[u8] = b"{\"id\":0,\"method\":\"new_view\",\"params\":{}}\n";
 

@@ -1,6 +1,6 @@
 use Rattle.std.proofs.Common.{subst, arith, List, ℕ, length-drop}
 use Rattle.outside.specs.Sink.{Gains}
-use Rattle.outside.proofs.Calls.{Gains-append}
+use Rattle.outside.proofs.ForCallers.{Gains-append}
 use Rattle.core_session.proofs.SessionLemmas.{take-plus_rest}
 use Rattle.core_session.proofs.write.write_piece.Goals as goal
 

@@ -1,5 +1,5 @@
 use Rattle.std.proofs.Common.{arith}
-use Rattle.delta_core.specs.Step.{part_steps, steps_of}
+use Rattle.delta_core.specs.Inner.{part_steps, steps_of}
 use Rattle.delta_core.proofs.StepLemmas.{IsSplitting-next, splitting_room, IsFactored-all, length-steps_of, base_count-le_length}
 use Rattle.delta_core.proofs.factoring.factor.Goals as goal
 

@@ -1,5 +1,5 @@
 use Rattle.std.proofs.Common.{length}
-use Rattle.delta_core.specs.Step.{steps_of}
+use Rattle.delta_core.specs.Inner.{steps_of}
 use Rattle.delta_core.proofs.StepLemmas.{IsSplitting}
 use Rattle.delta_core.proofs.factoring.factor.Given as goal
 

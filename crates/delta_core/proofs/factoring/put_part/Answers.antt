@@ -1,5 +1,6 @@
 use Rattle.std.proofs.Common.{ap, sym, ◌∙◌, ◌++◌, List, Bool, arith, append-nil, replicate, true, ℕ}
-use Rattle.delta_core.specs.Step.{base_count, part_steps, drops, news}
+use Rattle.delta_core.specs.Step.{drops}
+use Rattle.delta_core.specs.Inner.{base_count, part_steps, news}
 use Rattle.delta_core.proofs.StepLemmas.{drops_of_kept, drops_of_dropped, drops_of_added, news_of_kept, news_of_dropped, news_of_added, count_of_kept, count_of_dropped}
 use Rattle.delta_core.proofs.factoring.put_part.Goals as goal
 
@@ -31,5 +32,5 @@ returns-in_ok-append-in-Add-clause-dropped c =
 
 pub returns-in_ok-append-in-Add-clause-inserted : goal.returns-in_ok-append-in-Add-clause-inserted
 returns-in_ok-append-in-Add-clause-inserted c =
-    c.in_ok-append-in-Add.ensures.ok ∙ ap (λ (n : ℕ). c.args.inserted.now ++ replicate n true) c.len.ensures ∙
+    c.in_ok-append-in-Add.ensures.ok ∙ ap (λ (n : ℕ). c.args.inserted.now ++ replicate n true) c.char_count.ensures ∙
     ap (λ (s : List Bool). c.args.inserted.now ++ s) (sym (ap (λ p. news (part_steps p)) c.in-Add.is ∙ news_of_added c.in-Add.text.now))

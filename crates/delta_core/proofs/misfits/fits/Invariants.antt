@@ -1,6 +1,6 @@
 use Rattle.std.proofs.Common.{◌≡◌, drop}
-use Rattle.xi_plain.specs.Text.{byte_len}
-use Rattle.xi_plain.specs.Delta.{copies_misfit}
+use Rattle.plain_text.specs.Text.{byte_len}
+use Rattle.plain_edits.specs.Delta.{copies_misfit}
 use Rattle.delta_core.proofs.misfits.fits.Given as goal
 
 abbrev pub invariant-loop-el : goal.invariant-loop-el

@@ -1,5 +1,5 @@
 use Rattle.std.proofs.Common.{List, Bool, ◌++◌, replicate, arith, sym, ap, ◌∙◌}
-use Rattle.subset_runs.proofs.StretchLemmas.{front_part}
+use Rattle.subset_runs.proofs.ForCallers.{front_part}
 use Rattle.delta_core.proofs.synthesis.next_block.Goals as goal
 
 pub returns-clause-before : goal.returns-clause-before

@@ -1,5 +1,5 @@
 use Rattle.std.proofs.Common.{[], ◌∷◌, arith, ap, sym, ◌∙◌}
-use Rattle.xi_plain.specs.Delta.{copies_misfit}
+use Rattle.plain_edits.specs.Delta.{copies_misfit}
 use Rattle.delta_core.proofs.UnitLemmas.{CopyFits-from, gap_of-le}
 use Rattle.delta_core.proofs.unit_form.put_el.Goals as goal
 

@@ -1,5 +1,5 @@
 use Rattle.std.proofs.Common.{◌≡◌, ◌+◌, ℕ, [], drop, length, ap, true, arith, sym, subst}
-use Rattle.xi_plain.specs.Text.{gap_of, is_place}
+use Rattle.plain_text.specs.Text.{gap_of, is_place}
 use Rattle.std.proofs.lemmas.List.{drop_all}
 use Rattle.delta_core.proofs.UnitLemmas.{IsReading-start, IsUnitsOf-all, place_within, is_place-end, gap_of-le}
 use Rattle.delta_core.proofs.unit_form.to_units.Goals as goal

@@ -1,5 +1,5 @@
 use Rattle.std.proofs.Common.{length}
-use Rattle.delta_core.specs.Walk.{IsRestOfKept}
+use Rattle.delta_core.specs.Inner.{IsRestOfKept}
 use Rattle.delta_core.proofs.unit_walk.runs_after.Given as goal
 
 abbrev pub invariant-loop-rest : goal.invariant-loop-rest

@@ -2,7 +2,7 @@ use denote.Shadow.{shadow}
 use denote.Text.{Utf8}
 use Rattle.std.proofs.Common.{length}
 use Rattle.std.specs.Str.{chars}
-use Rattle.xi_plain.specs.UnitDelta.{unit_adds, unit_keeps}
+use Rattle.plain_edits.specs.UnitDelta.{unit_adds, unit_keeps}
 use Rattle.delta_core.specs.Wire.{wire_from}
 use Rattle.delta_core.proofs.WireLemmas.{IsWiring}
 use Rattle.delta_core.proofs.wire_form.to_wire.Given as goal

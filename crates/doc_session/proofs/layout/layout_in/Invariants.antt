@@ -1,6 +1,6 @@
 use Rattle.std.proofs.Common.{◌≡◌, ◌+◌, ◌≤◌, length, [], ◌∷◌, ◌++◌}
 use Rattle.std.specs.Str.{chars, IsUtf8}
-use Rattle.xi_plain.specs.Layout.{layout}
+use Rattle.doc_session.specs.Layout.{layout}
 use Rattle.doc_session.proofs.LayoutLemmas.{layout_rest}
 use Rattle.doc_session.proofs.layout.layout_in.Given as goal
 

@@ -1,7 +1,7 @@
 use Rattle.std.proofs.Common.{◌≡◌, ◌<◌, ◌≤◌, ◌-◌, [], ◌∷◌, ◌++◌, length, take, refl, ap, sym, ◌∙◌, arith}
 use Rattle.std.proofs.lemmas.Bool.Decides.{nat_tests}
 use Rattle.std.proofs.lemmas.Grind.{common_steps}
-use Rattle.xi_plain.specs.declared.screen.Op.TheVariants.{Invalidate, Ins}
+use Rattle.plain_screen.specs.declared.screen.Op.TheVariants.{Invalidate, Ins}
 use Rattle.doc_session.proofs.PlanLemmas.{update_plan-short, update_plan-long}
 use Rattle.doc_session.proofs.plan.ops_of.Goals as goal
 

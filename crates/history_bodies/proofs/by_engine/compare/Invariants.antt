@@ -1,5 +1,5 @@
 use Rattle.std.proofs.Common.{◌≡◌, ℕ, ◌<◌}
-use Rattle.xi_plain.specs.History.{History, text_at}
+use Rattle.plain_edits.specs.History.{History, text_at}
 use Rattle.history_bodies.specs.Engines.{EachIs}
 use Rattle.history_bodies.proofs.by_engine.compare.Given as goal
 

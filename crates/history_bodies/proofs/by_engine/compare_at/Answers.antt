@@ -1,5 +1,5 @@
 use Rattle.std.proofs.Common.{◌∙◌, ap, arith, Err}
-use Rattle.rev_engine.proofs.StandLemmas.{IsFresh-given}
+use Rattle.rev_engine.proofs.ForCallers.{IsFresh-given}
 use Rattle.history_bodies.proofs.by_engine.compare_at.Goals as goal
 
 pub returns-in-Err-Unknown-clause-differ : goal.returns-in-Err-Unknown-clause-differ

@@ -1,5 +1,5 @@
 use Rattle.std.proofs.Common.{◌++◌, flat_map, ap, ◌∙◌}
-use Rattle.rev_rebase.proofs.JoinedLemmas.{added_text-joined}
+use Rattle.rev_rebase.proofs.ForCallers.{added_text-joined}
 use Rattle.history_bodies.proofs.by_rebase.text_of.Goals as goal
 
 pub loop-added-init : goal.loop-added-init

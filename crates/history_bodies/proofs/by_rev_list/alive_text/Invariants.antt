@@ -1,5 +1,5 @@
 use Rattle.std.proofs.Common.{◌≡◌, ◌++◌, drop, [], ◌∷◌, if◌then◌else◌}
-use Rattle.xi_plain.specs.Woven.{woven}
+use Rattle.plain_text.specs.Woven.{woven}
 use Rattle.subset_runs.specs.Subset.{contains}
 use Rattle.history_bodies.specs.Marks.{text_without}
 use Rattle.history_bodies.proofs.by_rev_list.alive_text.Given as goal

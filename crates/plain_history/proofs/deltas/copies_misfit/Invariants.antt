@@ -1,5 +1,5 @@
 use Rattle.std.proofs.Common.{◌≡◌, drop}
-use Rattle.xi_plain.specs.Delta.{copies_misfit}
+use Rattle.plain_edits.specs.Delta.{copies_misfit}
 use Rattle.plain_history.proofs.deltas.copies_misfit.Given as goal
 
 abbrev pub invariant-loop-el : goal.invariant-loop-el

@@ -1,5 +1,5 @@
 use Rattle.std.proofs.Common.{◌≡◌, ◌++◌, drop}
-use Rattle.xi_plain.specs.Delta.{insertions}
+use Rattle.plain_edits.specs.Delta.{insertions}
 use Rattle.plain_history.proofs.deltas.insertions.Given as goal
 
 abbrev pub invariant-loop-el : goal.invariant-loop-el

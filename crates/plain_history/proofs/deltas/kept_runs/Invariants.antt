@@ -1,5 +1,5 @@
 use Rattle.std.proofs.Common.{◌≡◌, ◌++◌, drop}
-use Rattle.xi_plain.specs.Delta.{kept_runs}
+use Rattle.plain_edits.specs.Delta.{kept_runs}
 use Rattle.plain_history.proofs.deltas.kept_runs.Given as goal
 
 abbrev pub invariant-loop-el : goal.invariant-loop-el

@@ -1,5 +1,5 @@
 use Rattle.std.proofs.Common.{◌≡◌, ◌++◌, drop}
-use Rattle.xi_plain.specs.Delta.{text_at_gap}
+use Rattle.plain_edits.specs.Delta.{text_at_gap}
 use Rattle.plain_history.proofs.deltas.text_at_gap.Given as goal
 
 abbrev pub invariant-loop-added : goal.invariant-loop-added

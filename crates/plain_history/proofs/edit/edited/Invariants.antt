@@ -1,8 +1,8 @@
 use Rattle.std.proofs.Common.{◌≡◌, ◌++◌, drop, [], ◌∷◌}
-use Rattle.xi_plain.specs.Woven.{woven}
-use Rattle.xi_plain.specs.Edits.{inserted_at}
+use Rattle.plain_text.specs.Woven.{woven}
+use Rattle.plain_edits.specs.Edits.{inserted_at}
 use Rattle.plain_history.specs.UnitEdit.{edit_of}
-use Rattle.plain_history.specs.EditStep.{kept_or_deleted}
+use Rattle.plain_history.specs.Inner.{kept_or_deleted}
 use Rattle.plain_history.proofs.edit.edited.Given as goal
 
 abbrev pub invariant-loop-index : goal.invariant-loop-index

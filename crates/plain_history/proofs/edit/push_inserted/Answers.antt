@@ -1,8 +1,8 @@
 use Rattle.std.proofs.Common.{◌≡◌, ◌∙◌, arith}
 use Rattle.std.specs.List.{count_by}
-use Rattle.xi_plain.specs.History.{is_visible}
+use Rattle.plain_edits.specs.History.{is_visible}
 use Rattle.plain_history.specs.UnitEdit.{edit_of}
-use Rattle.plain_history.specs.EditStep.{inserted_from}
+use Rattle.plain_history.specs.Inner.{inserted_from}
 use Rattle.plain_history.proofs.Lists.{flat_map-range_push, piece_more}
 use Rattle.plain_history.proofs.Steps.{inserted_at-last}
 use Rattle.plain_history.proofs.edit.push_inserted.Goals as goal

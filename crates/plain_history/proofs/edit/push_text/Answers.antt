@@ -2,7 +2,7 @@ use Rattle.std.proofs.Common.{◌++◌, ◌∙◌, ap, map, append-nil, sym}
 use Rattle.std.specs.Str.{chars}
 use Rattle.std.proofs.lemmas.List.{nil_from_length}
 use Rattle.std.proofs.lemmas.Str.{IsUtf8-past_char, chars_past_char, chars-nil}
-use Rattle.plain_history.specs.EditStep.{inserted_by}
+use Rattle.plain_edits.specs.History.{inserted_by}
 use Rattle.plain_history.proofs.Lists.{item_more}
 use Rattle.plain_history.proofs.edit.push_text.Goals as goal
 

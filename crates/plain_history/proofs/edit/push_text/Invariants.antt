@@ -1,6 +1,6 @@
 use Rattle.std.proofs.Common.{◌≡◌, ◌++◌, map}
 use Rattle.std.specs.Str.{chars, IsUtf8}
-use Rattle.plain_history.specs.EditStep.{inserted_by}
+use Rattle.plain_edits.specs.History.{inserted_by}
 use Rattle.plain_history.proofs.edit.push_text.Given as goal
 
 abbrev pub invariant-loop-character : goal.invariant-loop-character

@@ -1,6 +1,6 @@
 use Rattle.std.proofs.Common.{◌≡◌, ◌+◌, ◌≤◌, length, take, not}
 use Rattle.std.specs.List.{suffix_len}
-use Rattle.xi_plain.specs.Place.{is_by}
+use Rattle.plain_edits.specs.Place.{is_by}
 use Rattle.plain_history.proofs.place.end_of.Given as goal
 
 abbrev pub invariant-loop-end : goal.invariant-loop-end

@@ -1,6 +1,6 @@
 use Rattle.std.proofs.Common.{◌≡◌, ◌+◌, drop}
-use Rattle.xi_plain.specs.Woven.{nth_index}
-use Rattle.xi_plain.specs.History.{is_visible}
+use Rattle.plain_text.specs.Woven.{nth_index}
+use Rattle.plain_edits.specs.History.{is_visible}
 use Rattle.plain_history.proofs.place.index_right_of.Given as goal
 
 abbrev pub invariant-loop-index : goal.invariant-loop-index

@@ -1,6 +1,6 @@
 use Rattle.std.proofs.Common.{◌≡◌, ◌+◌, drop}
 use Rattle.std.specs.List.{position_or_len}
-use Rattle.xi_plain.specs.Place.{is_by}
+use Rattle.plain_edits.specs.Place.{is_by}
 use Rattle.plain_history.proofs.place.start_of.Given as goal
 
 abbrev pub invariant-loop-index : goal.invariant-loop-index

@@ -1,7 +1,7 @@
 use Rattle.std.proofs.Common.{◌≡◌, ◌↔◌, drop}
 use Rattle.std.specs.List.{AllByRecursion}
-use Rattle.xi_plain.specs.Numbers.{has}
-use Rattle.xi_plain.specs.History.{head, undone}
+use Rattle.plain_text.specs.Numbers.{has}
+use Rattle.plain_edits.specs.History.{head, undone}
 use Rattle.plain_history.proofs.undo.all_frozen.Given as goal
 
 abbrev pub invariant-loop-group : goal.invariant-loop-group

@@ -1,6 +1,6 @@
 use Rattle.std.proofs.Common.{◌≡◌, ◌<◌, ◌↔◌, drop, true}
 use Rattle.std.specs.List.{AllByRecursion, list_any}
-use Rattle.xi_plain.specs.Edits.{is_edit_of}
+use Rattle.plain_edits.specs.Edits.{is_edit_of}
 use Rattle.plain_history.proofs.undo.all_known.Given as goal
 
 abbrev pub invariant-loop-group : goal.invariant-loop-group

@@ -1,6 +1,6 @@
 use Rattle.std.proofs.Common.{◌≡◌, ◌++◌, drop, map}
 use Rattle.std.specs.List.{filter}
-use Rattle.xi_plain.specs.History.{Tagged, is_visible}
+use Rattle.plain_edits.specs.History.{Tagged, is_visible}
 use Rattle.plain_history.proofs.visible.text_of.Given as goal
 
 abbrev pub invariant-loop-tagged : goal.invariant-loop-tagged

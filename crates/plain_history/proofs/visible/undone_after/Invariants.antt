@@ -1,5 +1,5 @@
 use Rattle.std.proofs.Common.{◌≡◌, drop, []}
-use Rattle.xi_plain.specs.History.{undone_after}
+use Rattle.plain_edits.specs.History.{undone_after}
 use Rattle.plain_history.proofs.visible.undone_after.Given as goal
 
 abbrev pub invariant-loop-revision : goal.invariant-loop-revision

@@ -1,7 +1,7 @@
 use Rattle.std.proofs.Common.{◌+◌, ◌++◌, drop, sym, ap, ◌∙◌, subst}
 use Rattle.std.proofs.lemmas.List.{take-append-drop}
 use Rattle.xi_top.specs.Intake.{EndsLine}
-use Rattle.xi_top.proofs.LineLemmas.{none_found, line_found}
+use Rattle.xi_top.proofs.ForCallers.{none_found, line_found}
 use Rattle.std.proofs.Math.Seq.{take-length, drop-length}
 use Rattle.protocol_cases.specs.Lines.{IsCut}
 use Rattle.protocol_cases.proofs.CutLemmas.{cut-ended, cut-whole}

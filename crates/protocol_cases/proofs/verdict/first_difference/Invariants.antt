@@ -1,5 +1,5 @@
 use Rattle.std.proofs.Common.{◌≡◌, ◌+◌, ◌≤◌, length}
-use Rattle.xi_plain.specs.Journal.{lines_of}
+use Rattle.plain_text.specs.InputLines.{lines_of}
 use Rattle.protocol_cases.specs.Verdict.{first_difference}
 use Rattle.protocol_cases.proofs.verdict.first_difference.Given as goal
 

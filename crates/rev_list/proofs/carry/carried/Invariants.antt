@@ -1,6 +1,7 @@
 use Rattle.std.proofs.Common.{◌≡◌, length, drop}
 use Rattle.std.specs.List.{fold}
-use Rattle.rev_list.specs.Kept.{AreInTurn, dead_later}
+use Rattle.rev_list.specs.Kept.{AreInTurn}
+use Rattle.rev_list.specs.Inner.{dead_later}
 use Rattle.rev_list.proofs.carry.carried.Given as goal
 
 abbrev pub invariant-loop-edit : goal.invariant-loop-edit

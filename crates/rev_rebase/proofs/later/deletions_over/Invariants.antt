@@ -1,6 +1,6 @@
 use Rattle.std.proofs.Common.{◌≡◌, length, drop}
 use Rattle.std.specs.List.{fold}
-use Rattle.rev_rebase.specs.Later.{Grow, deletions_after}
+use Rattle.rev_rebase.specs.Inner.{Grow, deletions_after}
 use Rattle.rev_rebase.proofs.later.deletions_over.Given as goal
 
 abbrev pub invariant-loop-edit : goal.invariant-loop-edit

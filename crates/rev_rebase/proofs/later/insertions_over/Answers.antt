@@ -2,7 +2,7 @@ use Rattle.std.proofs.Common.{◌≡◌, ◌+◌, List, Bool, length, drop, refl
 use Rattle.std.specs.List.{fold}
 use Rattle.subset_runs.specs.Subset.{count}
 use Rattle.delta_core.specs.Carry.{carried}
-use Rattle.rev_rebase.specs.Later.{insertions_after}
+use Rattle.rev_rebase.specs.Inner.{insertions_after}
 use Rattle.rev_rebase.proofs.LaterLemmas.{growth_at, IsCarriedOn-carried, fold-front}
 use Rattle.rev_rebase.proofs.later.insertions_over.Goals as goal
 

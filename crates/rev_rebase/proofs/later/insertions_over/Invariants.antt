@@ -1,7 +1,7 @@
 use Rattle.std.proofs.Common.{◌≡◌, length, drop}
 use Rattle.std.specs.List.{fold}
 use Rattle.subset_runs.specs.Subset.{count}
-use Rattle.rev_rebase.specs.Later.{Grow, insertions_after}
+use Rattle.rev_rebase.specs.Inner.{Grow, insertions_after}
 use Rattle.rev_rebase.proofs.later.insertions_over.Given as goal
 
 abbrev pub invariant-loop-edit : goal.invariant-loop-edit

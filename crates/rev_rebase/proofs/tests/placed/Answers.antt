@@ -13,7 +13,7 @@ rebase-requires-clause-alive c =
       ap length dead,
       ap count dead,
       c.in-Some.ensures,
-      c.len.ensures,
+      c.char_count.ensures,
       c.count.ensures,
       c.in_ok-units.ensures.base,
     )

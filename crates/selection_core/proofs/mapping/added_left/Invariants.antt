@@ -1,5 +1,5 @@
 use Rattle.std.proofs.Common.{drop}
-use Rattle.selection_core.specs.Steps.{gaps_left}
+use Rattle.selection_core.specs.Inner.{gaps_left}
 use Rattle.selection_core.proofs.GapLemmas.{IsAdded}
 use Rattle.selection_core.proofs.mapping.added_left.Given as goal
 

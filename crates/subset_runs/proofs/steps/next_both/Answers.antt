@@ -1,5 +1,5 @@
 use Rattle.std.proofs.Common.{arith}
-use Rattle.subset_runs.specs.Keep.{is_kept}
+use Rattle.subset_runs.specs.Inner.{is_kept}
 use Rattle.subset_runs.proofs.StretchLemmas.{at_each_next}
 use Rattle.subset_runs.proofs.steps.next_both.Goals as goal
 

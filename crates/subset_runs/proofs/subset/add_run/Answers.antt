@@ -1,6 +1,7 @@
 use Rattle.std.proofs.Common.{◌≡◌, ℕ, ◌-◌, ◌≤◌, sym, ◌∙◌, subst, ap, set, arith}
 use Rattle.std.proofs.lemmas.List.{get_or_default}
-use Rattle.subset_runs.specs.Runs.{AddsRun, next_start}
+use Rattle.subset_runs.specs.Runs.{next_start}
+use Rattle.subset_runs.specs.Inner.{AddsRun}
 use Rattle.subset_runs.proofs.RunLemmas.{AddsRun-longer, AddsRun-push, next_start-free, next_start-empty}
 use Rattle.subset_runs.proofs.subset.add_run.Goals as goal
 use Rattle.subset_runs.proofs.subset.add_run.Goals.{else-n-gt0-via-then-n-gt0+else-index-start, else-n-gt0-via-else-n-gt0}

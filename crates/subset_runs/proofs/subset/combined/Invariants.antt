@@ -1,5 +1,5 @@
 use Rattle.std.proofs.Common.{◌≡◌, ◌+◌, ◌++◌, length}
-use Rattle.subset_runs.specs.Keep.{is_kept}
+use Rattle.subset_runs.specs.Inner.{is_kept}
 use Rattle.subset_runs.specs.Subset.{at_each}
 use Rattle.subset_runs.proofs.subset.combined.Given as goal
 

@@ -1,5 +1,5 @@
 use Rattle.std.proofs.Common.{length}
-use Rattle.subset_runs.specs.Runs.{IsRest}
+use Rattle.subset_runs.specs.Inner.{IsRest}
 use Rattle.subset_runs.proofs.walk.rest_after.Given as goal
 
 abbrev pub invariant-loop-rest : goal.invariant-loop-rest

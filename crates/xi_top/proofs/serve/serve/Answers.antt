@@ -1,5 +1,5 @@
 use Rattle.std.proofs.Common.{◌++◌, take, arith}
-use Rattle.outside.proofs.Calls.{Gives-append, Rose-earlier}
+use Rattle.outside.proofs.ForCallers.{Gives-append, Rose-earlier}
 use Rattle.core_session.specs.Core.{sink_of}
 use Rattle.xi_top.specs.Intake.{Start, begun_of}
 use Rattle.xi_top.proofs.IntakeLemmas.{stops_source, inside_cause, over_cause, Gives-nothing, Gives-end}

@@ -1,7 +1,7 @@
 use Rattle.std.proofs.Common.{List, sym, subst}
-use Rattle.xi_plain.specs.declared.delta.Run.{Run}
-use Rattle.xi_plain.specs.declared.delta.Added.{Added}
-use Rattle.delta_core.specs.Walk.{IsToCome, IsRestOfKept}
+use Rattle.plain_text.specs.declared.run.Run.{Run}
+use Rattle.plain_edits.specs.declared.delta.Added.{Added}
+use Rattle.delta_core.specs.Inner.{IsToCome, IsRestOfKept}
 use Rattle.delta_core.proofs.WalkLemmas.{IsToCome-start}
 use Rattle.delta_core.proofs.unit_walk.UnitWalk.new.Goals as goal
 

@@ -1,8 +1,9 @@
 use Rattle.std.proofs.Common.{◌≡◌, ◌-◌, ◌++◌, ℕ, Bool, List, drop, replicate, sym, ap, subst, ◌∙◌}
 use Rattle.std.proofs.lemmas.List.{take_rest}
-use Rattle.delta_core.specs.Step.{Step, step_of, part_steps, steps_from}
-use Rattle.xi_plain.specs.Delta.{is_in_runs, text_at_gap}
-use Rattle.delta_core.specs.Walk.{IsStretch}
+use Rattle.delta_core.specs.Step.{Step}
+use Rattle.delta_core.specs.Inner.{step_of, part_steps, steps_from}
+use Rattle.plain_edits.specs.Delta.{is_in_runs, text_at_gap}
+use Rattle.delta_core.specs.Inner.{IsStretch}
 use Rattle.delta_core.proofs.WalkLemmas.{added_next, stretch_next}
 use Rattle.delta_core.proofs.unit_walk.UnitWalk.next.Goals as goal
 use Rattle.delta_core.proofs.unit_walk.UnitWalk.next.Goals.{then-kept, else-kept}

@@ -1,5 +1,5 @@
 use Rattle.std.proofs.Common.{◌≡◌, ◌+◌, ap, sym, subst, arith}
-use Rattle.xi_plain.specs.History.{head}
+use Rattle.plain_edits.specs.History.{head}
 use Rattle.rev_engine.specs.declared.edit.Edit.{Edit}
 use Rattle.rev_engine.specs.Engine.{asked_by}
 use Rattle.rev_engine.specs.State.{State}
@@ -7,9 +7,9 @@ use Rattle.doc_session.specs.declared.event.Body.TheVariants.{Edited}
 use Rattle.doc_session.specs.Asking.{plugin_edit}
 use Rattle.doc_session.specs.InMemory.{Doc}
 use Rattle.doc_session.specs.Ready.{with_event}
-use Rattle.doc_session.specs.Step.{AreOf, caret_by, edit_step}
+use Rattle.doc_session.specs.Step.{AreEffectsOf, caret_by, edit_step}
 use Rattle.doc_session.specs.Stands.{DocStandsFor}
-use Rattle.doc_session.proofs.InsertLemmas.{IsOfSome-contents, whole-moved, shown-whole, inside-whole}
+use Rattle.doc_session.proofs.InsertLemmas.{IsStateOfSome-contents, whole-moved, shown-whole, inside-whole}
 use Rattle.doc_session.proofs.StepLemmas.{DocStandsFor-doc_contents, MayAsk-whole, asked-given, IsMoved-plain, caret-given}
 use Rattle.doc_session.proofs.doc.Doc.edit.Goals as goal
 
@@ -27,22 +27,22 @@ moved_by-requires-clause-shown c =
 pub invariant_of-self : goal.invariant_of-self
 invariant_of-self c =
     let doc = c.self.inside in
-    IsOfSome-contents doc.engine c.moved_by.new.engine doc.text doc.caret doc.plugins c.moved_by.ensures.same c.self.invariant
+    IsStateOfSome-contents doc.engine c.moved_by.new.engine doc.text doc.caret doc.plugins c.moved_by.ensures.same c.self.invariant
 
-pub caret_after-requires-clause-within : goal.caret_after-requires-clause-within
-caret_after-requires-clause-within c =
+pub gap_after-requires-clause-within : goal.gap_after-requires-clause-within
+gap_after-requires-clause-within c =
     let doc = c.self.inside in
     omega (arith, inside-whole doc.engine doc.text doc.caret doc.plugins c.self.invariant, c.in_ok-moved.ensures.change.base)
 
 pub invariant_of-self-in_err-caret : goal.invariant_of-self-in_err-caret
 invariant_of-self-in_err-caret c =
     let doc = c.self.inside in
-    IsOfSome-contents doc.engine c.moved_by.new.engine doc.text doc.caret doc.plugins c.moved_by.ensures.same c.self.invariant
+    IsStateOfSome-contents doc.engine c.moved_by.new.engine doc.text doc.caret doc.plugins c.moved_by.ensures.same c.self.invariant
 
 pub invariant_of-self-2 : goal.invariant_of-self-2
 invariant_of-self-2 c =
     let doc = c.self.inside in
-    IsOfSome-contents doc.engine c.moved_by.new.engine doc.text doc.caret doc.plugins c.moved_by.ensures.same c.self.invariant
+    IsStateOfSome-contents doc.engine c.moved_by.new.engine doc.text doc.caret doc.plugins c.moved_by.ensures.same c.self.invariant
 
 pub settled-requires-clause-whole : goal.settled-requires-clause-whole
 settled-requires-clause-whole c =
@@ -81,8 +81,8 @@ returns-clause-effects c = λ plain stands.
     let given = asked-given plain c.args.caller (c.head-rev.result + 1) c.args.edit c.given-edit.result c.given-edit.ensures numbered in
     let is = IsMoved-plain _ c.moved_by.new.engine plain asked (asked_by c.given-edit.result) c.in_ok-moved.moved was given c.in_ok-moved.ensures.moved in
     let place = caret-given _ c.moved_by.new.engine plain asked c.in_ok-moved.moved c.args.edit.after_cursor c.in_ok-caret.caret was is c.in_ok-caret.ensures in
-    subst (λ n. AreOf (edit_step plain asked (caret_by plain asked c.args.edit.after_cursor) (Edited n n)) c.in_ok-settled.field-0.1) numbered
-    (subst (λ gap. AreOf (edit_step plain asked gap (Edited (c.head-rev.result + 1) (c.head-rev.result + 1))) c.in_ok-settled.field-0.1) place
+    subst (λ n. AreEffectsOf (edit_step plain asked (caret_by plain asked c.args.edit.after_cursor) (Edited n n)) c.in_ok-settled.field-0.1) numbered
+    (subst (λ gap. AreEffectsOf (edit_step plain asked gap (Edited (c.head-rev.result + 1) (c.head-rev.result + 1))) c.in_ok-settled.field-0.1) place
     (c.in_ok-settled.ensures.effects plain asked
     (DocStandsFor-doc_contents _ now plain
     (ap (λ (e : State). record { engine = e; text = doc.text; lines = doc.lines; caret = doc.caret; plugins = doc.plugins; valid = doc.valid })

@@ -1,16 +1,16 @@
 use Rattle.std.proofs.Common.{◌≡◌, ◌≢◌, ◌+◌, [], length, ap, ap₂, sym, ◌∙◌, subst, arith}
-use Rattle.xi_plain.specs.Edits.{edit_refusal}
-use Rattle.xi_plain.specs.History.{head}
+use Rattle.plain_edits.specs.Edits.{edit_refusal}
+use Rattle.plain_edits.specs.History.{head}
 use Rattle.rev_engine.specs.Engine.{asked_by}
-use Rattle.rev_engine.specs.Given.{Asked}
+use Rattle.rev_engine.specs.Given.{AskedEdit}
 use Rattle.rev_engine.specs.State.{State}
 use Rattle.doc_session.specs.declared.event.Body.TheVariants.{Null}
 use Rattle.doc_session.specs.Asking.{front_edit, insertion_at}
 use Rattle.doc_session.specs.InMemory.{Doc}
 use Rattle.doc_session.specs.Ready.{with_event}
-use Rattle.doc_session.specs.Step.{AreOf, EventStep, edit_step}
+use Rattle.doc_session.specs.Step.{AreEffectsOf, EventStep, edit_step}
 use Rattle.doc_session.specs.Stands.{DocStandsFor}
-use Rattle.doc_session.proofs.InsertLemmas.{IsOfSome-contents, whole-moved, shown-whole, inside-inserted, inside-whole}
+use Rattle.doc_session.proofs.InsertLemmas.{IsStateOfSome-contents, whole-moved, shown-whole, inside-inserted, inside-whole}
 use Rattle.doc_session.proofs.StepLemmas.{DocStandsFor-doc_contents, some_by, MayAsk-whole, asked-front, IsMoved-plain, event_step-front, refusal_at-front, some-inserted}
 use Rattle.doc_session.proofs.doc.Doc.insert.Goals as goal
 
@@ -18,7 +18,7 @@ pub moved_by-requires-clause-may : goal.moved_by-requires-clause-may
 moved_by-requires-clause-may c =
     let doc = c.self.inside in
     MayAsk-whole doc.engine doc.text doc.caret doc.plugins c.in_ok-typed.typed.group c.self.invariant
-    (omega (arith, ap (λ (e : Asked). e.group) c.in_ok-typed.ensures)) (omega (arith, ap (λ (d : Doc). head d.engine.revisions) c.self.view_is, c.requires))
+    (omega (arith, ap (λ (e : AskedEdit). e.group) c.in_ok-typed.ensures)) (omega (arith, ap (λ (d : Doc). head d.engine.revisions) c.self.view_is, c.requires))
 
 pub moved_by-requires-clause-shown : goal.moved_by-requires-clause-shown
 moved_by-requires-clause-shown c =
@@ -28,14 +28,14 @@ moved_by-requires-clause-shown c =
 pub invariant_of-self : goal.invariant_of-self
 invariant_of-self c =
     let doc = c.self.inside in
-    IsOfSome-contents doc.engine c.moved_by.new.engine doc.text doc.caret doc.plugins c.moved_by.ensures.same c.self.invariant
+    IsStateOfSome-contents doc.engine c.moved_by.new.engine doc.text doc.caret doc.plugins c.moved_by.ensures.same c.self.invariant
 
 pub overflow_add-caret : goal.overflow_add-caret
 overflow_add-caret c =
     let doc = c.self.inside in
     omega (
       arith,
-      c.len.ensures,
+      c.char_count.ensures,
       inside-whole doc.engine doc.text doc.caret doc.plugins c.self.invariant,
       inside-inserted doc.engine c.moved_by.new.engine doc.text doc.caret doc.plugins c.args.chars.now (asked_by c.in_ok-typed.typed) c.in_ok-moved.moved
           c.self.invariant
@@ -47,7 +47,7 @@ overflow_add-caret c =
 pub invariant_of-self-2 : goal.invariant_of-self-2
 invariant_of-self-2 c =
     let doc = c.self.inside in
-    IsOfSome-contents doc.engine c.moved_by.new.engine doc.text doc.caret doc.plugins c.moved_by.ensures.same c.self.invariant
+    IsStateOfSome-contents doc.engine c.moved_by.new.engine doc.text doc.caret doc.plugins c.moved_by.ensures.same c.self.invariant
 
 pub settled-requires-clause-whole : goal.settled-requires-clause-whole
 settled-requires-clause-whole c =
@@ -55,11 +55,11 @@ settled-requires-clause-whole c =
     let chars = c.args.chars.now in
     let some : chars ≢ [] = some_by c.is_empty.result chars c.is_empty.ensures.1 c.if-is_empty.false in
     let typed = c.in_ok-typed.ensures ∙ ap (λ (d : Doc). insertion_at (head d.engine.revisions) d.text d.caret chars) (sym c.self.view_is) in
-    whole-moved doc.engine c.moved_by.new.engine doc.text doc.caret doc.plugins (doc.caret + c.len.result) (asked_by c.in_ok-typed.typed) c.in_ok-moved.moved
+    whole-moved doc.engine c.moved_by.new.engine doc.text doc.caret doc.plugins (doc.caret + c.char_count.result) (asked_by c.in_ok-typed.typed) c.in_ok-moved.moved
     c.moved_by.ensures.same c.self.invariant c.in_ok-moved.ensures.moved
     (omega (
       arith,
-      c.len.ensures,
+      c.char_count.ensures,
       inside-whole doc.engine doc.text doc.caret doc.plugins c.self.invariant,
       inside-inserted doc.engine c.moved_by.new.engine doc.text doc.caret doc.plugins chars (asked_by c.in_ok-typed.typed) c.in_ok-moved.moved
           c.self.invariant typed c.in_ok-moved.ensures.moved,
@@ -77,7 +77,7 @@ returns-clause-stands c = λ plain stands.
     let asked = front_edit plain chars in
     let same = asked-front c.args.self.now plain chars (asked_by c.in_ok-typed.typed) stands c.in_ok-typed.ensures in
     let is = IsMoved-plain _ c.moved_by.new.engine plain asked (asked_by c.in_ok-typed.typed) c.in_ok-moved.moved was same c.in_ok-moved.ensures.moved in
-    let place : doc.caret + c.len.result ≡ plain.caret + length chars = ap (λ n. doc.caret + n) c.len.ensures ∙ ap (λ n. n + length chars) was.caret in
+    let place : doc.caret + c.char_count.result ≡ plain.caret + length chars = ap (λ n. doc.caret + n) c.char_count.ensures ∙ ap (λ n. n + length chars) was.caret in
     subst (λ (step : EventStep). DocStandsFor (with_event now c.in_ok-settled.field-0.0) step.document)
     (ap (λ gap. edit_step plain asked gap Null) place ∙ sym (event_step-front plain chars some))
     (c.in_ok-settled.ensures.stands plain asked
@@ -96,8 +96,8 @@ returns-clause-effects c = λ plain stands.
     let asked = front_edit plain chars in
     let same = asked-front c.args.self.now plain chars (asked_by c.in_ok-typed.typed) stands c.in_ok-typed.ensures in
     let is = IsMoved-plain _ c.moved_by.new.engine plain asked (asked_by c.in_ok-typed.typed) c.in_ok-moved.moved was same c.in_ok-moved.ensures.moved in
-    let place : doc.caret + c.len.result ≡ plain.caret + length chars = ap (λ n. doc.caret + n) c.len.ensures ∙ ap (λ n. n + length chars) was.caret in
-    subst (λ (step : EventStep). AreOf step c.in_ok-settled.field-0.1)
+    let place : doc.caret + c.char_count.result ≡ plain.caret + length chars = ap (λ n. doc.caret + n) c.char_count.ensures ∙ ap (λ n. n + length chars) was.caret in
+    subst (λ (step : EventStep). AreEffectsOf step c.in_ok-settled.field-0.1)
     (ap (λ gap. edit_step plain asked gap Null) place ∙ sym (event_step-front plain chars some))
     (c.in_ok-settled.ensures.effects plain asked
     (DocStandsFor-doc_contents _ now plain
@@ -110,5 +110,5 @@ returns-clause-accepted c = λ plain stands.
     let chars = c.args.chars.now in
     let some : chars ≢ [] = some_by c.is_empty.result chars c.is_empty.ensures.1 c.if-is_empty.false in
     let same = asked-front c.args.self.now plain chars (asked_by c.in_ok-typed.typed) stands c.in_ok-typed.ensures in
-    refusal_at-front plain chars some ∙ ap₂ (λ n (a : Asked). edit_refusal plain.history n a.base a.delta) (sym was.limit) (sym same) ∙
+    refusal_at-front plain chars some ∙ ap₂ (λ n (a : AskedEdit). edit_refusal plain.history n a.base a.delta) (sym was.limit) (sym same) ∙
     c.in_ok-moved.ensures.accepted plain.history was.parts.shown

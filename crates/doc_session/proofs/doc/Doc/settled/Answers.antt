@@ -1,7 +1,7 @@
 use Rattle.std.proofs.Common.{refl, ap, sym, subst}
 use Rattle.std.specs.Prelude.{Some}
 use Rattle.doc_session.specs.InMemory.{Doc}
-use Rattle.doc_session.specs.Moved.{IsMoved}
+use Rattle.doc_session.specs.Inner.{IsMoved}
 use Rattle.doc_session.specs.Stands.{DocStandsFor}
 use Rattle.doc_session.proofs.SettleLemmas.{DocStandsFor-settled, update-settled, scroll-settled}
 use Rattle.doc_session.proofs.doc.Doc.settled.Goals as goal
@@ -18,7 +18,7 @@ returns-clause-effects c = λ plain asked stands is. record {
       c.in_ok-lines.ensures c.lacks-wanted.ensures c.in_ok-update.ensures;
   scroll =
       scroll-settled _ plain asked c.args.moved c.args.caret _ _ _ (subst (λ d. DocStandsFor d plain) (sym c.self.view_is) stands)
-      (subst (λ (d : Doc). IsMoved plain.history d.engine asked c.args.moved) (sym c.self.view_is) is) c.point_of.ensures c.point_of-2.ensures
+      (subst (λ (d : Doc). IsMoved plain.history d.engine asked c.args.moved) (sym c.self.view_is) is) c.position_of.ensures c.position_of-2.ensures
       c.scroll_of-scroll.ensures;
   notice = ap Some is.notice;
 }

@@ -1,6 +1,6 @@
 use Rattle.std.proofs.Common.{◌∙◌, ap, [], ◌∷◌, ◌++◌}
-use Rattle.xi_plain.specs.History.{History, Revision, edit}
-use Rattle.xi_plain.specs.Edits.{PlainEdit, plain_edit, edited}
+use Rattle.plain_edits.specs.History.{History, Revision, edit}
+use Rattle.plain_edits.specs.Edits.{PlainEdit, plain_edit, edited}
 use Rattle.plain_history.specs.UnitEdit.{over_text}
 use Rattle.plain_history.proofs.Steps.{edited-parts}
 use Rattle.plain_history.proofs.history.PlainHistory.edit.Goals as goal

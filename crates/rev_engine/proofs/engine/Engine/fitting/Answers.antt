@@ -1,6 +1,6 @@
 use Rattle.std.proofs.Common.{arith, ap, ◌∙◌, Err}
 use Rattle.std.proofs.lemmas.Result.{err_from_is_err_and}
-use Rattle.xi_plain.specs.Edits.{inserted_len}
+use Rattle.plain_edits.specs.Delta.{inserted_len}
 use Rattle.rev_engine.specs.State.{State}
 use Rattle.rev_engine.proofs.StandLemmas.{Refuses-base, refused-misfit, refused-spent}
 use Rattle.rev_engine.proofs.engine.Engine.fitting.Goals as goal
@@ -20,7 +20,7 @@ pub returns-then-from-total-clause-refused : goal.returns-then-from-total-clause
 returns-then-from-total-clause-refused c = λ history stands _.
     refused-spent c.args.self.now history c.args.edit.now.rev c.args.edit.now.delta stands c.in_ok-text.text _ c.in_ok-text.ensures.kept
     c.in_ok-text.ensures.text c.in_default.ensures.fits
-    (omega (arith, c.from.ensures, c.inserted_len.ensures.total ∙ ap inserted_len c.as_slice.ensures, ap (λ (s : State). s.spent) c.self.view_is))
+    (omega (arith, c.from.ensures, c.inserted_len.ensures.total, ap (λ (s : State). s.spent) c.self.view_is))
     (omega (arith, c.if-from-total.true, c.from-2.ensures, ap (λ (s : State). s.limit) c.self.view_is))
 
 pub returns-clause-fits : goal.returns-clause-fits
@@ -29,6 +29,6 @@ returns-clause-fits c = record {
   base_known = c.in_ok-text.ensures.kept.1;
   fits = rw (← c.in_ok-text.ensures.text) c.in_default.ensures.fits;
   units = rw (← c.in_ok-text.ensures.text) c.in_ok-to_units.ensures;
-  spent = omega (arith, c.from.ensures, c.inserted_len.ensures.total ∙ ap inserted_len c.as_slice.ensures, ap (λ (s : State). s.spent) c.self.view_is);
+  spent = omega (arith, c.from.ensures, c.inserted_len.ensures.total, ap (λ (s : State). s.spent) c.self.view_is);
   within = omega (arith, c.if-from-total.false, c.from-2.ensures, ap (λ (s : State). s.limit) c.self.view_is);
 }

@@ -1,5 +1,5 @@
 use Rattle.std.proofs.Common.{refl, ap, replicate, ◌∙◌}
-use Rattle.xi_plain.specs.History.{loaded}
+use Rattle.plain_edits.specs.History.{loaded}
 use Rattle.rev_engine.proofs.StandLemmas.{StandsFor-loaded}
 use Rattle.rev_engine.proofs.engine.Engine.of_text.Goals as goal
 

@@ -3,13 +3,13 @@ use Rattle.rev_list.specs.Edit.{after_edit}
 use Rattle.rev_engine.specs.Engine.{StandsFor}
 use Rattle.rev_engine.specs.Given.{MayAsk}
 use Rattle.rev_engine.specs.State.{State}
-use Rattle.rev_engine.specs.Steps.{IsFitting}
-use Rattle.rev_engine.proofs.DoneLemmas.{IsBased-fitting, IsHeld-after, IsChange-after, StandsFor-after, accepted-stands, bound-fitting}
+use Rattle.rev_engine.specs.Inner.{IsFitting}
+use Rattle.rev_engine.proofs.DoneLemmas.{IsBasedOn-fitting, IsHeld-after, IsChange-after, StandsFor-after, accepted-stands, bound-fitting}
 use Rattle.rev_engine.proofs.engine.Engine.ready.Goals as goal
 
 pub made_ready-requires-clause-based : goal.made_ready-requires-clause-based
 made_ready-requires-clause-based c =
-    IsBased-fitting _ c.args.edit.now c.in_ok-fitting.fitting c.self.invariant.positions
+    IsBasedOn-fitting _ c.args.edit.now c.in_ok-fitting.fitting c.self.invariant.positions
     (subst (λ s. IsFitting s c.args.edit.now c.in_ok-fitting.fitting) (sym c.self.view_is) c.in_ok-fitting.ensures.fits)
 
 pub made_ready-requires-clause-bound : goal.made_ready-requires-clause-bound

@@ -1,6 +1,6 @@
 use Rattle.std.proofs.Common.{subst, sym, ap}
 use Rattle.std.proofs.lemmas.Result.{err_from_is_err_and}
-use Rattle.xi_plain.specs.History.{head}
+use Rattle.plain_edits.specs.History.{head}
 use Rattle.rev_list.specs.Hidden.{IsCollected, IsKeptAt, IsUnknown}
 use Rattle.rev_engine.specs.State.{State}
 use Rattle.rev_engine.proofs.StandLemmas.{IsKeptAt-answered}

@@ -1,5 +1,5 @@
 use Rattle.std.proofs.Common.{ap, sym}
-use Rattle.xi_plain.specs.Numbers.{has}
+use Rattle.plain_text.specs.Numbers.{has}
 use Rattle.rev_list.proofs.HistoryLemmas.{collected-history_of}
 use Rattle.rev_list.proofs.list.RevList.is_collected.Goals as goal
 

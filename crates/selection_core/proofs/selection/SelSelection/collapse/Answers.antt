@@ -1,6 +1,6 @@
 use Rattle.std.proofs.Common.{◌≡◌, [], ◌∷◌, None, subst}
 use Rattle.std.specs.Prelude.{IfOk}
-use Rattle.xi_plain.specs.declared.selection.Region.{Region}
+use Rattle.plain_text.specs.declared.selection.Region.{Region}
 use Rattle.selection_core.specs.Selection.{caret_of}
 use Rattle.selection_core.proofs.MergeLemmas.{last_caret-seen}
 use Rattle.selection_core.proofs.selection.SelSelection.collapse.Goals as goal

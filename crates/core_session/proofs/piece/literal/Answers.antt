@@ -1,6 +1,0 @@
-use Rattle.std.proofs.Common.{rules}
-use Rattle.std.proofs.lemmas.Str.{chars-IsAscii}
-use Rattle.core_session.proofs.piece.literal.Goals as goal
-
-pub returns : goal.returns
-returns c = search (rules, chars-IsAscii _ c.requires)

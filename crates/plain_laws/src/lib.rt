@@ -1,0 +1,5 @@
+//! Laws and worked rows of the definitions, each the contract of a function. Nothing stands on this crate.
+#![tactic(auto)]
+
+pub mod laws;
+pub mod rows;

@@ -1,0 +1,25 @@
+-- What the tests say that come before a list is asked where an edit goes.
+use Rattle.std.proofs.Common.{◌≡◌, ◌↔◌, ℕ, ◌+◌, ◌^◌, ◌<◌, ◌≤◌, List, Bool, length, ap, arith}
+use Rattle.subset_runs.specs.Subset.{count}
+use Rattle.plain_edits.specs.declared.delta.UnitDelta.{UnitDelta}
+use Rattle.plain_edits.specs.History.{History, head}
+use Rattle.rev_list.specs.Hidden.{hidden_then}
+use Rattle.rev_rebase.proofs.PlacesLemmas.{length-visible_at}
+use Rattle.rev_rebase.specs.Rebase.{MayRebase, added_text}
+
+-- a delta against a kept revision may be rebased where what is not dead then is as long as its base, and there is room for its text
+pub may_rebase_by : (list : History) (base : ℕ) (units : UnitDelta) (dead : List Bool) (added : List ℕ) →
+    list.floor ≤ base → base ≤ head list → dead ≡ hidden_then list base → added ≡ added_text units →
+    ((units.base + count dead ≡ length dead) × (length list.characters + length added < 2 ^ 64)) ↔ MayRebase list base units
+may_rebase_by list base units dead added kept known is text = (
+  λ both. record {
+    base_kept = kept;
+    base_known = known;
+    alive = omega (arith, both.0, ap count is, ap length is, length-visible_at list base);
+    bound = omega (arith, both.1, ap length text);
+  },
+  λ may. (
+    omega (arith, may.alive, ap count is, ap length is, length-visible_at list base),
+    omega (arith, may.bound, ap length text),
+  ),
+)

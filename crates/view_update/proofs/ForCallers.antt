@@ -1,0 +1,2 @@
+-- What other crates may cite of the proofs of `view_update`.
+pub use Rattle.view_update.proofs.Lines.{others_are_no_updates}

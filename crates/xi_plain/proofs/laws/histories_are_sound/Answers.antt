@@ -1,5 +1,0 @@
-use Rattle.xi_plain.proofs.HistoryLemmas.{IsSound-loaded, IsSound-edited, IsSound-undid}
-use Rattle.xi_plain.proofs.laws.histories_are_sound.Goals as goal
-
-pub returns : goal.returns
-returns c = record { at_loading = IsSound-loaded; after_edit = IsSound-edited; after_undo = IsSound-undid }

@@ -1,0 +1,2 @@
+-- What other crates may cite of the proofs of `xi_top`.
+pub use Rattle.xi_top.proofs.LineLemmas.{ended_lines-line, ended_lines-no_end, line_found, none_found, unended-line, unended-no_end}
