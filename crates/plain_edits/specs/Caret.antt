@@ -1,6 +1,7 @@
 -- How a caret moves where a revision is made.
-use Rattle.std.specs.Prelude.{ℕ, zero, suc, ◌+◌, Bool, true, false, if◌then◌else◌, nat_le, List, length, take}
+use Rattle.std.specs.Prelude.{ℕ, zero, suc, ◌+◌, Bool, true, false, if◌then◌else◌, nat_le, List, length, map, take}
 use Rattle.std.specs.List.{count_by, range_with_len, sum_by}
+use Rattle.plain_text.specs.declared.selection.Region.{Region}
 use Rattle.plain_text.specs.Woven.{nth_index}
 use Rattle.plain_edits.specs.History.{History, head, is_there, is_visible}
 use Rattle.plain_edits.specs.Place.{index_right_of}
@@ -19,6 +20,16 @@ abbrev pub moved_caret : History → History → Bool → ℕ → ℕ
 moved_caret before after false gap = visible_before after (index_after before after (index_right_of before (head before) gap))
 moved_caret before after true zero = 0
 moved_caret before after true (suc gap) = visible_before after (index_after before after (index_right_of before (head before) gap) + 1)
+
+-- the rule for both ends of a region, and for all regions of a selection; those that then meet are merged elsewhere
+abbrev pub moved_region : History → History → Bool → Region → Region
+moved_region before after stays_left region = record region {
+  anchor = moved_caret before after stays_left region.anchor;
+  caret = moved_caret before after stays_left region.caret;
+}
+
+abbrev pub moved_regions : History → History → Bool → List Region → List Region
+moved_regions before after stays_left regions = map (moved_region before after stays_left) regions
 
 -- the same over an edit in characters: what is kept left of the gap, what is added left of it, and at it unless `after`
 abbrev pub mapped_gap : (ℕ → Bool) → (ℕ → List ℕ) → Bool → ℕ → ℕ

@@ -84,11 +84,16 @@ undone revisions rev = undone_after [] (take rev revisions)
 abbrev pub is_undone : List Revision → ℕ → ℕ → Bool
 is_undone revisions at rev = has (undone revisions at) (group_of revisions rev)
 
--- whether a character is visible at a revision: it was inserted by then and its insertion is not undone, and each deletion by then is undone
+-- whether a character would be visible at a revision if exactly these groups were undone there: it was inserted by then, its insertion
+-- is not undone, and each deletion by then is undone
+abbrev pub is_visible_under : List Revision → List ℕ → ℕ → Tagged → Bool
+is_visible_under revisions groups at tagged =
+    nat_le tagged.inserted at && not (has groups (group_of revisions tagged.inserted)) &&
+    list_all (λ rev. nat_lt at rev || has groups (group_of revisions rev)) tagged.deleted
+
+-- whether a character is visible at a revision: under the groups that are undone there
 abbrev pub is_visible : List Revision → ℕ → Tagged → Bool
-is_visible revisions at tagged =
-    nat_le tagged.inserted at && not (is_undone revisions at tagged.inserted) &&
-    list_all (λ rev. nat_lt at rev || is_undone revisions at rev) tagged.deleted
+is_visible revisions at tagged = is_visible_under revisions (undone revisions at) at tagged
 
 -- the visible characters of a revision, in order, with their tags and without
 abbrev pub visible_at : History → ℕ → List Tagged

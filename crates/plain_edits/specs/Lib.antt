@@ -4,5 +4,8 @@ pub mod History
 pub mod Place
 pub mod Edits
 pub mod Collection
+pub mod Change
 pub mod Caret
+pub mod Styles
+pub mod HistorySteps
 pub mod EditFault

@@ -3,3 +3,4 @@ pub mod ListLemmas
 pub mod TextLemmas
 pub mod InputLemmas
 pub mod PlaceLemmas
+pub mod NumberLemmas

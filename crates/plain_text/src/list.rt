@@ -5,7 +5,7 @@ ghost use Rattle.std.specs.Slice.Iter.{iter_rest};
 ghost use Rattle.std.specs.Cmp.Lexicographic.{pointwise, lists_per, lists_equiv};
 ghost use Rattle.std.specs.Cmp.{on_per, on_equiv};
 
-use crate::memory::{TryClone, NoMemory};
+use crate::memory::{NoMemory, TryClone};
 use std::alloc::Global;
 use std::marker::Model;
 use std::{fmt, slice, vec};

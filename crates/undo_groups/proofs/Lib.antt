@@ -1,2 +1,1 @@
-pub mod RisingLemmas
 pub mod LiveLemmas

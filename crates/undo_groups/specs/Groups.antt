@@ -1,8 +1,7 @@
 -- The undo groups of a document: what a new group, an undo, a redo and a forgotten group make of them.
 use Rattle.std.specs.Prelude.{ℕ, ◌+◌, ◌-◌, ◌≤◌, ◌==◌, if◌then◌else◌, Bool, ◌||◌, List, [], ◌∷◌, ◌++◌, length, take, drop, slice_index}
 use Rattle.std.specs.List.{fold}
-use Rattle.plain_text.specs.Numbers.{has}
-use Rattle.undo_groups.specs.Numbers.{with_group, without_group, IsRising}
+use Rattle.plain_text.specs.Numbers.{has, with_number, without_number, IsRising}
 
 -- the undo groups, as the stack of them stands
 pub record Groups : Type 0 where
@@ -37,7 +36,7 @@ abbrev pub after_opening : Groups → Groups
 after_opening s = record {
   live = drop (excess (grown s)) (grown s);
   index = length (drop (excess (grown s)) (grown s));
-  retired = fold with_group s.retired (retiring s);
+  retired = fold with_number s.retired (retiring s);
   undone = s.undone;
   given = s.given + 1;
 }
@@ -48,7 +47,7 @@ undone_one s = if s.index == 0 then s else record {
   live = s.live;
   index = s.index - 1;
   retired = s.retired;
-  undone = with_group s.undone (slice_index s.live (s.index - 1));
+  undone = with_number s.undone (slice_index s.live (s.index - 1));
   given = s.given;
 }
 
@@ -58,7 +57,7 @@ redone_one s = if s.index == length s.live then s else record {
   live = s.live;
   index = s.index + 1;
   retired = s.retired;
-  undone = without_group s.undone (slice_index s.live s.index);
+  undone = without_number s.undone (slice_index s.live s.index);
   given = s.given;
 }
 
@@ -67,7 +66,7 @@ abbrev pub forgotten : Groups → ℕ → Groups
 forgotten s group = record {
   live = s.live;
   index = s.index;
-  retired = without_group s.retired group;
+  retired = without_number s.retired group;
   undone = s.undone;
   given = s.given;
 }

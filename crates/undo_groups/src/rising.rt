@@ -1,8 +1,7 @@
 // Numbers in order, in a `Vec`.
 ghost use Rattle.std.specs.Prelude.{◌≡◌, ◌+◌, ◌<◌, ◌≤◌, length, vec_len, vec_capacity};
 ghost use Rattle.std.specs.List.{fold};
-ghost use Rattle.plain_text.specs.Numbers.{has};
-ghost use Rattle.undo_groups.specs.Numbers.{with_group, without_group, IsRising};
+ghost use Rattle.plain_text.specs.Numbers.{has, with_number, without_number, IsRising};
 
 pub(crate) fn is_among(numbers: &[u64], n: u64) -> bool
     requires { IsRising numbers.now }
@@ -15,7 +14,7 @@ pub(crate) fn is_among(numbers: &[u64], n: u64) -> bool
 pub(crate) fn put_in(numbers: &mut Vec<u64>, n: u64)
     requires rising { IsRising numbers.old.items }
     requires room { vec_len numbers.old < vec_capacity numbers.old }
-    ensures items { numbers.new.items ≡ with_group numbers.old.items n }
+    ensures items { numbers.new.items ≡ with_number numbers.old.items n }
     ensures rising { IsRising numbers.new.items }
     ensures len { vec_len numbers.new ≤ vec_len numbers.old + 1 }
     ensures capacity { vec_capacity numbers.old ≤ vec_capacity numbers.new }
@@ -28,7 +27,7 @@ pub(crate) fn put_in(numbers: &mut Vec<u64>, n: u64)
 pub(crate) fn put_all(numbers: &mut Vec<u64>, more: &[u64])
     requires rising { IsRising numbers.old.items }
     requires room { vec_len numbers.old + length more.now ≤ vec_capacity numbers.old }
-    ensures items { numbers.new.items ≡ fold with_group numbers.old.items more.now }
+    ensures items { numbers.new.items ≡ fold with_number numbers.old.items more.now }
     ensures rising { IsRising numbers.new.items }
     ensures len { vec_len numbers.new ≤ vec_len numbers.old + length more.now }
     ensures capacity { vec_capacity numbers.old ≤ vec_capacity numbers.new }
@@ -40,7 +39,7 @@ pub(crate) fn put_all(numbers: &mut Vec<u64>, more: &[u64])
 
 pub(crate) fn take_out(numbers: &mut Vec<u64>, n: u64)
     requires { IsRising numbers.old.items }
-    ensures items { numbers.new.items ≡ without_group numbers.old.items n }
+    ensures items { numbers.new.items ≡ without_number numbers.old.items n }
     ensures rising { IsRising numbers.new.items }
 {
     if let Ok(at) = numbers.binary_search(&n) {

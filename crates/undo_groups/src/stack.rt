@@ -1,14 +1,13 @@
 ghost use Rattle.std.specs.Prelude.{◌≡◌, ◌+◌, ◌-◌, ◌^◌, ◌<◌, ◌≤◌, ◌↔◌, true, ◌++◌, ◌∷◌, [], length, take, drop, slice_get, vec_len, vec_capacity, IfOk, IfSome, IsNone, OnOk, OnErr};
 ghost use Rattle.std.specs.List.{fold};
-ghost use Rattle.plain_text.specs.Numbers.{has};
-ghost use Rattle.undo_groups.specs.Numbers.{with_group, IsRising};
+ghost use Rattle.plain_text.specs.Numbers.{has, with_number, IsRising};
 ghost use Rattle.undo_groups.specs.Groups.{no_groups, excess, after_opening, undone_one, redone_one, forgotten, is_known};
 
 use crate::rising::{is_among, put_all, put_in, take_out};
+use plain_text::NoMemory;
 use std::alloc::Global;
 use std::collections::BTreeSet;
 use std::marker::Model;
-use plain_text::NoMemory;
 
 /// How many groups an undo or a redo can reach at most.
 const LIVE: usize = 20;
@@ -170,7 +169,7 @@ fn retire_oldest(live: &mut Vec<u64>, retired: &mut Vec<u64>)
     requires rising { IsRising retired.old.items }
     requires room { vec_len retired.old < vec_capacity retired.old }
     ensures live { live.new.items ≡ drop (excess live.old.items) live.old.items }
-    ensures retired { retired.new.items ≡ fold with_group retired.old.items (take (excess live.old.items) live.old.items) }
+    ensures retired { retired.new.items ≡ fold with_number retired.old.items (take (excess live.old.items) live.old.items) }
     ensures rising { IsRising retired.new.items }
 {
     if live.len() > LIVE {

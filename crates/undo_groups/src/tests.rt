@@ -1,8 +1,8 @@
 use crate::Stack;
+use plain_text::NoMemory;
 use std::alloc::Global;
 use std::collections::BTreeSet;
 use std::test::Fail;
-use plain_text::NoMemory;
 
 // The groups in order, and none where there is no answer.
 fn listed(alloc: Global, found: Option<BTreeSet<u64>>) -> Result<Option<Vec<u64>>, NoMemory> {

@@ -1,5 +1,5 @@
 use Rattle.std.proofs.Common.{◌∙◌}
-use Rattle.undo_groups.proofs.RisingLemmas.{has-searched}
+use Rattle.plain_text.proofs.callers.NumberLemmas.{has-searched}
 use Rattle.undo_groups.proofs.rising.is_among.Goals as goal
 
 pub returns : goal.returns

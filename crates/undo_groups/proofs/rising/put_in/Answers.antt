@@ -1,4 +1,4 @@
-use Rattle.undo_groups.proofs.RisingLemmas.{with-found, with-missed, when_true, IsRising-with}
+use Rattle.plain_text.proofs.callers.NumberLemmas.{with-found, with-missed, when_true, IsRising-with}
 use Rattle.undo_groups.proofs.rising.put_in.Goals as goal
 
 pub returns-in-Err-clause-items : goal.returns-in-Err-clause-items

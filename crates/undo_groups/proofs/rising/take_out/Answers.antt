@@ -1,4 +1,4 @@
-use Rattle.undo_groups.proofs.RisingLemmas.{without-found, without-missed, IsRising-without}
+use Rattle.plain_text.proofs.callers.NumberLemmas.{without-found, without-missed, IsRising-without}
 use Rattle.undo_groups.proofs.rising.take_out.Goals as goal
 
 pub returns-in-Ok-clause-items : goal.returns-in-Ok-clause-items

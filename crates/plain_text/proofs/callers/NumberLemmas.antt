@@ -1,5 +1,5 @@
 -- Numbers in order: what a binary search finds, and what an edit at that place makes of them.
-use Rattle.std.proofs.Common.{◌≡◌, ℕ, zero, suc, ◌<◌, ◌≤◌, Bool, true, false, cond, ◌||◌, ◌==◌, List, [], ◌∷◌, length, get_or, insert, remove, is_ok, is_eq, nat_cmp, Ordering, Less, Equal, Greater, Result, Ok, Err, refl, ap, sym, ◌∙◌, arith}
+use Rattle.std.proofs.Common.{◌≡◌, ℕ, zero, suc, ◌<◌, ◌≤◌, Bool, true, false, cond, ◌||◌, ◌==◌, List, [], ◌∷◌, fold, length, get_or, insert, remove, is_ok, is_eq, nat_cmp, Ordering, Less, Equal, Greater, Result, Ok, Err, refl, ap, sym, ◌∙◌, arith}
 use Rattle.std.specs.List.{AllByRecursion}
 use Rattle.std.specs.List.Sorted.{IsBinarySearchResult}
 use Rattle.std.specs.Ordering.{match_ordering, MatchOrdering}
@@ -7,8 +7,7 @@ use Rattle.std.specs.BTreeMap.{is_at}
 use Rattle.std.proofs.lemmas.Cmp.{ranked}
 use Rattle.std.proofs.lemmas.List.Sorted.{searched}
 use Rattle.std.proofs.lemmas.Bool.Decides.{nat_tests}
-use Rattle.plain_text.specs.Numbers.{has}
-use Rattle.undo_groups.specs.Numbers.{with_group, without_group, IsRising}
+use Rattle.plain_text.specs.Numbers.{has, with_number, without_number, IsRising}
 
 -- ---- comparing
 
@@ -42,9 +41,9 @@ or_none : (a b : Bool) → a ≡ false → b ≡ false → (a || b) ≡ false
 or_none true b g h = cc
 or_none false b g h = h
 
-at_ordered : (P : List ℕ → Type 0) (o : Ordering) (X Y Z : Type 0) (a b c : List ℕ) → MatchOrdering o X Y Z → (X → P a) → P b → (Z → P c) → P (match_ordering o a b c)
+at_ordered : (P : List ℕ → Type 0) (o : Ordering) (X Y Z : Type 0) (a b c : List ℕ) → MatchOrdering o X Y Z → (X → P a) → (Y → P b) → (Z → P c) → P (match_ordering o a b c)
 at_ordered P Less X Y Z a b c h p q r = p h
-at_ordered P Equal X Y Z a b c h p q r = q
+at_ordered P Equal X Y Z a b c h p q r = q h
 at_ordered P Greater X Y Z a b c h p q r = r h
 
 at_cond : (P : List ℕ → Type 0) (t : Bool) (a b : List ℕ) → P a → P b → P (cond t a b)
@@ -69,25 +68,25 @@ all_weaker : (n m : ℕ) (xs : List ℕ) → n < m → AllByRecursion (λ k. m <
 all_weaker n m [] lt all = tt
 all_weaker n m (x ∷ xs) lt all = (omega (arith, all.0), all_weaker n m xs lt all.1)
 
-all-with : (m n : ℕ) (xs : List ℕ) → m < n → AllByRecursion (λ k. m < k) xs → AllByRecursion (λ k. m < k) (with_group xs n)
+all-with : (m n : ℕ) (xs : List ℕ) → m < n → AllByRecursion (λ k. m < k) xs → AllByRecursion (λ k. m < k) (with_number xs n)
 all-with m n [] lt all = (lt, tt)
 all-with m n (x ∷ xs) lt all =
-    at_ordered (AllByRecursion (λ k. m < k)) (nat_cmp n x) (n < x) (n ≡ x) (x < n) (n ∷ x ∷ xs) (x ∷ xs) (x ∷ with_group xs n) (ranked n x (nat_cmp n x) refl) (λ _. (lt, all)) all (λ _. (all.0, all-with m n xs lt all.1))
+    at_ordered (AllByRecursion (λ k. m < k)) (nat_cmp n x) (n < x) (n ≡ x) (x < n) (n ∷ x ∷ xs) (x ∷ xs) (x ∷ with_number xs n) (ranked n x (nat_cmp n x) refl) (λ _. (lt, all)) (λ _. all) (λ _. (all.0, all-with m n xs lt all.1))
 
-pub IsRising-with : (xs : List ℕ) (n : ℕ) → IsRising xs → IsRising (with_group xs n)
+pub IsRising-with : (xs : List ℕ) (n : ℕ) → IsRising xs → IsRising (with_number xs n)
 IsRising-with [] n up = (tt, tt)
 IsRising-with (x ∷ xs) n up =
-    at_ordered IsRising (nat_cmp n x) (n < x) (n ≡ x) (x < n) (n ∷ x ∷ xs) (x ∷ xs) (x ∷ with_group xs n) (ranked n x (nat_cmp n x) refl) (λ lt. ((lt, all_weaker n x xs lt up.0), up)) up (λ lt. (all-with x n xs lt up.0, IsRising-with xs n up.1))
+    at_ordered IsRising (nat_cmp n x) (n < x) (n ≡ x) (x < n) (n ∷ x ∷ xs) (x ∷ xs) (x ∷ with_number xs n) (ranked n x (nat_cmp n x) refl) (λ lt. ((lt, all_weaker n x xs lt up.0), up)) (λ _. up) (λ lt. (all-with x n xs lt up.0, IsRising-with xs n up.1))
 
-all-without : (m n : ℕ) (xs : List ℕ) → AllByRecursion (λ k. m < k) xs → AllByRecursion (λ k. m < k) (without_group xs n)
+all-without : (m n : ℕ) (xs : List ℕ) → AllByRecursion (λ k. m < k) xs → AllByRecursion (λ k. m < k) (without_number xs n)
 all-without m n [] all = tt
 all-without m n (x ∷ xs) all =
-    at_cond (AllByRecursion (λ k. m < k)) (is_at (nat_cmp n) x) xs (x ∷ without_group xs n) all.1 (all.0, all-without m n xs all.1)
+    at_cond (AllByRecursion (λ k. m < k)) (is_at (nat_cmp n) x) xs (x ∷ without_number xs n) all.1 (all.0, all-without m n xs all.1)
 
-pub IsRising-without : (xs : List ℕ) (n : ℕ) → IsRising xs → IsRising (without_group xs n)
+pub IsRising-without : (xs : List ℕ) (n : ℕ) → IsRising xs → IsRising (without_number xs n)
 IsRising-without [] n up = tt
 IsRising-without (x ∷ xs) n up =
-    at_cond IsRising (is_at (nat_cmp n) x) xs (x ∷ without_group xs n) up.1 (all-without x n xs up.0, IsRising-without xs n up.1)
+    at_cond IsRising (is_at (nat_cmp n) x) xs (x ∷ without_number xs n) up.1 (all-without x n xs up.0, IsRising-without xs n up.1)
 
 -- ---- a number that is there
 
@@ -95,21 +94,21 @@ record IsPlace (xs : List ℕ) (n i : ℕ) : Type 0 where
   within : i < length xs
   here : get_or xs i 0 ≡ n
 
-with-there : (xs : List ℕ) (n i : ℕ) → IsRising xs → i < length xs → get_or xs i 0 ≡ n → with_group xs n ≡ xs
+with-there : (xs : List ℕ) (n i : ℕ) → IsRising xs → i < length xs → get_or xs i 0 ≡ n → with_number xs n ≡ xs
 with-there [] n i up lt is = absurd (omega arith)
 with-there (x ∷ xs) n zero up lt is =
-    ap (λ o. match_ordering o (n ∷ x ∷ xs) (x ∷ xs) (x ∷ with_group xs n)) (equal n x (sym is))
+    ap (λ o. match_ordering o (n ∷ x ∷ xs) (x ∷ xs) (x ∷ with_number xs n)) (equal n x (sym is))
 with-there (x ∷ xs) n (suc i) up lt is =
     let below : x < n = omega (arith, above_at x xs i up.0 (omega arith)) in
-    ap (λ o. match_ordering o (n ∷ x ∷ xs) (x ∷ xs) (x ∷ with_group xs n)) (greater n x below) ∙ ap (λ ys. x ∷ ys) (with-there xs n i up.1 (omega arith) is)
+    ap (λ o. match_ordering o (n ∷ x ∷ xs) (x ∷ xs) (x ∷ with_number xs n)) (greater n x below) ∙ ap (λ ys. x ∷ ys) (with-there xs n i up.1 (omega arith) is)
 
-without-there : (xs : List ℕ) (n i : ℕ) → IsRising xs → i < length xs → get_or xs i 0 ≡ n → without_group xs n ≡ remove xs i
+without-there : (xs : List ℕ) (n i : ℕ) → IsRising xs → i < length xs → get_or xs i 0 ≡ n → without_number xs n ≡ remove xs i
 without-there [] n i up lt is = absurd (omega arith)
 without-there (x ∷ xs) n zero up lt is =
-    ap (λ o. cond (is_eq o) xs (x ∷ without_group xs n)) (equal n x (sym is))
+    ap (λ o. cond (is_eq o) xs (x ∷ without_number xs n)) (equal n x (sym is))
 without-there (x ∷ xs) n (suc i) up lt is =
     let below : x < n = omega (arith, above_at x xs i up.0 (omega arith)) in
-    ap (λ o. cond (is_eq o) xs (x ∷ without_group xs n)) (greater n x below) ∙ ap (λ ys. x ∷ ys) (without-there xs n i up.1 (omega arith) is)
+    ap (λ o. cond (is_eq o) xs (x ∷ without_number xs n)) (greater n x below) ∙ ap (λ ys. x ∷ ys) (without-there xs n i up.1 (omega arith) is)
 
 has-there : (xs : List ℕ) (n i : ℕ) → i < length xs → get_or xs i 0 ≡ n → has xs n ≡ true
 has-there [] n i lt is = absurd (omega arith)
@@ -130,13 +129,13 @@ IsGap-tail x xs n i gap = record {
   above = λ k le lt. gap.above (suc k) (omega arith) (omega arith);
 }
 
-with-gap : (xs : List ℕ) (n i : ℕ) → IsGap xs n i → with_group xs n ≡ insert xs i n
+with-gap : (xs : List ℕ) (n i : ℕ) → IsGap xs n i → with_number xs n ≡ insert xs i n
 with-gap [] n zero gap = refl
 with-gap [] n (suc i) gap = absurd (omega (arith, gap.within))
 with-gap (x ∷ xs) n zero gap =
-    ap (λ o. match_ordering o (n ∷ x ∷ xs) (x ∷ xs) (x ∷ with_group xs n)) (less n x (gap.above zero (omega arith) (omega arith)))
+    ap (λ o. match_ordering o (n ∷ x ∷ xs) (x ∷ xs) (x ∷ with_number xs n)) (less n x (gap.above zero (omega arith) (omega arith)))
 with-gap (x ∷ xs) n (suc i) gap =
-    ap (λ o. match_ordering o (n ∷ x ∷ xs) (x ∷ xs) (x ∷ with_group xs n)) (greater n x (gap.below zero (omega arith))) ∙ ap (λ ys. x ∷ ys) (with-gap xs n i (IsGap-tail x xs n i gap))
+    ap (λ o. match_ordering o (n ∷ x ∷ xs) (x ∷ xs) (x ∷ with_number xs n)) (greater n x (gap.below zero (omega arith))) ∙ ap (λ ys. x ∷ ys) (with-gap xs n i (IsGap-tail x xs n i gap))
 
 -- no place has the number
 abbrev IsNowhere : List ℕ → ℕ → Type 0
@@ -150,10 +149,10 @@ has-nowhere [] n absent = refl
 has-nowhere (x ∷ xs) n absent =
     or_none (x == n) (has xs n) (differ x n (λ is. absent zero (omega arith) is)) (has-nowhere xs n (λ k lt is. absent (suc k) (omega arith) is))
 
-without-nowhere : (xs : List ℕ) (n : ℕ) → IsNowhere xs n → without_group xs n ≡ xs
+without-nowhere : (xs : List ℕ) (n : ℕ) → IsNowhere xs n → without_number xs n ≡ xs
 without-nowhere [] n absent = refl
 without-nowhere (x ∷ xs) n absent =
-    ap (λ t. cond t xs (x ∷ without_group xs n)) (differ_cmp x n (λ is. absent zero (omega arith) is)) ∙ ap (λ ys. x ∷ ys) (without-nowhere xs n (λ k lt is. absent (suc k) (omega arith) is))
+    ap (λ t. cond t xs (x ∷ without_number xs n)) (differ_cmp x n (λ is. absent zero (omega arith) is)) ∙ ap (λ ys. x ∷ ys) (without-nowhere xs n (λ k lt is. absent (suc k) (omega arith) is))
 
 -- ---- after a binary search
 
@@ -168,18 +167,56 @@ module _ (xs : List ℕ) (up : IsRising xs) (n : ℕ) where
   has-searched (Ok i) h = let p = placed i h in sym (has-there xs n i p.within p.here)
   has-searched (Err i) h = sym (has-nowhere xs n (nowhere xs n i (gapped i h)))
 
-  pub with-found : (i : ℕ) → IsBinarySearchResult (λ y. nat_cmp y n) xs (Ok i) → xs ≡ with_group xs n
+  pub with-found : (i : ℕ) → IsBinarySearchResult (λ y. nat_cmp y n) xs (Ok i) → xs ≡ with_number xs n
   with-found i h = let p = placed i h in sym (with-there xs n i up p.within p.here)
 
-  pub with-missed : (i : ℕ) → IsBinarySearchResult (λ y. nat_cmp y n) xs (Err i) → insert xs i n ≡ with_group xs n
+  pub with-missed : (i : ℕ) → IsBinarySearchResult (λ y. nat_cmp y n) xs (Err i) → insert xs i n ≡ with_number xs n
   with-missed i h = sym (with-gap xs n i (gapped i h))
 
-  pub without-found : (i : ℕ) → IsBinarySearchResult (λ y. nat_cmp y n) xs (Ok i) → remove xs i ≡ without_group xs n
+  pub without-found : (i : ℕ) → IsBinarySearchResult (λ y. nat_cmp y n) xs (Ok i) → remove xs i ≡ without_number xs n
   without-found i h = let p = placed i h in sym (without-there xs n i up p.within p.here)
 
-  pub without-missed : (i : ℕ) → IsBinarySearchResult (λ y. nat_cmp y n) xs (Err i) → xs ≡ without_group xs n
+  pub without-missed : (i : ℕ) → IsBinarySearchResult (λ y. nat_cmp y n) xs (Err i) → xs ≡ without_number xs n
   without-missed i h = sym (without-nowhere xs n (nowhere xs n i (gapped i h)))
 
 pub when_true : (t : Bool) (new a b : List ℕ) → t ≡ true → new ≡ (cond t a b) → new ≡ a
 when_true true new a b h e = e
 when_true false new a b h e = cc
+
+-- ---- which numbers are in a set after one more
+
+has-with_equal : (x n m : ℕ) (b : Bool) → n ≡ x → (x == m || b) ≡ (n == m || (x == m || b))
+has-with_equal x n m b is = rw is (again (x == m) b)
+  where
+    again : (a b : Bool) → (a || b) ≡ (a || (a || b))
+    again true b = refl
+    again false b = refl
+
+or_swap : (a b c : Bool) → (a || (b || c)) ≡ (b || (a || c))
+or_swap true true c = refl
+or_swap true false c = refl
+or_swap false b c = refl
+
+pub has-with_number : (xs : List ℕ) (n m : ℕ) → has (with_number xs n) m ≡ (n == m || has xs m)
+has-with_number [] n m = refl
+has-with_number (x ∷ xs) n m =
+    at_ordered (λ ys. has ys m ≡ (n == m || (x == m || has xs m))) (nat_cmp n x) (n < x) (n ≡ x) (x < n) (n ∷ x ∷ xs) (x ∷ xs)
+    (x ∷ with_number xs n) (ranked n x (nat_cmp n x) refl) (λ _. refl) (λ is. has-with_equal x n m (has xs m) is) (λ _. ap (λ b. x == m || b) (has-with_number xs n m) ∙ or_swap (x == m) (n == m) (has xs m))
+
+pub has-with_numbers : (xs ns : List ℕ) (m : ℕ) → has (fold with_number xs ns) m ≡ (has xs m || has ns m)
+has-with_numbers xs [] m = or_nothing (has xs m)
+  where
+    or_nothing : (a : Bool) → a ≡ (a || false)
+    or_nothing true = refl
+    or_nothing false = refl
+has-with_numbers xs (n ∷ ns) m =
+    has-with_numbers (with_number xs n) ns m ∙ ap (λ b. b || has ns m) (has-with_number xs n m) ∙ moved (n == m) (has xs m) (has ns m)
+  where
+    moved : (a b c : Bool) → ((a || b) || c) ≡ (b || (a || c))
+    moved true true c = refl
+    moved true false c = refl
+    moved false b c = refl
+
+pub IsRising-with_numbers : (xs ns : List ℕ) → IsRising xs → IsRising (fold with_number xs ns)
+IsRising-with_numbers xs [] up = up
+IsRising-with_numbers xs (n ∷ ns) up = IsRising-with_numbers (with_number xs n) ns (IsRising-with xs n up)

@@ -1,0 +1,53 @@
+//! Worked rows of undo, collection, change and styles, each the contract of a function.
+
+ghost use Rattle.plain_laws.specs.HistoryRows.{HiddenOnArrival, CollectionAfterGroups, DroppedCharacters, CleanFloors, MergedEdits, EditRefusals, StalePluginInsertion, CaretBesideInsertion, StaleSpans, FlippedSets};
+
+/// An edit in an undone group is hidden on arrival and hides nothing.
+pub fn hidden_on_arrival()
+    ensures { HiddenOnArrival }
+{}
+
+/// A retired group is collected at the head, and what lies before is then refused.
+pub fn collection_after_groups()
+    ensures { CollectionAfterGroups }
+{}
+
+/// A collected group drops what no revision can show again.
+pub fn dropped_characters()
+    ensures { DroppedCharacters }
+{}
+
+/// An edit against an old base keeps the floors after that base from being clean.
+pub fn clean_floors()
+    ensures { CleanFloors }
+{}
+
+/// Edits of one text come to one text, in whatever order they are named.
+pub fn merged_edits()
+    ensures { MergedEdits }
+{}
+
+/// Each refusal of an edit, in their order.
+pub fn edit_refusals()
+    ensures { EditRefusals }
+{}
+
+/// A plugin's insertion against an old revision leaves the caret behind what the front end typed since.
+pub fn stale_plugin_insertion()
+    ensures { StalePluginInsertion }
+{}
+
+/// A caret goes right of an insertion at its gap, or stays left of it.
+pub fn caret_beside_an_insertion()
+    ensures { CaretBesideInsertion }
+{}
+
+/// Spans against an old revision style the characters that they named.
+pub fn stale_spans()
+    ensures { StaleSpans }
+{}
+
+/// Two sets give the numbers in exactly one of them.
+pub fn flipped_sets()
+    ensures { FlippedSets }
+{}
