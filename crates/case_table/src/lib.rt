@@ -7,7 +7,5 @@
 mod arms;
 mod cases;
 mod places;
-#[cfg(test)]
-mod tests;
 
 pub use cases::{BadCase, Cases};

@@ -1,9 +1,9 @@
 ghost use Rattle.std.specs.Prelude.{◌≡◌, ◌↔◌, IsNone, IfOk, IfSome};
 ghost use Rattle.cluster_core.specs.Boundaries.{ends_of, next_of, prev_of, IsLeastAbove, IsGreatestBelow, HasNoneAbove, HasNoneBelow};
 
+use plain_text::{NoMemory, Offsets};
 use std::alloc::Global;
 use unicode_segmentation::{GraphemeCursor, UnicodeSegmentation};
-use plain_text::{NoMemory, Offsets};
 
 /// The byte ends of the clusters, in the time of the line. Want of memory is its only error.
 pub fn clusters(alloc: Global, line: &str) -> Result<Offsets, NoMemory>

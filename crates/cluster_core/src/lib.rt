@@ -9,8 +9,6 @@
 
 mod boundaries;
 mod classes;
-#[cfg(test)]
-mod tests;
 mod widths;
 
 pub use boundaries::{clusters, next, prev};

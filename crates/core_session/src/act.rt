@@ -33,7 +33,7 @@ const FIRST_CONFIG: Config = Config {
 };
 
 /// What an act is answered.
-#[derive(Debug, PartialEq, Eq, Drop)]
+#[derive(Drop)]
 pub enum Reply {
     /// The first view was opened.
     Opened,

@@ -9,8 +9,6 @@ mod act;
 mod piece;
 mod prepare;
 mod session;
-#[cfg(test)]
-mod tests;
 mod write;
 
 pub use session::{Core, Entered};

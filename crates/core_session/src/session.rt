@@ -18,7 +18,7 @@ use plain_text::Text;
 use xi_plain::{Act, Command, Entry, Id};
 
 /// What became of a line.
-#[derive(Clone, Copy, Debug, PartialEq, Eq)]
+#[derive(Clone, Copy)]
 pub enum Entered {
     /// It is an entry, and its piece was written.
     Taken,

@@ -4,5 +4,4 @@ pub mod Wire
 pub mod Factor
 pub mod Synthesis
 pub mod Carry
-pub mod Row
 pub mod Inner

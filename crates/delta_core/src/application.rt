@@ -4,9 +4,9 @@ ghost use Rattle.delta_core.specs.Units.{text_after};
 
 use crate::part::Part;
 use crate::unit_walk::UnitWalk;
-use std::alloc::Global;
-use plain_text::{NoMemory, Text, split_at_gap};
 use plain_edits::UnitDelta;
+use plain_text::{NoMemory, Text, split_at_gap};
+use std::alloc::Global;
 
 /// The text that the unit delta makes of a text. This costs the bytes of the two and the elements of the delta.
 pub fn apply(alloc: Global, text: &Text, units: &UnitDelta) -> Result<Text, NoMemory>

@@ -3,9 +3,9 @@ ghost use Rattle.subset_runs.specs.Subset.{count};
 ghost use Rattle.delta_core.specs.Carry.{IsCarried, here};
 ghost use Rattle.delta_core.specs.Inner.{IsNext, IsCarryStep};
 
+use plain_text::NoMemory;
 use std::alloc::Global;
 use subset_runs::{Stretch, Subset, Walk};
-use plain_text::NoMemory;
 
 // What comes next: insertions of the one, insertions of the other, or characters of the base.
 #[derive(Clone, Copy)]

@@ -6,10 +6,10 @@ ghost use Rattle.delta_core.specs.Inner.{base_count, news, part_steps};
 
 use crate::part::Part;
 use crate::unit_walk::UnitWalk;
+use plain_edits::UnitDelta;
+use plain_text::NoMemory;
 use std::alloc::Global;
 use subset_runs::Subset;
-use plain_text::NoMemory;
-use plain_edits::UnitDelta;
 
 /// What the unit delta drops of its base, and what it inserts in the base with the insertions. This costs the elements of the delta
 /// and the bytes that it adds.

@@ -11,8 +11,6 @@ mod factoring;
 mod misfits;
 mod part;
 mod synthesis;
-#[cfg(test)]
-mod tests;
 mod unit_builder;
 mod unit_form;
 mod unit_walk;

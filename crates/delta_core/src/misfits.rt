@@ -1,8 +1,8 @@
 ghost use Rattle.std.specs.Prelude.{◌≡◌, Some, None, IfErr, OnOk};
 ghost use Rattle.plain_edits.specs.Delta.{Fits, copy_misfit, misfit_of};
 
-use plain_text::Text;
 use plain_edits::{Delta, El, Misfit};
+use plain_text::Text;
 
 /// Whether the delta fits the text, or else its first misfit: the base length is looked at first, and then each copy in the order of
 /// the list. This takes no memory, and costs the elements of the delta.

@@ -4,10 +4,10 @@ ghost use Rattle.delta_core.specs.Synthesis.{IsBetween};
 ghost use Rattle.delta_core.specs.Inner.{GrowsByBlock};
 
 use crate::unit_builder::UnitBuilder;
+use plain_edits::UnitDelta;
+use plain_text::{NoMemory, Text, split_at_gap};
 use std::alloc::Global;
 use subset_runs::{Subset, Walk};
-use plain_text::{NoMemory, Text, split_at_gap};
-use plain_edits::UnitDelta;
 
 // Some characters in a row of a union that are alike alive or dead.
 #[derive(Clone, Copy)]

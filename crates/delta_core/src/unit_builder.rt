@@ -4,11 +4,11 @@ ghost use Rattle.plain_edits.specs.Delta.{is_in_runs};
 ghost use Rattle.plain_edits.specs.UnitDelta.{IsCanonical, unit_adds, unit_keeps};
 ghost use Rattle.delta_core.specs.Inner.{run_to, with_added, with_run};
 
+use plain_edits::{Added, Adds, UnitDelta};
+use plain_text::{NoMemory, Run, Runs, Text};
 use std::alloc::Global;
 use std::marker::Model;
 use std::mem;
-use plain_text::{NoMemory, Run, Runs, Text};
-use plain_edits::{Added, Adds, UnitDelta};
 
 // A unit delta in the making, over what is known of its base so far. To a contract it is that unit delta, which need not be canonical.
 #[derive(Drop)]

@@ -5,9 +5,9 @@ ghost use Rattle.delta_core.specs.Units.{IsUnitsOf};
 ghost use Rattle.delta_core.specs.Inner.{PutsElement};
 
 use crate::unit_builder::UnitBuilder;
-use std::alloc::Global;
-use plain_text::{NoMemory, Text};
 use plain_edits::{Delta, El, UnitDelta};
+use plain_text::{NoMemory, Text};
+use std::alloc::Global;
 
 /// The delta in characters. This costs the bytes of the text and the elements of the delta with theirs.
 pub fn to_units(alloc: Global, text: &Text, delta: &Delta) -> Result<UnitDelta, NoMemory>

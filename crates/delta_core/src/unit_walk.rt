@@ -4,9 +4,9 @@ ghost use Rattle.delta_core.specs.Inner.{steps_of, part_steps};
 ghost use Rattle.delta_core.specs.Inner.{ReachesPast, IsRestOfKept, IsStretch, Rise, next_stop};
 
 use crate::part::Part;
-use std::marker::Model;
-use plain_text::{Run, Text};
 use plain_edits::{Added, UnitDelta};
+use plain_text::{Run, Text};
+use std::marker::Model;
 
 // A walk over a unit delta from the left end of its base on. To a contract it is the steps that are still ahead.
 #[derive(Drop)]

@@ -3,11 +3,11 @@ ghost use Rattle.plain_edits.specs.declared.delta.El.{El as ElValue};
 ghost use Rattle.delta_core.specs.Wire.{copy_before, text_before};
 ghost use Rattle.delta_core.specs.Inner.{whole};
 
+use plain_edits::{El, Els};
+use plain_text::{NoMemory, Text};
 use std::alloc::Global;
 use std::marker::Model;
 use std::mem;
-use plain_text::{NoMemory, Text};
-use plain_edits::{El, Els};
 
 // The elements of the notices in the making. To a contract it is these elements, and the copy and the text that may still grow.
 #[derive(Drop)]

@@ -5,9 +5,9 @@ ghost use Rattle.delta_core.specs.Wire.{IsWireOf};
 use crate::part::Part;
 use crate::unit_walk::UnitWalk;
 use crate::wire_builder::WireBuilder;
-use std::alloc::Global;
-use plain_text::{NoMemory, Text, split_at_gap};
 use plain_edits::{Delta, UnitDelta};
+use plain_text::{NoMemory, Text, split_at_gap};
+use std::alloc::Global;
 
 /// The delta of the notices over the text before: its copies are the longest runs that stand side by side in both texts, and the
 /// text between two copies is one insertion. This costs the bytes of the text and the elements of the delta with theirs.

@@ -3,7 +3,7 @@ use plain_screen::Update;
 use xi_plain::{EditAct, Notice};
 
 /// What happens to a document.
-#[derive(Debug, PartialEq, Eq, Drop)]
+#[derive(Drop)]
 pub enum Event {
     /// The front end edits its view.
     Front(EditAct),
@@ -27,7 +27,7 @@ pub enum Body {
 }
 
 /// What an event came to, for those outside.
-#[derive(Debug, PartialEq, Eq, Drop)]
+#[derive(Drop)]
 pub struct Effects {
     pub body: Body,
     pub update: Option<Update>,

@@ -14,8 +14,6 @@ mod moved;
 mod plan;
 mod ready;
 pub mod rows;
-#[cfg(test)]
-mod tests;
 
 pub use doc::Doc;
 pub use event::{Body, Effects, Event};

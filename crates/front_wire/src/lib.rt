@@ -6,7 +6,5 @@
 
 mod act;
 mod command;
-#[cfg(test)]
-mod tests;
 
 pub use command::command_of;

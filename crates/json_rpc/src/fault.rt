@@ -7,7 +7,7 @@ use std::fmt;
 use plain_text::NoMemory;
 
 /// Why a line gives no request.
-#[derive(Clone, Copy, Debug, PartialEq, Eq, Hash)]
+#[derive(Clone, Copy, Debug, PartialEq, Eq)]
 pub enum RpcFault {
     /// The line has no reading as JSON.
     Parse,

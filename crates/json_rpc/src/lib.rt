@@ -13,8 +13,6 @@ pub mod laws;
 mod read;
 mod refusal;
 mod rpc;
-#[cfg(test)]
-mod tests;
 mod value;
 mod write;
 

@@ -5,7 +5,7 @@ use plain_text::{List, NoMemory, Runs, Text, TryClone};
 use std::alloc::Global;
 
 /// An element of a delta on the wire, over a base text. Offsets are bytes of UTF-8.
-#[derive(Debug, PartialEq, Eq, Drop)]
+#[derive(PartialEq, Eq, Drop)]
 pub enum El {
     /// Keeps the characters from offset `a` up to offset `b`.
     Copy { a: u64, b: u64 },
@@ -17,7 +17,7 @@ pub enum El {
 pub type Els = List<El>;
 
 /// An edit as it stands on the wire: what is in no copy is deleted.
-#[derive(Debug, PartialEq, Eq, Drop)]
+#[derive(PartialEq, Eq, Drop)]
 pub struct Delta {
     pub els: Els,
     /// The length of the base text, in bytes.
@@ -39,7 +39,7 @@ pub struct Misfit {
 }
 
 /// A text that is added at a gap.
-#[derive(Debug, PartialEq, Eq, Drop)]
+#[derive(PartialEq, Eq, Drop)]
 pub struct Added {
     pub gap: u64,
     pub text: Text,
@@ -49,7 +49,7 @@ pub struct Added {
 pub type Adds = List<Added>;
 
 /// An edit in characters: what is in no run of `kept` is deleted.
-#[derive(Debug, PartialEq, Eq, Drop)]
+#[derive(PartialEq, Eq, Drop)]
 pub struct UnitDelta {
     /// The length of the base text, in characters.
     pub base: u64,

@@ -2,7 +2,7 @@ use plain_text::{List, NoMemory, TryClone};
 use std::alloc::Global;
 
 /// How characters look. A member that is `None` says nothing.
-#[derive(Clone, Copy, Debug, PartialEq, Eq)]
+#[derive(Clone, Copy, PartialEq, Eq)]
 pub struct Style {
     /// A colour as 0xAARRGGBB.
     pub fg_color: Option<u32>,
@@ -14,7 +14,7 @@ pub struct Style {
 }
 
 /// A style of the characters from `start` up to `end`, which is not included; `style` is its id.
-#[derive(Clone, Copy, Debug, PartialEq, Eq)]
+#[derive(Clone, Copy, PartialEq, Eq)]
 pub struct Span {
     pub start: u64,
     pub end: u64,

@@ -5,9 +5,9 @@ ghost use Rattle.plain_text.specs.Text.{is_place, gap_of};
 ghost use Rattle.plain_edits.specs.Delta.{copy_misfit, copies_misfit, misfit_of, kept_runs, insertions, is_in_runs, text_at_gap};
 ghost use Rattle.plain_edits.specs.Delta.{inserted_len};
 
-use std::alloc::Global;
-use plain_text::{List, NoMemory, Run, Runs, Text, TryClone};
 use plain_edits::{Added, Adds, Delta, El, Misfit};
+use plain_text::{List, NoMemory, Run, Runs, Text, TryClone};
+use std::alloc::Global;
 
 /// Whether the byte offset is a place of the text.
 fn is_place(text: &Text, at: u64) -> bool

@@ -13,8 +13,8 @@ use crate::history::PlainHistory;
 use crate::tagged::Tagged;
 use crate::unit_edit::UnitEdit;
 use crate::visible::{count_visible, is_visible};
-use std::alloc::Global;
 use plain_text::{List, NoMemory, TryClone};
+use std::alloc::Global;
 
 /// Puts the characters of a text at the end, inserted by a revision.
 fn push_text(alloc: Global, rev: u64, text: &str, made: &mut List<Tagged>) -> Result<(), NoMemory>
@@ -105,11 +105,7 @@ fn after_edit(
 }
 
 /// The list of characters after an edit.
-pub fn edited(
-    alloc: Global,
-    history: &PlainHistory,
-    e: &UnitEdit,
-) -> Result<List<Tagged>, NoMemory>
+pub fn edited(alloc: Global, history: &PlainHistory, e: &UnitEdit) -> Result<List<Tagged>, NoMemory>
     requires { head history.now + 1 < 2 ^ 64 }
     ensures { IfOk result (λ made. made ≡ (edited history.now (edit_of e.now)).characters) }
 {

@@ -10,10 +10,10 @@ use crate::revision::Revision;
 use crate::tagged::Tagged;
 use crate::unit_edit::UnitEdit;
 use crate::{collection, deltas, edit, place, undo, visible};
+use plain_edits::{Delta, EditFault};
+use plain_text::{List, NoMemory, Text};
 use std::alloc::Global;
 use std::marker::Model;
-use plain_text::{List, NoMemory, Text};
-use plain_edits::{Delta, EditFault};
 
 /// A history: the characters that ever were, and the revisions. Revisions count from 1, and revision 0 is the loaded text.
 #[derive(Drop)]

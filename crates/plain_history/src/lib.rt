@@ -13,16 +13,14 @@ mod merging;
 mod place;
 mod revision;
 mod tagged;
-#[cfg(test)]
-mod tests;
 mod undo;
 mod unit_edit;
 mod visible;
 
 pub use deltas::misfit;
-pub use plain_edits::EditFault;
 pub use history::PlainHistory;
 pub use merging::merged;
+pub use plain_edits::EditFault;
 pub use revision::Revision;
 pub use tagged::Tagged;
 pub use unit_edit::UnitEdit;

@@ -5,8 +5,8 @@ ghost use Rattle.plain_edits.specs.Edits.{is_edit_of};
 ghost use Rattle.plain_edits.specs.Collection.{is_based_from};
 ghost use Rattle.plain_history.specs.Views.{undone_by};
 
-use std::marker::Model;
 use plain_text::List;
+use std::marker::Model;
 
 /// A revision: an edit against a base, or an undo, which says all groups that are undone from it on.
 #[derive(Drop)]

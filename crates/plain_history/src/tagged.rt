@@ -1,9 +1,9 @@
 ghost use Rattle.std.specs.Prelude.{◌≡◌, [], ◌∷◌, ◌++◌, IfOk};
 ghost use Rattle.plain_edits.specs.Edits.{with_deletion};
 
+use plain_text::{List, NoMemory, TryClone};
 use std::alloc::Global;
 use std::marker::Model;
-use plain_text::{List, NoMemory, TryClone};
 
 /// A character with the revision that inserted it and the revisions that delete it, which rise.
 #[derive(Drop)]

@@ -2,9 +2,9 @@ ghost use Rattle.std.specs.Prelude.{◌≡◌, ℕ, IfOk};
 ghost use Rattle.plain_history.specs.UnitEdit.{edit_of, over_text};
 
 use crate::deltas;
-use std::alloc::Global;
-use plain_text::{NoMemory, Runs, Text, TryClone};
 use plain_edits::{Adds, Delta};
+use plain_text::{NoMemory, Runs, Text, TryClone};
+use std::alloc::Global;
 
 /// An edit in characters of its base's text: those in the runs are kept, and each text is added at its gap.
 #[derive(Drop)]

@@ -8,8 +8,8 @@ ghost use Rattle.plain_edits.specs.History.{revision_at, group_of, priority_of, 
 
 use crate::revision::Revision;
 use crate::tagged::Tagged;
-use std::alloc::Global;
 use plain_text::{NoMemory, Text};
+use std::alloc::Global;
 
 /// Whether the number is in the list.
 pub fn has(numbers: &[u64], n: u64) -> bool

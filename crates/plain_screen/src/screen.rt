@@ -2,7 +2,7 @@ use plain_text::{List, NoMemory, Offsets, Text, TryClone};
 use std::alloc::Global;
 
 /// A style of a part of a line, in bytes: `start` counts from the end of the triple before.
-#[derive(Clone, Copy, Debug, PartialEq, Eq)]
+#[derive(Clone, Copy, PartialEq, Eq)]
 pub struct Triple {
     pub start: i64,
     pub len: u64,
@@ -13,7 +13,7 @@ pub struct Triple {
 pub type Triples = List<Triple>;
 
 /// A line as a front end shows it.
-#[derive(Debug, PartialEq, Eq, Drop)]
+#[derive(PartialEq, Eq, Drop)]
 pub struct Line {
     /// The characters, with the line's LF where it has one.
     pub text: Text,
@@ -28,7 +28,7 @@ pub struct Line {
 pub type Lines = List<Line>;
 
 /// What a front end does with its list of lines.
-#[derive(Debug, PartialEq, Eq, Drop)]
+#[derive(PartialEq, Eq, Drop)]
 pub enum Op {
     /// Takes over the next `n` old lines, and numbers those that have a number from `ln` on.
     Copy { n: u64, ln: Option<u64> },
@@ -44,7 +44,7 @@ pub enum Op {
 pub type Ops = List<Op>;
 
 /// What a front end is told of one view.
-#[derive(Debug, PartialEq, Eq, Drop)]
+#[derive(PartialEq, Eq, Drop)]
 pub struct Update {
     pub ops: Ops,
     /// Whether the text is the one that was loaded or last saved.

@@ -8,7 +8,7 @@ ghost use Rattle.std.specs.Cmp.{on_per, on_equiv};
 use crate::memory::{NoMemory, TryClone};
 use std::alloc::Global;
 use std::marker::Model;
-use std::{fmt, slice, vec};
+use std::{slice, vec};
 
 /// A list that contracts see as its items. It is made from a `Vec` and gives it back without memory.
 #[derive(Drop)]
@@ -147,12 +147,6 @@ impl<T: TryClone + Drop> TryClone for List<T> {
             items.push(item.copy(alloc)?)?;
         }
         Ok(List { items })
-    }
-}
-
-impl<T: fmt::Debug> fmt::Debug for List<T> {
-    fn fmt<W: fmt::Write>(&self, f: &mut fmt::Formatter<W>) -> fmt::Result {
-        fmt::Debug::fmt(&self.as_slice(), f)
     }
 }
 

@@ -5,7 +5,7 @@ use std::error::Error;
 use std::fmt;
 
 /// No memory was left for what was asked.
-#[derive(Clone, Copy, Debug, PartialEq, Eq, Hash)]
+#[derive(Clone, Copy, Debug, PartialEq, Eq)]
 pub struct NoMemory;
 
 impl fmt::Display for NoMemory {

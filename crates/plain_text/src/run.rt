@@ -3,7 +3,7 @@ use crate::memory::{NoMemory, TryClone};
 use std::alloc::Global;
 
 /// A run of characters, from `start` up to `end`, which is not included.
-#[derive(Clone, Copy, Debug, PartialEq, Eq)]
+#[derive(Clone, Copy, PartialEq, Eq)]
 pub struct Run {
     pub start: u64,
     pub end: u64,

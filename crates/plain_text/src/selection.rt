@@ -3,7 +3,7 @@ use crate::memory::{NoMemory, TryClone};
 use std::alloc::Global;
 
 /// A region of a selection: two gaps, of which the caret moves. The region is a caret alone where they are equal.
-#[derive(Clone, Copy, Debug, PartialEq, Eq)]
+#[derive(Clone, Copy, PartialEq, Eq)]
 pub struct Region {
     pub anchor: u64,
     pub caret: u64,
@@ -15,7 +15,7 @@ pub struct Region {
 pub type Regions = List<Region>;
 
 /// The regions of a view.
-#[derive(Debug, PartialEq, Eq, Drop)]
+#[derive(PartialEq, Eq, Drop)]
 pub struct Sel {
     pub regions: Regions,
 }

@@ -1,7 +1,7 @@
 use plain_edits::{Delta, UnitDelta};
 
 /// An edit, made for the text of a revision.
-#[derive(Debug, PartialEq, Eq, Drop)]
+#[derive(Drop)]
 pub struct Edit {
     /// The revision whose text the delta is against.
     pub rev: u64,
@@ -16,7 +16,7 @@ pub struct Edit {
 }
 
 /// What an edit did to the head text.
-#[derive(Debug, PartialEq, Eq, Drop)]
+#[derive(Drop)]
 pub struct Change {
     /// The new revision.
     pub rev: u64,

@@ -15,10 +15,10 @@ use crate::flat::alive;
 use crate::step::{Fitting, Ready, made_ready};
 use crate::{Change, Edit, EditFault};
 use delta_core::{fits, to_units};
+use plain_text::{NoMemory, Text, TryClone};
 use rev_list::{RevFault, RevList};
 use std::alloc::Global;
 use std::marker::Model;
-use plain_text::{NoMemory, Text, TryClone};
 
 /// A text that many edit, with all its revisions.
 #[derive(Drop)]

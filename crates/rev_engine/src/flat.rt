@@ -4,9 +4,9 @@ ghost use Rattle.std.specs.Str.{IsUtf8, chars};
 ghost use Rattle.subset_runs.specs.Subset.{count, items_outside};
 ghost use Rattle.rev_rebase.specs.Rebase.{put_in};
 
+use plain_text::{NoMemory, Text, split_at_gap};
 use std::alloc::Global;
 use subset_runs::Subset;
-use plain_text::{NoMemory, Text, split_at_gap};
 
 // The characters that are not dead, in the time of the text.
 pub(crate) fn alive(alloc: Global, union: &Text, dead: &Subset) -> Result<Text, NoMemory>

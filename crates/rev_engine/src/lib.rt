@@ -12,8 +12,6 @@ mod engine;
 mod flat;
 pub mod laws;
 mod step;
-#[cfg(test)]
-mod tests;
 
 pub use edit::{Change, Edit};
 pub use engine::Engine;

@@ -9,11 +9,11 @@ ghost use Rattle.rev_engine.specs.Inner.{IsBasedOn, IsMadeReady};
 use crate::flat::with_put_in;
 use crate::{Change, Edit};
 use delta_core::synthesize;
+use plain_edits::{El, UnitDelta};
+use plain_text::{NoMemory, Text};
 use rev_list::{ReadyEdit, RevEdit, RevList};
 use rev_rebase::{Rebased, rebase};
 use std::alloc::Global;
-use plain_text::{NoMemory, Text};
-use plain_edits::{El, UnitDelta};
 
 /// An edit that fits, in characters, and how many characters were inserted after loading when it is taken.
 #[derive(Drop)]

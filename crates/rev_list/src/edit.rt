@@ -5,7 +5,7 @@ use subset_runs::Subset;
 
 /// An edit in positions of the union. Both subsets have the length of the union after the edit, which is that of the union before
 /// and the count of `inserted`.
-#[derive(Debug, PartialEq, Eq, Drop)]
+#[derive(Drop)]
 pub struct RevEdit {
     pub base: u64,
     pub priority: u32,
@@ -32,7 +32,7 @@ impl RevEdit {
 }
 
 /// An edit that only has to be put in: all its memory is taken.
-#[derive(Debug, PartialEq, Eq, Drop)]
+#[derive(Drop)]
 pub struct ReadyEdit {
     pub edit: RevEdit,
     /// What the edit hides: the positions that it deletes and that were not dead before it.

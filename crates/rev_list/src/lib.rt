@@ -15,8 +15,6 @@ mod edit;
 mod fault;
 pub mod laws;
 mod list;
-#[cfg(test)]
-mod tests;
 
 pub use edit::{ReadyEdit, RevEdit};
 pub use fault::RevFault;

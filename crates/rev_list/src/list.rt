@@ -8,13 +8,13 @@ ghost use Rattle.rev_list.specs.Kept.{IsReady};
 use crate::carry::{carried, edits_from, made_ready};
 use crate::edit::{edits_copy, subsets_copy};
 use crate::{ReadyEdit, RevEdit, RevFault};
+use plain_text::NoMemory;
 use std::alloc::{AllocError, Global};
 use std::marker::Model;
 use subset_runs::Subset;
-use plain_text::NoMemory;
 
 /// The revisions from the floor to the head, over the present union.
-#[derive(Debug, Drop)]
+#[derive(Drop)]
 pub struct RevList {
     /// The length of the loaded text.
     len: u64,

@@ -6,10 +6,10 @@ ghost use Rattle.rev_rebase.specs.Inner.{Grow, deletions_after, insertions_after
 
 use crate::order::goes_right;
 use delta_core::carry_ins;
+use plain_text::NoMemory;
 use rev_list::RevEdit;
 use std::alloc::Global;
 use subset_runs::Subset;
-use plain_text::NoMemory;
 
 // Insertions with a priority, in the union that has those of the edits too.
 pub(crate) fn insertions_over(

@@ -10,8 +10,6 @@ mod later;
 pub mod laws;
 mod order;
 mod stale;
-#[cfg(test)]
-mod tests;
 
 pub use asked::may_rebase;
 pub use stale::{Rebased, rebase};

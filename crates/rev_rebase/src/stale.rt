@@ -10,14 +10,14 @@ ghost use Rattle.rev_rebase.specs.Inner.{ArePlaces};
 
 use crate::later::{deletions_over, insertions_over};
 use delta_core::{carry_ins, factor};
+use plain_edits::UnitDelta;
+use plain_text::{NoMemory, Text};
 use rev_list::RevList;
 use std::alloc::Global;
 use subset_runs::Subset;
-use plain_text::{NoMemory, Text};
-use plain_edits::UnitDelta;
 
 /// An edit in the positions of the union that it makes: what it inserts there and what it deletes, and the text that it inserts.
-#[derive(Debug, PartialEq, Eq, Drop)]
+#[derive(Drop)]
 pub struct Rebased {
     pub inserted: Subset,
     pub deleted: Subset,

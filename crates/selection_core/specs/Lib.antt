@@ -1,4 +1,3 @@
 pub mod Selection
 pub mod Mapped
-pub mod Row
 pub mod Inner

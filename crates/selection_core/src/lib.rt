@@ -7,8 +7,6 @@
 mod mapping;
 mod merging;
 mod selection;
-#[cfg(test)]
-mod tests;
 
 pub use mapping::gap_after;
 pub use selection::Selection;

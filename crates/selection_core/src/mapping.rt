@@ -4,9 +4,9 @@ ghost use Rattle.plain_edits.specs.UnitDelta.{IsUnitDelta, unit_adds, unit_keeps
 ghost use Rattle.selection_core.specs.Mapped.{AreWithin, length_after, mapped_region, new_gap};
 ghost use Rattle.selection_core.specs.Inner.{gaps_left, part_left};
 
-use std::alloc::Global;
-use plain_text::{NoMemory, Region, Regions};
 use plain_edits::{Added, UnitDelta};
+use plain_text::{NoMemory, Region, Regions};
+use std::alloc::Global;
 
 // The regions after an edit, in their order, and none merged.
 pub(crate) fn mapped(

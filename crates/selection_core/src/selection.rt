@@ -6,9 +6,9 @@ ghost use Rattle.selection_core.specs.Selection.{IsSelection, caret_of, last_car
 
 use crate::mapping::mapped;
 use crate::merging::{in_order, merged};
-use std::alloc::Global;
-use plain_text::{NoMemory, Region, Regions, Sel};
 use plain_edits::UnitDelta;
+use plain_text::{NoMemory, Region, Regions, Sel};
+use std::alloc::Global;
 
 /// What a selection does: the regions stay sorted, and no two meet.
 pub trait Selection: Sized {

@@ -13,7 +13,7 @@ use std::alloc::{AllocError, Global};
 use std::marker::Model;
 
 /// A length and a set of positions below it, kept as its runs of members.
-#[derive(Debug, Drop)]
+#[derive(Drop)]
 pub struct Subset {
     runs: Vec<(u64, u64)>,
     len: u64,
@@ -276,6 +276,3 @@ fn shrunk(alloc: Global, flags: &Subset, by: &Subset) -> Result<Subset, AllocErr
     }
     Ok(out)
 }
-
-#[cfg(test)]
-mod tests;

@@ -7,7 +7,5 @@
 
 mod rising;
 mod stack;
-#[cfg(test)]
-mod tests;
 
 pub use stack::Stack;

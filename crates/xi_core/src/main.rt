@@ -1,8 +1,6 @@
 //! The program: the core of the xi editor over standard input and output.
 #![tactic(auto)]
 
-#[cfg(test)]
-mod tests;
 mod words;
 
 use crate::words::{Invocation, invocation_of, words};

@@ -6,7 +6,7 @@ use std::{env, io};
 use plain_text::{List, NoMemory, Text, Texts};
 
 /// What the words ask of the program.
-#[derive(Clone, Copy, Debug, PartialEq, Eq)]
+#[derive(Clone, Copy)]
 pub enum Invocation {
     Help,
     Version,

@@ -2,7 +2,7 @@ use plain_text::{List, NoMemory, Text, TryClone};
 use std::alloc::Global;
 
 /// What a line names its answer by.
-#[derive(Debug, PartialEq, Eq, Drop)]
+#[derive(PartialEq, Eq, Drop)]
 pub enum Id {
     /// The line has no `id`, and gets no answer.
     NoId,
@@ -12,7 +12,7 @@ pub enum Id {
 }
 
 /// Why a line is refused by itself.
-#[derive(Debug, PartialEq, Eq, Drop)]
+#[derive(PartialEq, Eq, Drop)]
 pub enum Fault {
     /// The line is no JSON text.
     Parse,
@@ -27,14 +27,14 @@ pub enum Fault {
 }
 
 /// What a line of `edit` asks of a view.
-#[derive(Debug, PartialEq, Eq, Drop)]
+#[derive(PartialEq, Eq, Drop)]
 pub enum EditAct {
     /// Replaces each region by these characters.
     Insert { chars: Text },
 }
 
 /// What a line asks.
-#[derive(Debug, PartialEq, Eq, Drop)]
+#[derive(PartialEq, Eq, Drop)]
 pub enum Act {
     /// The line is refused.
     Bad(Fault),
@@ -49,14 +49,14 @@ pub enum Act {
 }
 
 /// A line, as it was read.
-#[derive(Debug, PartialEq, Eq, Drop)]
+#[derive(PartialEq, Eq, Drop)]
 pub struct Command {
     pub id: Id,
     pub act: Act,
 }
 
 /// An entry of the journal.
-#[derive(Debug, PartialEq, Eq, Drop)]
+#[derive(PartialEq, Eq, Drop)]
 pub struct Entry {
     /// Who asked: 0 is the front end, a plugin has its number from 1.
     pub caller: u32,

@@ -3,7 +3,7 @@ use plain_text::{NoMemory, Text, TryClone};
 use std::alloc::Global;
 
 /// How texts are laid out and edited.
-#[derive(Clone, Copy, Debug, PartialEq, Eq)]
+#[derive(Clone, Copy, PartialEq, Eq)]
 pub struct Config {
     /// The columns from one tab stop to the next, 1 to 16.
     pub tab: u32,
@@ -14,7 +14,7 @@ pub struct Config {
 }
 
 /// What plugins are told of a revision.
-#[derive(Debug, PartialEq, Eq, Drop)]
+#[derive(PartialEq, Eq, Drop)]
 pub struct Notice {
     pub view: Text,
     /// The number of the caller whose edit it is.

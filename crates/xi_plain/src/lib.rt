@@ -6,8 +6,6 @@
 
 mod command;
 mod config;
-#[cfg(test)]
-mod tests;
 
 pub use command::{Act, Command, EditAct, Entries, Entry, Fault, Id};
 pub use config::{Config, Notice};

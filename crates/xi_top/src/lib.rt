@@ -9,8 +9,6 @@ mod enter;
 mod feed;
 mod run;
 mod serve;
-#[cfg(test)]
-mod tests;
 
 pub use run::{Report, run_alone, xi_main};
 pub use xi_plain::Entry;

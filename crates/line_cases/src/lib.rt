@@ -1,0 +1,5 @@
+//! Tables of tests of the crates about lines, each proved once.
+#![tactic(auto)]
+
+#[cfg(test)]
+mod clusters;

@@ -1,5 +1,0 @@
-use Rattle.selection_core.specs.Selection.{IsSelection}
-use Rattle.selection_core.proofs.tests.selection.Given as goal
-
-abbrev pub invariant-loop-row : goal.invariant-loop-row
-invariant-loop-row l = IsSelection l.sel.regions

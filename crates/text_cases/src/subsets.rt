@@ -1,0 +1,61 @@
+//! Sets of positions.
+
+use std::test::Fail;
+use subset_runs::{Subset, SubsetFault};
+
+#[test]
+fn the_first_range_at_fault_is_named(rt: HostRuntime) {
+    let rows: [(&[(u64, u64)], usize); 6] = [
+        (&[(2, 1)], 0),
+        (&[(0, 6)], 0),
+        (&[(1, 3), (2, 4)], 1),
+        (&[(1, 3), (3, 4), (4, 6)], 2),
+        (&[(0, 1), (0, 0), (9, 8)], 1),
+        (&[(0, 0), (5, 5), (5, 5), (4, 5)], 3),
+    ];
+    for (ranges, index) in rows {
+        assert_eq!(rt;
+            Subset::of_ranges(rt.alloc(), 5, ranges).err(),
+            Some(SubsetFault::Bad(index))
+        );
+    }
+}
+
+#[test]
+fn the_row_of_sets(rt: HostRuntime) -> Result<(), Fail> {
+    let alloc = rt.alloc();
+    let subset = Subset::of_ranges(alloc, 5, &[(1, 3)])?;
+    let first = Subset::of_ranges(alloc, 5, &[(0, 1)])?;
+    let second = Subset::of_ranges(alloc, 5, &[(1, 2)])?;
+    assert!(rt; subset.len() == first.len() && subset.len() == second.len());
+    for (made, len, runs) in [
+        (subset.union(alloc, &first)?, 5, [(0, 3)].as_slice()),
+        (subset.minus(alloc, &second)?, 5, [(2, 3)].as_slice()),
+        (subset.complement(alloc)?, 5, [(0, 1), (3, 5)].as_slice()),
+        (subset.shrink(alloc, &second)?, 4, [(1, 2)].as_slice()),
+        (subset.copy(alloc)?, 5, [(1, 3)].as_slice()),
+    ] {
+        assert_eq!(rt; (made.len(), made.runs()), (len, runs));
+    }
+    assert_eq!(rt; subset.count(), 2);
+    Ok(())
+}
+
+#[test]
+fn the_row_of_two_texts(rt: HostRuntime) -> Result<(), Fail> {
+    let alloc = rt.alloc();
+    let subset = Subset::of_ranges(alloc, 2, &[(1, 2)])?;
+    let by = Subset::of_ranges(alloc, 4, &[(0, 1), (2, 3)])?;
+    assert!(rt; subset.len() == 2 && by.count() == 2 && by.len() == 4);
+    assert_eq!(rt; subset.expand(alloc, &by)?.runs(), [(3, 4)].as_slice());
+    assert_eq!(rt;
+        subset.expand_in(alloc, &by)?.runs(),
+        [(0, 1), (2, 4)].as_slice()
+    );
+    let mut grown = Subset::none(alloc, 2);
+    if grown.len() == 2 {
+        grown.append(3, true)?;
+    }
+    assert_eq!(rt; grown.runs(), [(2, 5)].as_slice());
+    Ok(())
+}

@@ -1,0 +1,126 @@
+//! Runs in which one call fails, or whose input ends early.
+
+ghost use Rattle.std.specs.Prelude.{◌<◌};
+
+use outside::{MemSink, MemSource};
+use std::alloc::{AllocError, Global};
+use std::test::Fail;
+use xi_top::run_alone;
+
+// An opening, three inserts, and an undo, which is not built.
+const FIVE_LINES: [&str; 5] = [
+    "{\"id\":0,\"method\":\"new_view\"}\n",
+    "{\"method\":\"edit\",\"params\":{\"method\":\"insert\",\"params\":{\"chars\":\"a\"},\"view_id\":\"view-id-1\"}}\n",
+    "{\"method\":\"edit\",\"params\":{\"method\":\"insert\",\"params\":{\"chars\":\"é\"},\"view_id\":\"view-id-1\"}}\n",
+    "{\"method\":\"edit\",\"params\":{\"method\":\"insert\",\"params\":{\"chars\":\"\\n\"},\"view_id\":\"view-id-1\"}}\n",
+    "{\"id\":1,\"method\":\"edit\",\"params\":{\"method\":\"undo\",\"view_id\":\"view-id-1\"}}\n",
+];
+
+// What each of them writes.
+const FIVE_PIECES: [&str; 5] = [
+    r#"{"id":0,"result":"view-id-1"}
+{"method":"update","params":{"update":{"ops":[{"lines":[{"cursor":[0],"ln":1,"styles":[],"text":""}],"n":1,"op":"ins"}],"pristine":true},"view_id":"view-id-1"}}
+"#,
+    r#"{"method":"update","params":{"update":{"ops":[{"lines":[{"cursor":[1],"ln":1,"styles":[],"text":"a"}],"n":1,"op":"ins"}],"pristine":false},"view_id":"view-id-1"}}
+{"method":"scroll_to","params":{"col":1,"line":0,"view_id":"view-id-1"}}
+"#,
+    r#"{"method":"update","params":{"update":{"ops":[{"lines":[{"cursor":[3],"ln":1,"styles":[],"text":"aé"}],"n":1,"op":"ins"}],"pristine":false},"view_id":"view-id-1"}}
+{"method":"scroll_to","params":{"col":3,"line":0,"view_id":"view-id-1"}}
+"#,
+    r#"{"method":"update","params":{"update":{"ops":[{"lines":[{"cursor":[],"ln":1,"styles":[],"text":"aé\n"},{"cursor":[0],"ln":2,"styles":[],"text":""}],"n":2,"op":"ins"}],"pristine":false},"view_id":"view-id-1"}}
+{"method":"scroll_to","params":{"col":0,"line":1,"view_id":"view-id-1"}}
+"#,
+    r#"{"error":{"code":9,"message":"not built"},"id":1}
+"#,
+];
+
+// The first of these texts, one after the other.
+fn joined(alloc: Global, texts: &[&str], count: usize) -> Result<Vec<u8>, AllocError> {
+    let mut bytes = Vec::new(alloc);
+    for text in texts.iter().take(count) {
+        bytes.extend_from_slice(text.as_bytes())?;
+    }
+    Ok(bytes)
+}
+
+// What a run came to: its status, how many entries it has with the closing one, and the bytes that were written.
+type Outcome = (u8, usize, Option<Vec<u8>>);
+
+// A run over these bytes, of which at most `piece` are given at a time, and in which the read and the write of these numbers fail.
+fn ran(
+    alloc: Global,
+    input: Vec<u8>,
+    piece: usize,
+    read: u64,
+    write: u64,
+) -> Result<Outcome, AllocError>
+    requires { 0 < piece }
+{
+    let reads = Vec::from_slice(alloc, &[read])?;
+    let writes = Vec::from_slice(alloc, &[write])?;
+    let mut source = MemSource::new(input, piece, reads);
+    let report = run_alone(alloc, &mut source, MemSink::new(alloc, 4096, writes));
+    Ok((
+        report.status,
+        report.journal.len(),
+        report.sink.into_bytes(),
+    ))
+}
+
+#[test]
+fn each_write_fails_in_turn(rt: HostRuntime) -> Result<(), Fail> {
+    let alloc = rt.alloc();
+    // The sixth write is not made.
+    for (write, status, entries) in [
+        (1, 5, 2),
+        (2, 5, 3),
+        (3, 5, 4),
+        (4, 5, 5),
+        (5, 5, 6),
+        (6, 0, 6),
+    ] {
+        let input = joined(alloc, &FIVE_LINES, 5)?;
+        let written = joined(alloc, &FIVE_PIECES, write - 1)?;
+        let outcome = ran(alloc, input, 4096, 0, write as u64)?;
+        assert!(rt;
+            outcome == (status, entries, Some(written)),
+            "write {write}"
+        );
+    }
+    Ok(())
+}
+
+#[test]
+fn each_read_fails_in_turn(rt: HostRuntime) -> Result<(), Fail> {
+    let alloc = rt.alloc();
+    let bytes = joined(alloc, &FIVE_LINES, 5)?.len();
+    for read in 1..bytes / 7 + 3 {
+        let input = joined(alloc, &FIVE_LINES, 5)?;
+        let given = (read - 1) * 7;
+        let lines = input
+            .iter()
+            .take(given)
+            .filter(|byte| **byte == b'\n')
+            .count();
+        let written = joined(alloc, &FIVE_PIECES, lines)?;
+        let outcome = ran(alloc, input, 7, read as u64, 0)?;
+        assert!(rt; outcome == (4, lines + 1, Some(written)), "read {read}");
+    }
+    Ok(())
+}
+
+#[test]
+fn the_input_ends_after_each_line(rt: HostRuntime) -> Result<(), Fail> {
+    let alloc = rt.alloc();
+    for lines in 0..6 {
+        let mut input = joined(alloc, &FIVE_LINES, lines)?;
+        let written = joined(alloc, &FIVE_PIECES, lines)?;
+        // The last line counts without its LF too.
+        if lines % 2 == 1 {
+            input.pop();
+        }
+        let outcome = ran(alloc, input, 4096, 0, 0)?;
+        assert!(rt; outcome == (0, lines + 1, Some(written)), "{lines} lines");
+    }
+    Ok(())
+}

@@ -1,0 +1,12 @@
+//! Tables of tests of the crates about lines of JSON and what they ask and tell, each proved once: printed texts, and every call that
+//! takes memory once where there is enough.
+#![tactic(auto)]
+
+#[cfg(test)]
+mod commands;
+#[cfg(test)]
+mod lines;
+#[cfg(test)]
+mod names;
+#[cfg(test)]
+mod notes;

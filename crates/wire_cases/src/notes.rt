@@ -1,0 +1,147 @@
+//! Notes to a front end, as they are printed.
+
+use plain_screen::{Line, Op, Triple, Update};
+use plain_text::{List, NoMemory, Text};
+use std::alloc::Global;
+use std::test::Fail;
+use view_update::{write_alert, write_scroll, write_update};
+
+/// A line with these carets and styles.
+fn line(
+    alloc: Global,
+    text: &str,
+    ln: Option<u64>,
+    cursor: &[u64],
+    styles: &[Triple],
+) -> Result<Line, NoMemory> {
+    Ok(Line {
+        text: Text::from_str(alloc, text)?,
+        ln,
+        cursor: List::from_vec(cursor.to_vec(alloc)?),
+        styles: List::from_vec(styles.to_vec(alloc)?),
+    })
+}
+
+/// The operation that adds one line.
+fn one_line(alloc: Global, new: Line) -> Result<Op, NoMemory> {
+    let mut lines = List::new(alloc);
+    lines.push(new)?;
+    Ok(Op::Ins { lines })
+}
+
+/// The first update of a view: one empty line with a caret.
+fn opening(alloc: Global) -> Result<Update, NoMemory> {
+    let mut ops = List::new(alloc);
+    ops.push(one_line(alloc, line(alloc, "", Some(1), &[0], &[])?)?)?;
+    Ok(Update {
+        ops,
+        pristine: true,
+    })
+}
+
+/// An update with each operation, and a copy of each kind.
+fn each_operation(alloc: Global) -> Result<Update, NoMemory> {
+    let mut ops = List::new(alloc);
+    ops.push(Op::Copy { n: 4, ln: Some(7) })?;
+    ops.push(Op::Copy { n: 1, ln: None })?;
+    ops.push(Op::Skip { n: 2 })?;
+    ops.push(Op::Invalidate {
+        n: 18446744073709551615,
+    })?;
+    let styles = [
+        Triple {
+            start: 0,
+            len: 3,
+            id: 0,
+        },
+        Triple {
+            start: -2,
+            len: 1,
+            id: 18446744073709551615,
+        },
+        Triple {
+            start: -9223372036854775808,
+            len: 0,
+            id: 2,
+        },
+    ];
+    let mut lines = List::new(alloc);
+    lines.push(line(alloc, "abc\n", Some(12), &[1, 4], &styles)?)?;
+    lines.push(line(alloc, "d", None, &[], &[])?)?;
+    ops.push(Op::Ins { lines })?;
+    ops.push(Op::Ins {
+        lines: List::new(alloc),
+    })?;
+    Ok(Update {
+        ops,
+        pristine: false,
+    })
+}
+
+/// A line whose text has characters that JSON escapes, and some that it doesn't.
+fn odd_text(alloc: Global) -> Result<Update, NoMemory> {
+    let mut ops = List::new(alloc);
+    let text = "\"\\/\t\u{1}\u{1f}\u{7f}\u{e9}\u{2028}\u{1f600}\r\n";
+    ops.push(one_line(alloc, line(alloc, text, None, &[], &[])?)?)?;
+    Ok(Update {
+        ops,
+        pristine: false,
+    })
+}
+
+/// The line of an update of a view.
+fn written(alloc: Global, view: &str, update: Result<Update, NoMemory>) -> Result<Text, NoMemory> {
+    write_update(alloc, &Text::from_str(alloc, view)?, &update?)
+}
+
+#[test]
+fn an_update_is_its_note(rt: HostRuntime) -> Result<(), Fail> {
+    let alloc = rt.alloc();
+    let rows = [
+        (
+            written(alloc, "view-id-1", opening(alloc)),
+            "{\"method\":\"update\",\"params\":{\"update\":{\"ops\":[{\"lines\":[{\"cursor\":[0],\"ln\":1,\"styles\":[],\"text\":\"\"}],\"n\":1,\"op\":\"ins\"}],\"pristine\":true},\"view_id\":\"view-id-1\"}}\n",
+        ),
+        (
+            written(alloc, "view-id-20", each_operation(alloc)),
+            "{\"method\":\"update\",\"params\":{\"update\":{\"ops\":[{\"ln\":7,\"n\":4,\"op\":\"copy\"},{\"n\":1,\"op\":\"copy\"},{\"n\":2,\"op\":\"skip\"},{\"n\":18446744073709551615,\"op\":\"invalidate\"},{\"lines\":[{\"cursor\":[1,4],\"ln\":12,\"styles\":[0,3,0,-2,1,18446744073709551615,-9223372036854775808,0,2],\"text\":\"abc\\n\"},{\"cursor\":[],\"styles\":[],\"text\":\"d\"}],\"n\":2,\"op\":\"ins\"},{\"lines\":[],\"n\":0,\"op\":\"ins\"}],\"pristine\":false},\"view_id\":\"view-id-20\"}}\n",
+        ),
+        (
+            written(alloc, "\n", odd_text(alloc)),
+            "{\"method\":\"update\",\"params\":{\"update\":{\"ops\":[{\"lines\":[{\"cursor\":[],\"styles\":[],\"text\":\"\\\"\\\\/\\t\\u0001\\u001f\u{7f}\u{e9}\u{2028}\u{1f600}\\r\\n\"}],\"n\":1,\"op\":\"ins\"}],\"pristine\":false},\"view_id\":\"\\n\"}}\n",
+        ),
+    ];
+    for (line, expected) in rows {
+        assert!(rt; line.is_ok_and(|text| text.as_str() == expected));
+    }
+    Ok(())
+}
+
+/// The line of a scroll in a view.
+fn scrolled(alloc: Global, view: &str, line: u64, col: u64) -> Result<Text, NoMemory> {
+    write_scroll(alloc, &Text::from_str(alloc, view)?, line, col)
+}
+
+/// The line of an alert.
+fn alerted(alloc: Global, message: &str) -> Result<Text, NoMemory> {
+    write_alert(alloc, &Text::from_str(alloc, message)?)
+}
+
+#[test]
+fn the_other_notes_are_theirs(rt: HostRuntime) -> Result<(), Fail> {
+    let alloc = rt.alloc();
+    let rows = [
+        (
+            scrolled(alloc, "view-id-1", 0, 4),
+            "{\"method\":\"scroll_to\",\"params\":{\"col\":4,\"line\":0,\"view_id\":\"view-id-1\"}}\n",
+        ),
+        (
+            alerted(alloc, "method not found: \"\u{e9}\n"),
+            "{\"method\":\"alert\",\"params\":{\"msg\":\"method not found: \\\"\u{e9}\\n\"}}\n",
+        ),
+    ];
+    for (line, expected) in rows {
+        assert!(rt; line.is_ok_and(|text| text.as_str() == expected));
+    }
+    Ok(())
+}
