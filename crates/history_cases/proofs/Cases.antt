@@ -1,16 +1,19 @@
 -- What an edit leaves of a case.
-use Rattle.std.proofs.Common.{◌≡◌, ◌∙◌, sym, ap, ℕ, None, Result, Ok, Err, OnOk}
+use Rattle.std.proofs.Common.{◌≡◌, Option, None, Some, Result, Ok, ap, sym, subst}
+use Rattle.std.specs.Prelude.{IfOk}
+use Rattle.plain_edits.specs.declared.fault.EditFault.{EditFault}
 use Rattle.plain_edits.specs.History.{History}
-use Rattle.plain_edits.specs.Edits.{edit_refusal, edited, plain_edit}
-use Rattle.history_script.specs.declared.step.NewEdit.{NewEdit}
-use Rattle.history_cases.specs.Case.{Case, edit_leaves, taken_edit}
+use Rattle.rev_engine.specs.declared.edit.Edit.{Edit}
+use Rattle.history_cases.specs.Case.{Case, edit_leaves}
 
--- where the edit is accepted, the history with it is what the edit leaves
-pub taken_edit-accepted : {A B : Type 0} (result : Result A B) (before : Case) (e : NewEdit) (made : History) (priority author : ℕ) → priority ≡ e.priority → author ≡ e.author → OnOk result (edit_refusal before.history before.limit e.base e.delta ≡ None) → OnOk result (made ≡ edited before.history (plain_edit before.history e.base e.delta e.group priority author)) → OnOk result (record before { history = made } ≡ taken_edit before e)
-taken_edit-accepted (Ok x) before e made priority author p a accepted is =
-    ap (λ (h : History). record before { history = h })
-    (is
-    ∙ (ap (λ (n : ℕ). edited before.history (plain_edit before.history e.base e.delta e.group n author)) p
-    ∙ ap (λ (n : ℕ). edited before.history (plain_edit before.history e.base e.delta e.group e.priority n)) a))
-    ∙ sym (ap (edit_leaves before e) accepted)
-taken_edit-accepted (Err x) before e made priority author p a accepted is = tt
+-- where the answer leaves this history, the case with it is what the answer leaves
+pub leaves-history : {E : Type 0} (outcome : Result (Option EditFault) E) (answer : Option EditFault) (view before : Case) (e : Edit) (made : History) →
+    view ≡ before → outcome ≡ Ok answer → made ≡ (edit_leaves view e answer).history →
+    IfOk outcome (λ a. record view { history = made } ≡ edit_leaves before e a)
+leaves-history {E} outcome answer view before e made is told step =
+    subst (λ (o : Result (Option EditFault) E). IfOk o (λ a. record view { history = made } ≡ edit_leaves before e a)) (sym told)
+    (subst (λ (b : Case). record view { history = made } ≡ edit_leaves b e answer) is (of_case answer step))
+  where
+    of_case : (a : Option EditFault) → made ≡ (edit_leaves view e a).history → record view { history = made } ≡ edit_leaves view e a
+    of_case None is = ap (λ (h : History). record view { history = h }) is
+    of_case (Some fault) is = ap (λ (h : History). record view { history = h }) is

@@ -1,2 +1,2 @@
-pub mod Cases
-pub mod Faults
+mod Cases
+mod Sets

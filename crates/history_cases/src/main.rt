@@ -1,47 +1,91 @@
-//! Runs cases of histories, and lists of edits from seeds, through the plain history and through each crate of the revision engine
-//! that exists, and prints one line for each.
+//! Runs cases of histories, and lists of edits from seeds, through the plain history and through each crate of the revision engine, and
+//! prints for each one whether it passed, or the first line (of a list the first edit) that does not hold, and why.
 //!
-//! A case is a file `NAME.history` of the folder that the program runs in; the files are taken in the order of their names. To add a
-//! case, write its file into `data/`, and put the line that the program then prints for it into `stdout`. What a line of a case may
-//! say, the first page of `history_script` has in a table.
+//! A case is a file `NAME.history` of the folder that the program runs in; the files are taken in the order of their names. A line is:
 //!
-//! Each edit goes through the plain history, and `delta_core` has to find the same first misfit. While a history has no undo its
-//! edits go into a `rev_list` too, and `rev_rebase` has to put each of them where the plain history has it; after it the list has to
-//! hide at each revision what the plain history hides there. An engine takes them as well: it has to refuse what the plain history
-//! refuses, for the same cause, and after each edit to show its texts at all revisions; the change that it tells has to lead from the
-//! text before to the text after. An engine has one limit, so that a `limit` after an edit ends it. The list of a seed has 30 edits
-//! against the last 8 revisions, and some against none or with a misfit, over a text of 6 characters.
+//! | line | means |
+//! |---|---|
+//! | `# remark` | nothing, as does an empty line |
+//! | `text aé` | a history begins anew, with this text loaded; a case begins with the empty text |
+//! | `limit 8` | from now on at most 8 characters may be inserted into a history in all; without it 1,000 |
+//! | `edit base=0 group=1 priority=2 author=0 len=3 copy 0 1 insert X copy 1 3` | an edit against revision 0, with the elements of its delta; groups count from 1, and `len`, the length of the base's text, and the places are bytes |
+//! | `undo 1 2` | from now on exactly these groups are undone; `undo` alone undoes none |
+//! | `shows 2 aXé` | revision 2 shows this text; `shows 2` alone says that it is empty |
+//! | `refused unknown 2` | the edit before this line is refused: its base is above the head, 2 |
+//! | `refused collected 1` | its base is below the floor, 1 |
+//! | `refused misfit 4 2` | the first misfit of its delta is of kind 4 at 2 |
+//! | `refused spent 9` | 9 characters would be inserted in all |
+//! | `refused undo` | the undo before this line has a group without an edit, or changes a collected one |
 //!
-//! A line of the output counts what was done and ends with `same`, or has the first line of the case (the first edit of a list)
-//! at which it does not hold, and why. The program fails if there is one.
+//! In a text `\n` is the end of a line, `\t` a tab, `\s` a space and `\\` a backslash; after `insert` a text is one word. What is
+//! refused changes nothing, and its refusal has to stand in the line after it.
 //!
-//! A contract sees a case as far as it has come as the record `Case`. `run_lines` says that a case passes only where each of its
-//! lines holds, and else stops at the first that does not, for the cause that is told. That each body is compared whole say the
-//! contracts of `history_bodies`. Which edits are drawn, the output alone shows.
+//! For each edit `delta_core` has to find the first misfit of the plain history. While a history has no undo, `rev_rebase` has to put
+//! its edits where the plain history has them, a `rev_list` to hide at each revision what is hidden there, and an engine to answer as
+//! the plain history does, to keep as many characters, to show the same at each revision, and to tell a change that leads from the
+//! text before to that after. An engine has one limit, so that a `limit` after an edit ends it.
+//!
+//! That a case passes only where each of its lines holds says the contract of `run_case`; how lines are read and which edits are
+//! drawn, the output alone shows. A new case is a new file in `data/`, and its line in `stdout`.
 #![tactic(auto)]
 
+mod by_engine;
+mod by_rev_list;
 mod case_run;
-mod draws;
-mod failure;
-mod files;
-mod outcome;
+mod reading;
 mod seeded;
-mod tally;
-#[cfg(test)]
-mod tests;
+mod step;
 
-use std::process::ExitCode;
+use anyhow::ensure;
+use std::fs;
+use std::rt::Files;
 
 /// There are lists from the seeds 1 to this one.
 const SEEDS: u64 = 16;
 
-fn main(rt: HostRuntime) -> anyhow::Result<ExitCode> {
+fn main(rt: HostRuntime) -> anyhow::Result<()> {
     let mut all_hold = true;
-    for name in files::case_names(&rt)?.as_slice() {
-        all_hold &= files::print_case(&rt, name)?;
+    for name in case_names(&rt)?.as_slice() {
+        let outcome = run_file(&rt, name.as_str());
+        all_hold &= print_outcome(&rt, name.as_str().trim_end_matches(".history"), &outcome)?;
     }
     for seed in 1..=SEEDS {
-        all_hold &= seeded::print_list(&rt, seed)?;
+        let outcome = seeded::run_seed(rt.alloc(), seed);
+        let name = format!(in rt.alloc(); "seed {seed}")?;
+        all_hold &= print_outcome(&rt, name.as_str(), &outcome)?;
     }
-    Ok(outcome::exit_code(all_hold))
+    ensure!(all_hold, "a case does not hold");
+    Ok(())
+}
+
+/// The names of the files of cases in the folder that the program runs in, in order.
+fn case_names(rt: &HostRuntime) -> anyhow::Result<Vec<String>> {
+    let mut names = Vec::new(rt.alloc());
+    for entry in fs::read_dir(rt, ".")? {
+        let entry = entry?;
+        if entry.file_name().ends_with(".history") {
+            names.push(String::from_str(rt.alloc(), entry.file_name())?)?;
+        }
+    }
+    names.sort()?;
+    Ok(names)
+}
+
+fn run_file(rt: &HostRuntime, file: &str) -> anyhow::Result<()> {
+    let case = fs::read(rt, file)?;
+    let lines = reading::read_lines(rt.alloc(), &case)?;
+    case_run::run_case(rt.alloc(), &lines)
+}
+
+/// Prints the line of a case; whether it holds.
+fn print_outcome(
+    rt: &HostRuntime,
+    name: &str,
+    outcome: &anyhow::Result<()>,
+) -> anyhow::Result<bool> {
+    match outcome {
+        Ok(()) => println!(rt; "pass {name}")?,
+        Err(why) => println!(rt; "FAIL {name}: {why:#}")?,
+    }
+    Ok(outcome.is_ok())
 }

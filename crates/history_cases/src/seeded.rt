@@ -1,77 +1,67 @@
 //! Lists of edits from seeds.
 
-use crate::case_run::CaseRun;
-use crate::draws::Draws;
-use crate::failure::{Difference, Failure};
-use crate::outcome::{Outcome, print_outcome};
-use history_bodies::BodyFault;
-use history_script::NewEdit;
-use plain_history::PlainHistory;
-use std::alloc::Global;
-use plain_text::{List, NoMemory, Text};
+ghost use Rattle.std.specs.Prelude.{◌<◌};
+
+use crate::case_run::{CaseRun, LIMIT};
+use anyhow::Context;
 use plain_edits::{Delta, El, Els};
+use plain_history::PlainHistory;
+use plain_text::{List, NoMemory, Text};
+use rand_core::{Rng, SeedableRng};
+use rand_pcg::Lcg64Xsh32;
+use rev_engine::Edit;
+use std::alloc::Global;
 
 const EDITS: u64 = 30;
 
-/// Runs the list of edits of a seed and prints its line; whether all bodies agree on it.
-pub fn print_list(rt: &HostRuntime, seed: u64) -> anyhow::Result<bool> {
-    let alloc = rt.alloc();
-    let outcome = run_list(alloc, &mut Draws::new(seed));
-    let name = format!(in alloc; "seed {seed}")?;
-    print_outcome(rt, name.as_str(), "edit", &outcome)
+/// Of 1 to 4 bytes.
+const CHARACTERS: [char; 8] = ['a', 'b', 'c', '\n', 'é', 'ß', '→', '𝄞'];
+
+/// Numbers from a seed.
+#[derive(Drop)]
+struct Draws {
+    words: Lcg64Xsh32,
 }
 
-/// Runs drawn edits over a drawn text.
-fn run_list(alloc: Global, draws: &mut Draws) -> Outcome {
-    let mut run = match new_run(alloc, draws) {
-        Ok(run) => run,
-        Err(_) => return Err(failed_at(0, BodyFault::NoMemory)),
-    };
-    run_edits(alloc, draws, &mut run)?;
-    Ok(run.tally)
+impl Draws {
+    /// A number below `n`.
+    fn below(&mut self, n: u64) -> u64
+        requires { 0 < n }
+        ensures { result < n }
+    {
+        u64::from(self.words.next_u32()) % n
+    }
 }
 
-fn new_run(alloc: Global, draws: &mut Draws) -> Result<CaseRun, NoMemory> {
-    let text = drawn_text(alloc, draws, 6)?;
-    CaseRun::new(alloc, &text)
-}
-
-/// Takes each drawn edit, whether it is taken or refused; the first one after which the bodies differ, and how.
-fn run_edits(alloc: Global, draws: &mut Draws, run: &mut CaseRun) -> Result<(), Difference> {
-    for at in 1..=EDITS {
-        if let Err(fault) = take_edit(alloc, draws, run) {
-            return Err(failed_at(at, fault));
-        }
+/// Takes drawn edits over a drawn text, whether they are refused or not.
+pub fn run_seed(alloc: Global, seed: u64) -> anyhow::Result<()> {
+    let words = Lcg64Xsh32::seed_from_u64(seed);
+    let mut draws = Draws { words };
+    let text = drawn_text(alloc, &mut draws, 6)?;
+    let mut run = CaseRun::new(alloc, &text, LIMIT)?;
+    for number in 1..=EDITS {
+        let edit = drawn_edit(alloc, &mut draws, &run.plain)?;
+        run.edit(alloc, &edit)
+            .context(format_args!("edit {number}"))?;
     }
     Ok(())
 }
 
-fn failed_at(at: u64, fault: BodyFault) -> Difference {
-    Difference {
-        at,
-        failure: Failure::Body(fault),
-    }
-}
-
-fn take_edit(alloc: Global, draws: &mut Draws, run: &mut CaseRun) -> Result<(), BodyFault> {
-    let edit = drawn_edit(alloc, draws, &run.plain)?;
-    run.edit(alloc, &edit)
-}
-
 /// An edit against one of the last revisions, and now and then against one that is not there.
-fn drawn_edit(alloc: Global, draws: &mut Draws, plain: &PlainHistory) -> Result<NewEdit, NoMemory> {
+fn drawn_edit(alloc: Global, draws: &mut Draws, plain: &PlainHistory) -> Result<Edit, NoMemory> {
     let head = plain.head();
-    let base = if draws.one_in(16) {
+    let rev = if draws.below(16) == 0 {
         head.saturating_add(1)
     } else {
         head.saturating_sub(draws.below(8))
     };
-    let text = plain.text_at(alloc, base)?;
-    Ok(NewEdit {
-        base,
+    let text = plain.text_at(alloc, rev)?;
+    Ok(Edit {
+        rev,
         group: draws.below(4).saturating_add(1),
         priority: draws.below(3) as u32,
         author: draws.below(2) as u32,
+        after_cursor: false,
         delta: drawn_delta(alloc, draws, &text)?,
     })
 }
@@ -79,12 +69,12 @@ fn drawn_edit(alloc: Global, draws: &mut Draws, plain: &PlainHistory) -> Result<
 /// A delta over the text, and now and then one that need not fit.
 fn drawn_delta(alloc: Global, draws: &mut Draws, text: &Text) -> Result<Delta, NoMemory> {
     let mut base_len = text.byte_len();
-    let els = if draws.one_in(6) {
+    let els = if draws.below(6) == 0 {
         unfit_elements(alloc, draws, base_len)?
     } else {
         drawn_elements(alloc, draws, text)?
     };
-    if draws.one_in(16) {
+    if draws.below(16) == 0 {
         base_len = base_len.saturating_add(1);
     }
     Ok(Delta { els, base_len })
@@ -93,7 +83,7 @@ fn drawn_delta(alloc: Global, draws: &mut Draws, text: &Text) -> Result<Delta, N
 /// Up to three stretches of up to three characters, each with another text in its place.
 fn drawn_elements(alloc: Global, draws: &mut Draws, text: &Text) -> Result<Els, NoMemory> {
     let mut els = List::new(alloc);
-    let len = text.len();
+    let len = text.char_count();
     let mut at = 0_u64;
     for _ in 0..draws.below(3).saturating_add(1) {
         let left = len.saturating_sub(at);
@@ -132,7 +122,8 @@ fn unfit_elements(alloc: Global, draws: &mut Draws, byte_len: u64) -> Result<Els
 fn drawn_text(alloc: Global, draws: &mut Draws, count: u64) -> Result<Text, NoMemory> {
     let mut text = Text::new(alloc);
     for _ in 0..count {
-        text.push(draws.character())?;
+        let character = CHARACTERS.get(draws.below(8) as usize);
+        text.push(*character.unwrap_or(&'a'))?;
     }
     Ok(text)
 }

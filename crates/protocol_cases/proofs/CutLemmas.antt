@@ -1,37 +1,71 @@
 -- Lemmas on the first line of bytes.
-use Rattle.std.proofs.Common.{◌≡◌, ℕ, ◌<◌, List, [], ◌∷◌, ◌++◌, length, refl, ap, sym, ◌∙◌, append-nil, length-append, arith}
+use Rattle.std.proofs.Common.{◌≡◌, ℕ, ◌+◌, ◌<◌, Bool, true, false, List, [], ◌∷◌, ◌++◌, length, refl, ap, ap₂, sym, ◌∙◌, append_assoc, arith}
+use Rattle.std.specs.Prelude.{◌==◌, if◌then◌else◌}
+use Rattle.std.proofs.lemmas.List.{take-append-drop}
+use Rattle.case_lines.specs.Lines.{first_line, after_line}
+use Rattle.case_lines.proofs.ForCallers.{first_line-end, after_line-end, first_line-on, after_line-on}
 use Rattle.plain_text.specs.InputLines.{ended_lines, unended, last_line, lines_of}
-use Rattle.plain_text.proofs.callers.InputLemmas.{ended_lines-append, unended-append}
-use Rattle.xi_top.specs.Intake.{EndsLine, HasNoEnd}
-use Rattle.xi_top.proofs.ForCallers.{ended_lines-line, unended-line, ended_lines-no_end, unended-no_end}
-use Rattle.protocol_cases.specs.Lines.{IsCut}
 
--- a line that LF ends stands before the lines of the rest
-lines_of-ended : (line rest : List ℕ) → EndsLine line → lines_of (line ++ rest) ≡ line ∷ lines_of rest
-lines_of-ended line rest ends =
-    ap (λ lines. lines ++ last_line (unended [] (line ++ rest)))
-    (ended_lines-append [] line rest ∙ ap (λ lines. lines ++ ended_lines (unended [] line) rest) (ended_lines-line [] line ends) ∙
-    ap (λ begun. line ∷ ended_lines begun rest) (unended-line [] line ends)) ∙
-    ap (λ begun. line ∷ (ended_lines [] rest ++ last_line begun))
-    (unended-append [] line rest ∙ ap (λ begun. unended begun rest) (unended-line [] line ends))
+-- the first line of the bytes and what stands after it; both are empty at the end
+abbrev pub IsCut : List ℕ → List ℕ → List ℕ → Type 0
+IsCut [] line rest = (line ≡ []) × (rest ≡ [])
+IsCut (b ∷ bytes) line rest = (0 < length line) × (b ∷ bytes ≡ line ++ rest) × (lines_of (b ∷ bytes) ≡ line ∷ lines_of rest)
 
--- what no LF ends is one line
-lines_of-no_end : (b : ℕ) (bytes : List ℕ) → HasNoEnd (b ∷ bytes) → lines_of (b ∷ bytes) ≡ (b ∷ bytes) ∷ []
-lines_of-no_end b bytes none =
-    ap (λ lines. lines ++ last_line (unended [] (b ∷ bytes))) (ended_lines-no_end [] (b ∷ bytes) none) ∙
-    ap last_line (unended-no_end [] (b ∷ bytes) none)
+-- the lines of bytes before which `begun` stands
+lines_from : List ℕ → List ℕ → List (List ℕ)
+lines_from begun bytes = ended_lines begun bytes ++ last_line (unended begun bytes)
 
-ended_length : (line : List ℕ) → EndsLine line → 0 < length line
-ended_length line (front, is, none) = omega (arith, ap length is, length-append front (10 ∷ []))
+one_line : (begun : List ℕ) (b : ℕ) → last_line (begun ++ b ∷ []) ≡ (begun ++ b ∷ []) ∷ []
+one_line [] b = refl
+one_line (c ∷ begun) b = refl
 
-pub cut-ended : (bytes line rest : List ℕ) → EndsLine line → bytes ≡ line ++ rest → IsCut bytes line rest
-cut-ended [] line rest ends is = absurd (omega (arith, ended_length line ends, ap length is, length-append line rest))
-cut-ended (b ∷ bytes) line rest ends is = (ended_length line ends, is, ap lines_of is ∙ lines_of-ended line rest ends)
+-- a byte that is no LF goes to what is begun
+lines_from-on : (begun : List ℕ) (b : ℕ) (bytes : List ℕ) → (b == 10) ≡ false → lines_from begun (b ∷ bytes) ≡ lines_from (begun ++ b ∷ []) bytes
+unfolding lines_from
+lines_from-on begun b bytes is =
+    ap₂ (λ ended rest. ended ++ last_line rest)
+    (ap (λ test. if test then (begun ++ b ∷ []) ∷ ended_lines [] bytes else ended_lines (begun ++ b ∷ []) bytes) is)
+    (ap (λ test. if test then unended [] bytes else unended (begun ++ b ∷ []) bytes) is)
 
-pub cut-whole : (bytes rest : List ℕ) → HasNoEnd bytes → rest ≡ [] → IsCut bytes bytes rest
-cut-whole [] rest none is = (refl, is)
-cut-whole (b ∷ bytes) rest none is = (
-  omega arith,
-  sym (append-nil (b ∷ bytes)) ∙ ap (λ more. (b ∷ bytes) ++ more) (sym is),
-  lines_of-no_end b bytes none ∙ ap (λ more. (b ∷ bytes) ∷ lines_of more) (sym is),
+-- LF ends the line that is begun
+lines_from-end : (begun : List ℕ) (b : ℕ) (bytes : List ℕ) → (b == 10) ≡ true →
+    lines_from begun (b ∷ bytes) ≡ (begun ++ b ∷ []) ∷ lines_of bytes
+unfolding lines_from
+lines_from-end begun b bytes is =
+    ap₂ (λ ended rest. ended ++ last_line rest)
+    (ap (λ test. if test then (begun ++ b ∷ []) ∷ ended_lines [] bytes else ended_lines (begun ++ b ∷ []) bytes) is)
+    (ap (λ test. if test then unended [] bytes else unended (begun ++ b ∷ []) bytes) is)
+
+-- the first line goes before the others
+first_before : (begun : List ℕ) (b : ℕ) (bytes : List ℕ) →
+    lines_from begun (b ∷ bytes) ≡ (begun ++ first_line (b ∷ bytes)) ∷ lines_of (after_line (b ∷ bytes))
+unfolding lines_from
+first_before begun b bytes =
+    elim (b == 10) as (λ test. (b == 10) ≡ test → lines_from begun (b ∷ bytes) ≡ (begun ++ first_line (b ∷ bytes)) ∷ lines_of (after_line (b ∷ bytes))) [
+      | true ↦ λ is. lines_from-end begun b bytes is ∙
+          ap₂ (λ line rest. (begun ++ line) ∷ lines_of rest) (sym (first_line-end b bytes is)) (sym (after_line-end b bytes is))
+      | false ↦ λ is. lines_from-on begun b bytes is ∙ later bytes ∙
+          ap₂ (λ line rest. (begun ++ line) ∷ lines_of rest) (sym (first_line-on b bytes is)) (sym (after_line-on b bytes is))
+    ] refl
+  where
+    later : (bytes : List ℕ) → lines_from (begun ++ b ∷ []) bytes ≡ (begun ++ b ∷ first_line bytes) ∷ lines_of (after_line bytes)
+    later [] = one_line begun b
+    later (c ∷ bytes) = first_before (begun ++ b ∷ []) c bytes ∙
+        ap (λ line. line ∷ lines_of (after_line (c ∷ bytes))) (append_assoc begun (b ∷ []) (first_line (c ∷ bytes)))
+
+first_length : (b : ℕ) (bytes : List ℕ) → 0 < length (first_line (b ∷ bytes))
+first_length b bytes =
+    elim (b == 10) as (λ test. (b == 10) ≡ test → 0 < length (first_line (b ∷ bytes))) [
+      | true ↦ λ is. omega (arith, ap length (first_line-end b bytes is))
+      | false ↦ λ is. omega (arith, ap length (first_line-on b bytes is))
+    ] refl
+
+-- what `first_line` of lines gives is a cut
+pub is_cut : (bytes line rest : List ℕ) → line ≡ first_line bytes → rest ≡ after_line bytes → IsCut bytes line rest
+unfolding lines_from
+is_cut [] line rest is left = (is, left)
+is_cut (b ∷ bytes) line rest is left = (
+  omega (arith, first_length b bytes, ap length is),
+  sym (take-append-drop _ (b ∷ bytes)) ∙ ap₂ (λ front back. front ++ back) (sym is) (sym left),
+  first_before [] b bytes ∙ ap₂ (λ first later. first ∷ lines_of later) (sym is) (sym left),
 )

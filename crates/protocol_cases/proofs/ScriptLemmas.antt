@@ -10,9 +10,11 @@ use Rattle.protocol_cases.specs.declared.said.Way.TheVariants.{Input, Output}
 use Rattle.protocol_cases.specs.declared.script.Script.{Script}
 use Rattle.protocol_cases.specs.declared.script.ReadFault.{ReadFault}
 use Rattle.protocol_cases.specs.declared.script.ReadFault.TheVariants.{BadLine}
-use Rattle.protocol_cases.specs.Lines.{IsCut, content_of}
+use Rattle.case_lines.specs.Lines.{content_of}
+use Rattle.protocol_cases.proofs.CutLemmas.{IsCut}
 use Rattle.protocol_cases.specs.Said.{Piece, bytes, fails, at_most, Meaning, remark, side, status, said_of}
-use Rattle.protocol_cases.specs.Script.{of_way, bytes_in, failing_in, count_in, status_in, unlimited, stream_of, with_piece, case_of, with_said, onto_said, said_from, case_from, script_of}
+use Rattle.protocol_cases.specs.Inner.{with_piece, with_said}
+use Rattle.protocol_cases.specs.Script.{of_way, bytes_in, failing_in, count_in, status_in, unlimited, stream_of, case_of, onto_said, said_from, case_from, script_of}
 
 -- ---- one item more at the end
 

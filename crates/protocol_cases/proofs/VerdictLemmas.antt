@@ -10,7 +10,7 @@ use Rattle.plain_text.proofs.callers.InputLemmas.{concat-lines_of}
 use Rattle.protocol_cases.specs.declared.verdict.Difference.{Difference}
 use Rattle.protocol_cases.specs.declared.verdict.Verdict.{Verdict}
 use Rattle.protocol_cases.specs.declared.verdict.Verdict.TheVariants.{Passes, BadLine, Differs, Status}
-use Rattle.protocol_cases.specs.Lines.{IsCut}
+use Rattle.protocol_cases.proofs.CutLemmas.{IsCut}
 use Rattle.protocol_cases.specs.Verdict.{first_difference, on_status}
 
 -- ---- lines are the same exactly where there is no difference

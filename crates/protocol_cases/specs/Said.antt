@@ -1,13 +1,9 @@
 -- What a line of a script says.
-use Rattle.std.specs.Prelude.{ℕ, ◌<◌, ◌^◌, nat_lt, if◌then◌else◌, List, [], ◌∷◌, ◌++◌, length, take, drop, replicate, codes, Option, Some, None, option_map, option_and_then}
+use Rattle.std.specs.Prelude.{ℕ, nat_lt, if◌then◌else◌, List, [], ◌∷◌, ◌++◌, length, take, drop, replicate, codes, Option, Some, None, option_map, option_and_then}
 use Rattle.std.specs.Str.{bytes_eq}
 use Rattle.protocol_cases.specs.declared.said.Way.{Way}
 use Rattle.protocol_cases.specs.declared.said.Way.TheVariants.{Input, Output}
-use Rattle.protocol_cases.specs.declared.said.Part.{Part}
-use Rattle.protocol_cases.specs.declared.said.Part.TheVariants.{Line, Rest, Filler, Fails, AtMost}
-use Rattle.protocol_cases.specs.declared.said.Said.{Said}
-use Rattle.protocol_cases.specs.declared.said.Said.TheVariants.{Remark, Side, Status}
-use Rattle.protocol_cases.specs.Number.{number_of, positive_of}
+use Rattle.case_lines.specs.Number.{number_of, positive_of}
 
 -- of one end of the run: bytes that are given or taken, the number of a call that fails, or how many bytes a call moves at most
 pub data Piece : Type 0 where
@@ -24,31 +20,6 @@ pub data Meaning : Type 0 where
 -- so many bytes `a`
 abbrev pub filler : ℕ → Piece
 filler count = bytes (replicate count 97)
-
--- what a value of the program means
-abbrev pub part_view : Part → Piece
-part_view (Line text) = bytes (text.now ++ 10 ∷ [])
-part_view (Rest text) = bytes text.now
-part_view (Filler count) = filler count
-part_view (Fails call) = fails call
-part_view (AtMost count) = at_most count
-
-abbrev pub said_view : Said → Meaning
-said_view Remark = remark
-said_view (Side way part) = side way (part_view part)
-said_view (Status code) = status code
-
--- a call moves at least one byte
-abbrev pub IsProperPiece : Piece → Type 0
-IsProperPiece (bytes text) = Unit {0}
-IsProperPiece (fails call) = Unit {0}
-IsProperPiece (at_most count) = (0 < count) × (count < 2 ^ 64)
-
--- what a line says is proper where the piece in it is
-abbrev pub IsProper : Meaning → Type 0
-IsProper remark = Unit {0}
-IsProper (side way piece) = IsProperPiece piece
-IsProper (status code) = Unit {0}
 
 -- what stands after the mark, where the line begins with it
 abbrev pub after_mark : List ℕ → List ℕ → Option (List ℕ)

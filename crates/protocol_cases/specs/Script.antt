@@ -7,7 +7,7 @@ use Rattle.protocol_cases.specs.declared.said.Way.TheVariants.{Input, Output}
 use Rattle.protocol_cases.specs.declared.script.Script.{Script}
 use Rattle.protocol_cases.specs.declared.script.ReadFault.{ReadFault}
 use Rattle.protocol_cases.specs.declared.script.ReadFault.TheVariants.{BadLine}
-use Rattle.protocol_cases.specs.Lines.{content_of}
+use Rattle.case_lines.specs.Lines.{content_of}
 use Rattle.protocol_cases.specs.Said.{Piece, bytes, fails, at_most, Meaning, remark, side, status, said_of}
 use Rattle.protocol_cases.specs.Stream.{Stream}
 
@@ -54,15 +54,6 @@ stream_of pieces = record {
   piece = unwrap_or (last_or None (filter_map count_in pieces)) unlimited;
 }
 
--- an end of which nothing is said, and what one piece more says
-abbrev pub silent : Stream
-silent = record { bytes = []; failing = []; piece = unlimited }
-
-abbrev pub with_piece : Stream → Piece → Stream
-with_piece stream (bytes text) = record stream { bytes = stream.bytes ++ text }
-with_piece stream (fails call) = record stream { failing = stream.failing ++ call ∷ [] }
-with_piece stream (at_most count) = record stream { piece = count }
-
 -- what lines say: of each end, and the last status
 abbrev pub case_of : List Meaning → Script
 case_of said = record {
@@ -70,13 +61,6 @@ case_of said = record {
   output = stream_of (filter_map (of_way Output) said);
   status = unwrap_or (last_or None (filter_map status_in said)) 0;
 }
-
--- what one line more says
-abbrev pub with_said : Script → Meaning → Script
-with_said script remark = script
-with_said script (side Input piece) = record script { input = with_piece script.input piece }
-with_said script (side Output piece) = record script { output = with_piece script.output piece }
-with_said script (status code) = record script { status = code }
 
 -- one line in front of those that were read
 abbrev pub onto_said : Option Meaning → ℕ → Result (List Meaning) ReadFault → Result (List Meaning) ReadFault

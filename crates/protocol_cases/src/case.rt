@@ -3,8 +3,8 @@ ghost use Rattle.protocol_cases.specs.Case.{IsJudged, IsVerdict};
 
 use crate::script::{ReadFault, Script, read_script};
 use crate::verdict::{Verdict, judge};
-use std::alloc::Global;
 use plain_text::NoMemory;
+use std::alloc::Global;
 use xi_top::{Report, run_alone};
 
 /// What becomes of the case with this script.

@@ -1,8 +1,8 @@
 //! The scripts of a folder.
 
 use crate::case::run_case;
-use crate::lines::content_of;
 use crate::verdict::{Difference, Verdict};
+use case_lines::content_of;
 use std::alloc::Global;
 use std::fs;
 use std::rt::Files;

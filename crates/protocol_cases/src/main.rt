@@ -26,14 +26,10 @@
 
 mod case;
 mod files;
-mod lines;
-mod number;
 mod said;
 mod script;
 mod side;
 mod tally;
-#[cfg(test)]
-mod tests;
 mod verdict;
 
 use anyhow::bail;

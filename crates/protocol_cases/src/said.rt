@@ -1,10 +1,11 @@
 ghost use Rattle.std.specs.Prelude.{◌≡◌, Option, option_map, IfSome};
-ghost use Rattle.protocol_cases.specs.Said.{after_mark, said_of, call_said, piece_said, status_said, IsProper, IsProperPiece, said_view, part_view};
+ghost use Rattle.protocol_cases.specs.Inner.{IsProper, IsProperPiece, part_view, said_view};
+ghost use Rattle.protocol_cases.specs.Said.{after_mark, call_said, piece_said, said_of, status_said};
 
-use crate::number::{number_of, positive_of};
+use case_lines::{number_of, positive_of};
 
 /// One of the two ends of a run: the input, which the source gives, or the output, which the sink takes.
-#[derive(Clone, Copy, Debug, PartialEq, Eq)]
+#[derive(Clone, Copy)]
 pub enum Way {
     Input,
     Output,

@@ -1,12 +1,12 @@
 ghost use Rattle.std.specs.Prelude.{◌≡◌, ◌≢◌, [], Ok, Err, IfOk, IfErr, OnOk};
-ghost use Rattle.protocol_cases.specs.Said.{IsProper, said_view};
-ghost use Rattle.protocol_cases.specs.Script.{script_of, case_of, with_said};
+ghost use Rattle.protocol_cases.specs.Inner.{IsProper, said_view, with_said};
+ghost use Rattle.protocol_cases.specs.Script.{case_of, script_of};
 
-use crate::lines::{content_of, first_line};
 use crate::said::{Said, Way, said_of};
 use crate::side::Side;
-use std::alloc::Global;
+use case_lines::{content_of, first_line};
 use plain_text::NoMemory;
+use std::alloc::Global;
 
 /// What a script says: the two ends of a run, and the status that it ends with.
 #[derive(Drop)]
@@ -17,7 +17,7 @@ pub struct Script {
 }
 
 /// Why a text is no script.
-#[derive(Clone, Copy, Debug, PartialEq, Eq)]
+#[derive(Clone, Copy)]
 pub enum ReadFault {
     /// The line with this number, from 1, says nothing that a script can say.
     BadLine(u64),

@@ -1,13 +1,13 @@
 ghost use Rattle.std.specs.Prelude.{◌≡◌, Some, [], OnOk};
 ghost use Rattle.outside.specs.Schedule.{plan_of};
-ghost use Rattle.protocol_cases.specs.Said.{IsProperPiece, filler, part_view};
-ghost use Rattle.protocol_cases.specs.Script.{silent, with_piece};
+ghost use Rattle.protocol_cases.specs.Inner.{IsProperPiece, part_view, silent, with_piece};
+ghost use Rattle.protocol_cases.specs.Said.{filler};
 
 use crate::said::Part;
 use outside::{MemSink, MemSource};
+use plain_text::NoMemory;
 use std::alloc::Global;
 use std::marker::Model;
-use plain_text::NoMemory;
 
 /// How many bytes a call moves at most where a script says nothing of it: all that there is room for.
 const UNLIMITED: u64 = u64::MAX;

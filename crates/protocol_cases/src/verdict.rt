@@ -2,9 +2,9 @@ ghost use Rattle.std.specs.Prelude.{◌≡◌, ◌↔◌, IfOk, IsTrue};
 ghost use Rattle.plain_text.specs.InputLines.{lines_of};
 ghost use Rattle.protocol_cases.specs.Verdict.{verdict_of, on_status, first_difference};
 
-use crate::lines::first_line;
-use std::alloc::Global;
+use case_lines::first_line;
 use plain_text::{List, NoMemory};
+use std::alloc::Global;
 
 /// The first line at which two outputs differ. A line has its LF, where it has one, and is empty where there is none.
 #[derive(Drop)]
