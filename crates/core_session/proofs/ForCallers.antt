@@ -1,2 +1,46 @@
--- What other crates may cite of the proofs of `core_session`.
-pub use Rattle.core_session.proofs.SessionLemmas.{closes-command_of, written-push}
+-- Laws for the layers above: what a session comes to with one entry more.
+use Rattle.std.proofs.Common.{◌≡◌, ℕ, false, List, [], ◌∷◌, ◌++◌, None, refl, ap, sym, ◌∙◌, subst, append-nil}
+use Rattle.xi_plain.specs.declared.command.Entry.{Entry}
+use Rattle.core_session.specs.declared.session.Core.{Core}
+use Rattle.core_session.specs.Journal.{closing_entry, closes}
+use Rattle.core_session.specs.Session.{document_after, written, piece_of}
+use Rattle.core_session.specs.Core.{IsServing, Stands, journal_of, plain_of}
+use Rattle.core_session.specs.Shows.{IsShown, Shows, rebuilt}
+use Rattle.core_session.proofs.SessionLemmas.{document_after-push, written-append}
+use Rattle.core_session.proofs.ShowsLemmas.{no_lines, shows_push}
+pub use Rattle.core_session.proofs.SessionLemmas.{closes-command_of}
+
+pub written-push : (journal : List Entry) (entry : Entry) →
+    written None (journal ++ entry ∷ []) ≡ written None journal ++ piece_of (document_after None journal) entry.command
+written-push journal entry =
+    written-append None journal (entry ∷ []) ∙
+    ap (λ rest. written None journal ++ rest) (append-nil (piece_of (document_after None journal) entry.command))
+
+-- what a session wrote shows its journal with the closing entry, which writes nothing
+pub shows_closed : {K : Type 0} (core : Core K) → IsServing core → Shows (journal_of core ++ closing_entry ∷ []) (written None (journal_of core))
+shows_closed core serving =
+    let journal = journal_of core in
+    let stands : Stands core.document (plain_of (journal ++ closing_entry ∷ [])) =
+    subst (Stands core.document) (sym (document_after-push journal closing_entry)) serving.stands in
+    let shows = (shows_push journal closing_entry core.document stands serving.showing no_lines tt).shows in
+    record {
+      pieces = sym (written-push journal closing_entry ∙ append-nil (written None journal));
+      screens = shows.screens;
+      sends = shows.sends;
+    }
+
+-- no byte shows no entry
+pub shows_none : Shows [] []
+shows_none = record {
+  pieces = refl;
+  screens = λ front back is. none_before front back is;
+  sends = λ front entry back is. absurd (none_there front entry back is);
+}
+  where
+    none_before : (front back : List Entry) → [] ≡ front ++ back → IsShown (document_after None front) (rebuilt (written None front))
+    none_before [] back is = refl
+    none_before (entry ∷ front) back is = absurd cc
+
+    none_there : (front : List Entry) (entry : Entry) (back : List Entry) → [] ≡ front ++ (entry ∷ back) → ⊥
+    none_there [] entry back is = cc
+    none_there (first ∷ front) entry back is = cc

@@ -1,4 +1,7 @@
 pub mod SessionLemmas
+pub mod RevisionLemmas
 pub mod ShowsLemmas
 pub mod OpenLemmas
+pub mod InsertLemmas
+pub mod LawLemmas
 pub mod ForCallers

@@ -10,14 +10,13 @@ use Rattle.json_rpc.specs.Line.{line_of, IsLineOf}
 use Rattle.xi_plain.specs.declared.command.Command.{Command}
 use Rattle.xi_plain.specs.declared.command.Entry.{Entry}
 use Rattle.doc_session.specs.Document.{Document}
-use Rattle.core_session.specs.Session.{messages, step, document_after, all_messages, lines_written, written, piece_of}
+use Rattle.core_session.specs.Session.{messages, step, document_after, lines_written, written, piece_of}
 use Rattle.core_session.specs.Core.{AreLinesOf, front_entry}
 use Rattle.core_session.specs.Journal.{closes, IsOpen}
 use Rattle.std.proofs.Math.Seq.{take-nil}
 use Rattle.std.specs.Prelude.{if◌then◌else◌, Bool, true, false, Result, Ok, Err}
 use Rattle.xi_plain.specs.declared.command.Act.TheVariants.{NewView}
-use Rattle.json_rpc.specs.declared.fault.RpcFault.{RpcFault}
-use Rattle.json_rpc.specs.Request.{Request, line_request}
+use Rattle.json_rpc.specs.Request.{Request, LineRefusal, line_request}
 use Rattle.front_wire.specs.Front.{insert_from, not_built, edit_act, command_from, command_of}
 
 -- entries after entries
@@ -26,8 +25,14 @@ pub document_after-append : (document : Option Document) (front back : List Entr
 document_after-append document [] back = refl
 document_after-append document (entry ∷ front) back = document_after-append (step document entry.command) front back
 
+-- the messages of entries, one after the other
+pub all_messages : Option Document → List Entry → List Data
+all_messages document [] = []
+all_messages document (entry ∷ entries) = messages document entry.command ++ all_messages (step document entry.command) entries
+
 pub all_messages-append : (document : Option Document) (front back : List Entry) →
     all_messages document (front ++ back) ≡ all_messages document front ++ all_messages (document_after document front) back
+unfolding all_messages
 all_messages-append document [] back = refl
 all_messages-append document (entry ∷ front) back =
     ap (λ rest. messages document entry.command ++ rest) (all_messages-append (step document entry.command) front back) ∙
@@ -41,6 +46,7 @@ document_after-push journal entry = document_after-append None journal (entry �
 
 pub all_messages-push : (journal : List Entry) (entry : Entry) →
     all_messages None (journal ++ entry ∷ []) ≡ all_messages None journal ++ messages (document_after None journal) entry.command
+unfolding all_messages
 all_messages-push journal entry =
     all_messages-append None journal (entry ∷ []) ∙
     ap (λ rest. all_messages None journal ++ rest) (append-nil (messages (document_after None journal) entry.command))
@@ -49,11 +55,21 @@ all_messages-push journal entry =
 pub lines_written-append : (front back : List Data) → lines_written (front ++ back) ≡ lines_written front ++ lines_written back
 lines_written-append front back = ap concat (map-append line_of front back) ∙ concat-append (map line_of front) (map line_of back)
 
-pub written-push : (journal : List Entry) (entry : Entry) →
-    written None (journal ++ entry ∷ []) ≡ written None journal ++ piece_of (document_after None journal) entry.command
-written-push journal entry =
-    ap lines_written (all_messages-push journal entry) ∙
-    lines_written-append (all_messages None journal) (messages (document_after None journal) entry.command)
+-- what entries write is the lines of their messages
+pub written-messages : (document : Option Document) (entries : List Entry) → written document entries ≡ lines_written (all_messages document entries)
+unfolding all_messages
+written-messages document [] = refl
+written-messages document (entry ∷ entries) =
+    ap (λ rest. piece_of document entry.command ++ rest) (written-messages (step document entry.command) entries) ∙
+    sym (lines_written-append (messages document entry.command) (all_messages (step document entry.command) entries))
+
+pub written-append : (document : Option Document) (front back : List Entry) →
+    written document (front ++ back) ≡ written document front ++ written (document_after document front) back
+written-append document [] back = refl
+written-append document (entry ∷ front) back =
+    ap (λ rest. piece_of document entry.command ++ rest) (written-append (step document entry.command) front back) ∙
+    sym (append_assoc (piece_of document entry.command) (written (step document entry.command) front)
+    (written (document_after (step document entry.command) front) back))
 
 -- texts of lines, one after the other
 all_append : {X : Type 0} (P : X → Type 0) (xs ys : List X) → AllByRecursion P xs → AllByRecursion P ys → AllByRecursion P (xs ++ ys)
@@ -95,9 +111,9 @@ asks_method true edits false params = refl
 asks_method false true file params = asks_insert _ _ _
 asks_method false false file params = refl
 
-asks_from : (read : Result Request RpcFault) → closes (command_from read).act ≡ false
+asks_from : (read : Result Request LineRefusal) → closes (command_from read).act ≡ false
 asks_from (Ok request) = asks_method _ _ _ request.params
-asks_from (Err fault) = refl
+asks_from (Err refusal) = refl
 
 pub closes-command_of : (line : List ℕ) → closes (command_of line).act ≡ false
 unfolding command_of

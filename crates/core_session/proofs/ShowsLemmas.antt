@@ -1,6 +1,6 @@
 -- One more entry is shown, where those before it are.
-use Rattle.std.proofs.Common.{◌≡◌, ℕ, suc, ◌+◌, ◌<◌, ◌≤◌, ◌||◌, length, arith, Bool, true, false, List, [], ◌∷◌, ◌++◌, map, Option, Some, None, refl, ap, sym, ◌∙◌, subst, append-nil, ◌⊎◌, inl, inr, unwrap_or}
-use Rattle.std.specs.Prelude.{if◌then◌else◌, ℤ, pos, codes, option_map}
+use Rattle.std.proofs.Common.{◌≡◌, ℕ, suc, ◌+◌, ◌-◌, ◌<◌, ◌≤◌, ◌||◌, length, arith, Bool, true, false, List, [], ◌∷◌, ◌++◌, map, Option, Some, None, refl, ap, sym, ◌∙◌, subst, append-nil, ◌⊎◌, inl, inr, unwrap_or}
+use Rattle.std.specs.Prelude.{if◌then◌else◌, ℤ, pos, codes, option_map, ◌^◌}
 use Rattle.std.specs.List.{filter_map, cons_option, AllByRecursion}
 use Rattle.serde_json.specs.Data.{Data}
 use Rattle.json_rpc.specs.Line.{line_of, IsLineOf}
@@ -12,7 +12,6 @@ use Rattle.xi_plain.specs.declared.command.Fault.TheVariants.{Parse, Invalid, No
 use Rattle.xi_plain.specs.declared.command.Command.{Command}
 use Rattle.xi_plain.specs.declared.command.Entry.{Entry}
 use Rattle.plain_screen.specs.declared.screen.Update.{Update}
-use Rattle.plain_edits.specs.Edits.{Refusal}
 use Rattle.doc_session.specs.Layout.{Position}
 use Rattle.plain_text.specs.declared.run.Run.{Run}
 use Rattle.plain_screen.specs.declared.screen.Line.{Line}
@@ -36,21 +35,23 @@ use Rattle.doc_session.specs.InMemory.{Doc, doc_contents}
 use Rattle.doc_session.specs.Document.{Document, layout_of, no_request}
 use Rattle.doc_session.specs.declared.event.Event.TheVariants.{Front}
 use Rattle.doc_session.specs.Asking.{front_edit}
-use Rattle.doc_session.specs.Effects.{ops_of, update_of, told, wants_update}
+use Rattle.doc_session.specs.Effects.{ops_of, update_of, updated, wants_update}
 use Rattle.doc_session.specs.Step.{edited_document, refusal_at, event_step}
-use Rattle.core_session.specs.Answer.{Reply, accepted, refused, spent, silent, answers, refusal, refused_by, spent_refusal, code_of, message_of}
-use Rattle.core_session.specs.Session.{view_id, Outcome, outcome, opening_outcome, first_document, edit_came, insert_outcome, refusing, is_first_view, outcome_messages, update_notes, scroll_notes, messages, step, document_after, all_messages, lines_written, written, piece_of}
-use Rattle.core_session.specs.Shows.{updates_in, screen_told, rebuilt_from, rebuilt, IsShown, SendsWithin, SendWindow, ShowsEach}
-use Rattle.doc_session.proofs.ForCallers.{head-few}
+use Rattle.core_session.specs.Answer.{Reply, accepted, refused, spent, silent, answers, refusal, refused_by, spent_refusal}
+use Rattle.json_rpc.specs.Refusal.{code_of, message_of}
+use Rattle.core_session.specs.Session.{view_id, Outcome, outcome, opening_outcome, first_document, edit_came, spent_total, insert_outcome, refusing, is_first_view, outcome_messages, update_notes, scroll_notes, messages, step, document_after, lines_written, written, piece_of}
+use Rattle.core_session.specs.Shows.{updates_in, screen_with, rebuilt_from, rebuilt, IsShown, SendsWithin, SendWindow, Shows}
+use Rattle.doc_session.proofs.ForCallers.{head-stands}
 use Rattle.doc_session.proofs.ForCallers.{DocStandsFor-doc_contents}
-use Rattle.core_session.specs.declared.act.Next.{Next}
-use Rattle.core_session.specs.Core.{Stands, MayBeAsked, IsToldBack, AreLinesOf, screen_of, plain_of, IsShowing, front_entry}
-use Rattle.core_session.specs.Next.{next_or}
+use Rattle.core_session.specs.declared.act.DocumentChange.{DocumentChange}
+use Rattle.core_session.specs.Core.{Stands, MayBeAsked, UpdateReadsBack, AreLinesOf, screen_of, plain_of, IsShowing, front_entry}
+use Rattle.core_session.specs.Change.{with_change}
 use Rattle.core_session.specs.Journal.{IsOpen, closes}
-use Rattle.core_session.proofs.SessionLemmas.{document_after-push, all_messages-push, IsOpen-push}
+use Rattle.core_session.proofs.RevisionLemmas.{revisions_of, revisions_few}
+use Rattle.core_session.proofs.SessionLemmas.{document_after-push, all_messages, all_messages-push, written-messages, IsOpen-push}
 
 -- the updates that messages say
-pub updates_of : List Data → List ViewUpdate
+pub updates_of : List Data → List (Option ViewUpdate)
 updates_of said = filter_map line_update (map line_of said)
 
 -- the updates in the lines of messages
@@ -75,7 +76,7 @@ pub updates_of-none : (m : Data) → line_update (line_of m) ≡ None → update
 unfolding updates_of
 updates_of-none m none = ap (λ said. cons_option said []) none
 
-pub updates_of-some : (m : Data) (told : ViewUpdate) → line_update (line_of m) ≡ Some told → updates_of (m ∷ []) ≡ told ∷ []
+pub updates_of-some : (m : Data) (told : Option ViewUpdate) → line_update (line_of m) ≡ Some told → updates_of (m ∷ []) ≡ told ∷ []
 unfolding updates_of
 updates_of-some m told some = ap (λ said. cons_option said []) some
 
@@ -84,10 +85,10 @@ unfolding updates_of
 updates_of-nil = refl
 
 -- screens after updates after updates
-pub rebuilt_from-append : (screen : Option Screen) (front back : List ViewUpdate) →
+pub rebuilt_from-append : (screen : Option Screen) (front back : List (Option ViewUpdate)) →
     rebuilt_from screen (front ++ back) ≡ rebuilt_from (rebuilt_from screen front) back
 rebuilt_from-append screen [] back = refl
-rebuilt_from-append screen (told ∷ front) back = rebuilt_from-append (screen_told screen told) front back
+rebuilt_from-append screen (note ∷ front) back = rebuilt_from-append (screen_with screen note) front back
 
 -- ---- the updates of an entry's messages
 
@@ -102,6 +103,10 @@ back_all P (x ∷ xs) ys each = back_all P xs ys each.1
 -- each message's line is one line that reads as it
 pub AreLines : List Data → Type 0
 AreLines said = AllByRecursion (λ m. IsLineOf m (line_of m)) said
+
+pub no_lines : AreLines []
+unfolding AreLines
+no_lines = tt
 
 -- an answer says no update
 error_none : (id : Id) (code : ℤ) (text : List ℕ) → IsLineOf (error_data id code text) (line_of (error_data id code text)) →
@@ -133,16 +138,16 @@ updates_of-answers id (refused fault) lines = updates_of-none (refusal id fault)
 updates_of-answers id spent lines = updates_of-none (spent_refusal id) (refused_none id (pos 3) (codes "spent") lines.0)
 updates_of-answers id silent lines = updates_of-nil
 
--- the updates that an outcome says
-pub told_list : Option Update → List ViewUpdate
-told_list None = []
-told_list (Some update) = record { view = view_id; update = update } ∷ []
+-- the notes of an outcome
+pub note_list : Option Update → List (Option ViewUpdate)
+note_list None = []
+note_list (Some update) = Some (record { view = view_id; update = update }) ∷ []
 
-updates_of-update_notes : (update : Option Update) → IsToldBack update → updates_of (update_notes update) ≡ told_list update
-unfolding told_list
-updates_of-update_notes None told = updates_of-nil
-updates_of-update_notes (Some update) told =
-    updates_of-some (update_data view_id update) (record { view = view_id; update = update }) told
+updates_of-update_notes : (update : Option Update) → UpdateReadsBack update → updates_of (update_notes update) ≡ note_list update
+unfolding note_list
+updates_of-update_notes None reads = updates_of-nil
+updates_of-update_notes (Some update) reads =
+    updates_of-some (update_data view_id update) (Some (record { view = view_id; update = update })) reads
 
 updates_of-scroll_notes : (scroll : Option Position) → AllByRecursion (λ m. IsLineOf m (line_of m)) (scroll_notes scroll) → updates_of (scroll_notes scroll) ≡ []
 updates_of-scroll_notes None lines = updates_of-nil
@@ -151,18 +156,18 @@ updates_of-scroll_notes (Some point) lines =
     (others_are_no_updates.scroll view_id point.line point.col (line_of (scroll_data view_id point.line point.col)) lines.0)
 
 pub updates_of-outcome : (id : Id) (done : Outcome) → AllByRecursion (λ m. IsLineOf m (line_of m)) (outcome_messages id done) →
-    IsToldBack done.update → updates_of (outcome_messages id done) ≡ told_list done.update
-updates_of-outcome id done lines told =
+    UpdateReadsBack done.update → updates_of (outcome_messages id done) ≡ note_list done.update
+updates_of-outcome id done lines reads =
     let P : Data → Type 0 = λ m. IsLineOf m (line_of m) in
     let notes = back_all P (answers id done.reply) (update_notes done.update ++ scroll_notes done.scroll) lines in
     let answered = updates_of-answers id done.reply (front_all P (answers id done.reply) (update_notes done.update ++ scroll_notes done.scroll) lines) in
-    let updated = updates_of-update_notes done.update told in
+    let updated = updates_of-update_notes done.update reads in
     let scrolled = updates_of-scroll_notes done.scroll (back_all P (update_notes done.update) (scroll_notes done.scroll) notes) in
     updates_of-append (answers id done.reply) (update_notes done.update ++ scroll_notes done.scroll) ∙
     ap (λ front. front ++ updates_of (update_notes done.update ++ scroll_notes done.scroll)) answered ∙
     updates_of-append (update_notes done.update) (scroll_notes done.scroll) ∙
     ap (λ front. front ++ updates_of (scroll_notes done.scroll)) updated ∙
-    ap (λ back. told_list done.update ++ back) scrolled ∙ append-nil (told_list done.update)
+    ap (λ back. note_list done.update ++ back) scrolled ∙ append-nil (note_list done.update)
 
 -- ---- a journal with one more entry, in two parts
 
@@ -200,24 +205,24 @@ splits_push {X} (j ∷ journal) (x ∷ front) back entry is =
 
 -- the screen after the updates of an outcome is that of its document
 pub Settles : Option Document → Outcome → Type 0
-Settles plain done = rebuilt_from (Some (screen_of plain)) (told_list done.update) ≡ Some (screen_of done.document)
+Settles plain done = rebuilt_from (Some (screen_of plain)) (note_list done.update) ≡ Some (screen_of done.document)
 
 screen_after-ops_of : (document : Document) (screen : Screen) →
     screen_after screen (ops_of document) ≡ Some (shown_lines document.window no_request (layout_of document))
 screen_after-ops_of document screen = screen_after-plan_from document.window no_request (layout_of document) 0 0 screen
 
--- a document that was told has the screen that its update makes of the one before
-told_screen : (before after : Document) → after.screen ≡ before.screen →
-    rebuilt_from (Some before.screen) (told_list (Some (update_of after))) ≡ Some (told after).screen
-unfolding told_list
-told_screen before after same =
+-- an updated document has the screen that its update makes of the one before
+updated_screen : (before after : Document) → after.screen ≡ before.screen →
+    rebuilt_from (Some before.screen) (note_list (Some (update_of after))) ≡ Some (updated after).screen
+unfolding note_list
+updated_screen before after same =
     screen_after-ops_of after before.screen ∙ ap Some (sym (ap (λ o. unwrap_or o []) (screen_after-ops_of after after.screen)))
 
 settles_if : (wants : Bool) (before after : Document) → after.screen ≡ before.screen →
-    rebuilt_from (Some before.screen) (told_list (if wants then Some (update_of after) else None)) ≡
-    Some (if wants then told after else after).screen
-unfolding told_list
-settles_if true before after same = told_screen before after same
+    rebuilt_from (Some before.screen) (note_list (if wants then Some (update_of after) else None)) ≡
+    Some (if wants then updated after else after).screen
+unfolding note_list
+settles_if true before after same = updated_screen before after same
 settles_if false before after same = ap Some (sym same)
 
 settles_still : (document : Document) → Settles (Some document) (edit_came document None (event_step document (Front (Insert []))))
@@ -230,18 +235,18 @@ settles_edit document c chars =
     let next = edited_document document (front_edit document (c ∷ chars)) (document.caret + length (c ∷ chars)) in
     settles_if (wants_update document next) document next refl
 
-settles_came : (document : Document) (refusal : Option Refusal) (chars : List ℕ) →
-    Settles (Some document) (edit_came document refusal (event_step document (Front (Insert chars))))
-unfolding Settles told_list
-settles_came document (Some refusal) chars = refl
+settles_came : (document : Document) (total : Option ℕ) (chars : List ℕ) →
+    Settles (Some document) (edit_came document total (event_step document (Front (Insert chars))))
+unfolding Settles note_list
+settles_came document (Some total) chars = refl
 settles_came document None [] = settles_still document
 settles_came document None (c ∷ chars) = settles_edit document c chars
 
 settles_inserting : (document : Document) (chars : List ℕ) → Settles (Some document) (insert_outcome document chars)
-settles_inserting document chars = settles_came document (refusal_at document (Front (Insert chars))) chars
+settles_inserting document chars = settles_came document (spent_total (refusal_at document (Front (Insert chars)))) chars
 
 settles_refusing : (plain : Option Document) (fault : Fault) → Settles plain (refusing plain fault)
-unfolding Settles told_list
+unfolding Settles note_list
 settles_refusing plain fault = refl
 
 settles_opening : Settles None opening_outcome
@@ -254,7 +259,7 @@ settles_view true document chars = settles_inserting document chars
 settles_view false document chars = settles_refusing (Some document) NotBuilt
 
 pub settles : (plain : Option Document) (act : Act) → Settles plain (outcome plain act)
-unfolding Settles told_list
+unfolding Settles note_list
 settles plain (Bad fault) = refl
 settles plain Nothing = refl
 settles None (NewView None) = settles_opening
@@ -315,17 +320,17 @@ sends-plan_from window (line ∷ lines) index at =
 
 -- the update of an outcome sends lines of its document's window alone
 pub Sends : Outcome → Type 0
-Sends done = SendWindow done.document (told_list done.update)
+Sends done = SendWindow done.document (note_list done.update)
 
 sends_if : (wants : Bool) (after : Document) →
-    SendWindow (Some (if wants then told after else after)) (told_list (if wants then Some (update_of after) else None))
-unfolding told_list
+    SendWindow (Some (if wants then updated after else after)) (note_list (if wants then Some (update_of after) else None))
+unfolding note_list
 sends_if true after = (sends-plan_from after.window (layout_of after) 0 0, tt)
 sends_if false after = tt
 
-sends_came : (document : Document) (refusal : Option Refusal) (chars : List ℕ) → Sends (edit_came document refusal (event_step document (Front (Insert chars))))
-unfolding Sends told_list
-sends_came document (Some refusal) chars = tt
+sends_came : (document : Document) (total : Option ℕ) (chars : List ℕ) → Sends (edit_came document total (event_step document (Front (Insert chars))))
+unfolding Sends note_list
+sends_came document (Some total) chars = tt
 sends_came document None [] = sends_if (wants_update document document) document
 sends_came document None (c ∷ chars) =
     let next = edited_document document (front_edit document (c ∷ chars)) (document.caret + length (c ∷ chars)) in
@@ -333,12 +338,12 @@ sends_came document None (c ∷ chars) =
 
 sends_view : (here : Bool) (document : Document) (chars : List ℕ) →
     Sends (if here then insert_outcome document chars else refusing (Some document) NotBuilt)
-unfolding Sends told_list
-sends_view true document chars = sends_came document (refusal_at document (Front (Insert chars))) chars
+unfolding Sends note_list
+sends_view true document chars = sends_came document (spent_total (refusal_at document (Front (Insert chars)))) chars
 sends_view false document chars = tt
 
 pub sends : (plain : Option Document) (act : Act) → Sends (outcome plain act)
-unfolding Sends told_list
+unfolding Sends note_list
 sends None (Bad fault) = refl
 sends (Some document) (Bad fault) = tt
 sends None Nothing = refl
@@ -355,15 +360,17 @@ sends (Some document) Closing = tt
 
 -- the screen that is rebuilt after one more entry
 rebuilt_push : (journal : List Entry) (entry : Entry) → rebuilt (written None journal) ≡ Some (screen_of (plain_of journal)) →
-    updates_in (piece_of (plain_of journal) entry.command) ≡ told_list (outcome (plain_of journal) entry.command.act).update →
+    updates_in (piece_of (plain_of journal) entry.command) ≡ note_list (outcome (plain_of journal) entry.command.act).update →
     rebuilt (written None (journal ++ entry ∷ [])) ≡ Some (screen_of (plain_of (journal ++ entry ∷ [])))
 unfolding Settles
 rebuilt_push journal entry before said =
     let plain = plain_of journal in
     let all : updates_in (written None (journal ++ entry ∷ [])) ≡ updates_in (written None journal) ++ updates_in (piece_of plain entry.command) =
-    updates_in-lines (all_messages None (journal ++ entry ∷ [])) ∙ ap updates_of (all_messages-push journal entry) ∙
+    ap updates_in (written-messages None (journal ++ entry ∷ [])) ∙ updates_in-lines (all_messages None (journal ++ entry ∷ [])) ∙
+    ap updates_of (all_messages-push journal entry) ∙
     updates_of-append (all_messages None journal) (messages plain entry.command) ∙
-    ap (λ xs. xs ++ updates_of (messages plain entry.command)) (sym (updates_in-lines (all_messages None journal))) ∙
+    ap (λ xs. xs ++ updates_of (messages plain entry.command))
+    (sym (ap updates_in (written-messages None journal) ∙ updates_in-lines (all_messages None journal))) ∙
     ap (λ ys. updates_in (written None journal) ++ ys) (sym (updates_in-lines (messages plain entry.command))) in
     ap (rebuilt_from (Some [])) all ∙
     rebuilt_from-append (Some []) (updates_in (written None journal)) (updates_in (piece_of plain entry.command)) ∙
@@ -378,11 +385,15 @@ stands_shown None (Some plain) stands = absurd stands
 stands_shown (Some doc) None stands = absurd stands
 stands_shown (Some doc) (Some plain) stands = stands.shown
 
--- a document that a session keeps has no plugins, and fewer revisions than there are numbers
-pub MayBeAsked-stands : (doc : Option Doc) (plain : Option Document) → Stands doc plain → MayBeAsked doc
-MayBeAsked-stands None plain stands = tt
-MayBeAsked-stands (Some doc) None stands = absurd stands
-MayBeAsked-stands (Some doc) (Some plain) stands = (stands.no_plugins, omega (arith, head-few doc plain stands.stands stands.no_plugins))
+-- a document that a session serves takes events, where it has fewer revisions than there are numbers
+MayBeAsked-few : (doc : Option Doc) (plain : Option Document) → Stands doc plain → revisions_of plain < 2 ^ 63 - 1 → MayBeAsked doc
+MayBeAsked-few None plain stands few = tt
+MayBeAsked-few (Some doc) None stands few = absurd stands
+MayBeAsked-few (Some doc) (Some plain) stands few =
+    ((stands.no_plugins, omega (arith, few, head-stands doc.engine plain.history stands.stands.parts.shown.stands)), ∣ (plain, stands.stands) ∣₁)
+
+pub MayBeAsked-stands : (doc : Option Doc) (journal : List Entry) → Stands doc (plain_of journal) → length journal < 2 ^ 63 - 1 → MayBeAsked doc
+MayBeAsked-stands doc journal stands few = MayBeAsked-few doc (plain_of journal) stands (omega (arith, few, revisions_few journal))
 
 -- what is kept hangs on what the document holds alone
 pub Stands-contents : (doc now : Option Doc) (plain : Option Document) → option_map doc_contents now ≡ option_map doc_contents doc → Stands doc plain → Stands now plain
@@ -398,7 +409,7 @@ Stands-contents (Some doc) (Some now) (Some plain) same stands =
       shown = stands.shown;
     }
 
-screens_push : (journal : List Entry) (entry : Entry) (doc : Option Doc) → Stands doc (plain_of (journal ++ entry ∷ [])) → ShowsEach journal →
+screens_push : (journal : List Entry) (entry : Entry) (doc : Option Doc) → Stands doc (plain_of (journal ++ entry ∷ [])) → Shows journal (written None journal) →
     rebuilt (written None (journal ++ entry ∷ [])) ≡ Some (screen_of (plain_of (journal ++ entry ∷ []))) →
     (front back : List Entry) → SplitsPush journal entry front back → IsShown (document_after None front) (rebuilt (written None front))
 unfolding SplitsPush
@@ -409,8 +420,8 @@ screens_push journal entry doc stands each screen front back (inl (none, all)) =
 screens_push journal entry doc stands each screen front back (inr (rest, is, last)) = each.screens front rest is
 
 -- the entry at hand is the one that was added, or one before
-sends_push : (journal : List Entry) (entry : Entry) → ShowsEach journal →
-    updates_in (piece_of (plain_of journal) entry.command) ≡ told_list (outcome (plain_of journal) entry.command.act).update →
+sends_push : (journal : List Entry) (entry : Entry) → Shows journal (written None journal) →
+    updates_in (piece_of (plain_of journal) entry.command) ≡ note_list (outcome (plain_of journal) entry.command.act).update →
     (front : List Entry) (last : Entry) (back : List Entry) → SplitsPush journal entry front (last ∷ back) →
     SendWindow (document_after None (front ++ last ∷ [])) (updates_in (piece_of (document_after None front) last.command))
 unfolding SplitsPush Sends
@@ -421,9 +432,9 @@ sends_push journal entry each said front last back (inr ([], is, only)) =
     let added : last ≡ entry = cc in
     let whole : journal ≡ front = is ∙ append-nil front in
     let Of : Option Document → Type 0 = λ d. SendWindow d (updates_in (piece_of (plain_of journal) entry.command)) in
-    let Told : List ViewUpdate → Type 0 = λ updates. SendWindow (step (plain_of journal) entry.command) updates in
+    let Notes : List (Option ViewUpdate) → Type 0 = λ notes. SendWindow (step (plain_of journal) entry.command) notes in
     let here : At journal entry =
-    subst Of (sym (document_after-push journal entry)) (subst Told (sym said) (sends (plain_of journal) entry.command.act)) in
+    subst Of (sym (document_after-push journal entry)) (subst Notes (sym said) (sends (plain_of journal) entry.command.act)) in
     let To : Entry → Type 0 = λ e. At front e in
     let From : List Entry → Type 0 = λ entries. At entries entry in
     subst To (sym added) (subst From whole here)
@@ -435,37 +446,38 @@ sends_push journal entry each said front last back (inr (r ∷ rest, is, only)) 
 -- what one more entry of a served session comes to
 pub shows_push : (journal : List Entry) (entry : Entry) (doc : Option Doc) →
     Stands doc (plain_of (journal ++ entry ∷ [])) → IsShowing journal →
-    AreLines (messages (plain_of journal) entry.command) → IsToldBack (outcome (plain_of journal) entry.command.act).update →
+    AreLines (messages (plain_of journal) entry.command) → UpdateReadsBack (outcome (plain_of journal) entry.command.act).update →
     IsShowing (journal ++ entry ∷ [])
 unfolding AreLines
-shows_push journal entry doc stands showing lines told =
+shows_push journal entry doc stands showing lines reads =
     let plain = plain_of journal in
     let next : plain_of (journal ++ entry ∷ []) ≡ step plain entry.command = document_after-push journal entry in
-    let said : updates_in (piece_of plain entry.command) ≡ told_list (outcome plain entry.command.act).update =
-    updates_in-lines (messages plain entry.command) ∙ updates_of-outcome entry.command.id (outcome plain entry.command.act) lines told in
+    let said : updates_in (piece_of plain entry.command) ≡ note_list (outcome plain entry.command.act).update =
+    updates_in-lines (messages plain entry.command) ∙ updates_of-outcome entry.command.id (outcome plain entry.command.act) lines reads in
     let screen = rebuilt_push journal entry showing.screen said in
     record {
-      each = record {
-        screens = λ front back split. screens_push journal entry doc stands showing.each screen front back (splits_push journal front back entry split);
+      shows = record {
+        pieces = refl;
+        screens = λ front back split. screens_push journal entry doc stands showing.shows screen front back (splits_push journal front back entry split);
         sends = λ front last back split.
-            sends_push journal entry showing.each said front last back (splits_push journal front (last ∷ back) entry split);
+            sends_push journal entry showing.shows said front last back (splits_push journal front (last ∷ back) entry split);
       };
       screen = screen;
     }
 
 -- a command that was prepared is an entry that is served
-pub serves_push : (journal : List Entry) (command : Command) (before : Option Doc) (next : Option Next) (piece : List ℕ) →
+pub serves_push : (journal : List Entry) (command : Command) (before : Option Doc) (change : Option DocumentChange) (piece : List ℕ) →
     AllByRecursion IsOpen journal → IsShowing journal → closes command.act ≡ false →
-    AreLinesOf (messages (plain_of journal) command) piece → IsToldBack (outcome (plain_of journal) command.act).update →
-    Stands (next_or next before) (step (plain_of journal) command) →
+    AreLinesOf (messages (plain_of journal) command) piece → UpdateReadsBack (outcome (plain_of journal) command.act).update →
+    Stands (with_change change before) (step (plain_of journal) command) →
     AllByRecursion IsOpen (journal ++ front_entry command true ∷ []) × IsShowing (journal ++ front_entry command true ∷ []) ×
-    Stands (next_or next before) (plain_of (journal ++ front_entry command true ∷ []))
+    Stands (with_change change before) (plain_of (journal ++ front_entry command true ∷ []))
 unfolding AreLines
-serves_push journal command before next piece sent showing asks lines told stands =
-    let At : Option Document → Type 0 = λ plain. Stands (next_or next before) plain in
-    let after : Stands (next_or next before) (plain_of (journal ++ front_entry command true ∷ [])) =
+serves_push journal command before change piece sent showing asks lines reads stands =
+    let At : Option Document → Type 0 = λ plain. Stands (with_change change before) plain in
+    let after : Stands (with_change change before) (plain_of (journal ++ front_entry command true ∷ [])) =
     subst At (sym (document_after-push journal (front_entry command true))) stands in (
       IsOpen-push journal command sent asks,
-      shows_push journal (front_entry command true) (next_or next before) after showing lines.each told,
+      shows_push journal (front_entry command true) (with_change change before) after showing lines.each reads,
       after,
     )

@@ -9,8 +9,8 @@ use Rattle.plain_screen.specs.declared.screen.Update.{Update}
 use Rattle.plain_edits.specs.History.{head}
 use Rattle.plain_screen.specs.Screen.{Screen}
 use Rattle.json_rpc.specs.Line.{line_of, IsLineOf}
-use Rattle.outside.specs.Faults.{Rose}
-use Rattle.outside.specs.Sink.{Gains}
+use Rattle.outside.specs.Faults.{Rose, counted}
+use Rattle.outside.specs.Sink.{SinkState, Gains}
 use Rattle.view_update.specs.Written.{update_data}
 use Rattle.view_update.specs.Reading.{line_update}
 use Rattle.doc_session.specs.InMemory.{Doc}
@@ -21,11 +21,11 @@ use Rattle.core_session.specs.declared.session.Core.{Core}
 use Rattle.core_session.specs.declared.session.Prepared.{Prepared}
 use Rattle.core_session.specs.Session.{view_id, outcome, messages, lines_written, piece_of, step, document_after, written}
 use Rattle.core_session.specs.Journal.{IsOpen}
-use Rattle.core_session.specs.Next.{next_or}
-use Rattle.core_session.specs.Shows.{ShowsEach, rebuilt}
+use Rattle.core_session.specs.Change.{with_change}
+use Rattle.core_session.specs.Shows.{Shows, rebuilt}
 
 -- the document in memory stands for the plain one, has no plugins, and is shown on the front end's screen
-pub record Keeps (doc : Doc) (plain : Document) : Type 0 where
+pub record ServesDocument (doc : Doc) (plain : Document) : Type 0 where
   pub stands : DocStandsFor doc plain
   pub no_plugins : doc.plugins ≡ 0
   pub shown : IsUpToDate plain
@@ -35,28 +35,32 @@ abbrev pub Stands : Option Doc → Option Document → Type 0
 Stands None None = ⊤
 Stands None (Some plain) = ⊥
 Stands (Some doc) None = ⊥
-Stands (Some doc) (Some plain) = Keeps doc plain
+Stands (Some doc) (Some plain) = ServesDocument doc plain
 
--- the document has no plugins, and may take one more edit, where there is one
+-- the document has no plugins, and may take one more edit
+abbrev pub TakesEvents : Doc → Type 0
+TakesEvents doc = (doc.plugins ≡ 0) × (head doc.engine.revisions < 2 ^ 63 - 1)
+
+-- it takes events, and stands for a plain one, where there is a document
 abbrev pub MayBeAsked : Option Doc → Type 0
 MayBeAsked None = ⊤
-MayBeAsked (Some doc) = (doc.plugins ≡ 0) × (head doc.engine.revisions < 2 ^ 63 - 1)
+MayBeAsked (Some doc) = TakesEvents doc × ∥ ((plain : Document) × DocStandsFor doc plain) ∥₁
 
 -- the bytes are the lines of the messages, and each of these lines reads as its message
 pub record AreLinesOf (messages : List Data) (bytes : List ℕ) : Type 0 where
   pub joined : bytes ≡ lines_written messages
   pub each : AllByRecursion (λ message. IsLineOf message (line_of message)) messages
 
--- the update reads back as it was told, where there is one
-abbrev pub IsToldBack : Option Update → Type 0
-IsToldBack None = ⊤
-IsToldBack (Some update) = line_update (line_of (update_data view_id update)) ≡ Some (record { view = view_id; update = update })
+-- the line of the update reads back as it, where there is one
+abbrev pub UpdateReadsBack : Option Update → Type 0
+UpdateReadsBack None = ⊤
+UpdateReadsBack (Some update) = line_update (line_of (update_data view_id update)) ≡ Some (Some (record { view = view_id; update = update }))
 
 -- what a command comes to, before it is an entry: its piece and its document
 pub record IsPrepared (before : Option Doc) (plain : Option Document) (made : Prepared) : Type 0 where
   pub lines : AreLinesOf (messages plain made.command) (encode_utf8_all made.piece)
-  pub told : IsToldBack (outcome plain made.command.act).update
-  pub stands : Stands (next_or made.next before) (step plain made.command)
+  pub reads_back : UpdateReadsBack (outcome plain made.command.act).update
+  pub stands : Stands (with_change made.change before) (step plain made.command)
 
 -- THE JOURNAL of a session
 abbrev pub journal_of : {K : Type 0} → Core K → List Entry
@@ -79,12 +83,12 @@ abbrev pub screen_of : Option Document → Screen
 screen_of None = []
 screen_of (Some document) = document.screen
 
--- what the entries wrote shows them, and its updates come to the screen that the front end has
+-- what the entries write shows them, and its updates come to the screen that the front end has
 pub record IsShowing (journal : List Entry) : Type 0 where
-  pub each : ShowsEach journal
+  pub shows : Shows journal (written None journal)
   pub screen : rebuilt (written None journal) ≡ Some (screen_of (plain_of journal))
 
--- the session takes lines: all its entries were sent, what they wrote shows them, and its document is the one that they define
+-- THE SESSION TAKES LINES: all its entries were sent, what they wrote shows them, and its document is the one that they define
 pub record IsServing {K : Type 0} (core : Core K) : Type 0 where
   pub room : HasRoom core
   pub sent : AllByRecursion IsOpen (journal_of core)
@@ -99,24 +103,27 @@ front_entry command sent = record { caller = 0; command = command; sent = sent }
 abbrev pub piece_after : List Entry → Command → List ℕ
 piece_after journal command = piece_of (plain_of journal) command
 
--- the command is an entry, and the sink gained its piece
-pub record Takes {K : Type 0} (held : K → Option (List ℕ)) (faults : K → ℕ) (old new : Core K) (command : Command) : Type 0 where
+-- the command is one more entry, which was sent: the sink gained its piece, and no call of it failed
+pub record AddsSentEntry {K : Type 0} (tell : K → SinkState) (old new : Core K) (command : Command) : Type 0 where
   pub serving : IsServing new
   pub entry : journal_of new ≡ journal_of old ++ front_entry command true ∷ []
-  pub gains : Gains (held (sink_of old)) (held (sink_of new)) (piece_after (journal_of old) command)
-  pub faults_stay : faults (sink_of old) ≤ faults (sink_of new)
+  pub gains : Gains (tell (sink_of old)).held (tell (sink_of new)).held (piece_after (journal_of old) command)
+  pub faults_stay : (tell (sink_of old)).faults ≤ (tell (sink_of new)).faults
+  pub failures_same : (tell (sink_of new)).failures ≡ (tell (sink_of old)).failures
 
--- the command is an entry that was not sent: the sink failed after it had gained the first n bytes of the piece, and not all
-pub record BreaksOff {K : Type 0} (held : K → Option (List ℕ)) (faults : K → ℕ) (old new : Core K) (command : Command) (n : ℕ) : Type 0 where
+-- the command is one more entry, which was not sent: one call of the sink failed after it had gained the first n bytes of the piece, and
+-- not all
+pub record AddsUnsentEntry {K : Type 0} (tell : K → SinkState) (old new : Core K) (command : Command) (n : ℕ) : Type 0 where
   pub room : HasRoom new
   pub entry : journal_of new ≡ journal_of old ++ front_entry command false ∷ []
   pub part : n < length (piece_after (journal_of old) command)
-  pub gains : Gains (held (sink_of old)) (held (sink_of new)) (take n (piece_after (journal_of old) command))
-  pub faults_stay : faults (sink_of old) ≤ faults (sink_of new)
-  pub rose : Rose (faults (sink_of old)) (faults (sink_of new))
+  pub gains : Gains (tell (sink_of old)).held (tell (sink_of new)).held (take n (piece_after (journal_of old) command))
+  pub faults_stay : (tell (sink_of old)).faults ≤ (tell (sink_of new)).faults
+  pub rose : Rose (tell (sink_of old)).faults (tell (sink_of new)).faults
+  pub failures_counted : (tell (sink_of new)).failures ≡ counted (tell (sink_of old)).failures
 
--- nothing changed
-pub record IsAsBefore {K : Type 0} (old new : Core K) : Type 0 where
+-- no entry is added, and the session takes lines as before
+pub record ChangesNothing {K : Type 0} (old new : Core K) : Type 0 where
   pub serving : IsServing new
   pub journal : journal_of new ≡ journal_of old
   pub sink : sink_of new ≡ sink_of old

@@ -2,6 +2,7 @@ pub mod Answer
 pub mod Session
 pub mod Journal
 pub mod Shows
-pub mod Next
+pub mod Change
 pub mod Core
-pub mod Done
+pub mod Laws
+pub mod ActEffects

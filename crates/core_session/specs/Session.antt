@@ -13,7 +13,7 @@ use Rattle.xi_plain.specs.declared.command.Act.TheVariants.{Bad, Nothing, NewVie
 use Rattle.xi_plain.specs.declared.command.Command.{Command}
 use Rattle.xi_plain.specs.declared.command.Entry.{Entry}
 use Rattle.plain_screen.specs.declared.screen.Update.{Update}
-use Rattle.plain_edits.specs.Edits.{Refusal}
+use Rattle.plain_edits.specs.Edits.{Refusal, spent as spent_by}
 use Rattle.doc_session.specs.Layout.{Position}
 use Rattle.json_rpc.specs.Line.{line_of}
 use Rattle.json_rpc.specs.Response.{text_data}
@@ -65,15 +65,20 @@ taking result step = record { reply = accepted result; document = Some step.docu
 abbrev pub opening_outcome : Outcome
 opening_outcome = taking (text_data view_id) (event_step first_document Other)
 
--- an edit of the front end, which is refused only where its characters are spent
-abbrev pub edit_came : Document → Option Refusal → EventStep → Outcome
+-- the characters that would be spent in all, where an edit is refused for that
+abbrev pub spent_total : Option Refusal → Option ℕ
+spent_total (Some (spent_by total)) = Some total
+spent_total refusal = None
+
+-- an edit of the front end, where its characters would be spent or not. (The front end's edits are never refused for another reason.)
+abbrev pub edit_came : Document → Option ℕ → EventStep → Outcome
 edit_came document None step = taking null step
-edit_came document (Some refusal) step = record { reply = spent; document = Some document; update = None; scroll = None }
+edit_came document (Some total) step = record { reply = spent; document = Some document; update = None; scroll = None }
 
 -- characters are inserted
 abbrev pub insert_outcome : Document → List ℕ → Outcome
 insert_outcome document chars =
-    edit_came document (refusal_at document (Front (Insert chars))) (event_step document (Front (Insert chars)))
+    edit_came document (spent_total (refusal_at document (Front (Insert chars)))) (event_step document (Front (Insert chars)))
 
 -- whether the id is that of the first view, in bytes
 abbrev pub is_first_view : List ℕ → Bool
@@ -123,10 +128,7 @@ abbrev pub document_after : Option Document → List Entry → Option Document
 document_after document [] = document
 document_after document (entry ∷ entries) = document_after (step document entry.command) entries
 
--- the messages of entries, one after the other, and what they write
-abbrev pub all_messages : Option Document → List Entry → List Data
-all_messages document [] = []
-all_messages document (entry ∷ entries) = messages document entry.command ++ all_messages (step document entry.command) entries
-
+-- WHAT ENTRIES WRITE: the pieces of each, one after the other
 abbrev pub written : Option Document → List Entry → List ℕ
-written document entries = lines_written (all_messages document entries)
+written document [] = []
+written document (entry ∷ entries) = piece_of document entry.command ++ written (step document entry.command) entries

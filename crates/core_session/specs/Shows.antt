@@ -14,19 +14,21 @@ use Rattle.doc_session.specs.Document.{Document, layout_of}
 use Rattle.doc_session.specs.ScreenOf.{IsScreenOf}
 use Rattle.core_session.specs.Session.{view_id, piece_of, document_after, written}
 
--- the updates that the lines of these bytes say
-abbrev pub updates_in : List ℕ → List ViewUpdate
+-- the notes `update` in the lines of these bytes: each is an update of a view, or `None` where it can't be read
+abbrev pub updates_in : List ℕ → List (Option ViewUpdate)
 updates_in bytes = filter_map line_update (lines_of bytes)
 
--- a screen after an update of its view; one that is not defined stays so
-abbrev pub screen_told : Option Screen → ViewUpdate → Option Screen
-screen_told None told = None
-screen_told (Some screen) told = if bytes_eq told.view view_id then screen_after screen told.update.ops else Some screen
+-- a screen after a note. It is not defined where the note can't be read, or is of another view than the one that there is; and one that
+-- is not defined stays so
+abbrev pub screen_with : Option Screen → Option ViewUpdate → Option Screen
+screen_with None update = None
+screen_with (Some screen) None = None
+screen_with (Some screen) (Some update) = if bytes_eq update.view view_id then screen_after screen update.update.ops else None
 
--- a screen after updates
-abbrev pub rebuilt_from : Option Screen → List ViewUpdate → Option Screen
+-- a screen after notes
+abbrev pub rebuilt_from : Option Screen → List (Option ViewUpdate) → Option Screen
 rebuilt_from screen [] = screen
-rebuilt_from screen (told ∷ updates) = rebuilt_from (screen_told screen told) updates
+rebuilt_from screen (note ∷ notes) = rebuilt_from (screen_with screen note) notes
 
 -- THE SCREEN that is rebuilt from bytes alone, where that is defined
 abbrev pub rebuilt : List ℕ → Option Screen
@@ -48,18 +50,20 @@ SendsWithin window index (Invalidate n ∷ ops) = SendsWithin window (index + n)
 SendsWithin window index (Ins lines ∷ ops) =
     ((at : ℕ) → index ≤ at → at < index + length lines → is_within window at ≡ true) × SendsWithin window (index + length lines) ops
 
--- updates send lines of the document's window alone
-abbrev pub SendWindow : Option Document → List ViewUpdate → Type 0
-SendWindow None updates = updates ≡ []
-SendWindow (Some document) updates = AllByRecursion (λ told. SendsWithin document.window 0 told.update.ops) updates
+-- the note can be read, and sends lines of this window alone
+abbrev pub NoteSendsWithin : Run → Option ViewUpdate → Type 0
+NoteSendsWithin window None = ⊥
+NoteSendsWithin window (Some note) = SendsWithin window 0 note.update.ops
 
--- after each entry the screen rebuilt from what was written by then is that of the document, and the entry sent lines of its window
-pub record ShowsEach (journal : List Entry) : Type 0 where
+-- the notes send lines of the document's window alone; where no view is open there are none
+abbrev pub SendWindow : Option Document → List (Option ViewUpdate) → Type 0
+SendWindow None notes = notes ≡ []
+SendWindow (Some document) notes = AllByRecursion (NoteSendsWithin document.window) notes
+
+-- THE BYTES SHOW THE JOURNAL: they are the pieces of its entries. After each entry the screen that is rebuilt from what was written by
+-- then is that of the document, and the entry sent lines of its window alone
+pub record Shows (journal : List Entry) (bytes : List ℕ) : Type 0 where
+  pub pieces : bytes ≡ written None journal
   pub screens : (front back : List Entry) → journal ≡ front ++ back → IsShown (document_after None front) (rebuilt (written None front))
   pub sends : (front : List Entry) (entry : Entry) (back : List Entry) → journal ≡ front ++ (entry ∷ back) →
       SendWindow (document_after None (front ++ entry ∷ [])) (updates_in (piece_of (document_after None front) entry.command))
-
--- the bytes are the pieces of the entries, and show each
-pub record Shows (journal : List Entry) (bytes : List ℕ) : Type 0 where
-  pub pieces : bytes ≡ written None journal
-  pub each : ShowsEach journal

@@ -1,15 +1,16 @@
 ghost use Rattle.std.specs.Prelude.{◌≡◌, ◌<◌, Option, Some, None, IfOk, IfErr, OnOk, option_map};
+ghost use Rattle.plain_edits.specs.Edits.{Refusal};
 ghost use Rattle.xi_plain.specs.declared.command.Act.{Act};
 ghost use Rattle.doc_session.specs.Document.{Document};
 ghost use Rattle.doc_session.specs.Fault.{DocRefuses};
 ghost use Rattle.doc_session.specs.InMemory.{Doc, doc_contents};
 ghost use Rattle.doc_session.specs.Ready.{MayTake, with_event};
 ghost use Rattle.doc_session.specs.Stands.{DocStandsFor};
-ghost use Rattle.doc_session.specs.Step.{AreEffectsOf, HasCaller, refusal_at, event_step};
-ghost use Rattle.core_session.specs.Core.{MayBeAsked, Keeps, Stands};
-ghost use Rattle.core_session.specs.Session.{outcome, edit_outcome, open_outcome, is_first_view, insert_outcome, refusing};
-ghost use Rattle.core_session.specs.Done.{IsOutcome};
-ghost use Rattle.core_session.specs.Next.{MayReplace};
+ghost use Rattle.doc_session.specs.Step.{AreEffectsOf, EventStep, HasCaller, refusal_at, event_step};
+ghost use Rattle.core_session.specs.Core.{MayBeAsked, TakesEvents, ServesDocument, Stands};
+ghost use Rattle.core_session.specs.Session.{outcome, edit_came, edit_outcome, open_outcome, is_first_view, insert_outcome, refusing, spent_total};
+ghost use Rattle.core_session.specs.ActEffects.{IsOutcome, IsSpentOrLack};
+ghost use Rattle.core_session.specs.Change.{MayChange};
 
 use doc_session::{Doc, DocFault, Effects, Event, ReadyEvent};
 use std::alloc::Global;
@@ -37,8 +38,8 @@ const FIRST_CONFIG: Config = Config {
 pub enum Reply {
     /// The first view was opened.
     Opened,
-    /// It was done, and has no result.
-    Done,
+    /// It was accepted, and has no result.
+    Accepted,
     /// It was refused.
     Refused(Fault),
     /// It would insert more characters than may be.
@@ -49,7 +50,7 @@ pub enum Reply {
 
 /// What there is after an act in place of the document before it.
 #[derive(Drop)]
-pub enum Next {
+pub enum DocumentChange {
     /// A document, where there was none.
     Opened(Doc),
     /// The same document, with an event that was made ready.
@@ -59,53 +60,53 @@ pub enum Next {
 /// What an act came to: what it is answered, what is in place of the document then, where it changes, and what else the front end is
 /// told.
 #[derive(Drop)]
-pub struct Done {
+pub struct ActEffects {
     pub reply: Reply,
-    pub next: Option<Next>,
+    pub change: Option<DocumentChange>,
     pub update: Option<Update>,
     pub scroll: Option<(u64, u64)>,
 }
 
 /// Makes ready what a command asks; the document is as before.
-pub fn act_on(alloc: Global, document: &mut Option<Doc>, act: &Act) -> Result<Done, NoMemory>
+pub fn act_on(alloc: Global, document: &mut Option<Doc>, act: &Act) -> Result<ActEffects, NoMemory>
     requires { MayBeAsked document.old }
     ensures stands { (plain : Option Document) → Stands document.old plain
         → IfOk result (IsOutcome document.new (outcome plain act.now)) }
-    ensures may_replace { IfOk result (λ done. MayReplace done.next document.new) }
+    ensures may_change { IfOk result (λ effects. MayChange effects.change document.new) }
     ensures same { option_map doc_contents document.new ≡ option_map doc_contents document.old }
 {
     match act {
         Act::Bad(fault) => refused(alloc, fault),
-        Act::Nothing => Ok(changed_nothing(Reply::Done)),
+        Act::Nothing => Ok(changed_nothing(Reply::Accepted)),
         Act::NewView { path } => open(alloc, document, path),
         Act::Edit { view, act } => edit(alloc, document, view, act),
         Act::Closing => Ok(changed_nothing(Reply::Silent)),
     }
 }
 
-fn changed_nothing(reply: Reply) -> Done
-    ensures { result ≡ record { reply = reply; next = None; update = None; scroll = None } }
+fn changed_nothing(reply: Reply) -> ActEffects
+    ensures { result ≡ record { reply = reply; change = None; update = None; scroll = None } }
 {
-    Done {
+    ActEffects {
         reply,
-        next: None,
+        change: None,
         update: None,
         scroll: None,
     }
 }
 
-fn refused(alloc: Global, fault: &Fault) -> Result<Done, NoMemory>
+fn refused(alloc: Global, fault: &Fault) -> Result<ActEffects, NoMemory>
     ensures refused { (document : Option Document) (before : Option Doc) → Stands before document
         → IfOk result (IsOutcome before (refusing document fault.now)) }
-    ensures nothing { IfOk result (λ done. done.next ≡ None) }
+    ensures nothing { IfOk result (λ effects. effects.change ≡ None) }
 {
     Ok(changed_nothing(Reply::Refused(fault.copy(alloc)?)))
 }
 
-fn open(alloc: Global, document: &Option<Doc>, path: &Option<Text>) -> Result<Done, NoMemory>
+fn open(alloc: Global, document: &Option<Doc>, path: &Option<Text>) -> Result<ActEffects, NoMemory>
     ensures stands { (plain : Option Document) → Stands document.now plain
         → IfOk result (IsOutcome document.now (open_outcome plain path.now)) }
-    ensures may_replace { IfOk result (λ done. MayReplace done.next document.now) }
+    ensures may_change { IfOk result (λ effects. MayChange effects.change document.now) }
 {
     if document.is_some() || path.is_some() {
         return refused(alloc, &Fault::NotBuilt);
@@ -115,7 +116,11 @@ fn open(alloc: Global, document: &Option<Doc>, path: &Option<Text>) -> Result<Do
         return Err(NoMemory);
     };
     doc.put(ready);
-    Ok(taken(Reply::Opened, Next::Opened(doc), effects))
+    Ok(accepted(
+        Reply::Opened,
+        DocumentChange::Opened(doc),
+        effects,
+    ))
 }
 
 fn edit(
@@ -123,11 +128,11 @@ fn edit(
     document: &mut Option<Doc>,
     view: &Text,
     act: &EditAct,
-) -> Result<Done, NoMemory>
+) -> Result<ActEffects, NoMemory>
     requires { MayBeAsked document.old }
     ensures stands { (plain : Option Document) → Stands document.old plain
         → IfOk result (IsOutcome document.new (edit_outcome plain view.now act.now)) }
-    ensures may_replace { IfOk result (λ done. MayReplace done.next document.new) }
+    ensures may_change { IfOk result (λ effects. MayChange effects.change document.new) }
     ensures same { option_map doc_contents document.new ≡ option_map doc_contents document.old }
 {
     match document {
@@ -144,25 +149,43 @@ fn is_first_view(view: &Text) -> bool
     view.as_str() == FIRST_VIEW
 }
 
-fn insert(alloc: Global, doc: &mut Doc, chars: &Text) -> Result<Done, NoMemory>
+fn insert(alloc: Global, doc: &mut Doc, chars: &Text) -> Result<ActEffects, NoMemory>
     requires { MayBeAsked (Some doc.old) }
-    ensures stands { (plain : Document) → Keeps doc.old plain
+    ensures stands { (plain : Document) → ServesDocument doc.old plain
         → IfOk result (IsOutcome (Some doc.new) (insert_outcome plain chars.now)) }
-    ensures may_replace { IfOk result (λ done. MayReplace done.next (Some doc.new)) }
+    ensures may_change { IfOk result (λ effects. MayChange effects.change (Some doc.new)) }
     ensures same { doc_contents doc.new ≡ doc_contents doc.old }
 {
     let event = Event::Front(EditAct::Insert {
         chars: chars.copy(alloc)?,
     });
     match ready_alone(alloc, doc, event) {
-        Ok((ready, effects)) => Ok(taken(Reply::Done, Next::Changed(ready), effects)),
-        Err(DocFault::NoMemory) => Err(NoMemory),
-        Err(_) => Ok(changed_nothing(Reply::Spent)),
+        Ok((ready, effects)) => Ok(accepted(
+            Reply::Accepted,
+            DocumentChange::Changed(ready),
+            effects,
+        )),
+        Err(fault) => not_inserted(fault),
     }
 }
 
-fn taken(reply: Reply, next: Next, effects: Effects) -> Done
-    ensures { result ≡ record { reply = reply; next = Some next; update = effects.update; scroll = effects.scroll } }
+/// What the fault of an insertion comes to. An insertion is against the head, and its delta fits.
+fn not_inserted(fault: DocFault) -> Result<ActEffects, NoMemory>
+    requires { IsSpentOrLack fault }
+    ensures stands { (plain : Document) (before : Option Doc) (refusal : Option Refusal) (step : EventStep)
+        → Stands before (Some plain) → DocRefuses refusal fault
+        → IfOk result (IsOutcome before (edit_came plain (spent_total refusal) step)) }
+    ensures nothing { IfOk result (λ effects. effects.change ≡ None) }
+{
+    match fault {
+        DocFault::Spent(_) => Ok(changed_nothing(Reply::Spent)),
+        DocFault::NoMemory => Err(NoMemory),
+        DocFault::Unknown(_) | DocFault::Collected(_) | DocFault::Misfit(_) => unreachable!(),
+    }
+}
+
+fn accepted(reply: Reply, change: DocumentChange, effects: Effects) -> ActEffects
+    ensures { result ≡ record { reply = reply; change = Some change; update = effects.update; scroll = effects.scroll } }
 {
     let Effects {
         body: _,
@@ -170,9 +193,9 @@ fn taken(reply: Reply, next: Next, effects: Effects) -> Done
         scroll,
         notice: _,
     } = effects;
-    Done {
+    ActEffects {
         reply,
-        next: Some(next),
+        change: Some(change),
         update,
         scroll,
     }
@@ -184,11 +207,11 @@ fn ready_alone(
     doc: &mut Doc,
     event: Event,
 ) -> Result<(ReadyEvent, Effects), DocFault>
-    requires alone { MayBeAsked (Some doc.old) }
+    requires alone { TakesEvents doc.old }
     requires caller { HasCaller 0 event }
     ensures may_take { IfOk result (λ made. MayTake doc.new made.0) }
-    ensures kept { (plain : Document) → DocStandsFor doc.old plain
-        → IfOk result (λ made. Keeps (with_event doc.new made.0) (event_step plain event).document) }
+    ensures served { (plain : Document) → DocStandsFor doc.old plain
+        → IfOk result (λ made. ServesDocument (with_event doc.new made.0) (event_step plain event).document) }
     ensures effects { (plain : Document) → DocStandsFor doc.old plain → IfOk result (λ made. AreEffectsOf (event_step plain event) made.1) }
     ensures accepted { (plain : Document) → DocStandsFor doc.old plain → OnOk result (refusal_at plain event ≡ None) }
     ensures refused { (plain : Document) → DocStandsFor doc.old plain → IfErr result (DocRefuses (refusal_at plain event)) }
@@ -204,11 +227,11 @@ fn counted<L: Ledger>(
     blank: Blank,
 ) -> Result<(ReadyEvent, Effects), DocFault>
     requires blank { (blank.name ≡ L.name) × ((blank.parts ≡ L.parts) × (0 < blank.parts)) }
-    requires alone { MayBeAsked (Some doc.old) }
+    requires alone { TakesEvents doc.old }
     requires caller { HasCaller 0 event }
     ensures may_take { IfOk result (λ made. MayTake doc.new made.0) }
-    ensures kept { (plain : Document) → DocStandsFor doc.old plain
-        → IfOk result (λ made. Keeps (with_event doc.new made.0) (event_step plain event).document) }
+    ensures served { (plain : Document) → DocStandsFor doc.old plain
+        → IfOk result (λ made. ServesDocument (with_event doc.new made.0) (event_step plain event).document) }
     ensures effects { (plain : Document) → DocStandsFor doc.old plain → IfOk result (λ made. AreEffectsOf (event_step plain event) made.1) }
     ensures accepted { (plain : Document) → DocStandsFor doc.old plain → OnOk result (refusal_at plain event ≡ None) }
     ensures refused { (plain : Document) → DocStandsFor doc.old plain → IfErr result (DocRefuses (refusal_at plain event)) }

@@ -10,10 +10,10 @@ ghost use Rattle.serde_json.specs.View.{view};
 ghost use Rattle.doc_session.specs.PositionView.{position_view};
 ghost use Rattle.core_session.specs.Answer.{answers, refusal, named_refusal, refused_by, result_messages};
 ghost use Rattle.core_session.specs.Session.{view_id, update_notes, scroll_notes};
-ghost use Rattle.core_session.specs.Core.{AreLinesOf, IsToldBack};
-ghost use Rattle.core_session.specs.Done.{reply_of};
+ghost use Rattle.core_session.specs.Core.{AreLinesOf, UpdateReadsBack};
+ghost use Rattle.core_session.specs.ActEffects.{reply_of};
 
-use crate::act::{Done, FIRST_VIEW, Reply};
+use crate::act::{ActEffects, FIRST_VIEW, Reply};
 use json_rpc::{code_of, message_of, write_error, write_reply};
 use serde_json::Value;
 use std::alloc::Global;
@@ -26,16 +26,16 @@ use xi_plain::{Fault, Id};
 const SPENT: i64 = 3;
 
 /// The lines of an entry: its answer, and then what else the front end is told.
-pub fn piece_of(alloc: Global, id: &Id, done: &Done) -> Result<Text, NoMemory>
+pub fn piece_of(alloc: Global, id: &Id, effects: &ActEffects) -> Result<Text, NoMemory>
     requires { IsWireId id.now }
-    ensures told { IfOk result (λ _. IsToldBack done.now.update) }
+    ensures reads_back { IfOk result (λ _. UpdateReadsBack effects.now.update) }
     ensures lines { IfOk result (λ piece.
-        AreLinesOf (answers id.now (reply_of done.now.reply) ++ (update_notes done.now.update
-        ++ scroll_notes (option_map position_view done.now.scroll))) (encode_utf8_all piece)) }
+        AreLinesOf (answers id.now (reply_of effects.now.reply) ++ (update_notes effects.now.update
+        ++ scroll_notes (option_map position_view effects.now.scroll))) (encode_utf8_all piece)) }
 {
-    let mut piece = answer(alloc, id, &done.reply)?;
-    piece.push_text(&update_note(alloc, &done.update)?)?;
-    piece.push_text(&scroll_note(alloc, done.scroll)?)?;
+    let mut piece = answer(alloc, id, &effects.reply)?;
+    piece.push_text(&update_note(alloc, &effects.update)?)?;
+    piece.push_text(&scroll_note(alloc, effects.scroll)?)?;
     Ok(piece)
 }
 
@@ -46,14 +46,14 @@ fn answer(alloc: Global, id: &Id, reply: &Reply) -> Result<Text, NoMemory>
     match reply {
         Reply::Refused(fault) => refusal(alloc, id, fault),
         Reply::Opened => result_line(alloc, id, view_value(alloc)?),
-        Reply::Done => result_line(alloc, id, Value::Null),
+        Reply::Accepted => result_line(alloc, id, Value::Null),
         Reply::Spent => refused_by(alloc, id, SPENT, &Text::from_ascii(alloc, "spent")?),
         Reply::Silent => Ok(Text::new(alloc)),
     }
 }
 
 fn update_note(alloc: Global, update: &Option<Update>) -> Result<Text, NoMemory>
-    ensures told { IfOk result (λ _. IsToldBack update.now) }
+    ensures reads_back { IfOk result (λ _. UpdateReadsBack update.now) }
     ensures lines { IfOk result (λ text. AreLinesOf (update_notes update.now) (encode_utf8_all text)) }
 {
     match update {

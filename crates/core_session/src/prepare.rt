@@ -4,7 +4,7 @@ ghost use Rattle.doc_session.specs.Document.{Document};
 ghost use Rattle.core_session.specs.Journal.{closes};
 ghost use Rattle.doc_session.specs.InMemory.{doc_contents};
 ghost use Rattle.core_session.specs.Core.{Stands, MayBeAsked, IsPrepared};
-ghost use Rattle.core_session.specs.Next.{MayReplace};
+ghost use Rattle.core_session.specs.Change.{MayChange};
 
 use crate::act::act_on;
 use crate::piece::piece_of;
@@ -21,15 +21,15 @@ pub fn prepare(alloc: Global, document: &mut Option<Doc>, line: &[u8]) -> Result
     ensures asks { IfOk result (λ made. closes made.command.act ≡ false) }
     ensures prepared { (plain : Option Document) → Stands document.old plain
         → IfOk result (IsPrepared document.new plain) }
-    ensures may_replace { IfOk result (λ made. MayReplace made.next document.new) }
+    ensures may_change { IfOk result (λ made. MayChange made.change document.new) }
     ensures same { option_map doc_contents document.new ≡ option_map doc_contents document.old }
 {
     let command = command_of(alloc, line)?;
-    let done = act_on(alloc, document, &command.act)?;
-    let piece = piece_of(alloc, &command.id, &done)?;
+    let effects = act_on(alloc, document, &command.act)?;
+    let piece = piece_of(alloc, &command.id, &effects)?;
     Ok(Prepared {
         command,
         piece,
-        next: done.next,
+        change: effects.change,
     })
 }

@@ -1,14 +1,14 @@
 ghost use Rattle.std.specs.Prelude.{◌≡◌, ◌≢◌, ◌+◌, ◌≤◌, ◌++◌, ◌∷◌, ◌⊎◌, [], ℕ, Option, IfOk, IfErr, vec_len, vec_capacity, false};
 ghost use Rattle.outside.specs.Faults.{Rose};
+ghost use Rattle.outside.specs.Sink.{sink_state};
 ghost use Rattle.xi_plain.specs.declared.command.Command.{Command};
 ghost use Rattle.front_wire.specs.Fair.{IsFair};
 ghost use Rattle.doc_session.specs.Document.{Document};
 ghost use Rattle.core_session.specs.Journal.{closing_entry, closes};
-ghost use Rattle.core_session.specs.Next.{changed_by, next_or};
+ghost use Rattle.core_session.specs.Change.{MayChange, MayTakeIfAny, with_change, with_event_if_any};
 ghost use Rattle.front_wire.specs.Front.{command_of};
-ghost use Rattle.core_session.specs.Next.{MayReplace, MayTakeIn};
 
-use crate::act::Next;
+use crate::act::DocumentChange;
 use crate::prepare::prepare;
 use crate::write::write_piece;
 use doc_session::{Doc, ReadyEvent};
@@ -33,7 +33,7 @@ pub enum Entered {
 pub struct Prepared {
     pub command: Command,
     pub piece: Text,
-    pub next: Option<Next>,
+    pub change: Option<DocumentChange>,
 }
 
 /// A session with its journal, its document and the sink that it writes to. There is always room for its closing entry.
@@ -45,7 +45,7 @@ pub struct Core<K> {
 }
 
 impl<K: Sink> Core<K> {
-    ghost use Rattle.core_session.specs.Core.{IsServing, IsPrepared, Takes, BreaksOff, IsAsBefore, HasRoom, journal_of, sink_of, plain_of};
+    ghost use Rattle.core_session.specs.Core.{IsServing, IsPrepared, AddsSentEntry, AddsUnsentEntry, ChangesNothing, HasRoom, journal_of, sink_of, plain_of};
 
     /// A session without entries. For want of memory the sink is given back.
     pub fn make(alloc: Global, sink: K) -> Result<Core<K>, K>
@@ -67,11 +67,11 @@ impl<K: Sink> Core<K> {
     /// Takes a line of the front end, with or without its LF: writes its piece, in one write where the sink takes it whole.
     pub fn enter(&mut self, alloc: Global, line: &[u8]) -> Entered
         requires { IsServing self.old }
-        ensures taken { result ≡ Entered.Taken
-            → Takes K.held K.faults self.old self.new (command_of line.now) }
-        ensures broken { result ≡ Entered.SinkFault
-            → (n : ℕ) × BreaksOff K.held K.faults self.old self.new (command_of line.now) n }
-        ensures no_memory { result ≡ Entered.NoMemory → IsAsBefore self.old self.new }
+        ensures sent { result ≡ Entered.Taken
+            → AddsSentEntry (sink_state K.held K.faults K.failures) self.old self.new (command_of line.now) }
+        ensures unsent { result ≡ Entered.SinkFault → (n : ℕ)
+            × AddsUnsentEntry (sink_state K.held K.faults K.failures) self.old self.new (command_of line.now) n }
+        ensures no_memory { result ≡ Entered.NoMemory → ChangesNothing self.old self.new }
         ensures complete { (Rose (K.faults (sink_of self.old)) (K.faults (sink_of self.new)) → ⊥)
             → (result ≡ Entered.Taken) ⊎ (result ≡ Entered.NoMemory) }
     {
@@ -90,16 +90,17 @@ impl<K: Sink> Core<K> {
         requires room { vec_len self.old.journal + 2 ≤ vec_capacity self.old.journal }
         requires asks { closes made.command.act ≡ false }
         requires prepared { IsPrepared self.old.document (plain_of (journal_of self.old)) made }
-        requires may_replace { MayReplace made.next self.old.document }
-        ensures taken { result ≡ Entered.Taken → Takes K.held K.faults self.old self.new made.command }
-        ensures broken { result ≡ Entered.SinkFault
-            → (n : ℕ) × BreaksOff K.held K.faults self.old self.new made.command n }
+        requires may_change { MayChange made.change self.old.document }
+        ensures sent { result ≡ Entered.Taken
+            → AddsSentEntry (sink_state K.held K.faults K.failures) self.old self.new made.command }
+        ensures unsent { result ≡ Entered.SinkFault → (n : ℕ)
+            × AddsUnsentEntry (sink_state K.held K.faults K.failures) self.old self.new made.command n }
         ensures made { result ≢ Entered.NoMemory }
     {
         let Prepared {
             command,
             piece,
-            next,
+            change,
         } = made;
         let bytes = piece.as_str().as_bytes();
         let taken = write_piece(&mut self.sink, bytes);
@@ -108,7 +109,7 @@ impl<K: Sink> Core<K> {
         if !sent {
             return Entered::SinkFault;
         }
-        replace(&mut self.document, next);
+        make_change(&mut self.document, change);
         Entered::Taken
     }
 
@@ -135,21 +136,20 @@ impl<K: Sink> Core<K> {
     }
 }
 
-/// Puts what comes next in place, where there is anything.
-fn replace(document: &mut Option<Doc>, next: Option<Next>)
-    requires { MayReplace next document.old }
-    ensures { document.new ≡ next_or next document.old }
+fn make_change(document: &mut Option<Doc>, change: Option<DocumentChange>)
+    requires { MayChange change document.old }
+    ensures { document.new ≡ with_change change document.old }
 {
-    match next {
-        Some(Next::Opened(doc)) => *document = Some(doc),
-        Some(Next::Changed(ready)) => changed(document, ready),
+    match change {
+        Some(DocumentChange::Opened(doc)) => *document = Some(doc),
+        Some(DocumentChange::Changed(ready)) => put_event(document, ready),
         None => {}
     }
 }
 
-fn changed(document: &mut Option<Doc>, ready: ReadyEvent)
-    requires { MayTakeIn ready document.old }
-    ensures { document.new ≡ changed_by ready document.old }
+fn put_event(document: &mut Option<Doc>, ready: ReadyEvent)
+    requires { MayTakeIfAny ready document.old }
+    ensures { document.new ≡ with_event_if_any ready document.old }
 {
     if let Some(doc) = document {
         doc.put(ready);

@@ -8,7 +8,6 @@ use Rattle.std.proofs.lemmas.Bool.{eq-eqb}
 use Rattle.std.proofs.lemmas.List.{take_all}
 use Rattle.plain_edits.specs.declared.delta.El.TheVariants.{Copy, Insert}
 use Rattle.plain_edits.specs.Delta.{Fits, copies_misfit, keeps, adds, applied}
-use Rattle.plain_edits.specs.Delta.{inserted_len}
 use Rattle.plain_edits.specs.History.{History, head, text_at}
 use Rattle.plain_text.specs.Numbers.{has}
 use Rattle.plain_text.specs.Text.{byte_len, place_of, gap_of, is_place}
@@ -20,7 +19,6 @@ use Rattle.rev_engine.specs.State.{State, contents}
 use Rattle.rev_engine.specs.Steps.{with_edit}
 use Rattle.rev_engine.specs.Given.{AskedEdit, after, meant}
 use Rattle.rev_engine.proofs.ForCallers.{IsFresh-given, StandsFor-contents}
-use Rattle.rev_engine.proofs.ForCallers.{inserted_count-plain}
 use Rattle.doc_session.specs.declared.moved.Moved.{Moved}
 use Rattle.doc_session.specs.Asking.{insertion_delta, insertion_at}
 use Rattle.doc_session.specs.Inner.{IsMoved}
@@ -93,41 +91,33 @@ text_at-inserted h engine text gap chars shows inside =
 
 -- ---- what edits leave is whole
 
-pub whole-moved : (engine now : State) (text : List ℕ) (caret plugins gap : ℕ) (asked : AskedEdit) (moved : Moved) → contents now ≡ contents engine →
-    IsStateOfSome engine text caret plugins → ((h : History) → ShowsHead h engine text → IsMoved h now asked moved) → gap ≤ length moved.text →
-    (plugins ≡ 0 → 1 ≤ inserted_len asked.delta.els) → IsStateOfSome (with_edit now moved.ready) moved.text gap plugins
-whole-moved engine now text caret plugins gap asked moved same whole each inside some =
-    ∥∥₁_map whole (λ (s : (h : History) × IsStateOf h engine text caret plugins).
+pub whole-moved : (engine now : State) (text : List ℕ) (caret gap : ℕ) (asked : AskedEdit) (moved : Moved) → contents now ≡ contents engine →
+    IsStateOfSome engine text caret → ((h : History) → ShowsHead h engine text → IsMoved h now asked moved) → gap ≤ length moved.text →
+    IsStateOfSome (with_edit now moved.ready) moved.text gap
+whole-moved engine now text caret gap asked moved same whole each inside =
+    ∥∥₁_map whole (λ (s : (h : History) × IsStateOf h engine text caret).
     let is : IsMoved s.0 now asked moved = each s.0 s.1.shown in (
       after s.0 asked,
       record {
         shown = is.shown;
         inside = inside;
-        few = λ none.
-            omega (
-              arith,
-              s.1.few none,
-              some none,
-              head-after s.0 asked,
-              inserted_count-plain s.0 asked.base asked.delta asked.group asked.priority asked.author,
-            );
         within = is.within;
         bound = omega (arith, s.1.bound, ap (λ (e : State). e.limit) same);
       },
     ))
 
-pub shown-whole : (engine : State) (text : List ℕ) (caret plugins : ℕ) → IsStateOfSome engine text caret plugins → ShowsSomeHead engine text
-shown-whole engine text caret plugins whole = ∥∥₁_map whole (λ (s : (h : History) × IsStateOf h engine text caret plugins). (s.0, s.1.shown))
+pub shown-whole : (engine : State) (text : List ℕ) (caret : ℕ) → IsStateOfSome engine text caret → ShowsSomeHead engine text
+shown-whole engine text caret whole = ∥∥₁_map whole (λ (s : (h : History) × IsStateOf h engine text caret). (s.0, s.1.shown))
 
-pub inside-whole : (engine : State) (text : List ℕ) (caret plugins : ℕ) → IsStateOfSome engine text caret plugins → caret ≤ length text
-inside-whole engine text caret plugins whole = ∥∥₁_elim whole le_prop (λ (s : (h : History) × IsStateOf h engine text caret plugins). s.1.inside)
+pub inside-whole : (engine : State) (text : List ℕ) (caret : ℕ) → IsStateOfSome engine text caret → caret ≤ length text
+inside-whole engine text caret whole = ∥∥₁_elim whole le_prop (λ (s : (h : History) × IsStateOf h engine text caret). s.1.inside)
 
 -- so many characters has the text after an insertion at the caret
-pub inside-inserted : (engine now : State) (text : List ℕ) (caret plugins : ℕ) (chars : List ℕ) (asked : AskedEdit) (moved : Moved) →
-    IsStateOfSome engine text caret plugins → asked ≡ insertion_at (head engine.revisions) text caret chars →
+pub inside-inserted : (engine now : State) (text : List ℕ) (caret : ℕ) (chars : List ℕ) (asked : AskedEdit) (moved : Moved) →
+    IsStateOfSome engine text caret → asked ≡ insertion_at (head engine.revisions) text caret chars →
     ((h : History) → ShowsHead h engine text → IsMoved h now asked moved) → length moved.text ≡ length text + length chars
-inside-inserted engine now text caret plugins chars asked moved whole is each =
-    ∥∥₁_elim whole (ℕ_set _ _) (λ (s : (h : History) × IsStateOf h engine text caret plugins).
+inside-inserted engine now text caret chars asked moved whole is each =
+    ∥∥₁_elim whole (ℕ_set _ _) (λ (s : (h : History) × IsStateOf h engine text caret).
     let here : asked ≡ insertion_at (head s.0) text caret chars =
     is ∙ ap (λ n. insertion_at n text caret chars) (head-stands engine s.0 s.1.shown.stands) in
     ap length ((each s.0 s.1.shown).shown.text_is ∙
@@ -135,23 +125,14 @@ inside-inserted engine now text caret plugins chars asked moved whole is each =
     text_at-inserted s.0 engine text caret chars s.1.shown s.1.inside) ∙ length-put_in caret chars text s.1.inside)
 
 -- what is whole is that of each history that it shows
-pub IsStateOf-whole : (h : History) (engine : State) (text : List ℕ) (caret plugins : ℕ) → IsStateOfSome engine text caret plugins → ShowsHead h engine text →
-    IsStateOf h engine text caret plugins
-IsStateOf-whole h engine text caret plugins whole shows = record {
+pub IsStateOf-whole : (h : History) (engine : State) (text : List ℕ) (caret : ℕ) → IsStateOfSome engine text caret → ShowsHead h engine text →
+    IsStateOf h engine text caret
+IsStateOf-whole h engine text caret whole shows = record {
   shown = shows;
-  inside = inside-whole engine text caret plugins whole;
-  few = λ none. ∥∥₁_elim whole le_prop (λ (s : (h : History) × IsStateOf h engine text caret plugins).
-      omega (
-        arith,
-        s.1.few none,
-        head-stands engine s.0 s.1.shown.stands,
-        head-stands engine h shows.stands,
-        s.1.shown.stands.spent,
-        shows.stands.spent,
-      ));
-  within = ∥∥₁_elim whole le_prop (λ (s : (h : History) × IsStateOf h engine text caret plugins).
+  inside = inside-whole engine text caret whole;
+  within = ∥∥₁_elim whole le_prop (λ (s : (h : History) × IsStateOf h engine text caret).
       omega (arith, s.1.within, s.1.shown.stands.spent, shows.stands.spent));
-  bound = ∥∥₁_elim whole le_prop (λ (s : (h : History) × IsStateOf h engine text caret plugins). s.1.bound);
+  bound = ∥∥₁_elim whole le_prop (λ (s : (h : History) × IsStateOf h engine text caret). s.1.bound);
 }
 
 -- ---- the room for more revisions tells nothing
@@ -162,19 +143,18 @@ ShowsHead-contents h engine now text same shows = record {
   text_is = shows.text_is;
 }
 
-pub IsStateOf-contents : (h : History) (engine now : State) (text : List ℕ) (caret plugins : ℕ) → contents now ≡ contents engine →
-    IsStateOf h engine text caret plugins → IsStateOf h now text caret plugins
-IsStateOf-contents h engine now text caret plugins same is =
+pub IsStateOf-contents : (h : History) (engine now : State) (text : List ℕ) (caret : ℕ) → contents now ≡ contents engine →
+    IsStateOf h engine text caret → IsStateOf h now text caret
+IsStateOf-contents h engine now text caret same is =
     let limit = ap (λ (e : State). e.limit) same in
     record {
       shown = ShowsHead-contents h engine now text same is.shown;
       inside = is.inside;
-      few = is.few;
       within = omega (arith, is.within, limit);
       bound = omega (arith, is.bound, limit);
     }
 
-pub IsStateOfSome-contents : (engine now : State) (text : List ℕ) (caret plugins : ℕ) → contents now ≡ contents engine →
-    IsStateOfSome engine text caret plugins → IsStateOfSome now text caret plugins
-IsStateOfSome-contents engine now text caret plugins same whole =
-    ∥∥₁_map whole (λ (s : (h : History) × IsStateOf h engine text caret plugins). (s.0, IsStateOf-contents s.0 engine now text caret plugins same s.1))
+pub IsStateOfSome-contents : (engine now : State) (text : List ℕ) (caret : ℕ) → contents now ≡ contents engine →
+    IsStateOfSome engine text caret → IsStateOfSome now text caret
+IsStateOfSome-contents engine now text caret same whole =
+    ∥∥₁_map whole (λ (s : (h : History) × IsStateOf h engine text caret). (s.0, IsStateOf-contents s.0 engine now text caret same s.1))

@@ -2,8 +2,10 @@ pub mod CaretLemmas
 pub mod MoveLemmas
 pub mod LoadLemmas
 pub mod InsertLemmas
+pub mod SameLemmas
 pub mod SettleLemmas
 pub mod StepLemmas
+pub mod FitLemmas
 pub mod LayoutLemmas
 pub mod PlanLemmas
 pub mod TellLemmas

@@ -11,12 +11,11 @@ pub text_at-loaded : (text : List ℕ) → text_at (loaded text) 0 ≡ text
 text_at-loaded [] = refl
 text_at-loaded (c ∷ text) = ap (λ cs. c ∷ cs) (text_at-loaded text)
 
-pub IsStateOf-loaded : (text copied : List ℕ) (engine : State) (limit plugins : ℕ) → copied ≡ text → StandsFor engine (loaded copied) → engine.limit ≡ limit →
-    limit ≤ 2 ^ 60 → IsStateOf (loaded text) engine text 0 plugins
-IsStateOf-loaded text copied engine limit plugins same stands limit_is bound = record {
+pub IsStateOf-loaded : (text copied : List ℕ) (engine : State) (limit : ℕ) → copied ≡ text → StandsFor engine (loaded copied) → engine.limit ≡ limit →
+    limit ≤ 2 ^ 60 → IsStateOf (loaded text) engine text 0
+IsStateOf-loaded text copied engine limit same stands limit_is bound = record {
   shown = record { stands = rw (sym same) stands; text_is = sym (text_at-loaded text) };
   inside = omega arith;
-  few = λ none. omega arith;
   within = omega (arith, spent-loaded text);
   bound = omega (arith, limit_is, bound);
 }

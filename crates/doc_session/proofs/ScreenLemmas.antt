@@ -8,9 +8,9 @@ use Rattle.plain_screen.specs.Screen.{Screen, screen_after}
 use Rattle.plain_screen.specs.Plan.{is_within}
 use Rattle.plain_screen.specs.Plan.{shown_lines}
 use Rattle.doc_session.specs.Document.{Document, layout_of, no_request}
-use Rattle.doc_session.specs.Effects.{ops_of, told}
+use Rattle.doc_session.specs.Effects.{ops_of, updated}
 use Rattle.doc_session.specs.ScreenOf.{IsScreenOf}
-use Rattle.doc_session.proofs.SettleLemmas.{screen_after-ops_of, screen-told}
+use Rattle.doc_session.proofs.SettleLemmas.{screen_after-ops_of, screen-updated}
 
 -- the screen that shows the lines of the window, where the first line has this index
 abbrev shown_from : Run → Run → ℕ → List Line → Screen
@@ -56,5 +56,5 @@ IsScreenOf-screen plain shown =
     subst At (sym shown) (IsScreenOf-shown plain.window (layout_of plain))
 
 -- the operations make the told screen, on whatever screen there was
-pub screen_after-told : (before after : Document) → screen_after before.screen (ops_of after) ≡ Some ((told after).screen)
-screen_after-told before after = screen_after-ops_of before.screen after ∙ ap Some (sym (screen-told after))
+pub screen_after-updated : (before after : Document) → screen_after before.screen (ops_of after) ≡ Some ((updated after).screen)
+screen_after-updated before after = screen_after-ops_of before.screen after ∙ ap Some (sym (screen-updated after))

@@ -1,9 +1,10 @@
 -- When a front end is told, and what a document in memory stands for then.
-use Rattle.std.proofs.Common.{◌≡◌, ℕ, ◌+◌, Bool, true, false, List, [], ◌∷◌, map, Option, Some, None, refl, ap, ap₂, sym, ◌∙◌, arith}
+use Rattle.std.proofs.Common.{◌≡◌, ℕ, ◌+◌, ◌≤◌, Bool, true, false, List, [], ◌∷◌, length, map, Option, Some, None, refl, ap, ap₂, sym, ◌∙◌, subst, arith}
 use Rattle.std.specs.Prelude.{if◌then◌else◌, ◌==◌, not, ◌&&◌, ◌||◌, unwrap_or, is_some}
 use Rattle.std.specs.List.{enumerate_from, onto_first}
 use Rattle.std.specs.Str.{bytes_eq, chars, encode_utf8_all}
-use Rattle.std.proofs.lemmas.Bool.{eq-eqb, ne_eqb, eqb-true}
+use Rattle.std.proofs.lemmas.Bool.{ne_eqb, eqb-true, true≢false}
+use Rattle.std.proofs.lemmas.Bool.Decides.{Decides-and, Decides-like, Decides-eqb, same_from_decides}
 use Rattle.std.proofs.lemmas.Slice.Eq.{bytes_eq-Decides}
 use Rattle.plain_text.specs.declared.run.Run.{Run}
 use Rattle.plain_screen.specs.declared.screen.Line.{Line}
@@ -21,15 +22,18 @@ use Rattle.rev_engine.specs.Steps.{with_edit}
 use Rattle.doc_session.specs.InMemory.{Doc}
 use Rattle.doc_session.specs.declared.moved.Moved.{Moved}
 use Rattle.doc_session.specs.Document.{Document, text_of, layout_of, is_pristine, no_request, first_window}
-use Rattle.doc_session.specs.Effects.{ops_of, update_of, told, differ, are_valid, is_window_valid, wants_update, update_after, settled, scroll_after, is_same_point}
+use Rattle.doc_session.specs.Effects.{ops_of, update_of, updated, differ, are_valid, is_window_valid, wants_update, update_after, settled, scroll_after, is_same_point}
 use Rattle.doc_session.specs.Inner.{is_lacking}
 use Rattle.doc_session.specs.Inner.{IsMoved}
 use Rattle.doc_session.specs.Inner.{planned}
 use Rattle.doc_session.specs.Stands.{DocStandsFor}
 use Rattle.doc_session.specs.Step.{edited_document}
 use Rattle.doc_session.specs.Whole.{IsStateOf, IsStateOfSome}
+use Rattle.doc_session.specs.SameLayout.{is_same_layout}
 use Rattle.doc_session.proofs.InsertLemmas.{IsStateOf-whole}
 use Rattle.doc_session.proofs.MoveLemmas.{head-after, head-stands}
+use Rattle.doc_session.proofs.SameLemmas.{is_same_layout-Decides}
+use Rattle.doc_session.proofs.TellLemmas.{layout_tells}
 
 -- ---- the screen
 
@@ -37,8 +41,8 @@ pub screen_after-ops_of : (screen : Screen) (document : Document) →
     screen_after screen (ops_of document) ≡ Some (shown_lines document.window no_request (layout_of document))
 screen_after-ops_of screen document = screen_after-plan_from document.window no_request (layout_of document) 0 0 screen
 
-pub screen-told : (document : Document) → (told document).screen ≡ shown_lines document.window no_request (layout_of document)
-screen-told document = ap (λ screen. unwrap_or screen []) (screen_after-ops_of document.screen document)
+pub screen-updated : (document : Document) → (updated document).screen ≡ shown_lines document.window no_request (layout_of document)
+screen-updated document = ap (λ screen. unwrap_or screen []) (screen_after-ops_of document.screen document)
 
 shown_valid : (b r : Bool) (line : Line) → (not b || is_some (if b || r then Some line else None)) ≡ true
 shown_valid true r line = refl
@@ -88,9 +92,9 @@ same_bytes : (xs : List ℕ) → bytes_eq xs xs ≡ true
 same_bytes xs = (bytes_eq-Decides xs xs).1 refl
 
 by_flags : (t c p v w : Bool) → (v ≡ false → w ≡ false) → (v ≡ true → t ≡ true → c ≡ true → w ≡ true) →
-    (not v || (not c || (p || not t))) ≡ (((not t || not c) || differ p false) || not w)
+    (not v || (not c || (p || not t))) ≡ ((not (t && c) || differ p false) || not w)
 by_flags t c p false w none all =
-    sym (ap (λ b. ((not t || not c) || differ p false) || not b) (none refl) ∙ or-true ((not t || not c) || differ p false))
+    sym (ap (λ b. (not (t && c) || differ p false) || not b) (none refl) ∙ or-true (not (t && c) || differ p false))
 by_flags true true true true w none all = refl
 by_flags true true false true w none all = sym (ap not (all refl refl refl))
 by_flags true false p true w none all = refl
@@ -111,8 +115,8 @@ module _ (doc : Doc) (plain : Document) (stands : DocStandsFor doc plain) where
 
   pub wants_update-same : wants_update plain plain ≡ not doc.valid
   wants_update-same =
-      ap₂ (λ text caret. ((not text || not caret) || differ (is_pristine plain) (is_pristine plain)) || not (is_window_valid plain))
-      (same_bytes (text_of plain)) (eq-eqb plain.caret plain.caret refl) ∙
+      ap (λ same. (not same || differ (is_pristine plain) (is_pristine plain)) || not (is_window_valid plain))
+      ((is_same_layout-Decides (layout_of plain) (layout_of plain)).1 refl) ∙
       ap₂ (λ pristine valid. pristine || not valid) (differ-same (is_pristine plain)) (screen_valid doc.valid stands.screen)
 
   module _ (asked : AskedEdit) (gap : ℕ) where
@@ -143,43 +147,56 @@ module _ (doc : Doc) (plain : Document) (stands : DocStandsFor doc plain) where
     pristine_plain =
         ap₂ (λ now saved. now == saved) (sym (head-stands doc.engine plain.history stands.parts.shown.stands)) stands.saved
 
+    -- the layouts are the same exactly where the texts and the carets are
+    layout_by : gap ≤ length (text_of next) →
+        (bytes_eq (text_of plain) (text_of next) && (plain.caret == gap)) ≡ is_same_layout (layout_of plain) (layout_of next)
+    layout_by inside =
+        let within : plain.caret ≤ length (text_of plain) =
+        omega (arith, stands.parts.inside, stands.caret, ap length stands.parts.shown.text_is) in
+        let here = bytes_eq (text_of plain) (text_of next) in
+        let both =
+        Decides-and here (plain.caret == gap) (bytes_eq-Decides (text_of plain) (text_of next)) (Decides-eqb plain.caret gap) in
+        same_from_decides (here && (plain.caret == gap)) (is_same_layout (layout_of plain) (layout_of next))
+        (Decides-like (here && (plain.caret == gap)) (λ same. ap₂ (λ t c. layout t (c ∷ [])) same.0 same.1)
+        (λ is. layout_tells (text_of plain) (text_of next) plain.caret gap within inside is) both)
+        (is_same_layout-Decides (layout_of plain) (layout_of next))
+
     -- THE OCCASION, by what is in memory
-    pub wants_update-edited : (text : List ℕ) → text ≡ text_of next →
+    pub wants_update-edited : (text : List ℕ) → text ≡ text_of next → gap ≤ length text →
         is_lacking doc.valid (head doc.engine.revisions) doc.text doc.caret text gap ≡ wants_update plain next
-    wants_update-edited text text_is =
+    wants_update-edited text text_is inside =
         ap₂ (λ t c. is_lacking doc.valid (head doc.engine.revisions) t c text gap) stands.parts.shown.text_is stands.caret ∙
         ap (λ t. is_lacking doc.valid (head doc.engine.revisions) (text_of plain) plain.caret t gap) text_is ∙
         by_flags (bytes_eq (text_of plain) (text_of next)) (plain.caret == gap) (head doc.engine.revisions == 0) doc.valid (is_window_valid next)
         (window_lacks doc.valid stands.screen) (window_has doc.valid stands.screen) ∙
-        ap₂ (λ was is. (not (bytes_eq (text_of plain) (text_of next)) || not (plain.caret == gap)) || differ was is || not (is_window_valid next))
-        (sym pristine_plain) (sym pristine_next)
+        ap₂ (λ was is. (not (bytes_eq (text_of plain) (text_of next) && (plain.caret == gap)) || differ was is) || not (is_window_valid next))
+        (sym pristine_plain) (sym pristine_next) ∙
+        ap (λ same. (not same || differ (is_pristine plain) (is_pristine next)) || not (is_window_valid next))
+        (layout_by (subst (λ t. gap ≤ length t) text_is inside))
+
+    -- nothing is wanted where the layouts are the same and the window is valid
+    none_wanted : (same p w : Bool) → ((not same || p) || not w) ≡ false → (same ≡ true) × (w ≡ true)
+    none_wanted true p true is = (refl, refl)
+    none_wanted true true false is = absurd cc
+    none_wanted true false false is = absurd cc
+    none_wanted false p w is = absurd cc
 
     -- the screen that the front end has then
-    settled_lacks : (t c p v : Bool) → (not v || (not c || (p || not t))) ≡ false → (v ≡ true) × (t ≡ true) × (c ≡ true)
-    settled_lacks t c p false is = absurd cc
-    settled_lacks t false p true is = absurd cc
-    settled_lacks t true true true is = absurd cc
-    settled_lacks true true false true is = (refl, refl, refl)
-    settled_lacks false true false true is = absurd cc
-
-    pub screen-settled : (text : List ℕ) → text ≡ text_of next →
-        (settled plain next).screen ≡ shown_lines plain.window no_request (layout_of next)
-    screen-settled text text_is = by (wants_update plain next) refl
+    pub screen-settled : (settled plain next).screen ≡ shown_lines plain.window no_request (layout_of next)
+    screen-settled = by (wants_update plain next) refl
       where
-        valid_by : (valid : Bool) → valid ≡ true → screen_by valid plain ≡ shown_lines plain.window no_request (layout_of plain)
-        valid_by true is = refl
-        valid_by false is = absurd cc
+        valid_by : (valid : Bool) → plain.screen ≡ screen_by valid plain → is_window_valid next ≡ true →
+            screen_by valid plain ≡ shown_lines plain.window no_request (layout_of plain)
+        valid_by true is here = refl
+        valid_by false is here = absurd (true≢false (sym here ∙ window_lacks false is refl))
 
         by : (b : Bool) → wants_update plain next ≡ b →
-            (if b then told next else next).screen ≡ shown_lines plain.window no_request (layout_of next)
-        by true is = screen-told next
+            (if b then updated next else next).screen ≡ shown_lines plain.window no_request (layout_of next)
+        by true is = screen-updated next
         by false is =
-            let flags =
-            settled_lacks (bytes_eq doc.text text) (doc.caret == gap) (head doc.engine.revisions == 0) doc.valid (wants_update-edited text text_is ∙ is) in
-            let same_text : bytes_eq (text_of plain) (text_of next) ≡ true =
-            ap₂ bytes_eq (sym stands.parts.shown.text_is) (sym text_is) ∙ flags.1 in
-            let same_caret : (plain.caret == gap) ≡ true = ap (λ c. c == gap) (sym stands.caret) ∙ flags.2 in
-            stands.screen ∙ valid_by doc.valid flags.0 ∙ ap (shown_lines plain.window no_request) (sym (layout_same same_text same_caret))
+            let flags = none_wanted (is_same_layout (layout_of plain) (layout_of next)) (differ (is_pristine plain) (is_pristine next)) (is_window_valid next) is in
+            stands.screen ∙ valid_by doc.valid stands.screen flags.1 ∙
+            ap (shown_lines plain.window no_request) ((is_same_layout-Decides (layout_of plain) (layout_of next)).0 flags.0)
 
 -- two texts are alike where their bytes are
 pub bytes_texts : (xs ys a b : List ℕ) → a ≡ encode_utf8_all xs → b ≡ encode_utf8_all ys → chars a ≡ xs → chars b ≡ ys → bytes_eq a b ≡ bytes_eq xs ys
@@ -198,7 +215,7 @@ bytes_texts xs ys a b a_is b_is xs_is ys_is = by (bytes_eq a b) (bytes_eq xs ys)
 -- ---- a document in memory after an edit
 
 pub DocStandsFor-settled : (doc made : Doc) (plain : Document) (asked : AskedEdit) (moved : Moved) → DocStandsFor doc plain →
-    IsMoved plain.history doc.engine asked moved → IsStateOfSome (with_edit doc.engine moved.ready) moved.text made.caret doc.plugins →
+    IsMoved plain.history doc.engine asked moved → IsStateOfSome (with_edit doc.engine moved.ready) moved.text made.caret →
     made.engine ≡ with_edit doc.engine moved.ready → made.text ≡ moved.text → made.lines ≡ layout moved.text (made.caret ∷ []) → made.plugins ≡ doc.plugins → made.valid ≡ true →
     DocStandsFor made (settled plain (edited_document plain asked made.caret))
 DocStandsFor-settled doc made plain asked moved stands is whole engine_is text_is lines_is plugins_is valid_is = by (wants_update plain next) refl
@@ -206,17 +223,17 @@ DocStandsFor-settled doc made plain asked moved stands is whole engine_is text_i
     next : Document
     next = edited_document plain asked made.caret
 
-    parts : IsStateOf (after plain.history asked) made.engine made.text made.caret made.plugins
-    parts = rw (engine_is, text_is, plugins_is) (IsStateOf-whole (after plain.history asked) (with_edit doc.engine moved.ready) moved.text made.caret doc.plugins whole is.shown)
+    parts : IsStateOf (after plain.history asked) made.engine made.text made.caret
+    parts = rw (engine_is, text_is) (IsStateOf-whole (after plain.history asked) (with_edit doc.engine moved.ready) moved.text made.caret whole is.shown)
 
     shown_by : (valid : Bool) → valid ≡ true → shown_lines plain.window no_request (layout_of next) ≡ screen_by valid next
     shown_by true is = refl
     shown_by false is = absurd cc
 
     screen_is : (settled plain next).screen ≡ screen_by made.valid next
-    screen_is = screen-settled doc plain stands asked made.caret moved.text is.shown.text_is ∙ shown_by made.valid valid_is
+    screen_is = screen-settled doc plain stands asked made.caret ∙ shown_by made.valid valid_is
 
-    by : (b : Bool) → wants_update plain next ≡ b → DocStandsFor made (if b then told next else next)
+    by : (b : Bool) → wants_update plain next ≡ b → DocStandsFor made (if b then updated next else next)
     by true wants = record {
       parts = parts;
       limit = ap (λ (e : State). e.limit) engine_is ∙ stands.limit;
@@ -225,7 +242,7 @@ DocStandsFor-settled doc made plain asked moved stands is whole engine_is text_i
       lines = lines_is ∙ ap (λ t. layout t (made.caret ∷ [])) is.shown.text_is;
       window = stands.window;
       saved = stands.saved;
-      screen = screen-told next ∙ shown_by made.valid valid_is;
+      screen = screen-updated next ∙ shown_by made.valid valid_is;
     }
     by false wants = record {
       parts = parts;
@@ -235,17 +252,17 @@ DocStandsFor-settled doc made plain asked moved stands is whole engine_is text_i
       lines = lines_is ∙ ap (λ t. layout t (made.caret ∷ [])) is.shown.text_is;
       window = stands.window;
       saved = stands.saved;
-      screen = ap (λ b. (if b then told next else next).screen) (sym wants) ∙ screen_is;
+      screen = ap (λ b. (if b then updated next else next).screen) (sym wants) ∙ screen_is;
     }
 
 -- the update of an edit
 pub update-settled : (doc : Doc) (plain : Document) (asked : AskedEdit) (moved : Moved) (gap : ℕ) (wanted : Bool) (lines : List Line) (update : Option Update) →
-    DocStandsFor doc plain → IsMoved plain.history doc.engine asked moved → lines ≡ layout moved.text (gap ∷ []) →
+    DocStandsFor doc plain → IsMoved plain.history doc.engine asked moved → gap ≤ length moved.text → lines ≡ layout moved.text (gap ∷ []) →
     wanted ≡ is_lacking doc.valid (head doc.engine.revisions) doc.text doc.caret moved.text gap →
     update ≡ (if wanted then Some (planned lines false) else None) → update ≡ update_after plain (edited_document plain asked gap)
-update-settled doc plain asked moved gap wanted lines update stands is lines_is wanted_is update_is =
+update-settled doc plain asked moved gap wanted lines update stands is inside lines_is wanted_is update_is =
     update_is ∙
-    ap₂ (λ b u. if b then Some u else None) (wanted_is ∙ wants_update-edited doc plain stands asked gap moved.text is.shown.text_is) planned_is
+    ap₂ (λ b u. if b then Some u else None) (wanted_is ∙ wants_update-edited doc plain stands asked gap moved.text is.shown.text_is inside) planned_is
   where
     next : Document
     next = edited_document plain asked gap
@@ -257,10 +274,10 @@ update-settled doc plain asked moved gap wanted lines update stands is lines_is 
         (sym (pristine_next doc plain stands asked gap))
 
 -- its scroll
-pub scroll-settled : (doc : Doc) (plain : Document) (asked : AskedEdit) (moved : Moved) (gap : ℕ) (was now : Position) (scroll : Option Position) →
-    DocStandsFor doc plain → IsMoved plain.history doc.engine asked moved → was ≡ position_of doc.text doc.caret → now ≡ position_of moved.text gap →
+pub scroll-settled : (doc : Doc) (engine : State) (plain : Document) (asked : AskedEdit) (moved : Moved) (gap : ℕ) (was now : Position) (scroll : Option Position) →
+    DocStandsFor doc plain → IsMoved plain.history engine asked moved → was ≡ position_of doc.text doc.caret → now ≡ position_of moved.text gap →
     scroll ≡ (if is_same_point was now then None else Some now) → scroll ≡ scroll_after plain (edited_document plain asked gap)
-scroll-settled doc plain asked moved gap was now scroll stands is was_is now_is scroll_is =
+scroll-settled doc engine plain asked moved gap was now scroll stands is was_is now_is scroll_is =
     scroll_is ∙
     ap₂ (λ was now. if is_same_point was now then None else Some now) (was_is ∙ ap₂ position_of stands.parts.shown.text_is stands.caret)
     (now_is ∙ ap (λ t. position_of t gap) is.shown.text_is)
@@ -271,8 +288,8 @@ pub DocStandsFor-still : (doc made : Doc) (plain : Document) → DocStandsFor do
     made.caret ≡ doc.caret → made.plugins ≡ doc.plugins → made.valid ≡ true → DocStandsFor made (settled plain plain)
 DocStandsFor-still doc made plain stands engine_is text_is lines_is caret_is plugins_is valid_is = by (wants_update plain plain) refl
   where
-    parts : IsStateOf plain.history made.engine made.text made.caret made.plugins
-    parts = rw (engine_is, text_is, caret_is, plugins_is) stands.parts
+    parts : IsStateOf plain.history made.engine made.text made.caret
+    parts = rw (engine_is, text_is, caret_is) stands.parts
 
     shown_by : (valid : Bool) → valid ≡ true → shown_lines plain.window no_request (layout_of plain) ≡ screen_by valid plain
     shown_by true is = refl
@@ -282,7 +299,7 @@ DocStandsFor-still doc made plain stands engine_is text_is lines_is caret_is plu
     valid_by true is = refl
     valid_by false is = absurd cc
 
-    by : (b : Bool) → wants_update plain plain ≡ b → DocStandsFor made (if b then told plain else plain)
+    by : (b : Bool) → wants_update plain plain ≡ b → DocStandsFor made (if b then updated plain else plain)
     by true wants = record {
       parts = parts;
       limit = ap (λ (e : State). e.limit) engine_is ∙ stands.limit;
@@ -291,7 +308,7 @@ DocStandsFor-still doc made plain stands engine_is text_is lines_is caret_is plu
       lines = lines_is ∙ stands.lines;
       window = stands.window;
       saved = stands.saved;
-      screen = screen-told plain ∙ shown_by made.valid valid_is;
+      screen = screen-updated plain ∙ shown_by made.valid valid_is;
     }
     by false wants = record {
       parts = parts;

@@ -2,7 +2,6 @@
 use Rattle.std.proofs.Common.{◌≡◌, ℕ, ◌+◌, ◌≤◌, Bool, true, false, [], ◌∷◌, length, Option, Some, None, refl, ap, sym, ◌∙◌, arith}
 use Rattle.std.specs.Prelude.{if◌then◌else◌, not, ◌^◌}
 use Rattle.xi_plain.specs.declared.command.EditAct.TheVariants.{Insert}
-use Rattle.plain_edits.specs.History.{head}
 use Rattle.plain_screen.specs.Plan.{shown_lines}
 use Rattle.rev_engine.specs.Given.{AskedEdit}
 use Rattle.doc_session.specs.InMemory.{Doc}
@@ -12,21 +11,20 @@ use Rattle.doc_session.specs.Ready.{with_edited, with_event}
 use Rattle.doc_session.specs.declared.event.Event.{Event}
 use Rattle.doc_session.specs.declared.event.Event.TheVariants.{Front, Edit, Other}
 use Rattle.doc_session.specs.Asking.{front_edit, plugin_edit}
-use Rattle.doc_session.specs.Document.{Document, layout_of, no_request, text_of}
-use Rattle.doc_session.specs.Effects.{settled, told, wants_update}
+use Rattle.doc_session.specs.Document.{Document, layout_of, no_request}
+use Rattle.doc_session.specs.Effects.{settled, updated, wants_update}
 use Rattle.doc_session.specs.ScreenOf.{IsUpToDate}
 use Rattle.doc_session.specs.Stands.{DocStandsFor}
 use Rattle.doc_session.specs.Step.{caret_by, edited_document, event_step}
-use Rattle.doc_session.proofs.MoveLemmas.{head-stands}
 use Rattle.doc_session.proofs.ScreenLemmas.{IsScreenOf-screen}
-use Rattle.doc_session.proofs.SettleLemmas.{screen-settled, screen-told, wants_update-same, screen_by}
+use Rattle.doc_session.proofs.SettleLemmas.{screen-settled, screen-updated, wants_update-same, screen_by}
 
 -- the window stays, also where the front end was told
-window-settled : (b : Bool) (plain next : Document) → next.window ≡ plain.window → (if b then told next else next).window ≡ plain.window
+window-settled : (b : Bool) (plain next : Document) → next.window ≡ plain.window → (if b then updated next else next).window ≡ plain.window
 window-settled true plain next same = same
 window-settled false plain next same = same
 
-layout-settled : (b : Bool) (next : Document) → layout_of (if b then told next else next) ≡ layout_of next
+layout-settled : (b : Bool) (next : Document) → layout_of (if b then updated next else next) ≡ layout_of next
 layout-settled true next = refl
 layout-settled false next = refl
 
@@ -41,7 +39,7 @@ module _ (doc : Doc) (plain : Document) (stands : DocStandsFor doc plain) where
   shown-edited : (asked : AskedEdit) (gap : ℕ) → IsUpToDate (settled plain (edited_document plain asked gap))
   shown-edited asked gap =
       shown-by plain (edited_document plain asked gap) refl
-      (screen-settled doc plain stands asked gap (text_of (edited_document plain asked gap)) refl)
+      (screen-settled doc plain stands asked gap)
 
   shown-still : IsUpToDate (settled plain plain)
   shown-still = shown-by plain plain refl (by (wants_update plain plain) refl)
@@ -50,8 +48,8 @@ module _ (doc : Doc) (plain : Document) (stands : DocStandsFor doc plain) where
       valid_by true is = refl
       valid_by false is = absurd cc
 
-      by : (b : Bool) → wants_update plain plain ≡ b → (if b then told plain else plain).screen ≡ shown_lines plain.window no_request (layout_of plain)
-      by true is = screen-told plain
+      by : (b : Bool) → wants_update plain plain ≡ b → (if b then updated plain else plain).screen ≡ shown_lines plain.window no_request (layout_of plain)
+      by true is = screen-updated plain
       by false is = stands.screen ∙ valid_by doc.valid (sym (wants_update-same doc plain stands) ∙ is)
 
   pub shown-step : (event : Event) → IsUpToDate (event_step plain event).document
@@ -60,12 +58,6 @@ module _ (doc : Doc) (plain : Document) (stands : DocStandsFor doc plain) where
   shown-step (Edit caller edit named) =
       shown-edited (plugin_edit plain caller edit) (caret_by plain (plugin_edit plain caller edit) edit.after_cursor)
   shown-step Other = shown-still
-
--- a document without plugins has no more revisions than its limit
-pub head-few : (doc : Doc) (plain : Document) → DocStandsFor doc plain → doc.plugins ≡ 0 → head doc.engine.revisions ≤ 2 ^ 60
-head-few doc plain stands none =
-    let parts = stands.parts in
-    omega (arith, parts.few none, parts.within, parts.bound, head-stands doc.engine plain.history parts.shown.stands)
 
 pub plugins-with_event : (doc : Doc) (ready : ReadyEvent) → (with_event doc ready).plugins ≡ doc.plugins
 plugins-with_event doc ready = by ready.edited

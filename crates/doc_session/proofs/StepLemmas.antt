@@ -4,7 +4,6 @@ use Rattle.std.proofs.Math.Logic.{∥∥₁_elim}
 use Rattle.std.specs.Coded.{Coded-set, coded_bool}
 use Rattle.std.specs.Prelude.{◌^◌, IsTrue}
 use Rattle.xi_plain.specs.declared.command.EditAct.TheVariants.{Insert}
-use Rattle.plain_edits.specs.Delta.{inserted_len}
 use Rattle.plain_edits.specs.History.{History, head}
 use Rattle.plain_text.specs.Numbers.{has}
 use Rattle.rev_engine.specs.declared.edit.Edit.{Edit}
@@ -14,25 +13,24 @@ use Rattle.rev_engine.specs.Given.{AskedEdit, MayAsk}
 use Rattle.rev_engine.proofs.ForCallers.{IsFresh-given}
 use Rattle.selection_core.specs.Mapped.{new_gap}
 use Rattle.doc_session.specs.InMemory.{Doc, doc_contents}
-use Rattle.doc_session.specs.declared.event.Body.TheVariants.{Null}
 use Rattle.doc_session.specs.declared.event.Event.TheVariants.{Front}
 use Rattle.doc_session.specs.declared.moved.Moved.{Moved}
 use Rattle.doc_session.specs.Asking.{front_edit, insertion_at, plugin_edit, asked_refusal}
 use Rattle.doc_session.specs.Document.{Document}
 use Rattle.doc_session.specs.Inner.{IsMoved}
 use Rattle.doc_session.specs.Stands.{DocStandsFor}
-use Rattle.doc_session.specs.Step.{caret_by, edit_step, refusal_at, event_step}
+use Rattle.doc_session.specs.Step.{caret_by, front_step, refusal_at, event_step}
 use Rattle.doc_session.specs.Whole.{ShowsHead, IsStateOf, IsStateOfSome}
 use Rattle.doc_session.proofs.InsertLemmas.{IsStateOf-contents}
 use Rattle.doc_session.proofs.MoveLemmas.{head-stands, new_gap-moved}
 use Rattle.doc_session.proofs.SettleLemmas.{screen_by}
 
 -- an edit in the group of its own revision may be asked for
-pub MayAsk-whole : (engine : State) (text : List ℕ) (caret plugins group : ℕ) → IsStateOfSome engine text caret plugins → 1 ≤ group →
+pub MayAsk-whole : (engine : State) (text : List ℕ) (caret group : ℕ) → IsStateOfSome engine text caret → 1 ≤ group →
     head engine.revisions < 2 ^ 63 - 1 → MayAsk engine.revisions group
-MayAsk-whole engine text caret plugins group whole counts numbered = record {
+MayAsk-whole engine text caret group whole counts numbered = record {
   group_counts = counts;
-  group_kept = ∥∥₁_elim whole (Coded-set coded_bool _ _) (λ (s : (h : History) × IsStateOf h engine text caret plugins).
+  group_kept = ∥∥₁_elim whole (Coded-set coded_bool _ _) (λ (s : (h : History) × IsStateOf h engine text caret).
       ap (λ (h : History). has h.collected group) s.1.shown.stands.revisions ∙
       ap (λ groups. has groups group) (IsFresh-given engine.limit s.0 s.1.shown.stands.given).collected);
   has_number = numbered;
@@ -67,18 +65,13 @@ asked-front doc plain chars other stands is =
     ap₂ (λ text gap. insertion_at (head plain.history) text gap chars) stands.parts.shown.text_is stands.caret
 
 pub event_step-front : (plain : Document) (chars : List ℕ) → chars ≢ [] →
-    event_step plain (Front (Insert chars)) ≡ edit_step plain (front_edit plain chars) (plain.caret + length chars) Null
+    event_step plain (Front (Insert chars)) ≡ front_step plain (front_edit plain chars) (plain.caret + length chars)
 event_step-front plain [] some = absurd (some refl)
 event_step-front plain (c ∷ chars) some = refl
 
 pub refusal_at-front : (plain : Document) (chars : List ℕ) → chars ≢ [] → refusal_at plain (Front (Insert chars)) ≡ asked_refusal plain (front_edit plain chars)
 refusal_at-front plain [] some = absurd (some refl)
 refusal_at-front plain (c ∷ chars) some = refl
-
-pub some-inserted : (head : ℕ) (text : List ℕ) (gap : ℕ) (chars : List ℕ) (asked : AskedEdit) → asked ≡ insertion_at head text gap chars → chars ≢ [] →
-    1 ≤ inserted_len asked.delta.els
-some-inserted head text gap [] asked is some = absurd (some refl)
-some-inserted head text gap (c ∷ chars) asked is some = rw is (omega arith)
 
 -- what a document stands for hangs on what it holds alone
 pub DocStandsFor-doc_contents : (doc now : Doc) (plain : Document) → doc_contents now ≡ doc_contents doc → DocStandsFor doc plain → DocStandsFor now plain
@@ -88,7 +81,7 @@ DocStandsFor-doc_contents doc now plain same stands =
     let caret : now.caret ≡ doc.caret = ap (λ (d : Doc). d.caret) same in
     let plugins : now.plugins ≡ doc.plugins = ap (λ (d : Doc). d.plugins) same in
     record {
-      parts = rw (text, caret, plugins) (IsStateOf-contents plain.history doc.engine now.engine doc.text doc.caret doc.plugins engine stands.parts);
+      parts = rw (text, caret) (IsStateOf-contents plain.history doc.engine now.engine doc.text doc.caret engine stands.parts);
       limit = ap (λ (e : State). e.limit) engine ∙ stands.limit;
       plugins = plugins ∙ stands.plugins;
       caret = caret ∙ stands.caret;

@@ -1,6 +1,5 @@
 -- What a front end and the plugins are told after a document changed.
 use Rattle.std.specs.Prelude.{ℕ, ◌+◌, Bool, true, false, not, ◌&&◌, ◌||◌, if◌then◌else◌, ◌==◌, List, [], ◌∷◌, Option, Some, None, unwrap_or, is_some}
-use Rattle.std.specs.Str.{bytes_eq}
 use Rattle.subset_runs.specs.Subset.{contains, complement, shrink}
 use Rattle.xi_plain.specs.declared.config.Notice.{Notice}
 use Rattle.plain_edits.specs.declared.delta.Delta.{Delta}
@@ -17,7 +16,8 @@ use Rattle.delta_core.specs.Synthesis.{appearing}
 use Rattle.delta_core.specs.Wire.{wire_from}
 use Rattle.rev_list.specs.Hidden.{hidden_at}
 use Rattle.rev_rebase.specs.Rebase.{characters_of}
-use Rattle.doc_session.specs.Document.{Document, text_of, layout_of, caret_point, is_pristine, no_request}
+use Rattle.doc_session.specs.Document.{Document, layout_of, caret_point, is_pristine, no_request}
+use Rattle.doc_session.specs.SameLayout.{is_same_layout}
 
 -- the update of a document (no line has a partner yet)
 abbrev pub ops_of : Document → List Op
@@ -26,13 +26,13 @@ ops_of document = update_plan document.window no_request (layout_of document) []
 abbrev pub update_of : Document → Update
 update_of document = record { ops = ops_of document; pristine = is_pristine document }
 
--- the document after its front end was told of it
-abbrev pub told : Document → Document
-told document = record document { screen = unwrap_or (screen_after document.screen (ops_of document)) [] }
+-- the document with its update on the screen of its front end
+abbrev pub updated : Document → Document
+updated document = record document { screen = unwrap_or (screen_after document.screen (ops_of document)) [] }
 
--- whether the layout changed: it has the characters of its text and the place of its caret, and nothing else
+-- whether the layout changed
 abbrev pub is_laid_out_anew : Document → Document → Bool
-is_laid_out_anew before after = not (bytes_eq (text_of before) (text_of after)) || not (before.caret == after.caret)
+is_laid_out_anew before after = not (is_same_layout (layout_of before) (layout_of after))
 
 -- whether two truths differ
 abbrev pub differ : Bool → Bool → Bool
@@ -60,9 +60,9 @@ abbrev pub update_after : Document → Document → Option Update
 update_after before after = if wants_update before after then Some (update_of after) else None
 
 abbrev pub settled : Document → Document → Document
-settled before after = if wants_update before after then told after else after
+settled before after = if wants_update before after then updated after else after
 
--- THE OCCASION OF A SCROLL: line or byte column of the caret changed; and the place that is written
+-- THE OCCASION OF A SCROLL, at an edit of the front end: line or byte column of the caret changed; and the place that is written
 abbrev pub is_same_point : Position → Position → Bool
 is_same_point before after = before.line == after.line && before.col == after.col
 

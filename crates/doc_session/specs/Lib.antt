@@ -1,6 +1,7 @@
 pub mod Layout
 pub mod Document
 pub mod Asking
+pub mod SameLayout
 pub mod Effects
 pub mod PositionView
 pub mod Step

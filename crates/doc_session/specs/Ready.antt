@@ -25,7 +25,7 @@ with_event doc ready = with_edited doc ready.edited
 abbrev pub MayTakeEdited : Doc → Option Edited → Type 0
 MayTakeEdited doc None = ⊤
 MayTakeEdited doc (Some edited) =
-    MayPut doc.engine edited.ready × IsStateOfSome (with_edit doc.engine edited.ready) edited.text edited.caret doc.plugins
+    MayPut doc.engine edited.ready × IsStateOfSome (with_edit doc.engine edited.ready) edited.text edited.caret
 
 -- THE EVENT MAY BE PUT IN: so may its edit, where it is one
 abbrev pub MayTake : Doc → ReadyEvent → Type 0

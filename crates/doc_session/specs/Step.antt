@@ -31,13 +31,13 @@ pub record EventStep : Type 0 where
 abbrev pub edited_document : Document → AskedEdit → ℕ → Document
 edited_document document asked gap = record document { history = after document.history asked; caret = gap }
 
--- an edit is taken, and the caret stands at this gap after it
-abbrev pub edit_step : Document → AskedEdit → ℕ → Body → EventStep
-edit_step document asked gap body = record {
+-- an edit is taken, the caret stands at this gap after it, and this place is to be scrolled to, if any
+abbrev pub edit_step : Document → AskedEdit → ℕ → Body → Option Position → EventStep
+edit_step document asked gap body scroll = record {
   document = settled document (edited_document document asked gap);
   body = body;
   update = update_after document (edited_document document asked gap);
-  scroll = scroll_after document (edited_document document asked gap);
+  scroll = scroll;
   notice = Some (notice_of document.history (after document.history asked) asked.author);
 }
 
@@ -55,18 +55,22 @@ still_step document = record {
   notice = None;
 }
 
--- the edit of a plugin is taken
+-- the front end's own edit is taken, which scrolls to the caret
+abbrev pub front_step : Document → AskedEdit → ℕ → EventStep
+front_step document asked gap = edit_step document asked gap Null (scroll_after document (edited_document document asked gap))
+
+-- the edit of a plugin is taken, which scrolls nowhere
 abbrev pub plugin_step : Document → ℕ → Given → EventStep
 plugin_step document caller edit =
     edit_step document (plugin_edit document caller edit) (caret_by document (plugin_edit document caller edit) edit.after_cursor)
-    (Edited (head document.history + 1) (head document.history + 1))
+    (Edited (head document.history + 1) (head document.history + 1)) None
 
 -- THE STEP of an event that is not refused. The front end's own insertion leaves the caret after its text, and one of no characters
 -- changes nothing; at a plugin's edit the caret moves by the caret rule.
 abbrev pub event_step : Document → Event → EventStep
 event_step document (Front (Insert [])) = still_step document
 event_step document (Front (Insert (c ∷ chars))) =
-    edit_step document (front_edit document (c ∷ chars)) (document.caret + length (c ∷ chars)) Null
+    front_step document (front_edit document (c ∷ chars)) (document.caret + length (c ∷ chars))
 event_step document (Edit caller edit named) = plugin_step document caller edit
 event_step document Other = still_step document
 

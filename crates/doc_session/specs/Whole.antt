@@ -12,15 +12,13 @@ pub record ShowsHead (history : History) (engine : State) (text : List ℕ) : Ty
   pub stands : StandsFor engine history
   pub text_is : text ≡ text_at history (head history)
 
--- the engine and the text are those of a history, and the caret is a gap of the text. As many characters were inserted as there are
--- revisions, where no plugin makes any: each of the front end inserts one at least
-pub record IsStateOf (history : History) (engine : State) (text : List ℕ) (caret plugins : ℕ) : Type 0 where
+-- the engine and the text are those of a history, and the caret is a gap of the text
+pub record IsStateOf (history : History) (engine : State) (text : List ℕ) (caret : ℕ) : Type 0 where
   pub shown : ShowsHead history engine text
   pub inside : caret ≤ length text
-  pub few : plugins ≡ 0 → head history ≤ inserted_count history
   pub within : inserted_count history ≤ engine.limit
   pub bound : engine.limit ≤ 2 ^ 60
 
--- and the caret with it
-abbrev pub IsStateOfSome : State → List ℕ → ℕ → ℕ → Type 0
-IsStateOfSome engine text caret plugins = ∥ ((history : History) × IsStateOf history engine text caret plugins) ∥₁
+-- they are those of some history
+abbrev pub IsStateOfSome : State → List ℕ → ℕ → Type 0
+IsStateOfSome engine text caret = ∥ ((history : History) × IsStateOf history engine text caret) ∥₁

@@ -1,4 +1,4 @@
-ghost use Rattle.std.specs.Prelude.{◌≡◌, ◌+◌, ◌-◌, ◌^◌, ◌<◌, ◌≤◌, length, Some, None, IfOk, IfErr, OnOk, OnErr};
+ghost use Rattle.std.specs.Prelude.{◌≡◌, ◌+◌, ◌-◌, ◌^◌, ◌<◌, ◌≤◌, length, Some, None, IfOk, IfErr, OnOk, OnErr, option_map};
 ghost use Rattle.plain_edits.specs.Collection.{kept};
 ghost use Rattle.plain_edits.specs.History.{head};
 ghost use Rattle.xi_plain.specs.declared.command.EditAct.TheVariants.{Insert};
@@ -7,14 +7,16 @@ ghost use Rattle.rev_engine.specs.Given.{AskedEdit};
 ghost use Rattle.rev_engine.specs.Steps.{MayPut, with_edit};
 ghost use Rattle.doc_session.specs.Asking.{insertion_at, plugin_edit, asked_refusal};
 ghost use Rattle.doc_session.specs.Document.{Document, layout_of, loaded_document, text_of};
+ghost use Rattle.doc_session.specs.Effects.{settled};
 ghost use Rattle.doc_session.specs.Fault.{DocRefuses};
 ghost use Rattle.doc_session.specs.InMemory.{doc_contents};
 ghost use Rattle.doc_session.specs.Inner.{is_lacking};
 ghost use Rattle.doc_session.specs.Inner.{IsMoved};
+ghost use Rattle.doc_session.specs.PositionView.{position_view};
 ghost use Rattle.doc_session.specs.Ready.{MayTake, MayTakeEdited, with_edited, with_event};
 ghost use Rattle.doc_session.specs.ScreenOf.{IsUpToDate};
 ghost use Rattle.doc_session.specs.Stands.{DocStandsFor};
-ghost use Rattle.doc_session.specs.Step.{AreEffectsOf, HasCaller, edit_step, plugin_step, refusal_at, event_step, still_step};
+ghost use Rattle.doc_session.specs.Step.{AreEffectsOf, HasCaller, edit_step, edited_document, plugin_step, refusal_at, event_step, still_step};
 ghost use Rattle.doc_session.specs.Whole.{IsStateOfSome};
 ghost use Rattle.doc_session.specs.declared.event.Event.TheVariants.{Front};
 
@@ -66,7 +68,7 @@ impl Model for Doc {
       valid = d.valid;
     } };
 
-    ghost invariant = { λ d. IsStateOfSome d.engine d.text d.caret d.plugins };
+    ghost invariant = { λ d. IsStateOfSome d.engine d.text d.caret };
 }
 
 impl Doc {
@@ -202,7 +204,11 @@ impl Doc {
         let typed = self.insertion(alloc, chars)?;
         let moved = moved_by(alloc, &mut self.engine, &self.text, &typed)?;
         let caret = self.caret + chars.char_count();
-        Ok(self.settled(alloc, moved, caret, Body::Null)?)
+        let scroll = scroll_of(
+            position_of(&self.text, self.caret),
+            position_of(&moved.text, caret),
+        );
+        Ok(self.settled(alloc, moved, caret, Body::Null, scroll)?)
     }
 
     // The edit that puts characters in at the caret.
@@ -256,7 +262,7 @@ impl Doc {
         let moved = moved_by(alloc, &mut self.engine, &self.text, &edit)?;
         let units = &moved.ready.change.units;
         let caret = gap_after(units, after_cursor, self.caret);
-        Ok(self.settled(alloc, moved, caret, Body::Edited { rev, group: rev })?)
+        Ok(self.settled(alloc, moved, caret, Body::Edited { rev, group: rev }, None)?)
     }
 
     // Lays out the text after an edit, and says what the front end and the plugins are told.
@@ -266,16 +272,17 @@ impl Doc {
         moved: Moved,
         caret: u64,
         body: Body,
+        scroll: Option<(u64, u64)>,
     ) -> Result<(ReadyEvent, Effects), NoMemory>
         requires may_put { MayPut self.now.engine moved.ready }
-        requires whole { IsStateOfSome (with_edit self.now.engine moved.ready) moved.text caret self.now.plugins }
+        requires whole { IsStateOfSome (with_edit self.now.engine moved.ready) moved.text caret }
         ensures may_take { IfOk result (λ made. MayTake self.now made.0) }
         ensures stands { (plain : Document) (asked : AskedEdit) → DocStandsFor self.now plain
             → IsMoved plain.history self.now.engine asked moved
-            → IfOk result (λ made. DocStandsFor (with_event self.now made.0) (edit_step plain asked caret body).document) }
+            → IfOk result (λ made. DocStandsFor (with_event self.now made.0) (settled plain (edited_document plain asked caret))) }
         ensures effects { (plain : Document) (asked : AskedEdit) → DocStandsFor self.now plain
             → IsMoved plain.history self.now.engine asked moved
-            → IfOk result (λ made. AreEffectsOf (edit_step plain asked caret body) made.1) }
+            → IfOk result (λ made. AreEffectsOf (edit_step plain asked caret body (option_map position_view scroll)) made.1) }
     {
         let Moved {
             ready,
@@ -285,7 +292,6 @@ impl Doc {
         let lines = layout_of(alloc, &text, caret)?;
         let wanted = self.lacks(&text, caret);
         let update = update_if(alloc, wanted, &lines, false)?;
-        let scroll = scroll_of(position_of(&self.text, self.caret), position_of(&text, caret));
         let edited = Edited {
             ready,
             text,

@@ -190,6 +190,7 @@ fn plugins_are_told_of_an_edit(rt: HostRuntime) -> Result<(), Fail> {
         .ok()
         .expect(&rt, "refused");
     assert_eq!(rt; last.body, Body::Edited { rev: 2, group: 2 });
+    assert_eq!(rt; last.scroll, None);
     let notice = last.notice.expect(&rt, "no notice");
     assert_eq!(rt; (notice.author, notice.rev, notice.new_len), (1, 2, 4));
     assert_eq!(rt; (notice.delta.base_len, notice.delta.els.len()), (3, 2));

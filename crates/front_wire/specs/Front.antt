@@ -10,9 +10,7 @@ use Rattle.xi_plain.specs.declared.command.EditAct.TheVariants.{Insert}
 use Rattle.xi_plain.specs.declared.command.Act.{Act}
 use Rattle.xi_plain.specs.declared.command.Act.TheVariants.{Bad, NewView, Edit}
 use Rattle.xi_plain.specs.declared.command.Command.{Command}
-use Rattle.json_rpc.specs.declared.fault.RpcFault.{RpcFault}
-use Rattle.json_rpc.specs.declared.fault.RpcFault.TheVariants.{Parse as NoJson, Invalid as NoRequest, NoMemory as NoRoom}
-use Rattle.json_rpc.specs.Request.{Request, line_request}
+use Rattle.json_rpc.specs.Request.{Request, LineRefusal, no_reading, no_request, line_request}
 
 -- what is not done yet
 abbrev pub not_built : Act
@@ -69,19 +67,18 @@ act_of method params =
     if is_named method (codes "edit") then edit_act params else not_built)
 
 -- why a line that is no request is refused
-abbrev pub fault_of : RpcFault → Fault
-fault_of NoJson = Parse
-fault_of NoRequest = Invalid
-fault_of NoRoom = Invalid
+abbrev pub fault_of : LineRefusal → Fault
+fault_of no_reading = Parse
+fault_of no_request = Invalid
 
 -- the command of a request
 abbrev pub request_command : Request → Command
 request_command request = record { id = request.id; act = act_of request.method request.params }
 
 -- the command of what a line is
-abbrev pub command_from : Result Request RpcFault → Command
+abbrev pub command_from : Result Request LineRefusal → Command
 command_from (Ok request) = request_command request
-command_from (Err fault) = record { id = NoId; act = Bad (fault_of fault) }
+command_from (Err refusal) = record { id = NoId; act = Bad (fault_of refusal) }
 
 -- THE COMMAND of a line
 unfoldable pub command_of : List ℕ → Command

@@ -10,11 +10,9 @@ use Rattle.xi_plain.specs.declared.command.Id.{Id}
 use Rattle.serde_json.specs.Data.{Num as Number, unsigned, negative, float, Data, null, boolean, number, string, array, object, Members, no_members, member, depth, members_depth}
 use Rattle.serde_json.specs.Find.{get, get_member, as_str}
 use Rattle.serde_json.specs.Read.{max_depth}
-use Rattle.json_rpc.specs.declared.fault.RpcFault.{RpcFault}
-use Rattle.json_rpc.specs.declared.fault.RpcFault.TheVariants.{Invalid}
 use Rattle.json_rpc.specs.Line.{reading}
 use Rattle.json_rpc.specs.Proper.{IsProperNumber, IsProper, HasProper}
-use Rattle.json_rpc.specs.Request.{Request, IsWireId, IsTextId, IsAsked, number_id, value_id, member_id, request_of, or_fault, value_request, line_request}
+use Rattle.json_rpc.specs.Request.{Request, IsWireId, IsTextId, IsAsked, number_id, value_id, member_id, request_of, LineRefusal, no_request, or_refusal, value_request, line_request}
 use Rattle.json_rpc.proofs.Lines.{depth-reading}
 use Rattle.json_rpc.proofs.ReadValues.{IsProper-reading}
 
@@ -87,11 +85,11 @@ IsAsked-request_of d h within =
     let member = λ (k : List ℕ). IsWithin-get k 126 d h within in
     made _ _ _ (IsNameable-member_id (get (codes "id") d) (member (codes "id"))) (scalars-as_str (get (codes "method") d) (member (codes "method"))) (IsWithin-or_null (get (codes "params") d) (member (codes "params")))
 
-abbrev IfAsked : Result Request RpcFault → Type 0
+abbrev IfAsked : Result Request LineRefusal → Type 0
 IfAsked (Ok r) = IsAsked r
-IfAsked (Err fault) = ⊤
+IfAsked (Err refusal) = ⊤
 
-from_request : (o : Option Request) → IfSome o IsAsked → IfAsked (or_fault Invalid o)
+from_request : (o : Option Request) → IfSome o IsAsked → IfAsked (or_refusal no_request o)
 from_request None h = tt
 from_request (Some r) h = h
 

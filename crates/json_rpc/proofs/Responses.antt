@@ -6,9 +6,8 @@ use Rattle.xi_plain.specs.declared.command.Id.{Id}
 use Rattle.xi_plain.specs.declared.command.Id.TheVariants.{NoId, Num, Word}
 use Rattle.serde_json.specs.Data.{Data, number}
 use Rattle.serde_json.specs.Find.{of_integer, as_integer}
-use Rattle.json_rpc.specs.declared.fault.RpcFault.TheVariants.{Invalid}
 use Rattle.json_rpc.specs.Line.{IsLineOf}
-use Rattle.json_rpc.specs.Request.{IsTextId, request_of, or_fault, value_request, line_request}
+use Rattle.json_rpc.specs.Request.{IsTextId, request_of, no_request, or_refusal, value_request, line_request}
 use Rattle.json_rpc.specs.Response.{text_data, id_data, reply_data, error_data, note_data, given, failed, answered_id, error_from, response_of, line_response}
 
 answered_id-id_data : (id : Id) → IsTextId id → answered_id (id_data id) ≡ Some id
@@ -48,4 +47,4 @@ line_response-error id code message line is h k = ap (option_and_then response_o
 
 pub line_request-note : (method : List ℕ) (d : Data) (line : List ℕ) → IsLineOf (note_data method d) line → all_scalars method ≡ true → line_request line ≡ Ok (record { id = NoId; method = method; params = d })
 unfolding line_request
-line_request-note method d line is h = ap value_request is.reads ∙ ap (or_fault Invalid) (request_of-note_data method d h)
+line_request-note method d line is h = ap value_request is.reads ∙ ap (or_refusal no_request) (request_of-note_data method d h)

@@ -1,7 +1,14 @@
--- What the refusal of a line is called.
-use Rattle.std.specs.Prelude.{ℕ, List, codes}
+-- What a fault says, and what it is called.
+use Rattle.std.specs.Prelude.{ℕ, List, codes, Option, Some, None}
 use Rattle.json_rpc.specs.declared.fault.RpcFault.{RpcFault}
 use Rattle.json_rpc.specs.declared.fault.RpcFault.TheVariants.{Parse, Invalid, NoMemory}
+use Rattle.json_rpc.specs.Request.{LineRefusal, no_reading, no_request}
+
+-- the refusal that a fault says: want of memory is none
+abbrev pub refusal_of : RpcFault → Option LineRefusal
+refusal_of Parse = Some no_reading
+refusal_of Invalid = Some no_request
+refusal_of NoMemory = None
 
 -- the message of the fault
 abbrev pub refusal_text : RpcFault → List ℕ

@@ -6,8 +6,6 @@ use Rattle.xi_plain.specs.declared.command.Id.TheVariants.{NoId, Num, Word}
 use Rattle.serde_json.specs.Data.{Num as Number, unsigned, negative, float, Data, null, boolean, number, string, array, object, depth}
 use Rattle.serde_json.specs.Find.{get, as_str}
 use Rattle.serde_json.specs.View.{view}
-use Rattle.json_rpc.specs.declared.fault.RpcFault.{RpcFault}
-use Rattle.json_rpc.specs.declared.fault.RpcFault.TheVariants.{Parse, Invalid}
 use Rattle.json_rpc.specs.declared.rpc.Rpc.{Rpc}
 use Rattle.json_rpc.specs.Line.{reading}
 use Rattle.json_rpc.specs.Proper.{IsProper}
@@ -68,18 +66,23 @@ request_from id method params =
 unfoldable pub request_of : Data → Option Request
 request_of d = request_from (get (codes "id") d) (get (codes "method") d) (get (codes "params") d)
 
--- what x is, or else the fault
-abbrev pub or_fault : {A : Type 0} → RpcFault → Option A → Result A RpcFault
-or_fault fault None = Err fault
-or_fault fault (Some x) = Ok x
+-- why a line is no request: it has no reading, or its value is none
+pub data LineRefusal : Type 0 where
+  no_reading : LineRefusal
+  no_request : LineRefusal
+
+-- what x is, or else the refusal
+abbrev pub or_refusal : {A : Type 0} → LineRefusal → Option A → Result A LineRefusal
+or_refusal refusal None = Err refusal
+or_refusal refusal (Some x) = Ok x
 
 -- the request of the value that a line has, or why there is none
-abbrev pub value_request : Option Data → Result Request RpcFault
-value_request None = Err Parse
-value_request (Some d) = or_fault Invalid (request_of d)
+abbrev pub value_request : Option Data → Result Request LineRefusal
+value_request None = Err no_reading
+value_request (Some d) = or_refusal no_request (request_of d)
 
--- the request that a line is. Else `Parse` where it has no reading, and `Invalid` where its value is no request
-unfoldable pub line_request : List ℕ → Result Request RpcFault
+-- THE REQUEST that a line is, or why it is none
+unfoldable pub line_request : List ℕ → Result Request LineRefusal
 line_request line = value_request (reading line)
 
 -- what every request that a line is has: with such parts it can be answered, and written again where `params` holds no float

@@ -1,11 +1,12 @@
-ghost use Rattle.std.specs.Prelude.{◌≡◌, ◌≢◌, ◌↔◌, List, ℕ, Some, None, Ok, Err, IfOk, IfErr, option_map, option_and_then};
+ghost use Rattle.std.specs.Prelude.{◌≡◌, ◌≢◌, ◌↔◌, List, ℕ, Some, None, Ok, Err, IfOk, IfErr, IfSome, option_map, option_and_then};
 ghost use Rattle.std.specs.Str.{chars};
 ghost use Rattle.serde_json.specs.Data.{object};
 ghost use Rattle.serde_json.specs.Errors.{IsMemory};
 ghost use Rattle.serde_json.specs.Find.{get_member, as_str};
 ghost use Rattle.serde_json.specs.View.{view, number_view, members_view};
+ghost use Rattle.json_rpc.specs.Fault.{refusal_of};
 ghost use Rattle.json_rpc.specs.Line.{without_lf};
-ghost use Rattle.json_rpc.specs.Request.{request, request_of, request_from, or_fault, line_request, member_id, number_id, IsWireId, IsAsked};
+ghost use Rattle.json_rpc.specs.Request.{request, request_of, request_from, no_request, or_refusal, line_request, member_id, number_id, IsWireId, IsAsked};
 
 use crate::fault::RpcFault;
 use crate::rpc::Rpc;
@@ -21,8 +22,8 @@ const LINE_FEED: u8 = b'\n';
 /// escapes, and then moved.
 pub fn read_line(alloc: Global, line: &[u8]) -> Result<Rpc, RpcFault>
     ensures asks { IfOk result (λ rpc. line_request line.now ≡ Ok (request rpc)) }
-    ensures refused { IfErr result (λ fault. fault ≢ RpcFault.NoMemory
-        → line_request line.now ≡ Err fault) }
+    ensures refused { IfErr result (λ fault. IfSome (refusal_of fault)
+        (λ refusal. line_request line.now ≡ Err refusal)) }
     ensures id_fits { IfOk result (λ rpc. IsWireId rpc.id) }
     ensures asked { IfOk result (λ rpc. IsAsked (request rpc)) }
 {
@@ -42,9 +43,9 @@ fn without_lf(line: &[u8]) -> &[u8]
 
 fn value_in(alloc: Global, line: &[u8]) -> Result<Value, RpcFault>
     ensures ok { IfOk result (λ value. line_request line.now
-        ≡ or_fault RpcFault.Invalid (request_of (view value))) }
-    ensures refused { IfErr result (λ fault. fault ≢ RpcFault.NoMemory
-        → line_request line.now ≡ Err fault) }
+        ≡ or_refusal no_request (request_of (view value))) }
+    ensures refused { IfErr result (λ fault. IfSome (refusal_of fault)
+        (λ refusal. line_request line.now ≡ Err refusal)) }
 {
     match Value::from_slice(alloc, without_lf(line)) {
         Ok(value) => Ok(value),

@@ -21,7 +21,16 @@ abbrev pub IsPart : Pushed → ℕ → Type 0
 IsPart (Took n) len = (0 < n) × (n ≤ len)
 IsPart Failed len = Unit {0}
 
--- the count of faults after an answer: one more where the call failed
-abbrev pub faults_after : Pushed → ℕ → ℕ
-faults_after (Took n) faults = faults
-faults_after Failed faults = counted faults
+-- the count of failed calls after an answer: one more where the call failed
+abbrev pub failures_after : Pushed → ℕ → ℕ
+failures_after (Took n) failures = failures
+failures_after Failed failures = counted failures
+
+-- what a sink tells of itself: the bytes that it holds, where it tells them, its faults, and how often it answered `Failed`
+pub record SinkState : Type 0 where
+  pub held : Option (List ℕ)
+  pub faults : ℕ
+  pub failures : ℕ
+
+abbrev pub sink_state : {K : Type 0} → (K → Option (List ℕ)) → (K → ℕ) → (K → ℕ) → K → SinkState
+sink_state held faults failures sink = record { held = held sink; faults = faults sink; failures = failures sink }

@@ -33,3 +33,11 @@ faults_after Failed faults = counted faults
 -- the buffer with the first n of these bytes at its front
 abbrev pub filled : List ℕ → List ℕ → ℕ → List ℕ
 filled buf bytes n = take n bytes ++ drop n buf
+
+-- what a source tells of itself: the bytes that it has left, where it tells them, and its faults
+pub record SourceState : Type 0 where
+  pub left : Option (List ℕ)
+  pub faults : ℕ
+
+abbrev pub source_state : {S : Type 0} → (S → Option (List ℕ)) → (S → ℕ) → S → SourceState
+source_state left faults source = record { left = left source; faults = faults source }

@@ -1,6 +1,6 @@
 ghost use Rattle.std.specs.Prelude.{◌≡◌, ℕ, ◌^◌, ◌<◌, ◌≤◌, Some, length, IfSome, [], Option};
 ghost use Rattle.std.specs.Option.{option_map};
-ghost use Rattle.outside.specs.Sink.{Gains, IsPart, pushed};
+ghost use Rattle.outside.specs.Sink.{Gains, IsPart, pushed, failures_after};
 ghost use Rattle.outside.specs.Faults.{Rose};
 
 use crate::sink::{Pushed, Sink};
@@ -58,6 +58,8 @@ impl Sink for CalmSink {
     ghost held = { λ s. s };
 
     ghost faults = { λ _. 0 };
+
+    ghost failures = { λ _. 0 };
 
     /// Takes the whole piece.
     fn write(&mut self, piece: &[u8]) -> Pushed

@@ -1,6 +1,6 @@
 ghost use Rattle.std.specs.Prelude.{◌≡◌, ℕ, ◌^◌, ◌<◌, ◌≤◌, Some, min, length, take, [], IfSome, IsTrue};
 ghost use Rattle.std.specs.Option.{option_map};
-ghost use Rattle.outside.specs.Sink.{Gains, IsPart, pushed};
+ghost use Rattle.outside.specs.Sink.{Gains, IsPart, pushed, failures_after};
 ghost use Rattle.outside.specs.MemSink.{answer};
 ghost use Rattle.outside.specs.Schedule.{plan_of, is_due, next};
 ghost use Rattle.outside.specs.Faults.{Rose};
@@ -76,6 +76,8 @@ impl Sink for MemSink {
     ghost held = { λ s. s.held };
 
     ghost faults = { λ s. s.plan.faults };
+
+    ghost failures = { λ s. s.plan.faults };
 
     fn write(&mut self, piece: &[u8]) -> Pushed
         requires { 0 < length piece.now }

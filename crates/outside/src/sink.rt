@@ -1,5 +1,5 @@
 ghost use Rattle.std.specs.Prelude.{◌≡◌, ℕ, ◌^◌, ◌<◌, ◌≤◌, List, Option, length};
-ghost use Rattle.outside.specs.Sink.{Gains, IsPart, pushed};
+ghost use Rattle.outside.specs.Sink.{Gains, IsPart, pushed, failures_after};
 ghost use Rattle.outside.specs.Faults.{Rose};
 
 /// What a call of a sink answers.
@@ -19,6 +19,9 @@ pub trait Sink {
     /// The faults so far. The count stands still at the end of `u64`.
     ghost faults: { Self → ℕ };
 
+    /// How often it answered `Failed` so far. The count stands still at the end of `u64`.
+    ghost failures: { Self → ℕ };
+
     /// Takes the first bytes of the piece. It may take fewer than all, and may wait until it can.
     fn write(&mut self, piece: &[u8]) -> Pushed
         requires { 0 < length piece.now }
@@ -26,5 +29,7 @@ pub trait Sink {
         ensures gains { Gains (held self.old) (held self.new) (pushed result piece.now) }
         ensures faults_stay { faults self.old ≤ faults self.new }
         ensures faults_fit { faults self.new < 2 ^ 64 }
-        ensures failed { result ≡ Pushed.Failed → Rose (faults self.old) (faults self.new) };
+        ensures failed { result ≡ Pushed.Failed → Rose (faults self.old) (faults self.new) }
+        ensures failures { failures self.new ≡ failures_after result (failures self.old) }
+        ensures failures_fit { failures self.new < 2 ^ 64 };
 }

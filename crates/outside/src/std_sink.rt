@@ -1,7 +1,7 @@
 ghost use Rattle.std.specs.Prelude.{◌≡◌, ℕ, ◌^◌, ◌<◌, ◌≤◌, None, length};
 ghost use Rattle.std.specs.Io.KnownBytes.{Appends, WriteAppends};
 ghost use Rattle.std.specs.Io.{WritesAtMost};
-ghost use Rattle.outside.specs.Sink.{Gains, IsPart, pushed, faults_after};
+ghost use Rattle.outside.specs.Sink.{Gains, IsPart, pushed, failures_after};
 ghost use Rattle.outside.specs.Faults.{Rose};
 
 use crate::sink::{Pushed, Sink};
@@ -31,13 +31,15 @@ impl<W: Write> Sink for StdSink<W> {
 
     ghost faults = { λ s. s.faults };
 
+    ghost failures = { λ s. s.faults };
+
     /// Takes what the writer takes. An interruption is no fault, and taking nothing is one.
     fn write(&mut self, piece: &[u8]) -> Pushed
         requires { 0 < length piece.now }
         ensures part { IsPart result (length piece.now) }
         ensures written { Appends (W.contents self.old.writer) (W.contents self.new.writer)
             (pushed result piece.now) }
-        ensures faults { self.new.faults ≡ faults_after result self.old.faults }
+        ensures faults { self.new.faults ≡ failures_after result self.old.faults }
         ensures faults_stay { self.old.faults ≤ self.new.faults }
         ensures faults_fit { self.new.faults < 2 ^ 64 }
     {

@@ -1,14 +1,13 @@
 -- What the lines of notes and responses say to a front end.
-use Rattle.std.proofs.Common.{◌≡◌, ◌≢◌, ℕ, ◌+◌, ◌≤◌, ℤ, List, Bool, true, false, cond, Some, None, option_and_then, codes, refl, sym, ap, ◌∙◌, arith}
+use Rattle.std.proofs.Common.{◌≡◌, ◌≢◌, ℕ, ◌+◌, ◌≤◌, ℤ, List, Bool, true, false, cond, Some, None, option_and_then, option_map, codes, refl, sym, ap, ◌∙◌, arith}
 use Rattle.std.specs.Str.{all_scalars, bytes_eq}
 use Rattle.std.proofs.lemmas.Bool.{false≢true}
 use Rattle.std.proofs.lemmas.Slice.Eq.{bytes_eq-Decides}
 use Rattle.xi_plain.specs.declared.command.Id.{Id}
 use Rattle.plain_screen.specs.declared.screen.Update.{Update}
 use Rattle.serde_json.specs.Data.{Data}
-use Rattle.json_rpc.specs.declared.fault.RpcFault.TheVariants.{Invalid}
 use Rattle.json_rpc.specs.Line.{line_of, IsLineOf}
-use Rattle.json_rpc.specs.Request.{request_of, or_fault, value_request, line_request}
+use Rattle.json_rpc.specs.Request.{request_of, no_request, or_refusal, value_request, line_request}
 use Rattle.json_rpc.specs.Response.{note_data, reply_data, error_data}
 use Rattle.json_rpc.proofs.ForCallers.{IsLineOf-line_of}
 use Rattle.json_rpc.proofs.ForCallers.{line_request-note}
@@ -16,7 +15,7 @@ use Rattle.view_update.specs.Written.{update_params, update_data}
 use Rattle.view_update.specs.Reading.{as_chars, member_as, note_params, read_params, read_scroll, line_update, line_scroll, line_alert}
 use Rattle.view_update.specs.Fair.{IsFairUpdate}
 use Rattle.view_update.specs.Notes.{scroll_params, scroll_data, alert_params, alert_data}
-use Rattle.view_update.specs.Laws.{UpdatesReadBack, ScrollsReadBack, AlertsReadBack, OthersAreNoUpdates}
+use Rattle.view_update.specs.Laws.{UpdatesReadBack, UpdatesAreRead, ScrollsReadBack, AlertsReadBack, OthersAreNoUpdates}
 use Rattle.view_update.proofs.Plain.{IsPlain, IsPlain-update_params, IsPlain-scroll_params, IsPlain-alert_params, IsPlain-note_data}
 use Rattle.view_update.proofs.ReadBack.{as_chars-text_data, read_params-update_params, read_scroll-scroll_params}
 
@@ -39,11 +38,14 @@ note_params-note method params line is name =
     ap (note_params method) (line_request-note method params line is name)
     ∙ ap (λ b. cond b (Some params) None) (bytes_eq-same method)
 
-pub line_update-update_data : (view : List ℕ) (update : Update) (line : List ℕ) → IsLineOf (update_data view update) line → IsFairUpdate view update
-    → line_update line ≡ Some (record { view = view; update = update })
+pub updates_are_read : UpdatesAreRead
 unfolding line_update
+updates_are_read params line is = ap (option_map read_params) (note_params-note (codes "update") params line is refl)
+
+pub line_update-update_data : (view : List ℕ) (update : Update) (line : List ℕ) → IsLineOf (update_data view update) line → IsFairUpdate view update
+    → line_update line ≡ Some (Some (record { view = view; update = update }))
 line_update-update_data view update line is h =
-    ap (option_and_then read_params) (note_params-note (codes "update") (update_params view update) line is refl) ∙ read_params-update_params view update h
+    updates_are_read (update_params view update) line is ∙ ap Some (read_params-update_params view update h)
 
 pub line_scroll-scroll_data : (view : List ℕ) (at col : ℕ) (line : List ℕ) → IsLineOf (scroll_data view at col) line → all_scalars view ≡ true
     → line_scroll line ≡ Some (record { view = view; line = at; col = col })
@@ -88,23 +90,23 @@ pub line_update-other : (method : List ℕ) (params : Data) (line : List ℕ) �
     → line_update line ≡ None
 unfolding line_update
 line_update-other method params line is name apart =
-    ap (λ r. option_and_then read_params (note_params (codes "update") r)) (line_request-note method params line is name)
-    ∙ ap (λ b. option_and_then read_params (cond b (Some params) None)) (other_method _ method (codes "update") refl apart)
+    ap (λ r. option_map read_params (note_params (codes "update") r)) (line_request-note method params line is name)
+    ∙ ap (λ b. option_map read_params (cond b (Some params) None)) (other_method _ method (codes "update") refl apart)
 
 -- a value that is no request is no update
-no_request : (d : Data) (line : List ℕ) → IsLineOf d line → request_of d ≡ None → line_update line ≡ None
+asks_nothing : (d : Data) (line : List ℕ) → IsLineOf d line → request_of d ≡ None → line_update line ≡ None
 unfolding line_update line_request
-no_request d line is none =
-    ap (λ o. option_and_then read_params (note_params (codes "update") (value_request o))) is.reads
-    ∙ ap (λ o. option_and_then read_params (note_params (codes "update") (or_fault Invalid o))) none
+asks_nothing d line is none =
+    ap (λ o. option_map read_params (note_params (codes "update") (value_request o))) is.reads
+    ∙ ap (λ o. option_map read_params (note_params (codes "update") (or_refusal no_request o))) none
 
 pub line_update-reply : (id : Id) (d : Data) (line : List ℕ) → IsLineOf (reply_data id d) line → line_update line ≡ None
 unfolding request_of
-line_update-reply id d line is = no_request (reply_data id d) line is refl
+line_update-reply id d line is = asks_nothing (reply_data id d) line is refl
 
 pub line_update-error : (id : Id) (code : ℤ) (message line : List ℕ) → IsLineOf (error_data id code message) line → line_update line ≡ None
 unfolding request_of
-line_update-error id code message line is = no_request (error_data id code message) line is refl
+line_update-error id code message line is = asks_nothing (error_data id code message) line is refl
 
 method≢update : (method : List ℕ) → bytes_eq method (codes "update") ≡ false → method ≢ codes "update"
 method≢update method other same = false≢true (sym other ∙ (bytes_eq-Decides method (codes "update")).1 same)

@@ -7,7 +7,7 @@ use Rattle.serde_json.specs.Data.{Data, depth}
 use Rattle.json_rpc.specs.Line.{line_of, IsLineOf}
 use Rattle.json_rpc.specs.Response.{reply_data, error_data, note_data}
 use Rattle.view_update.specs.Written.{update_data}
-use Rattle.view_update.specs.Reading.{line_update, line_scroll, line_alert}
+use Rattle.view_update.specs.Reading.{read_params, line_update, line_scroll, line_alert}
 use Rattle.view_update.specs.Fair.{IsCount, IsFairUpdate}
 use Rattle.view_update.specs.Notes.{scroll_data, alert_data}
 
@@ -15,11 +15,15 @@ use Rattle.view_update.specs.Notes.{scroll_data, alert_data}
 pub record IsTold (view : List ℕ) (update : Update) : Type 0 where
   pub line : IsLineOf (update_data view update) (line_of (update_data view update))
   pub shallow : depth (update_data view update) ≤ 8
-  pub reads_back : line_update (line_of (update_data view update)) ≡ Some (record { view = view; update = update })
+  pub reads_back : line_update (line_of (update_data view update)) ≡ Some (Some (record { view = view; update = update }))
 
 -- THE ROUND TRIP: every update whose texts are characters of Unicode and whose numbers are in range is told as it is
 abbrev pub UpdatesReadBack : Type 0
 UpdatesReadBack = (view : List ℕ) (update : Update) → IsFairUpdate view update → IsTold view update
+
+-- every note `update` is read by its params, and none is passed over
+abbrev pub UpdatesAreRead : Type 0
+UpdatesAreRead = (params : Data) (line : List ℕ) → IsLineOf (note_data (codes "update") params) line → line_update line ≡ Some (read_params params)
 
 -- a front end reads the place that a note asks it to show
 abbrev pub ScrollsReadBack : Type 0

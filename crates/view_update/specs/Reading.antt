@@ -1,4 +1,5 @@
--- The update that a line of the core says to a front end. Members stand in any order, and further ones are passed over.
+-- The update that a line of the core says to a front end. Members stand in any order, and further ones are passed over; a note `update`
+-- that can't be read is not.
 use Rattle.std.specs.Prelude.{ℕ, ℤ, ◌==◌, ◌&&◌, Bool, true, false, if◌then◌else◌, List, [], ◌∷◌, length, codes, Option, Some, None, option_map, option_and_then, Result, Ok, Err}
 use Rattle.std.specs.Str.{chars, bytes_eq}
 use Rattle.xi_plain.specs.declared.command.Id.{Id}
@@ -10,8 +11,7 @@ use Rattle.plain_screen.specs.declared.screen.Op.TheVariants.{Copy, Skip, Invali
 use Rattle.plain_screen.specs.declared.screen.Update.{Update}
 use Rattle.serde_json.specs.Data.{Data, Items, no_items, item}
 use Rattle.serde_json.specs.Find.{get, as_bool, as_number, as_str, as_array, as_u64, as_i64}
-use Rattle.json_rpc.specs.declared.fault.RpcFault.{RpcFault}
-use Rattle.json_rpc.specs.Request.{Request, line_request}
+use Rattle.json_rpc.specs.Request.{Request, LineRefusal, line_request}
 
 -- ---- values, members and lists of one kind
 
@@ -134,13 +134,13 @@ is_note (Num z) = false
 is_note (Word text) = false
 
 -- the params of a message, if it was read and is a note of this method
-abbrev pub note_params : List ℕ → Result Request RpcFault → Option Data
-note_params method (Err fault) = None
+abbrev pub note_params : List ℕ → Result Request LineRefusal → Option Data
+note_params method (Err refusal) = None
 note_params method (Ok message) = if is_note message.id && bytes_eq message.method method then Some message.params else None
 
--- THE UPDATE OF A LINE, where it is one: what the params of its note `update` say
-unfoldable pub line_update : List ℕ → Option ViewUpdate
-line_update line = option_and_then read_params (note_params (codes "update") (line_request line))
+-- THE UPDATE OF A LINE, where it is a note `update`: what its params say, which is `None` where they say no update of a view
+unfoldable pub line_update : List ℕ → Option (Option ViewUpdate)
+line_update line = option_map read_params (note_params (codes "update") (line_request line))
 
 -- ---- the other notes
 

@@ -1,10 +1,15 @@
 //! Laws of the written notes on data alone, each the contract of a function: the layers above speak of bytes that definitions give.
 
-ghost use Rattle.view_update.specs.Laws.{UpdatesReadBack, ScrollsReadBack, AlertsReadBack, OthersAreNoUpdates};
+ghost use Rattle.view_update.specs.Laws.{UpdatesReadBack, UpdatesAreRead, ScrollsReadBack, AlertsReadBack, OthersAreNoUpdates};
 
 /// The line of an update says the same update of the same view to a front end.
 pub fn updates_read_back()
     ensures { UpdatesReadBack }
+{}
+
+/// No note `update` is passed over.
+pub fn updates_are_read()
+    ensures { UpdatesAreRead }
 {}
 
 /// The line of a scroll says the same place.

@@ -21,7 +21,7 @@ pub fn write_update(alloc: Global, view: &Text, update: &Update) -> Result<Text,
     ensures line { IfOk result (λ text.
         IsLineOf (update_data view.now update.now) (encode_utf8_all text)) }
     ensures reads_back { IfOk result (λ text. line_update (encode_utf8_all text)
-        ≡ Some (record { view = view.now; update = update.now })) }
+        ≡ Some (Some (record { view = view.now; update = update.now }))) }
 {
     let params = params_value(alloc, view, update)?;
     note(alloc, "update", params)

@@ -1,29 +1,18 @@
 -- A run that nothing outside stops ends well.
-use Rattle.std.proofs.Common.{◌≡◌, ℕ, ◌+◌, ◌<◌, ◌≤◌, inl, inr, List, [], ◌∷◌, ◌++◌, length, take, map, Option, Some, None, refl, ap, sym, ◌∙◌, subst, length-append, arith, true, false}
-use Rattle.std.proofs.lemmas.List.{length-map, length-take}
-use Rattle.std.specs.Prelude.{if◌then◌else◌, ◌==◌}
+use Rattle.std.proofs.Common.{◌≡◌, ℕ, ◌+◌, ◌<◌, ◌≤◌, inl, inr, List, [], ◌∷◌, ◌++◌, length, Option, Some, None, Ok, Err, refl, ap, sym, ◌∙◌, subst, append_assoc, length-append, arith, true, false}
+use Rattle.std.specs.Prelude.{if◌then◌else◌, ◌==◌, IfSome}
 use Rattle.std.specs.List.{AllByRecursion}
-use Rattle.xi_plain.specs.declared.command.Command.{Command}
 use Rattle.xi_plain.specs.declared.command.Entry.{Entry}
-use Rattle.plain_text.specs.InputLines.{ended_lines, unended, last_line, lines_of}
+use Rattle.plain_text.specs.InputLines.{ended_lines, unended, lines_of}
 use Rattle.plain_text.proofs.callers.InputLemmas.{ended_lines-append, unended-append}
-use Rattle.front_wire.specs.Front.{command_of}
 use Rattle.outside.specs.Source.{Gives}
-use Rattle.xi_top.specs.declared.ending.Ending.{Ending}
-use Rattle.xi_top.specs.declared.ending.Ending.TheVariants.{Finished, NoMemory, SourceFault, SinkFault, TooMany, TooLong}
-use Rattle.xi_top.specs.Ending.{HasLongLine, status_of, most_lines, too_long}
-use Rattle.xi_top.specs.Run.{Told, IsRun, RunsAlone}
+use Rattle.xi_top.specs.declared.ending.Ending.TheVariants.{NoMemory, SourceFault, SinkFault, TooMany, TooLong}
+use Rattle.xi_top.specs.Ending.{Outcome, status_of, most_lines, too_long}
+use Rattle.xi_top.specs.Lines.{IsNextTooLong}
+use Rattle.xi_top.specs.Run.{Passage, IsRun, RunsAlone}
 use Rattle.xi_top.specs.Calm.{IsModest, IsCalm, EndsWell}
-use Rattle.xi_top.proofs.LineLemmas.{short_lines-all}
 
--- what holds of each line of an input holds of each that its first bytes ended
-each_front : (P : List ℕ → Type 0) (front back : List (List ℕ)) → AllByRecursion P (front ++ back) → AllByRecursion P front
-each_front P [] back each = each_none
-  where
-    each_none : AllByRecursion P []
-    each_none = tt
-each_front P (line ∷ front) back each = (each.0, each_front P front back each.1)
-
+-- what holds of each line holds of each of the last ones
 each_back : (P : List ℕ → Type 0) (front back : List (List ℕ)) → AllByRecursion P (front ++ back) → AllByRecursion P back
 each_back P [] back each = each
 each_back P (line ∷ front) back each = each_back P front back each.1
@@ -41,52 +30,42 @@ begun_stays limit begun (b ∷ more) long each =
       | false ↦ λ each. begun_stays limit (begun ++ b ∷ []) more (omega (arith, longer)) each
     ]) each
 
--- the first bytes of an input that a run can take have no line that is too long
-not_long : (taken more : List ℕ) → IsModest (taken ++ more) → HasLongLine taken → ⊥
-not_long taken more modest (inl fewer) =
-    let each = subst (AllByRecursion (λ line. length line ≤ too_long)) (ended_lines-append [] taken more) modest.ended in
-    let same = ap length (short_lines-all taken (each_front _ (ended_lines [] taken) (ended_lines (unended [] taken) more) each)) in
-    omega (arith, fewer, same)
-not_long taken more modest (inr long) =
-    let each = subst (AllByRecursion (λ line. length line ≤ too_long)) (ended_lines-append [] taken more) modest.ended in
-    let stays = begun_stays too_long (unended [] taken) more long (each_back _ (ended_lines [] taken) (ended_lines (unended [] taken) more) each) in
-    omega (arith, stays, modest.last, ap length (unended-append [] taken more))
+-- an input that a run can take has no line that is too long
+not_long : (taken left : List ℕ) (lines : List (List ℕ)) → IsModest (taken ++ left) → IsNextTooLong taken lines → ⊥
+not_long taken left lines modest next =
+    let more = next.more ++ left in
+    let same : taken ++ left ≡ next.front ++ more = ap (λ t. t ++ left) next.cut ∙ append_assoc next.front next.more left in
+    let all = subst IsModest same modest in
+    let each = subst (AllByRecursion (λ line. length line ≤ too_long)) (ended_lines-append [] next.front more) all.ended in
+    let stays = begun_stays too_long (unended [] next.front) more next.long (each_back _ (ended_lines [] next.front) (ended_lines (unended [] next.front) more) each) in
+    omega (arith, stays, all.last, ap length (unended-append [] next.front more))
 
--- nor are there as many lines in them as a run takes
-not_many : (taken more : List ℕ) (asked : List Command) → IsModest (taken ++ more) → asked ≡ map command_of (take most_lines (ended_lines [] taken)) →
-    length asked ≡ most_lines → ⊥
-not_many taken more asked modest is count =
-    let all = ended_lines [] (taken ++ more) in
-    let lines : length (lines_of (taken ++ more)) ≡ length all + length (last_line (unended [] (taken ++ more))) =
-    length-append all (last_line (unended [] (taken ++ more))) in
-    let parts : length all ≡ length (ended_lines [] taken) + length (ended_lines (unended [] taken) more) =
-    ap length (ended_lines-append [] taken more) ∙ length-append (ended_lines [] taken) (ended_lines (unended [] taken) more) in
-    let named : length asked ≡ length (take most_lines (ended_lines [] taken)) = ap length is ∙ length-map (take most_lines (ended_lines [] taken)) command_of in
-    let some = length-take most_lines (ended_lines [] taken) in
-    omega (arith, lines, parts, named, some, count, modest.few)
+-- nor has it as many lines as a run takes
+not_many : (taken left : List ℕ) (lines later : List (List ℕ)) → IsModest (taken ++ left) → lines_of (taken ++ left) ≡ lines ++ later →
+    length lines ≡ most_lines → ⊥
+not_many taken left lines later modest first count = omega (arith, count, modest.few, ap length first, length-append lines later)
 
--- what a source gave, where it told what it had
-given : (left : Option (List ℕ)) (bytes taken : List ℕ) (before : Option (List ℕ)) → before ≡ Some bytes → Gives before left taken →
-    (more : List ℕ) × (bytes ≡ taken ++ more)
-given left bytes taken before told gives = told_given left (subst (λ b. Gives b left taken) told gives)
+-- what a source gave and what it has left is what it told
+told_input : (before after : Option (List ℕ)) (bytes taken left : List ℕ) → before ≡ Some bytes → Gives before after taken →
+    IfSome after (λ rest. rest ≡ left) → bytes ≡ taken ++ left
+told_input before after bytes taken left is gives leaves = by after (subst (λ b. Gives b after taken) is gives) leaves
   where
-    told_given : (left : Option (List ℕ)) → Gives (Some bytes) left taken → (more : List ℕ) × (bytes ≡ taken ++ more)
-    told_given None gives = absurd gives
-    told_given (Some more) gives = (more, gives)
+    by : (after : Option (List ℕ)) → Gives (Some bytes) after taken → IfSome after (λ rest. rest ≡ left) → bytes ≡ taken ++ left
+    by None gives leaves = absurd gives
+    by (Some rest) gives leaves = gives ∙ ap (λ r. taken ++ r) leaves
 
-ends_well : (before after : Told) (journal : List Entry) (ending : Ending) → IsRun before after journal ending → IsCalm before after →
-    EndsWell (status_of ending)
-ends_well before after journal Finished run calm = inl refl
-ends_well before after journal NoMemory run calm = inr refl
-ends_well before after journal SourceFault run calm = absurd (calm.source_calm run.cause)
-ends_well before after journal SinkFault run calm = absurd (calm.sink_calm run.cause)
-ends_well before after journal TooMany run calm =
-    let rest = given after.left calm.bytes run.taken before.left calm.told run.gives in
-    absurd (not_many run.taken rest.0 _ (subst IsModest rest.1 calm.modest) run.lines.0 run.lines.1)
-ends_well before after journal TooLong run calm =
-    let rest = given after.left calm.bytes run.taken before.left calm.told run.gives in
-    absurd (not_long run.taken rest.0 (subst IsModest rest.1 calm.modest) run.lines.1)
+ends_well : (passage : Passage) (journal : List Entry) (outcome : Outcome) → IsRun passage journal outcome → IsCalm passage → EndsWell (status_of outcome)
+ends_well passage journal (Ok done) run calm = inl refl
+ends_well passage journal (Err NoMemory) run calm = inr refl
+ends_well passage journal (Err SourceFault) run calm = absurd (calm.source_calm run.source_failed)
+ends_well passage journal (Err SinkFault) run calm = absurd (calm.sink_calm run.written.rose)
+ends_well passage journal (Err TooMany) run calm =
+    let input = told_input _ _ calm.bytes run.taken run.left calm.input run.gives run.leaves in
+    absurd (not_many run.taken run.left run.lines.lines run.lines.later (subst IsModest input calm.modest) run.lines.first run.lines.so_many)
+ends_well passage journal (Err TooLong) run calm =
+    let input = told_input _ _ calm.bytes run.taken run.left calm.input run.gives run.leaves in
+    absurd (not_long run.taken run.left run.lines.lines (subst IsModest input calm.modest) run.lines.so_many)
 
-pub EndsWell-calm : (before after : Told) (journal : List Entry) (status : ℕ) → RunsAlone before after journal status → IsCalm before after → EndsWell status
-EndsWell-calm before after journal status (inl (ending, is, run)) calm = subst EndsWell (sym is) (ends_well before after journal ending run calm)
-EndsWell-calm before after journal status (inr (is, none)) calm = inr is
+pub EndsWell-calm : (passage : Passage) (journal : List Entry) (status : ℕ) → RunsAlone passage journal status → IsCalm passage → EndsWell status
+EndsWell-calm passage journal status (inl (outcome, is, run)) calm = subst EndsWell (sym is) (ends_well passage journal outcome run calm)
+EndsWell-calm passage journal status (inr (is, none)) calm = inr is

@@ -1,4 +1,5 @@
 pub mod LineLemmas
 pub mod IntakeLemmas
 pub mod CalmLemmas
+pub mod RunLemmas
 pub mod ForCallers

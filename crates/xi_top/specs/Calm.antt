@@ -4,7 +4,7 @@ use Rattle.std.specs.List.{AllByRecursion}
 use Rattle.plain_text.specs.InputLines.{ended_lines, unended, lines_of}
 use Rattle.outside.specs.Faults.{Rose}
 use Rattle.xi_top.specs.Ending.{most_lines, too_long}
-use Rattle.xi_top.specs.Run.{Told}
+use Rattle.xi_top.specs.Run.{Passage}
 
 -- the input has fewer lines than a run takes, and each of them has fewer bytes before its LF than a line may have
 pub record IsModest (bytes : List ℕ) : Type 0 where
@@ -14,12 +14,12 @@ pub record IsModest (bytes : List ℕ) : Type 0 where
   pub last : length (unended [] bytes) < too_long
 
 -- the source tells its bytes, which a run can take, and neither count of faults rose
-pub record IsCalm (before after : Told) : Type 0 where
+pub record IsCalm (passage : Passage) : Type 0 where
   pub bytes : List ℕ
-  pub told : before.left ≡ Some bytes
+  pub input : passage.before.source.left ≡ Some bytes
   pub modest : IsModest bytes
-  pub source_calm : Rose before.source_faults after.source_faults → ⊥
-  pub sink_calm : Rose before.sink_faults after.sink_faults → ⊥
+  pub source_calm : Rose passage.before.source.faults passage.after.source.faults → ⊥
+  pub sink_calm : Rose passage.before.sink.faults passage.after.sink.faults → ⊥
 
 -- the status of a run that nothing stops: it took its whole input, or it lacked memory
 abbrev pub EndsWell : ℕ → Type 0

@@ -1,30 +1,22 @@
 -- Where a run stands between two bytes, and how it stops.
-use Rattle.std.specs.Prelude.{◌≡◌, ℕ, ◌+◌, ◌*◌, ◌<◌, ◌≤◌, List, [], ◌∷◌, ◌++◌, length, map, Option, None, MatchOption, ⊤}
+use Rattle.std.specs.Prelude.{◌≡◌, ℕ, ◌+◌, ◌*◌, ◌<◌, ◌≤◌, List, [], ◌∷◌, ◌++◌, length, map, Option, None, IfSome, Ok, Err, ⊤}
 use Rattle.std.specs.List.{AllByRecursion}
 use Rattle.xi_plain.specs.declared.command.Command.{Command}
 use Rattle.plain_text.specs.InputLines.{ended_lines, unended}
 use Rattle.front_wire.specs.Front.{command_of}
-use Rattle.outside.specs.Faults.{Rose}
-use Rattle.outside.specs.Source.{Gives}
-use Rattle.outside.specs.Sink.{Gains}
+use Rattle.outside.specs.Source.{SourceState, Gives}
+use Rattle.outside.specs.Sink.{SinkState, Gains}
 use Rattle.core_session.specs.declared.session.Core.{Core}
 use Rattle.core_session.specs.Journal.{closing_entry, IsLegal, commands}
 use Rattle.core_session.specs.Session.{written}
-use Rattle.core_session.specs.Core.{IsServing, HasRoom, Takes, BreaksOff, IsAsBefore, journal_of, sink_of}
+use Rattle.core_session.specs.Core.{IsServing, HasRoom, AddsSentEntry, AddsUnsentEntry, ChangesNothing, journal_of, sink_of}
 use Rattle.xi_top.specs.declared.ending.Ending.{Ending}
-use Rattle.xi_top.specs.declared.ending.Ending.TheVariants.{Finished, NoMemory, SourceFault, SinkFault, TooMany, TooLong}
+use Rattle.xi_top.specs.declared.ending.Ending.TheVariants.{NoMemory, SourceFault, SinkFault, TooMany, TooLong}
 use Rattle.xi_top.specs.declared.feed.Intake.{Intake}
-use Rattle.xi_top.specs.Ending.{HoldsLines, most_lines, too_long}
-use Rattle.xi_top.specs.Run.{IsWritten, HasCause}
-
--- a line with its LF that is not too long
-abbrev pub IsShort : List ℕ → Type 0
-IsShort line = length line ≤ too_long
-
--- what a sink told at first, of its bytes and of its faults
-pub record Start : Type 0 where
-  pub held : Option (List ℕ)
-  pub faults : ℕ
+use Rattle.xi_top.specs.Ending.{Outcome, most_lines, too_long}
+use Rattle.xi_top.specs.Lines.{IsShort, HoldsLines}
+use Rattle.xi_top.specs.Written.{IsWritten}
+use Rattle.xi_top.specs.Run.{HasFailedIf}
 
 -- what stands after the last LF, and how many lines were taken
 pub record Begun : Type 0 where
@@ -44,65 +36,42 @@ abbrev pub weight : Begun → ℕ
 weight begun = 16_777_216 * begun.count + length begun.bytes
 
 -- all entries were sent, and the sink gained their pieces
-pub record IsWhole {K : Type 0} (held : K → Option (List ℕ)) (faults : K → ℕ) (start : Start) (core : Core K) : Type 0 where
+pub record IsWhole {K : Type 0} (tell : K → SinkState) (start : SinkState) (core : Core K) : Type 0 where
   pub serving : IsServing core
-  pub gains : Gains start.held (held (sink_of core)) (written None (journal_of core))
-  pub stays : start.faults ≤ faults (sink_of core)
+  pub gains : Gains start.held (tell (sink_of core)).held (written None (journal_of core))
+  pub stays : start.faults ≤ (tell (sink_of core)).faults
+  pub failures : (tell (sink_of core)).failures ≡ start.failures
 
 -- these bytes were taken: each line that LF ended in them is an entry, whose piece the sink gained, and none is too long
-pub record IsAt {K : Type 0} (held : K → Option (List ℕ)) (faults : K → ℕ) (start : Start) (taken : List ℕ) (core : Core K) (begun : Begun) : Type 0 where
-  pub whole : IsWhole held faults start core
+pub record IsAt {K : Type 0} (tell : K → SinkState) (start : SinkState) (taken : List ℕ) (core : Core K) (begun : Begun) : Type 0 where
+  pub whole : IsWhole tell start core
   pub asked : commands (journal_of core) ≡ map command_of (ended_lines [] taken)
   pub rest : begun.bytes ≡ unended [] taken
   pub short : AllByRecursion IsShort (ended_lines [] taken)
   pub counted : begun.count ≡ length (ended_lines [] taken)
 
--- the sink's count rose, where that is how the run ended
-abbrev pub HasSinkCause : Ending → ℕ → ℕ → Type 0
-HasSinkCause SinkFault before after = Rose before after
-HasSinkCause Finished before after = ⊤
-HasSinkCause NoMemory before after = ⊤
-HasSinkCause SourceFault before after = ⊤
-HasSinkCause TooMany before after = ⊤
-HasSinkCause TooLong before after = ⊤
+-- it was not the source that failed
+abbrev pub IsNoSourceFault : Outcome → Type 0
+IsNoSourceFault (Err SourceFault) = ⊥
+IsNoSourceFault outcome = ⊤
 
--- the run ended while its source gave bytes
-abbrev pub IsInside : Ending → Type 0
-IsInside Finished = ⊥
-IsInside SourceFault = ⊥
-IsInside SinkFault = ⊤
-IsInside NoMemory = ⊤
-IsInside TooMany = ⊤
-IsInside TooLong = ⊤
-
--- the run ended where its source had not failed
-abbrev pub IsOver : Ending → Type 0
-IsOver SourceFault = ⊥
-IsOver Finished = ⊤
-IsOver SinkFault = ⊤
-IsOver NoMemory = ⊤
-IsOver TooMany = ⊤
-IsOver TooLong = ⊤
-
--- the run stopped after these bytes were taken
-pub record Stops {K : Type 0} (held : K → Option (List ℕ)) (faults : K → ℕ) (start : Start) (taken : List ℕ) (core : Core K) (ending : Ending) : Type 0 where
+-- the run stopped after these bytes were taken, where those are left
+pub record Stops {K : Type 0} (tell : K → SinkState) (start : SinkState) (taken left : List ℕ) (core : Core K) (outcome : Outcome) : Type 0 where
   pub room : HasRoom core
-  pub lines : HoldsLines ending taken (commands (journal_of core))
-  pub written : IsWritten ending start.held (held (sink_of core)) (journal_of core)
+  pub lines : HoldsLines outcome taken left (commands (journal_of core))
+  pub written : IsWritten outcome start (tell (sink_of core)) (journal_of core ++ closing_entry ∷ [])
   pub legal : IsLegal (journal_of core ++ closing_entry ∷ [])
-  pub cause : HasSinkCause ending start.faults (faults (sink_of core))
-  pub stays : start.faults ≤ faults (sink_of core)
+  pub stays : start.faults ≤ (tell (sink_of core)).faults
 
--- the run goes on after these bytes, or it stopped, whatever comes after them
-abbrev pub GoesOnBefore : {K : Type 0} → (K → Option (List ℕ)) → (K → ℕ) → Start → List ℕ → Core K → Begun → Option Ending → Type 0
-GoesOnBefore held faults start taken core begun outcome =
-    MatchOption outcome (IsAt held faults start taken core begun)
-    (λ ending. IsInside ending × ((more : List ℕ) → Stops held faults start (taken ++ more) core ending))
+-- the run goes on after these bytes, or it stopped, whatever is left
+abbrev pub GoesOn : {K : Type 0} → (K → SinkState) → SinkState → List ℕ → Core K → Begun → Outcome → Type 0
+GoesOn tell start taken core begun (Ok done) = IsAt tell start taken core begun
+GoesOn tell start taken core begun (Err ending) =
+    IsNoSourceFault (Err ending) × ((more : List ℕ) → Stops tell start taken more core (Err ending))
 
--- the run goes on after these bytes, or it stopped
-abbrev pub GoesOn : {K : Type 0} → (K → Option (List ℕ)) → (K → ℕ) → Start → List ℕ → Core K → Begun → Option Ending → Type 0
-GoesOn held faults start taken core begun outcome =
-    MatchOption outcome (IsAt held faults start taken core begun) (λ ending. IsInside ending × Stops held faults start taken core ending)
+-- the run stopped at its input's end, or just before
+abbrev pub Finishes : {K : Type 0} → (K → SinkState) → SinkState → List ℕ → Core K → Outcome → Type 0
+Finishes tell start taken core outcome = IsNoSourceFault outcome × Stops tell start taken [] core outcome
 
 -- a run that goes on takes lines, has room for the line that it began, and weighs more by the bytes that it took
 pub record IsFed {K : Type 0} (core : Core K) (old new : Begun) (bytes : List ℕ) : Type 0 where
@@ -111,27 +80,21 @@ pub record IsFed {K : Type 0} (core : Core K) (old new : Begun) (bytes : List �
   pub heavier : weight old + length bytes ≤ weight new
 
 -- why a line was not taken
-abbrev pub FailsBy : {K : Type 0} → (K → Option (List ℕ)) → (K → ℕ) → Core K → Core K → Command → Ending → Type 0
-FailsBy held faults old new command SinkFault = (n : ℕ) × BreaksOff held faults old new command n
-FailsBy held faults old new command NoMemory = IsAsBefore old new
-FailsBy held faults old new command Finished = ⊥
-FailsBy held faults old new command SourceFault = ⊥
-FailsBy held faults old new command TooMany = ⊥
-FailsBy held faults old new command TooLong = ⊥
+abbrev pub FailsBy : {K : Type 0} → (K → SinkState) → Core K → Core K → Command → Ending → Type 0
+FailsBy tell old new command SinkFault = (n : ℕ) × AddsUnsentEntry tell old new command n
+FailsBy tell old new command NoMemory = ChangesNothing old new
+FailsBy tell old new command ending = ⊥
 
 -- the command was taken, or it was not
-abbrev pub Enters : {K : Type 0} → (K → Option (List ℕ)) → (K → ℕ) → Core K → Core K → Command → Option Ending → Type 0
-Enters held faults old new command outcome =
-    MatchOption outcome (Takes held faults old new command) (λ ending. FailsBy held faults old new command ending)
+abbrev pub Enters : {K : Type 0} → (K → SinkState) → Core K → Core K → Command → Outcome → Type 0
+Enters tell old new command (Ok done) = AddsSentEntry tell old new command
+Enters tell old new command (Err ending) = FailsBy tell old new command ending
 
 -- why bytes were not kept
 abbrev pub KeepsNot : List ℕ → Ending → Type 0
 KeepsNot line TooLong = too_long ≤ length line
 KeepsNot line NoMemory = ⊤
-KeepsNot line Finished = ⊥
-KeepsNot line SourceFault = ⊥
-KeepsNot line SinkFault = ⊥
-KeepsNot line TooMany = ⊥
+KeepsNot line ending = ⊥
 
 -- bytes were put after those of the line that was begun
 pub record IsKept (old new : Begun) (bytes : List ℕ) : Type 0 where
@@ -140,12 +103,14 @@ pub record IsKept (old new : Begun) (bytes : List ℕ) : Type 0 where
   pub room : length (old.bytes ++ bytes) < too_long
 
 -- the bytes were put after those of the line that was begun, or the run ended
-abbrev pub KeepsBytes : Begun → Begun → List ℕ → Option Ending → Type 0
-KeepsBytes old new bytes outcome = MatchOption outcome (IsKept old new bytes) (λ ending. KeepsNot (old.bytes ++ bytes) ending)
+abbrev pub KeepsBytes : Begun → Begun → List ℕ → Outcome → Type 0
+KeepsBytes old new bytes (Ok done) = IsKept old new bytes
+KeepsBytes old new bytes (Err ending) = KeepsNot (old.bytes ++ bytes) ending
 
 -- a line more was taken, which is the last one that a run takes or not
-abbrev pub Counts : ℕ → Option Ending → Type 0
-Counts count outcome = MatchOption outcome (count < most_lines) (λ ending. (ending ≡ TooMany) × (count ≡ most_lines))
+abbrev pub Counts : ℕ → Outcome → Type 0
+Counts count (Ok done) = count < most_lines
+Counts count (Err ending) = (ending ≡ TooMany) × (count ≡ most_lines)
 
 -- the bytes are a line's: the last of them is its only LF
 abbrev pub EndsLine : List ℕ → Type 0
@@ -156,11 +121,11 @@ abbrev pub HasNoEnd : List ℕ → Type 0
 HasNoEnd bytes = AllByRecursion (λ b. b ≡ 10 → ⊥) bytes
 
 -- a source was served from here to where the run stopped
-pub record IsServed {S K : Type 0} (left : S → Option (List ℕ)) (source_faults : S → ℕ)
-    (held : K → Option (List ℕ)) (sink_faults : K → ℕ)
-    (before after : S) (old new : Core K) (ending : Ending) : Type 0 where
+pub record IsServed {S K : Type 0} (tell_source : S → SourceState) (tell : K → SinkState) (before after : S) (old new : Core K) (outcome : Outcome) : Type 0 where
   pub taken : List ℕ
-  pub gives : Gives (left before) (left after) taken
-  pub stops : Stops held sink_faults (record { held = held (sink_of old); faults = sink_faults (sink_of old) }) taken new ending
-  pub cause : HasCause ending (left after) (source_faults before) (source_faults after) (sink_faults (sink_of old)) (sink_faults (sink_of new))
-  pub stays : source_faults before ≤ source_faults after
+  pub left : List ℕ
+  pub gives : Gives (tell_source before).left (tell_source after).left taken
+  pub leaves : IfSome (tell_source after).left (λ bytes. bytes ≡ left)
+  pub stops : Stops tell (tell (sink_of old)) taken left new outcome
+  pub source_failed : HasFailedIf outcome (tell_source before) (tell_source after)
+  pub stays : (tell_source before).faults ≤ (tell_source after).faults

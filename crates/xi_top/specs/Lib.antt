@@ -1,4 +1,6 @@
 pub mod Ending
+pub mod Lines
+pub mod Written
 pub mod Run
 pub mod Calm
 pub mod Intake

@@ -1,8 +1,6 @@
-/// How a run ended.
+/// Why a run ended before its input did.
 #[derive(Clone, Copy, PartialEq, Eq)]
 pub enum Ending {
-    /// The input was read to its end.
-    Finished,
     /// There was no memory for a line.
     NoMemory,
     /// The source failed.

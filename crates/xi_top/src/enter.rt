@@ -1,3 +1,4 @@
+ghost use Rattle.outside.specs.Sink.{sink_state};
 ghost use Rattle.front_wire.specs.Front.{command_of};
 ghost use Rattle.core_session.specs.Core.{IsServing};
 ghost use Rattle.xi_top.specs.Intake.{Enters};
@@ -7,14 +8,14 @@ use core_session::{Core, Entered};
 use outside::Sink;
 use std::alloc::Global;
 
-/// Enters a line. `Some` says that it was not taken, and that the run ends so.
-pub fn enter<K: Sink>(alloc: Global, core: &mut Core<K>, line: &[u8]) -> Option<Ending>
+/// Enters a line. After an `Err` it was not taken, or not answered whole, and the run ends so.
+pub fn enter<K: Sink>(alloc: Global, core: &mut Core<K>, line: &[u8]) -> Result<(), Ending>
     requires { IsServing core.old }
-    ensures { Enters K.held K.faults core.old core.new (command_of line.now) result }
+    ensures { Enters (sink_state K.held K.faults K.failures) core.old core.new (command_of line.now) result }
 {
     match core.enter(alloc, line) {
-        Entered::Taken => None,
-        Entered::SinkFault => Some(Ending::SinkFault),
-        Entered::NoMemory => Some(Ending::NoMemory),
+        Entered::Taken => Ok(()),
+        Entered::SinkFault => Err(Ending::SinkFault),
+        Entered::NoMemory => Err(Ending::NoMemory),
     }
 }

@@ -1,4 +1,5 @@
-ghost use Rattle.std.specs.Prelude.{◌≡◌, ℕ, ◌+◌, ◌<◌, ◌≤◌, ◌++◌, List, [], length, Option, Some, None};
+ghost use Rattle.std.specs.Prelude.{◌≡◌, ℕ, ◌+◌, ◌<◌, ◌≤◌, ◌++◌, List, [], length, OnOk};
+ghost use Rattle.outside.specs.Sink.{SinkState, sink_state};
 ghost use Rattle.core_session.specs.Core.{IsServing};
 ghost use Rattle.xi_top.specs.Ending.{most_lines};
 
@@ -23,7 +24,7 @@ pub struct Intake {
 }
 
 impl Intake {
-    ghost use Rattle.xi_top.specs.Intake.{Start, IsAt, IsOver, Stops, GoesOn, GoesOnBefore, IsFed, IsSmall, EndsLine, HasNoEnd, KeepsBytes, Counts, begun_of};
+    ghost use Rattle.xi_top.specs.Intake.{IsAt, Finishes, GoesOn, IsFed, IsSmall, EndsLine, HasNoEnd, KeepsBytes, Counts, begun_of};
 
     /// Nothing was taken.
     pub fn new(alloc: Global) -> Intake
@@ -35,26 +36,24 @@ impl Intake {
         }
     }
 
-    /// Enters each line that LF ends in the chunk, and keeps what stands after the last one. `Some` says that the run ends so.
+    /// Enters each line that LF ends in the chunk, and keeps what stands after the last one. After an `Err` the run ends so.
     pub fn feed<K: Sink>(
         &mut self,
         alloc: Global,
         core: &mut Core<K>,
         chunk: &[u8],
-    ) -> Option<Ending>
+    ) -> Result<(), Ending>
         requires serving { IsServing core.old }
         requires small { IsSmall (begun_of self.old) }
-        ensures fed { result ≡ None → IsFed core.new (begun_of self.old) (begun_of self.new) chunk.now }
-        ensures goes { (start : Start) (taken : List ℕ)
-            → IsAt K.held K.faults start taken core.old (begun_of self.old)
-            → GoesOn K.held K.faults start (taken ++ chunk.now) core.new (begun_of self.new) result }
+        ensures fed { OnOk result (IsFed core.new (begun_of self.old) (begun_of self.new) chunk.now) }
+        ensures goes { (start : SinkState) (taken : List ℕ)
+            → IsAt (sink_state K.held K.faults K.failures) start taken core.old (begun_of self.old)
+            → GoesOn (sink_state K.held K.faults K.failures) start (taken ++ chunk.now) core.new (begun_of self.new) result }
     {
         let mut rest = chunk;
         while let Some(at) = memchr(b'\n', rest) {
             let (line, later) = rest.split_at(at + 1);
-            if let Some(ending) = self.end_line(alloc, core, line) {
-                return Some(ending);
-            }
+            self.end_line(alloc, core, line)?;
             rest = later;
         }
         self.begin(rest)
@@ -66,28 +65,26 @@ impl Intake {
         alloc: Global,
         core: &mut Core<K>,
         ending: &[u8],
-    ) -> Option<Ending>
+    ) -> Result<(), Ending>
         requires serving { IsServing core.old }
         requires small { IsSmall (begun_of self.old) }
-        ensures fed { result ≡ None → IsFed core.new (begun_of self.old) (begun_of self.new) ending.now }
-        ensures goes { (start : Start) (taken : List ℕ) → EndsLine ending.now
-            → IsAt K.held K.faults start taken core.old (begun_of self.old)
-            → GoesOnBefore K.held K.faults start (taken ++ ending.now) core.new (begun_of self.new) result }
+        ensures fed { OnOk result (IsFed core.new (begun_of self.old) (begun_of self.new) ending.now) }
+        ensures goes { (start : SinkState) (taken : List ℕ) → EndsLine ending.now
+            → IsAt (sink_state K.held K.faults K.failures) start taken core.old (begun_of self.old)
+            → GoesOn (sink_state K.held K.faults K.failures) start (taken ++ ending.now) core.new (begun_of self.new) result }
     {
         if ending.len() > TOO_LONG - self.begun.len() {
-            return Some(Ending::TooLong);
+            return Err(Ending::TooLong);
         }
         if self.begun.extend_from_slice(ending).is_err() {
-            return Some(Ending::NoMemory);
+            return Err(Ending::NoMemory);
         }
-        if let Some(failed) = enter(alloc, core, &self.begun) {
-            return Some(failed);
-        }
+        enter(alloc, core, &self.begun)?;
         self.next_line()
     }
 
     /// Counts a line, after which nothing is begun.
-    fn next_line(&mut self) -> Option<Ending>
+    fn next_line(&mut self) -> Result<(), Ending>
         requires { self.old.taken < most_lines }
         ensures bytes { self.new.begun.items ≡ [] }
         ensures count { self.new.taken ≡ self.old.taken + 1 }
@@ -96,39 +93,35 @@ impl Intake {
         self.begun.clear();
         self.taken += 1;
         if self.taken == MOST_LINES {
-            Some(Ending::TooMany)
-        } else {
-            None
+            return Err(Ending::TooMany);
         }
+        Ok(())
     }
 
-    /// KeepsBytes the bytes of a line that has not ended.
-    fn begin(&mut self, bytes: &[u8]) -> Option<Ending>
+    /// Keeps the bytes of a line that has not ended.
+    fn begin(&mut self, bytes: &[u8]) -> Result<(), Ending>
         requires { IsSmall (begun_of self.old) }
         ensures { KeepsBytes (begun_of self.old) (begun_of self.new) bytes.now result }
     {
         if bytes.len() >= TOO_LONG - self.begun.len() {
-            return Some(Ending::TooLong);
+            return Err(Ending::TooLong);
         }
         if self.begun.extend_from_slice(bytes).is_err() {
-            return Some(Ending::NoMemory);
+            return Err(Ending::NoMemory);
         }
-        None
+        Ok(())
     }
 
     /// Enters what stands after the last LF, where it is not empty, at the input's end.
-    pub fn finish<K: Sink>(&self, alloc: Global, core: &mut Core<K>) -> Ending
+    pub fn finish<K: Sink>(&self, alloc: Global, core: &mut Core<K>) -> Result<(), Ending>
         requires { IsServing core.old }
-        ensures { (start : Start) (taken : List ℕ)
-            → IsAt K.held K.faults start taken core.old (begun_of self.now)
-            → IsOver result × Stops K.held K.faults start taken core.new result }
+        ensures { (start : SinkState) (taken : List ℕ)
+            → IsAt (sink_state K.held K.faults K.failures) start taken core.old (begun_of self.now)
+            → Finishes (sink_state K.held K.faults K.failures) start taken core.new result }
     {
         if self.begun.is_empty() {
-            return Ending::Finished;
+            return Ok(());
         }
-        match enter(alloc, core, &self.begun) {
-            Some(ending) => ending,
-            None => Ending::Finished,
-        }
+        enter(alloc, core, &self.begun)
     }
 }

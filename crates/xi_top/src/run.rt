@@ -1,6 +1,8 @@
 ghost use Rattle.std.specs.Prelude.{◌≡◌, ◌↔◌, [], IsTrue, codes};
+ghost use Rattle.outside.specs.Sink.{sink_state};
 ghost use Rattle.xi_top.specs.Ending.{status_of};
-ghost use Rattle.xi_top.specs.Run.{RunsAlone, IsAlone, told_by};
+ghost use Rattle.xi_top.specs.Run.{HasCauses, IsAlone, RunsAlone, passage_of};
+ghost use Rattle.xi_top.specs.Written.{IsWrittenByCount};
 ghost use Rattle.xi_top.specs.Calm.{IsCalm, EndsWell};
 
 use crate::ending::Ending;
@@ -31,12 +33,16 @@ pub fn xi_main<S: Source, K: Sink>(
     sink: K,
 ) -> Report<K>
     ensures alone { IsAlone words.now → RunsAlone
-        (told_by S.left S.faults K.held K.faults source.old sink)
-        (told_by S.left S.faults K.held K.faults source.new result.sink)
+        (passage_of S.left S.faults K.held K.faults K.failures source.old source.new sink result.sink)
+        result.journal.items result.status }
+    ensures causes { IsAlone words.now → HasCauses
+        (passage_of S.left S.faults K.held K.faults K.failures source.old source.new sink result.sink)
+        result.journal.items result.status }
+    ensures writes { IsAlone words.now → IsWrittenByCount
+        (sink_state K.held K.faults K.failures sink) (sink_state K.held K.faults K.failures result.sink)
         result.journal.items result.status }
     ensures complete { IsAlone words.now → IsCalm
-        (told_by S.left S.faults K.held K.faults source.old sink)
-        (told_by S.left S.faults K.held K.faults source.new result.sink)
+        (passage_of S.left S.faults K.held K.faults K.failures source.old source.new sink result.sink)
         → EndsWell result.status }
     ensures other { (IsAlone words.now → ⊥)
         → (result.journal.items ≡ []) × (result.sink ≡ sink) × (source.new ≡ source.old) }
@@ -71,12 +77,16 @@ fn is_alone_word(word: &Text) -> bool
 /// the input has fewer than 2^40 lines of fewer than 2^24 bytes each, the status is 0, or 3 for want of memory.
 pub fn run_alone<S: Source, K: Sink>(alloc: Global, source: &mut S, sink: K) -> Report<K>
     ensures headline { RunsAlone
-        (told_by S.left S.faults K.held K.faults source.old sink)
-        (told_by S.left S.faults K.held K.faults source.new result.sink)
+        (passage_of S.left S.faults K.held K.faults K.failures source.old source.new sink result.sink)
+        result.journal.items result.status }
+    ensures causes { HasCauses
+        (passage_of S.left S.faults K.held K.faults K.failures source.old source.new sink result.sink)
+        result.journal.items result.status }
+    ensures writes { IsWrittenByCount
+        (sink_state K.held K.faults K.failures sink) (sink_state K.held K.faults K.failures result.sink)
         result.journal.items result.status }
     ensures complete { IsCalm
-        (told_by S.left S.faults K.held K.faults source.old sink)
-        (told_by S.left S.faults K.held K.faults source.new result.sink)
+        (passage_of S.left S.faults K.held K.faults K.failures source.old source.new sink result.sink)
         → EndsWell result.status }
 {
     run(alloc, source, sink)
@@ -84,17 +94,16 @@ pub fn run_alone<S: Source, K: Sink>(alloc: Global, source: &mut S, sink: K) -> 
 
 fn run<S: Source, K: Sink>(alloc: Global, source: &mut S, sink: K) -> Report<K>
     ensures { RunsAlone
-        (told_by S.left S.faults K.held K.faults source.old sink)
-        (told_by S.left S.faults K.held K.faults source.new result.sink)
+        (passage_of S.left S.faults K.held K.faults K.failures source.old source.new sink result.sink)
         result.journal.items result.status }
 {
     match Core::make(alloc, sink) {
         Ok(mut core) => {
-            let ending = serve(alloc, source, &mut core);
+            let outcome = serve(alloc, source, &mut core);
             core.close_down();
             let (journal, sink) = core.into_parts();
             Report {
-                status: status_of(ending),
+                status: status_of(outcome),
                 journal,
                 sink,
             }
@@ -107,15 +116,15 @@ fn run<S: Source, K: Sink>(alloc: Global, source: &mut S, sink: K) -> Report<K>
     }
 }
 
-fn status_of(ending: Ending) -> u8
-    ensures { result ≡ status_of ending }
+fn status_of(outcome: Result<(), Ending>) -> u8
+    ensures { result ≡ status_of outcome }
 {
-    match ending {
-        Ending::Finished => 0,
-        Ending::NoMemory => 3,
-        Ending::SourceFault => 4,
-        Ending::SinkFault => 5,
-        Ending::TooMany => 6,
-        Ending::TooLong => 7,
+    match outcome {
+        Ok(()) => 0,
+        Err(Ending::NoMemory) => 3,
+        Err(Ending::SourceFault) => 4,
+        Err(Ending::SinkFault) => 5,
+        Err(Ending::TooMany) => 6,
+        Err(Ending::TooLong) => 7,
     }
 }

@@ -1,4 +1,6 @@
 ghost use Rattle.std.specs.Prelude.{◌≡◌, []};
+ghost use Rattle.outside.specs.Source.{source_state};
+ghost use Rattle.outside.specs.Sink.{sink_state};
 ghost use Rattle.core_session.specs.Core.{IsServing, journal_of};
 ghost use Rattle.xi_top.specs.Intake.{IsServed};
 
@@ -12,22 +14,23 @@ use std::alloc::Global;
 const BUFFER: usize = 4096;
 
 /// Takes lines from the source until it ends, or the run does.
-pub fn serve<S: Source, K: Sink>(alloc: Global, source: &mut S, core: &mut Core<K>) -> Ending
+pub fn serve<S: Source, K: Sink>(
+    alloc: Global,
+    source: &mut S,
+    core: &mut Core<K>,
+) -> Result<(), Ending>
     requires serving { IsServing core.old }
     requires empty { journal_of core.old ≡ [] }
-    ensures { IsServed S.left S.faults K.held K.faults source.old source.new core.old core.new result }
+    ensures { IsServed (source_state S.left S.faults) (sink_state K.held K.faults K.failures)
+        source.old source.new core.old core.new result }
 {
     let mut buffer = [0; BUFFER];
     let mut intake = Intake::new(alloc);
     loop {
         match source.read(&mut buffer) {
-            Pulled::Failed => return Ending::SourceFault,
+            Pulled::Failed => return Err(Ending::SourceFault),
             Pulled::End => return intake.finish(alloc, core),
-            Pulled::Got(n) => {
-                if let Some(ending) = intake.feed(alloc, core, &buffer[..n]) {
-                    return ending;
-                }
-            }
+            Pulled::Got(n) => intake.feed(alloc, core, &buffer[..n])?,
         }
     }
 }

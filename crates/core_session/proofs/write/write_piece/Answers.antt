@@ -1,4 +1,4 @@
-use Rattle.std.proofs.Common.{subst, arith, List, ℕ, length-drop}
+use Rattle.std.proofs.Common.{subst, arith, List, ℕ, ◌∙◌, length-drop}
 use Rattle.outside.specs.Sink.{Gains}
 use Rattle.outside.proofs.ForCallers.{Gains-append}
 use Rattle.core_session.proofs.SessionLemmas.{take-plus_rest}
@@ -13,4 +13,5 @@ loop-taken-preserved g c =
           subst At (take-plus_rest c.loop-taken.taken c.in-Took.n c.args.piece.now)
           (Gains-append _ _ _ _ _ c.loop-taken.invariant.gains c.in-Took.ensures.gains);
       stays = omega (arith, c.loop-taken.invariant.stays, c.in-Took.ensures.faults_stay);
+      same = c.in-Took.ensures.failures ∙ c.loop-taken.invariant.same;
     }

@@ -5,10 +5,10 @@ use Rattle.core_session.specs.Core.{front_entry, piece_after}
 use Rattle.core_session.proofs.ShowsLemmas.{serves_push}
 use Rattle.core_session.proofs.session.Core.put.Goals as goal
 
-pub returns-clause-taken : goal.returns-clause-taken
-returns-clause-taken g c = λ _.
-    let parts = serves_push _ c.args.made.command _ c.args.made.next _ c.requires.serving.sent c.requires.serving.showing c.requires.asks
-    c.requires.prepared.lines c.requires.prepared.told c.requires.prepared.stands in
+pub returns-clause-sent : goal.returns-clause-sent
+returns-clause-sent g c = λ _.
+    let parts = serves_push _ c.args.made.command _ c.args.made.change _ c.requires.serving.sent c.requires.serving.showing c.requires.asks
+    c.requires.prepared.lines c.requires.prepared.reads_back c.requires.prepared.stands in
     let entry : c.front_entry.result ≡ front_entry c.args.made.command true =
     c.front_entry.ensures ∙ ap (front_entry c.args.made.command) (eq-eqb _ _ c.if-not-sent.false) in
     let items : c.push_reserved.new.self.items ≡ c.args.self.now.journal.items ++ front_entry c.args.made.command true ∷ [] =
@@ -19,8 +19,9 @@ returns-clause-taken g c = λ _.
     c.as_str.ensures.utf8 ∙ c.requires.prepared.lines.joined in
     let Gained : List ℕ → Type 0 = λ gained. Gains (g.K.Sink.held c.args.self.now.sink) (g.K.Sink.held c.write_piece-taken.new.sink) gained in
     record {
-      serving = record { room = omega (arith, c.push_reserved.ensures.len, c.push_reserved.ensures.capacity, c.requires.room); sent = rw items parts.0; showing = rw items parts.1; stands = rw (items, c.replace.ensures) parts.2 };
+      serving = record { room = omega (arith, c.push_reserved.ensures.len, c.push_reserved.ensures.capacity, c.requires.room); sent = rw items parts.0; showing = rw items parts.1; stands = rw (items, c.make_change.ensures) parts.2 };
       entry = items;
       gains = subst Gained whole c.write_piece-taken.ensures.gains;
       faults_stay = c.write_piece-taken.ensures.faults_stay;
+      failures_same = c.write_piece-taken.ensures.failures_same c.if-not-sent.false;
     }

@@ -8,27 +8,28 @@ use Rattle.doc_session.specs.declared.event.Body.TheVariants.{Null}
 use Rattle.doc_session.specs.Asking.{front_edit, insertion_at}
 use Rattle.doc_session.specs.InMemory.{Doc}
 use Rattle.doc_session.specs.Ready.{with_event}
-use Rattle.doc_session.specs.Step.{AreEffectsOf, EventStep, edit_step}
+use Rattle.doc_session.specs.Step.{AreEffectsOf, EventStep, edit_step, front_step}
 use Rattle.doc_session.specs.Stands.{DocStandsFor}
 use Rattle.doc_session.proofs.InsertLemmas.{IsStateOfSome-contents, whole-moved, shown-whole, inside-inserted, inside-whole}
-use Rattle.doc_session.proofs.StepLemmas.{DocStandsFor-doc_contents, some_by, MayAsk-whole, asked-front, IsMoved-plain, event_step-front, refusal_at-front, some-inserted}
+use Rattle.doc_session.proofs.SettleLemmas.{scroll-settled}
+use Rattle.doc_session.proofs.StepLemmas.{DocStandsFor-doc_contents, some_by, MayAsk-whole, asked-front, IsMoved-plain, event_step-front, refusal_at-front}
 use Rattle.doc_session.proofs.doc.Doc.insert.Goals as goal
 
 pub moved_by-requires-clause-may : goal.moved_by-requires-clause-may
 moved_by-requires-clause-may c =
     let doc = c.self.inside in
-    MayAsk-whole doc.engine doc.text doc.caret doc.plugins c.in_ok-typed.typed.group c.self.invariant
+    MayAsk-whole doc.engine doc.text doc.caret c.in_ok-typed.typed.group c.self.invariant
     (omega (arith, ap (λ (e : AskedEdit). e.group) c.in_ok-typed.ensures)) (omega (arith, ap (λ (d : Doc). head d.engine.revisions) c.self.view_is, c.requires))
 
 pub moved_by-requires-clause-shown : goal.moved_by-requires-clause-shown
 moved_by-requires-clause-shown c =
     let doc = c.self.inside in
-    shown-whole doc.engine doc.text doc.caret doc.plugins c.self.invariant
+    shown-whole doc.engine doc.text doc.caret c.self.invariant
 
 pub invariant_of-self : goal.invariant_of-self
 invariant_of-self c =
     let doc = c.self.inside in
-    IsStateOfSome-contents doc.engine c.moved_by.new.engine doc.text doc.caret doc.plugins c.moved_by.ensures.same c.self.invariant
+    IsStateOfSome-contents doc.engine c.moved_by.new.engine doc.text doc.caret c.moved_by.ensures.same c.self.invariant
 
 pub overflow_add-caret : goal.overflow_add-caret
 overflow_add-caret c =
@@ -36,8 +37,8 @@ overflow_add-caret c =
     omega (
       arith,
       c.char_count.ensures,
-      inside-whole doc.engine doc.text doc.caret doc.plugins c.self.invariant,
-      inside-inserted doc.engine c.moved_by.new.engine doc.text doc.caret doc.plugins c.args.chars.now (asked_by c.in_ok-typed.typed) c.in_ok-moved.moved
+      inside-whole doc.engine doc.text doc.caret c.self.invariant,
+      inside-inserted doc.engine c.moved_by.new.engine doc.text doc.caret c.args.chars.now (asked_by c.in_ok-typed.typed) c.in_ok-moved.moved
           c.self.invariant
           (c.in_ok-typed.ensures ∙ ap (λ (d : Doc). insertion_at (head d.engine.revisions) d.text d.caret c.args.chars.now) (sym c.self.view_is))
           c.in_ok-moved.ensures.moved,
@@ -47,24 +48,22 @@ overflow_add-caret c =
 pub invariant_of-self-2 : goal.invariant_of-self-2
 invariant_of-self-2 c =
     let doc = c.self.inside in
-    IsStateOfSome-contents doc.engine c.moved_by.new.engine doc.text doc.caret doc.plugins c.moved_by.ensures.same c.self.invariant
+    IsStateOfSome-contents doc.engine c.moved_by.new.engine doc.text doc.caret c.moved_by.ensures.same c.self.invariant
 
 pub settled-requires-clause-whole : goal.settled-requires-clause-whole
 settled-requires-clause-whole c =
     let doc = c.self.inside in
     let chars = c.args.chars.now in
-    let some : chars ≢ [] = some_by c.is_empty.result chars c.is_empty.ensures.1 c.if-is_empty.false in
     let typed = c.in_ok-typed.ensures ∙ ap (λ (d : Doc). insertion_at (head d.engine.revisions) d.text d.caret chars) (sym c.self.view_is) in
-    whole-moved doc.engine c.moved_by.new.engine doc.text doc.caret doc.plugins (doc.caret + c.char_count.result) (asked_by c.in_ok-typed.typed) c.in_ok-moved.moved
+    whole-moved doc.engine c.moved_by.new.engine doc.text doc.caret (doc.caret + c.char_count.result) (asked_by c.in_ok-typed.typed) c.in_ok-moved.moved
     c.moved_by.ensures.same c.self.invariant c.in_ok-moved.ensures.moved
     (omega (
       arith,
       c.char_count.ensures,
-      inside-whole doc.engine doc.text doc.caret doc.plugins c.self.invariant,
-      inside-inserted doc.engine c.moved_by.new.engine doc.text doc.caret doc.plugins chars (asked_by c.in_ok-typed.typed) c.in_ok-moved.moved
+      inside-whole doc.engine doc.text doc.caret c.self.invariant,
+      inside-inserted doc.engine c.moved_by.new.engine doc.text doc.caret chars (asked_by c.in_ok-typed.typed) c.in_ok-moved.moved
           c.self.invariant typed c.in_ok-moved.ensures.moved,
     ))
-    (λ none. some-inserted (head doc.engine.revisions) doc.text doc.caret chars (asked_by c.in_ok-typed.typed) typed some)
 
 pub returns-clause-stands : goal.returns-clause-stands
 returns-clause-stands c = λ plain stands.
@@ -79,7 +78,7 @@ returns-clause-stands c = λ plain stands.
     let is = IsMoved-plain _ c.moved_by.new.engine plain asked (asked_by c.in_ok-typed.typed) c.in_ok-moved.moved was same c.in_ok-moved.ensures.moved in
     let place : doc.caret + c.char_count.result ≡ plain.caret + length chars = ap (λ n. doc.caret + n) c.char_count.ensures ∙ ap (λ n. n + length chars) was.caret in
     subst (λ (step : EventStep). DocStandsFor (with_event now c.in_ok-settled.field-0.0) step.document)
-    (ap (λ gap. edit_step plain asked gap Null) place ∙ sym (event_step-front plain chars some))
+    (ap (front_step plain asked) place ∙ sym (event_step-front plain chars some))
     (c.in_ok-settled.ensures.stands plain asked
     (DocStandsFor-doc_contents _ now plain
     (ap (λ (e : State). record { engine = e; text = doc.text; lines = doc.lines; caret = doc.caret; plugins = doc.plugins; valid = doc.valid })
@@ -97,8 +96,11 @@ returns-clause-effects c = λ plain stands.
     let same = asked-front c.args.self.now plain chars (asked_by c.in_ok-typed.typed) stands c.in_ok-typed.ensures in
     let is = IsMoved-plain _ c.moved_by.new.engine plain asked (asked_by c.in_ok-typed.typed) c.in_ok-moved.moved was same c.in_ok-moved.ensures.moved in
     let place : doc.caret + c.char_count.result ≡ plain.caret + length chars = ap (λ n. doc.caret + n) c.char_count.ensures ∙ ap (λ n. n + length chars) was.caret in
+    let gap = doc.caret + c.char_count.result in
+    let scroll =
+    scroll-settled _ c.moved_by.new.engine plain asked c.in_ok-moved.moved gap _ _ _ was is c.position_of.ensures c.position_of-2.ensures c.scroll_of-scroll.ensures in
     subst (λ (step : EventStep). AreEffectsOf step c.in_ok-settled.field-0.1)
-    (ap (λ gap. edit_step plain asked gap Null) place ∙ sym (event_step-front plain chars some))
+    (ap (edit_step plain asked gap Null) scroll ∙ ap (front_step plain asked) place ∙ sym (event_step-front plain chars some))
     (c.in_ok-settled.ensures.effects plain asked
     (DocStandsFor-doc_contents _ now plain
     (ap (λ (e : State). record { engine = e; text = doc.text; lines = doc.lines; caret = doc.caret; plugins = doc.plugins; valid = doc.valid })

@@ -5,7 +5,7 @@ use Rattle.doc_session.proofs.doc.Doc.of_text.Goals as goal
 
 pub returns : goal.returns
 returns c = record {
-  parts = IsStateOf-loaded _ _ _ _ _ c.in_ok-copy.ensures c.in_ok-engine.ensures.stands c.in_ok-engine.ensures.limit c.requires;
+  parts = IsStateOf-loaded _ _ _ _ c.in_ok-copy.ensures c.in_ok-engine.ensures.stands c.in_ok-engine.ensures.limit c.requires;
   limit = c.in_ok-engine.ensures.limit;
   plugins = refl;
   caret = refl;
@@ -16,4 +16,4 @@ returns c = record {
 }
 
 pub invariant_of-result : goal.invariant_of-result
-invariant_of-result c = ∣ (_, IsStateOf-loaded _ _ _ _ _ c.in_ok-copy.ensures c.in_ok-engine.ensures.stands c.in_ok-engine.ensures.limit c.requires) ∣₁
+invariant_of-result c = ∣ (_, IsStateOf-loaded _ _ _ _ c.in_ok-copy.ensures c.in_ok-engine.ensures.stands c.in_ok-engine.ensures.limit c.requires) ∣₁

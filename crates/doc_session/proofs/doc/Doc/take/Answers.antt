@@ -7,4 +7,4 @@ use Rattle.doc_session.proofs.doc.Doc.take.Goals as goal
 pub invariant_of-self : goal.invariant_of-self
 invariant_of-self c =
     rw c.put.ensures.put
-    (subst (λ (d : Doc). IsStateOfSome (with_edit d.engine c.args.edited.ready) c.args.edited.text c.args.edited.caret d.plugins) (sym c.self.view_is) c.requires.1)
+    (subst (λ (d : Doc). IsStateOfSome (with_edit d.engine c.args.edited.ready) c.args.edited.text c.args.edited.caret) (sym c.self.view_is) c.requires.1)

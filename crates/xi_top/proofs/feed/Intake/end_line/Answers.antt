@@ -1,39 +1,48 @@
 use Rattle.std.proofs.Common.{rules, ◌≡◌, ◌++◌, ◌≤◌, ℕ, length, length-append, sym, ap, subst, arith}
-use Rattle.xi_top.specs.Ending.{too_long}
-use Rattle.xi_top.specs.Intake.{Counts, begun_of}
-use Rattle.xi_top.proofs.IntakeLemmas.{stops_long_line, stops_no_room, stops_line, inside_failing, takes_line, goes_next}
+use Rattle.outside.specs.Sink.{sink_state}
+use Rattle.xi_top.specs.Ending.{Outcome, too_long}
+use Rattle.xi_top.specs.Intake.{Begun, Counts, GoesOn, begun_of}
+use Rattle.xi_top.proofs.IntakeLemmas.{failed_with, stops_long_line, stops_no_room, stops_line, no_fault, takes_line, goes_next}
 use Rattle.xi_top.proofs.feed.Intake.end_line.Goals as goal
 
 pub returns-then-ending-len-clause-goes : goal.returns-then-ending-len-clause-goes
 returns-then-ending-len-clause-goes g c = λ start taken ends at.
+    let tell = sink_state g.K.Sink.held g.K.Sink.faults g.K.Sink.failures in
     let begun = c.args.self.now.begun in (
       tt,
-      stops_long_line g.K.Sink.held g.K.Sink.faults start taken c.args.ending.now c.args.core.now (begun_of c.args.self.now) ends at
+      stops_long_line tell start taken c.args.ending.now c.args.core.now (begun_of c.args.self.now) ends at
           (omega (arith, c.if-ending-len.true, c.len.ensures, begun.ok.0, c.requires.small.room, length-append begun.items c.args.ending.now)),
     )
 
 pub returns-then-is_err-clause-goes : goal.returns-then-is_err-clause-goes
 returns-then-is_err-clause-goes g c = λ start taken ends at.
-    (tt, stops_no_room g.K.Sink.held g.K.Sink.faults start taken c.args.ending.now c.args.core.now (begun_of c.args.self.now) at)
+    let tell = sink_state g.K.Sink.held g.K.Sink.faults g.K.Sink.failures in
+    (tt, stops_no_room tell start taken c.args.ending.now c.args.core.now (begun_of c.args.self.now) at)
 
-pub returns-in-Some-clause-goes : goal.returns-in-Some-clause-goes
-returns-in-Some-clause-goes g c = λ start taken ends at.
+pub returns-in_err-enter-clause-goes : goal.returns-in_err-enter-clause-goes
+returns-in_err-enter-clause-goes g c = λ start taken ends at.
+    let tell = sink_state g.K.Sink.held g.K.Sink.faults g.K.Sink.failures in
     let line = c.deref.result.now in
-    let is : line ≡ c.args.self.now.begun.items ++ c.args.ending.now = search rules in (
-      inside_failing g.K.Sink.held g.K.Sink.faults c.args.core.now c.enter.new.core _ c.in-Some.failed c.in-Some.ensures,
-      stops_line g.K.Sink.held g.K.Sink.faults start taken c.args.ending.now line c.args.core.now c.enter.new.core (begun_of c.args.self.now)
-          c.in-Some.failed ends at is c.in-Some.ensures,
+    let is : line ≡ c.args.self.now.begun.items ++ c.args.ending.now = search rules in
+    let ending = c.in_err-enter.field-0.0 in
+    let now : Begun = record { bytes = c.extend_from_slice.new.self.items; count = c.args.self.now.taken } in
+    let At : Outcome → Type 0 = λ outcome. GoesOn tell start (taken ++ c.args.ending.now) c.enter.new.core now outcome in
+    subst At (sym (failed_with c.from_residual.result ending c.from_residual.ensures.1)) (
+      no_fault tell c.args.core.now c.enter.new.core _ ending c.in_err-enter.ensures,
+      stops_line tell start taken c.args.ending.now line c.args.core.now c.enter.new.core (begun_of c.args.self.now) ends at is ending
+          c.in_err-enter.ensures,
     )
 
 pub returns-clause-goes : goal.returns-clause-goes
 returns-clause-goes g c = λ start taken ends at.
+    let tell = sink_state g.K.Sink.held g.K.Sink.faults g.K.Sink.failures in
     let line = c.deref.result.now in
     let begun = c.args.self.now.begun in
     let is : line ≡ begun.items ++ c.args.ending.now = search rules in
     let fits : length line ≤ too_long =
     omega (arith, c.if-ending-len.false, c.len.ensures, begun.ok.0, c.requires.small.room, ap length is, length-append begun.items c.args.ending.now) in
     let At : ℕ → Type 0 = λ count. Counts count c.next_line.result in
-    goes_next g.K.Sink.held g.K.Sink.faults start (taken ++ c.args.ending.now) c.enter.new.core (begun_of c.next_line.new.self) c.next_line.result
-    (takes_line g.K.Sink.held g.K.Sink.faults start taken c.args.ending.now line c.args.core.now c.enter.new.core (begun_of c.args.self.now)
-    (begun_of c.next_line.new.self) ends at is fits c.in_default.ensures c.next_line.ensures.bytes c.next_line.ensures.count)
+    goes_next tell start (taken ++ c.args.ending.now) c.enter.new.core (begun_of c.next_line.new.self) c.next_line.result
+    (takes_line tell start taken c.args.ending.now line c.args.core.now c.enter.new.core (begun_of c.args.self.now) ends at is
+    (begun_of c.next_line.new.self) fits c.in_ok-enter.ensures c.next_line.ensures.bytes c.next_line.ensures.count)
     (subst At (sym c.next_line.ensures.count) c.next_line.ensures.counts)

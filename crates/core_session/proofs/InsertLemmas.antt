@@ -1,0 +1,49 @@
+-- What an insertion comes to where it is refused.
+use Rattle.std.proofs.Common.{◌≡◌, ◌≢◌, ℕ, List, Option, Some, None, refl, ap, sym, subst}
+use Rattle.std.proofs.Math.Logic.{∥∥₁_elim}
+use Rattle.xi_plain.specs.declared.command.EditAct.TheVariants.{Insert}
+use Rattle.plain_edits.specs.Edits.{Refusal}
+use Rattle.plain_edits.specs.declared.fault.EditFault.TheVariants as Edit
+use Rattle.doc_session.specs.InMemory.{Doc}
+use Rattle.doc_session.specs.declared.event.Event.TheVariants.{Front}
+use Rattle.doc_session.specs.declared.fault.DocFault.{DocFault}
+use Rattle.doc_session.specs.declared.fault.DocFault.TheVariants.{Unknown, Collected, Misfit, Spent, NoMemory}
+use Rattle.doc_session.specs.Document.{Document, loaded_document}
+use Rattle.doc_session.specs.Fault.{DocRefuses}
+use Rattle.doc_session.specs.Laws.{IsSpentIfAny}
+use Rattle.doc_session.specs.Stands.{DocStandsFor}
+use Rattle.doc_session.specs.Step.{EventStep, refusal_at}
+use Rattle.doc_session.proofs.ForCallers.{insertion_fits}
+use Rattle.doc_session.proofs.ForCallers.{head-stands}
+use Rattle.core_session.specs.ActEffects.{IsSpentOrLack}
+
+-- no refusal is one for characters spent but that one
+spent_fault : (refusal : Option Refusal) (fault : DocFault) → IsSpentIfAny refusal → DocRefuses refusal fault → IsSpentOrLack fault
+spent_fault refusal (Unknown head) alone refuses = subst IsSpentIfAny (refuses other) alone
+  where
+    other : Edit.Unknown head ≢ Edit.NoMemory
+    other is = cc
+spent_fault refusal (Collected floor) alone refuses = subst IsSpentIfAny (refuses other) alone
+  where
+    other : Edit.Collected floor ≢ Edit.NoMemory
+    other is = cc
+spent_fault refusal (Misfit first) alone refuses = subst IsSpentIfAny (refuses other) alone
+  where
+    other : Edit.Misfit first ≢ Edit.NoMemory
+    other is = cc
+spent_fault refusal (Spent total) alone refuses = tt
+spent_fault refusal NoMemory alone refuses = tt
+
+prop : (fault : DocFault) (p q : IsSpentOrLack fault) → p ≡ q
+prop (Unknown head) p q = absurd p
+prop (Collected floor) p q = absurd p
+prop (Misfit first) p q = absurd p
+prop (Spent total) p q = refl
+prop NoMemory p q = refl
+
+-- the fault of an insertion that a document refuses
+pub IsSpentOrLack-inserted : (doc : Doc) (chars : List ℕ) (fault : DocFault) → ∥ ((plain : Document) × DocStandsFor doc plain) ∥₁ →
+    ((plain : Document) → DocStandsFor doc plain → DocRefuses (refusal_at plain (Front (Insert chars))) fault) → IsSpentOrLack fault
+IsSpentOrLack-inserted doc chars fault known refuses =
+    ∥∥₁_elim known (prop fault) (λ (s : (plain : Document) × DocStandsFor doc plain).
+    spent_fault (refusal_at s.0 (Front (Insert chars))) fault (insertion_fits doc s.0 chars s.1) (refuses s.0 s.1))
