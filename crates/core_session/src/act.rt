@@ -13,11 +13,11 @@ ghost use Rattle.core_session.specs.ActEffects.{IsOutcome, IsSpentOrLack};
 ghost use Rattle.core_session.specs.Change.{MayChange};
 
 use doc_session::{Doc, DocFault, Effects, Event, ReadyEvent};
+use plain_screen::Update;
+use plain_text::{NoMemory, Steps, Text, TryClone};
 use std::alloc::Global;
 use std::marker::Brand;
 use std::sync::ledger::{Blank, Ledger};
-use plain_text::{NoMemory, Steps, Text, TryClone};
-use plain_screen::Update;
 use xi_plain::{Act, Config, EditAct, Fault};
 
 /// The id of the first view.
@@ -116,11 +116,7 @@ fn open(alloc: Global, document: &Option<Doc>, path: &Option<Text>) -> Result<Ac
         return Err(NoMemory);
     };
     doc.put(ready);
-    Ok(accepted(
-        Reply::Opened,
-        DocumentChange::Opened(doc),
-        effects,
-    ))
+    Ok(accepted(Reply::Opened, DocumentChange::Opened(doc), effects))
 }
 
 fn edit(

@@ -15,11 +15,11 @@ ghost use Rattle.core_session.specs.ActEffects.{reply_of};
 
 use crate::act::{ActEffects, FIRST_VIEW, Reply};
 use json_rpc::{code_of, message_of, write_error, write_reply};
+use plain_screen::Update;
+use plain_text::{NoMemory, Text};
 use serde_json::Value;
 use std::alloc::Global;
 use view_update::{write_alert, write_scroll, write_update};
-use plain_text::{NoMemory, Text};
-use plain_screen::Update;
 use xi_plain::{Fault, Id};
 
 /// The number of the refusal of an edit that would insert more characters than may be.

@@ -11,8 +11,8 @@ use crate::piece::piece_of;
 use crate::session::Prepared;
 use doc_session::Doc;
 use front_wire::command_of;
-use std::alloc::Global;
 use plain_text::NoMemory;
+use std::alloc::Global;
 
 /// Makes ready what a line comes to; the document is as before.
 pub fn prepare(alloc: Global, document: &mut Option<Doc>, line: &[u8]) -> Result<Prepared, NoMemory>

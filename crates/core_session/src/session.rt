@@ -13,8 +13,8 @@ use crate::prepare::prepare;
 use crate::write::write_piece;
 use doc_session::{Doc, ReadyEvent};
 use outside::Sink;
-use std::alloc::Global;
 use plain_text::Text;
+use std::alloc::Global;
 use xi_plain::{Act, Command, Entry, Id};
 
 /// What became of a line.

@@ -26,14 +26,14 @@ use crate::layout::{layout_of, position_of};
 use crate::moved::{Moved, moved_by};
 use crate::plan::{scroll_of, update_if};
 use crate::ready::{Edited, ReadyEvent};
-use selection_core::gap_after;
+use plain_edits::{Delta, El, Els};
+use plain_screen::Lines;
+use plain_text::{NoMemory, Steps, Text, TryClone};
 use rev_engine::{Edit, Engine};
+use selection_core::gap_after;
 use std::alloc::Global;
 use std::marker::Model;
 use std::sync::ledger::Ledger;
-use plain_text::{NoMemory, Steps, Text, TryClone};
-use plain_edits::{Delta, El, Els};
-use plain_screen::Lines;
 use xi_plain::{Config, EditAct};
 
 /// The priority of the front end's edits.

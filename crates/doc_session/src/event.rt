@@ -1,5 +1,5 @@
-use rev_engine::Edit;
 use plain_screen::Update;
+use rev_engine::Edit;
 use xi_plain::{EditAct, Notice};
 
 /// What happens to a document.

@@ -1,10 +1,10 @@
 ghost use Rattle.std.specs.Prelude.{◌≡◌};
 ghost use Rattle.doc_session.specs.Fault.{edit_fault};
 
+use plain_edits::{EditFault, Misfit};
+use plain_text::NoMemory;
 use std::error::Error;
 use std::fmt;
-use plain_text::NoMemory;
-use plain_edits::{EditFault, Misfit};
 
 /// Why an event is refused. They are looked for in this order.
 #[derive(Clone, Copy, Debug, PartialEq, Eq, Drop)]

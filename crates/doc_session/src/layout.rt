@@ -3,9 +3,9 @@ ghost use Rattle.std.specs.Str.{chars};
 ghost use Rattle.doc_session.specs.Layout.{cursor_of, layout_line, layout, position_of};
 ghost use Rattle.doc_session.specs.PositionView.{position_view};
 
-use std::alloc::Global;
-use plain_text::{NoMemory, Offsets, Text};
 use plain_screen::{Line, Lines, Triples};
+use plain_text::{NoMemory, Offsets, Text};
+use std::alloc::Global;
 
 /// The layout of a text with one caret, in one walk over its characters.
 pub(crate) fn layout_of(alloc: Global, text: &Text, caret: u64) -> Result<Lines, NoMemory>

@@ -13,9 +13,9 @@ ghost use Rattle.doc_session.specs.Inner.{IsChangeOf, ShowsSomeHead, LeadsTo};
 
 use crate::fault::DocFault;
 use delta_core::{apply, to_wire};
+use plain_text::Text;
 use rev_engine::{Edit, Engine, Ready};
 use std::alloc::Global;
-use plain_text::Text;
 use xi_plain::Notice;
 
 /// An edit that was made ready for the engine, with the head text after it and what the plugins are told.

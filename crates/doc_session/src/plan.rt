@@ -5,9 +5,9 @@ ghost use Rattle.doc_session.specs.Effects.{is_same_point};
 ghost use Rattle.doc_session.specs.PositionView.{position_view};
 ghost use Rattle.doc_session.specs.Inner.{planned};
 
-use std::alloc::Global;
-use plain_text::{NoMemory, TryClone};
 use plain_screen::{Line, Lines, Op, Ops, Update};
+use plain_text::{NoMemory, TryClone};
+use std::alloc::Global;
 
 /// How many lines the window of a view shows.
 const WINDOW: usize = 10;

@@ -1,6 +1,6 @@
-use rev_engine::Ready;
-use plain_text::Text;
 use plain_screen::Lines;
+use plain_text::Text;
+use rev_engine::Ready;
 
 /// An event that was made ready: its memory is taken, and what is left is to put it in.
 #[derive(Drop)]

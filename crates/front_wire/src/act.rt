@@ -7,9 +7,9 @@ ghost use Rattle.serde_json.specs.View.{view, members_view};
 ghost use Rattle.front_wire.specs.Front.{act_of, edit_act, insert_from, is_insert_name, is_named, names_no_file, is_absent, as_text, not_built};
 ghost use Rattle.front_wire.specs.Fair.{IsText, IsTextIfAny, HasTexts};
 
+use plain_text::{NoMemory, Text};
 use serde_json::{Map, Value};
 use std::alloc::Global;
-use plain_text::{NoMemory, Text};
 use xi_plain::{Act, EditAct, Fault};
 
 /// What a method asks with its parameters.

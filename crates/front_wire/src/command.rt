@@ -7,8 +7,8 @@ ghost use Rattle.front_wire.specs.Fair.{IsFair};
 
 use crate::act::act_of;
 use json_rpc::{Rpc, RpcFault, read_line};
-use std::alloc::Global;
 use plain_text::NoMemory;
+use std::alloc::Global;
 use xi_plain::{Act, Command, Fault, Id};
 
 /// What a line of the front end asks, with or without its LF. A line that asks for nothing that is done is `Act::Bad` with its

@@ -1,10 +1,10 @@
 ghost use Rattle.std.specs.Prelude.{Some};
 ghost use Rattle.json_rpc.specs.Fault.{refusal_text};
 
+use plain_text::NoMemory;
 use std::alloc::AllocError;
 use std::error::Error;
 use std::fmt;
-use plain_text::NoMemory;
 
 /// Why a line gives no request.
 #[derive(Clone, Copy, Debug, PartialEq, Eq)]

@@ -10,9 +10,9 @@ ghost use Rattle.json_rpc.specs.Request.{request, request_of, request_from, no_r
 
 use crate::fault::RpcFault;
 use crate::rpc::Rpc;
+use plain_text::Text;
 use serde_json::{Error, Map, Number, Value};
 use std::alloc::Global;
-use plain_text::Text;
 use xi_plain::Id;
 
 const LINE_FEED: u8 = b'\n';

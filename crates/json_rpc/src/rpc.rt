@@ -1,5 +1,5 @@
-use serde_json::Value;
 use plain_text::Text;
+use serde_json::Value;
 use xi_plain::Id;
 
 /// A request, or a notification where it has no id.

@@ -10,9 +10,9 @@ ghost use Rattle.json_rpc.specs.Request.{IsWireId, IsTextId, line_request};
 ghost use Rattle.json_rpc.specs.Response.{text_data, id_data, pair_data, reply_data, failure_data, error_data, note_data, given, failed, line_response};
 
 use crate::value::{pair, text_value};
+use plain_text::{NoMemory, Text};
 use serde_json::{Number, Value};
 use std::alloc::Global;
-use plain_text::{NoMemory, Text};
 use xi_plain::Id;
 
 /// The line that answers the request of this id with a result. The cost is linear in the line. `Err` is want of memory alone.

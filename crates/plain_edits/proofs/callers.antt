@@ -2,3 +2,10 @@
 pub mod HistoryLemmas
 pub mod PlaceLemmas
 pub mod EditLemmas
+pub mod UndoLemmas
+pub mod ChangeLemmas
+pub mod CollectionLemmas
+pub mod StepLemmas
+pub mod CaretLemmas
+pub mod StyleLemmas
+pub mod WellFormedLemmas

@@ -1,5 +1,5 @@
 -- How a caret moves where a revision is made.
-use Rattle.std.specs.Prelude.{ℕ, zero, suc, ◌+◌, Bool, true, false, if◌then◌else◌, nat_le, List, length, map, take}
+use Rattle.std.specs.Prelude.{ℕ, zero, suc, ◌+◌, Bool, true, false, if◌then◌else◌, List, length, map, take}
 use Rattle.std.specs.List.{count_by, range_with_len, sum_by}
 use Rattle.plain_text.specs.declared.selection.Region.{Region}
 use Rattle.plain_text.specs.Woven.{nth_index}

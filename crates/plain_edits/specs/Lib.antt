@@ -6,6 +6,7 @@ pub mod Edits
 pub mod Collection
 pub mod Change
 pub mod Caret
-pub mod Styles
 pub mod HistorySteps
+pub mod Styles
+pub mod Undo
 pub mod EditFault

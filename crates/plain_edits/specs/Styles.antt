@@ -6,6 +6,7 @@ use Rattle.plain_text.specs.Woven.{woven}
 use Rattle.plain_edits.specs.declared.style.Span.{Span}
 use Rattle.plain_edits.specs.History.{History, head, is_visible}
 use Rattle.plain_edits.specs.Change.{passes_at, shown_indices}
+use Rattle.plain_edits.specs.HistorySteps.{Step, after_step}
 
 -- a layer has one style, if any, for each character of a text: the id of the style
 abbrev pub Layer : Type 0
@@ -39,6 +40,12 @@ carried_layer history from to layer = map (style_of history from layer) (shown_i
 -- over two histories, of which the later one has all characters of the other
 abbrev pub moved_layer : History → History → Layer → Layer
 moved_layer before after layer = carried_layer after (head before) (head after) layer
+
+-- over some steps, one after the other
+abbrev pub layer_after_steps : History → List Step → Layer → Layer
+layer_after_steps history [] layer = layer
+layer_after_steps history (step ∷ steps) layer =
+    layer_after_steps (after_step history step) steps (moved_layer history (after_step history step) layer)
 
 -- over an edit in characters: what is kept keeps its style, and what is added has none
 abbrev pub mapped_layer : (ℕ → Bool) → (ℕ → List ℕ) → Layer → Layer

@@ -10,8 +10,9 @@ use Rattle.plain_edits.specs.Edits.{PlainEdit, plain_edit, undid, MayUndo, unkno
 use Rattle.plain_edits.specs.Collection.{is_group, clean_floor, is_at_rest, collected_at, collection_of, kept}
 use Rattle.plain_edits.specs.Change.{shown_indices, change_keeps, change_adds}
 use Rattle.plain_edits.specs.Caret.{moved_caret, moved_regions, mapped_gap}
+use Rattle.plain_edits.specs.Undo.{undone_with}
 use Rattle.plain_edits.specs.Styles.{Layer, moved_layer, mapped_layer, with_spans}
-use Rattle.plain_laws.specs.Rows.{inserting, deleting, then_edit, eldest_decides}
+use Rattle.plain_laws.specs.Rows.{inserting, deleting, then_edit, eldest_decides, three_groups}
 
 -- group 1 inserts `a` into the empty text and is undone, and then inserts `Z`
 abbrev pub undone_insertion : History
@@ -148,6 +149,18 @@ pub record StaleSpans : Type 0 where
   pub appears : moved_layer (undid before_spans (1 ∷ [])) (undid (undid before_spans (1 ∷ [])) [])
       (Some 5 ∷ Some 2 ∷ Some 2 ∷ None ∷ []) ≡ None ∷ Some 5 ∷ Some 2 ∷ Some 2 ∷ None ∷ []
   pub mapped : mapped_layer (change_keeps before_spans 0 1) (change_adds before_spans 0 1) (None ∷ Some 2 ∷ Some 2 ∷ None ∷ []) ≡ styled
+
+-- three groups, of which group 2 is undone
+abbrev pub second_undone : History
+second_undone = undid three_groups (2 ∷ [])
+
+-- an undo of one group more hides what it inserted and shows what it deleted; and back again
+pub record SelectiveUndo : Type 0 where
+  pub deletes : text_at (undid three_groups (undone_with three_groups (2 ∷ []))) 4 ≡ codes "abXc"
+  pub set : undone_with second_undone (1 ∷ []) ≡ 1 ∷ 2 ∷ []
+  pub inserts : text_at (undid second_undone (undone_with second_undone (1 ∷ []))) 5 ≡ codes "X"
+  pub inserts_one : text_at (undid second_undone (undone_with second_undone (3 ∷ []))) 5 ≡ codes "abc"
+  pub back : text_at (undid (undid second_undone (undone_with second_undone (1 ∷ []))) (2 ∷ [])) 6 ≡ codes "abXc"
 
 -- sets of numbers: those in exactly one of two
 pub record FlippedSets : Type 0 where

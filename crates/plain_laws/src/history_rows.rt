@@ -1,6 +1,6 @@
 //! Worked rows of undo, collection, change and styles, each the contract of a function.
 
-ghost use Rattle.plain_laws.specs.HistoryRows.{HiddenOnArrival, CollectionAfterGroups, DroppedCharacters, CleanFloors, MergedEdits, EditRefusals, StalePluginInsertion, CaretBesideInsertion, StaleSpans, FlippedSets};
+ghost use Rattle.plain_laws.specs.HistoryRows.{HiddenOnArrival, CollectionAfterGroups, DroppedCharacters, CleanFloors, MergedEdits, EditRefusals, StalePluginInsertion, CaretBesideInsertion, StaleSpans, SelectiveUndo, FlippedSets};
 
 /// An edit in an undone group is hidden on arrival and hides nothing.
 pub fn hidden_on_arrival()
@@ -45,6 +45,11 @@ pub fn caret_beside_an_insertion()
 /// Spans against an old revision style the characters that they named.
 pub fn stale_spans()
     ensures { StaleSpans }
+{}
+
+/// An undo of one group more hides what it inserted, and shows what it deleted.
+pub fn selective_undo()
+    ensures { SelectiveUndo }
 {}
 
 /// Two sets give the numbers in exactly one of them.

@@ -9,10 +9,10 @@ ghost use Rattle.view_update.specs.Notes.{scroll_params, alert_params};
 ghost use Rattle.view_update.specs.Fair.{IsCount, IsLn, IsFairTriple, IsFairLine, IsFairOp, IsFairUpdate};
 
 use json_rpc::{pair, text_value};
+use plain_screen::{Line, Op, Triple, Update};
+use plain_text::{NoMemory, Text};
 use serde_json::{Map, Value, json, put};
 use std::alloc::Global;
-use plain_text::{NoMemory, Text};
-use plain_screen::{Line, Op, Triple, Update};
 
 /// The params of the note of an update, for the view with this id.
 pub fn params_value(alloc: Global, id: &Text, update: &Update) -> Result<Value, NoMemory>

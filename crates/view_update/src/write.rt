@@ -11,10 +11,10 @@ ghost use Rattle.view_update.specs.Reading.{line_update, line_scroll, line_alert
 
 use crate::values::{alert_value, params_value, scroll_value};
 use json_rpc::write_note;
+use plain_screen::Update;
+use plain_text::{NoMemory, Text};
 use serde_json::Value;
 use std::alloc::Global;
-use plain_text::{NoMemory, Text};
-use plain_screen::Update;
 
 /// The line of the note that tells a front end of an update of the view with this id. The cost is that of the update.
 pub fn write_update(alloc: Global, view: &Text, update: &Update) -> Result<Text, NoMemory>

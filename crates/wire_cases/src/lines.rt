@@ -82,7 +82,7 @@ fn a_line_is_a_request_or_refused(rt: HostRuntime) -> Result<(), Fail> {
         let found = outcome(rt.alloc(), line).ok();
         assert!(rt;
             found.is_some_and(|text| text.as_str() == expected),
-            "{expected}"
+            "{line:?}"
         );
     }
     Ok(())

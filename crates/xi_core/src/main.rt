@@ -5,8 +5,8 @@ mod words;
 
 use crate::words::{Invocation, invocation_of, words};
 use outside::{StdSink, StdSource};
-use std::process::ExitCode;
 use plain_text::{NoMemory, Text};
+use std::process::ExitCode;
 use xi_top::xi_main;
 
 const VERSION: &str = "xi_core 0.1.0";

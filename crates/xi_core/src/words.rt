@@ -1,9 +1,9 @@
 ghost use Rattle.std.specs.Prelude.{◌≡◌, ◌↔◌, [], ◌∷◌, IsTrue, IfOk, codes};
 
+use plain_text::{List, NoMemory, Text, Texts};
 use std::alloc::Global;
 use std::rt::Env;
 use std::{env, io};
-use plain_text::{List, NoMemory, Text, Texts};
 
 /// What the words ask of the program.
 #[derive(Clone, Copy)]

@@ -394,19 +394,25 @@ module _ {K : Type 0} (tell : K → SinkState) (start : SinkState) where
 
   pub finish_last : (taken : List ℕ) (old new : Core K) (begun : Begun) (outcome : Outcome) → IsAt tell start taken old begun → begun.bytes ≢ [] →
       Enters tell old new (command_of begun.bytes) outcome → Finishes tell start taken new outcome
-  finish_last taken old new begun (Ok done) at some adds =
-      (tt, stops_finished taken new (whole_sent old new (command_of begun.bytes) at.whole adds)
-      (commands_push (journal_of old) (journal_of new) begun.bytes (ended_lines [] taken) true at.asked adds.entry ∙
-      ap (map command_of) (sym (all_lines taken begun at.rest some))))
-  finish_last taken old new begun (Err SinkFault) at some (n, adds) =
-      (tt, stops_sink taken [] begun.bytes old new n at.whole adds
-      (holds_all (Err SinkFault) taken (commands (journal_of new))
-      (commands_push (journal_of old) (journal_of new) begun.bytes (ended_lines [] taken) false at.asked adds.entry ∙
-      ap (map command_of) (sym (all_lines taken begun at.rest some))) tt))
+  finish_last taken old new begun (Ok done) at some adds = (
+    tt,
+    stops_finished taken new (whole_sent old new (command_of begun.bytes) at.whole adds)
+        (commands_push (journal_of old) (journal_of new) begun.bytes (ended_lines [] taken) true at.asked adds.entry ∙
+        ap (map command_of) (sym (all_lines taken begun at.rest some))),
+  )
+  finish_last taken old new begun (Err SinkFault) at some (n, adds) = (
+    tt,
+    stops_sink taken [] begun.bytes old new n at.whole adds
+        (holds_all (Err SinkFault) taken (commands (journal_of new))
+        (commands_push (journal_of old) (journal_of new) begun.bytes (ended_lines [] taken) false at.asked adds.entry ∙
+        ap (map command_of) (sym (all_lines taken begun at.rest some))) tt),
+  )
   finish_last taken old new begun (Err NoMemory) at some same =
-      let At : List ℕ → Type 0 = λ bytes. Stops tell start bytes [] new (Err NoMemory) in
-      (tt, subst At (append-nil taken)
-      (stops_memory taken [] [] new (whole_same old new at.whole same) (ap commands same.journal ∙ at.asked)))
+      let At : List ℕ → Type 0 = λ bytes. Stops tell start bytes [] new (Err NoMemory) in (
+        tt,
+        subst At (append-nil taken)
+            (stops_memory taken [] [] new (whole_same old new at.whole same) (ap commands same.journal ∙ at.asked)),
+      )
   finish_last taken old new begun (Err SourceFault) at some fails = absurd fails
   finish_last taken old new begun (Err TooMany) at some fails = absurd fails
   finish_last taken old new begun (Err TooLong) at some fails = absurd fails

@@ -9,8 +9,8 @@ use crate::ending::Ending;
 use crate::serve::serve;
 use core_session::Core;
 use outside::{Sink, Source};
-use std::alloc::Global;
 use plain_text::Text;
+use std::alloc::Global;
 use xi_plain::Entry;
 
 /// What a run came to.

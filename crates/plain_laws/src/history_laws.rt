@@ -1,0 +1,73 @@
+//! Laws of undo, collection, change, carets and styles, each the contract of a function: they hold of all sound histories.
+
+ghost use Rattle.plain_laws.specs.HistoryLaws.{LastUndoCounts, UndoneEditsHide, CollectionsChangeNoText, StepsGiveNothingBack, HistoriesStayWellFormed, CollectionsMayCome, DroppedIsHidden, DroppedStays, ChangesLead, CaretsFollowChanges, StylesFollowChanges, StylesStay, RestIsTested, CleanFloorsAreGreatest};
+
+/// Of two undos, one after the other, the last one alone counts.
+pub fn last_undo_counts()
+    ensures { LastUndoCounts }
+{}
+
+/// An edit in an undone group is hidden on arrival, and hides nothing.
+pub fn undone_edits_hide()
+    ensures { UndoneEditsHide }
+{}
+
+/// A collection changes no text of any revision.
+pub fn collections_change_no_text()
+    ensures { CollectionsChangeNoText }
+{}
+
+/// No step lowers the floor or gives a collected group back.
+pub fn steps_give_nothing_back()
+    ensures { StepsGiveNothingBack }
+{}
+
+/// A history is well formed when it is loaded, and stays so by every step that may come.
+pub fn histories_stay_well_formed()
+    ensures { HistoriesStayWellFormed }
+{}
+
+/// What is collected after an entry may be collected.
+pub fn collections_may_come()
+    ensures { CollectionsMayCome }
+{}
+
+/// No revision from the floor to the head shows a dropped character.
+pub fn dropped_is_hidden()
+    ensures { DroppedIsHidden }
+{}
+
+/// What is dropped stays dropped, by every step that may come.
+pub fn dropped_stays()
+    ensures { DroppedStays }
+{}
+
+/// A change leads from the one text to the other.
+pub fn changes_lead()
+    ensures { ChangesLead }
+{}
+
+/// Over a change a caret goes where the caret rule takes it: for edits, undos and collections.
+pub fn carets_follow_changes()
+    ensures { CaretsFollowChanges }
+{}
+
+/// Over a change a layer becomes what the style rule makes of it.
+pub fn styles_follow_changes()
+    ensures { StylesFollowChanges }
+{}
+
+/// A style never moves to another character, whatever steps come between.
+pub fn styles_stay()
+    ensures { StylesStay }
+{}
+
+/// The test of rest and being at rest are the same.
+pub fn rest_is_tested()
+    ensures { RestIsTested }
+{}
+
+/// The clean floor up to a revision is clean, and the greatest one.
+pub fn clean_floors_are_greatest()
+    ensures { CleanFloorsAreGreatest }
+{}
