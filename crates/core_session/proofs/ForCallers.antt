@@ -9,6 +9,7 @@ use Rattle.core_session.specs.Shows.{IsShown, Shows, rebuilt}
 use Rattle.core_session.proofs.SessionLemmas.{document_after-push, written-append}
 use Rattle.core_session.proofs.ShowsLemmas.{no_lines, shows_push}
 pub use Rattle.core_session.proofs.SessionLemmas.{closes-command_of}
+pub use Rattle.core_session.proofs.RowLemmas.{first_insertion}
 
 pub written-push : (journal : List Entry) (entry : Entry) →
     written None (journal ++ entry ∷ []) ≡ written None journal ++ piece_of (document_after None journal) entry.command

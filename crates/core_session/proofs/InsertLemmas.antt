@@ -15,7 +15,7 @@ use Rattle.doc_session.specs.Stands.{DocStandsFor}
 use Rattle.doc_session.specs.Step.{EventStep, refusal_at}
 use Rattle.doc_session.proofs.ForCallers.{insertion_fits}
 use Rattle.doc_session.proofs.ForCallers.{head-stands}
-use Rattle.core_session.specs.ActEffects.{IsSpentOrLack}
+use Rattle.core_session.specs.Inner.{IsSpentOrLack}
 
 -- no refusal is one for characters spent but that one
 spent_fault : (refusal : Option Refusal) (fault : DocFault) → IsSpentIfAny refusal → DocRefuses refusal fault → IsSpentOrLack fault

@@ -4,4 +4,5 @@ pub mod ShowsLemmas
 pub mod OpenLemmas
 pub mod InsertLemmas
 pub mod LawLemmas
+pub mod RowLemmas
 pub mod ForCallers

@@ -12,8 +12,8 @@ use Rattle.doc_session.proofs.ForCallers.{head-stands}
 use Rattle.core_session.specs.declared.act.ActEffects.{ActEffects}
 use Rattle.core_session.specs.declared.act.DocumentChange.TheVariants.{Opened as Opens}
 use Rattle.core_session.specs.declared.act.Reply.TheVariants.{Opened}
-use Rattle.core_session.specs.Core.{TakesEvents, ServesDocument, Stands}
-use Rattle.core_session.specs.ActEffects.{IsOutcome}
+use Rattle.core_session.specs.Core.{ServesDocument, Stands}
+use Rattle.core_session.specs.Inner.{TakesEvents, IsOutcome}
 use Rattle.core_session.specs.Session.{first_document, open_outcome, text_limit}
 
 -- a document that was just loaded takes events

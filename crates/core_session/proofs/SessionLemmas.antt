@@ -11,7 +11,8 @@ use Rattle.xi_plain.specs.declared.command.Command.{Command}
 use Rattle.xi_plain.specs.declared.command.Entry.{Entry}
 use Rattle.doc_session.specs.Document.{Document}
 use Rattle.core_session.specs.Session.{messages, step, document_after, lines_written, written, piece_of}
-use Rattle.core_session.specs.Core.{AreLinesOf, front_entry}
+use Rattle.core_session.specs.Core.{front_entry}
+use Rattle.core_session.specs.Inner.{AreLinesOf}
 use Rattle.core_session.specs.Journal.{closes, IsOpen}
 use Rattle.std.proofs.Math.Seq.{take-nil}
 use Rattle.std.specs.Prelude.{if◌then◌else◌, Bool, true, false, Result, Ok, Err}

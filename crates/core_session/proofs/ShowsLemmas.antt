@@ -44,8 +44,8 @@ use Rattle.core_session.specs.Shows.{updates_in, screen_with, rebuilt_from, rebu
 use Rattle.doc_session.proofs.ForCallers.{head-stands}
 use Rattle.doc_session.proofs.ForCallers.{DocStandsFor-doc_contents}
 use Rattle.core_session.specs.declared.act.DocumentChange.{DocumentChange}
-use Rattle.core_session.specs.Core.{Stands, MayBeAsked, UpdateReadsBack, AreLinesOf, screen_of, plain_of, IsShowing, front_entry}
-use Rattle.core_session.specs.Change.{with_change}
+use Rattle.core_session.specs.Core.{Stands, screen_of, plain_of, IsShowing, front_entry}
+use Rattle.core_session.specs.Inner.{MayBeAsked, UpdateReadsBack, AreLinesOf, with_change}
 use Rattle.core_session.specs.Journal.{IsOpen, closes}
 use Rattle.core_session.proofs.RevisionLemmas.{revisions_of, revisions_few}
 use Rattle.core_session.proofs.SessionLemmas.{document_after-push, all_messages, all_messages-push, written-messages, IsOpen-push}

@@ -21,7 +21,6 @@ use Rattle.core_session.specs.declared.session.Core.{Core}
 use Rattle.core_session.specs.declared.session.Prepared.{Prepared}
 use Rattle.core_session.specs.Session.{view_id, outcome, messages, lines_written, piece_of, step, document_after, written}
 use Rattle.core_session.specs.Journal.{IsOpen}
-use Rattle.core_session.specs.Change.{with_change}
 use Rattle.core_session.specs.Shows.{Shows, rebuilt}
 
 -- the document in memory stands for the plain one, has no plugins, and is shown on the front end's screen
@@ -36,31 +35,6 @@ Stands None None = ⊤
 Stands None (Some plain) = ⊥
 Stands (Some doc) None = ⊥
 Stands (Some doc) (Some plain) = ServesDocument doc plain
-
--- the document has no plugins, and may take one more edit
-abbrev pub TakesEvents : Doc → Type 0
-TakesEvents doc = (doc.plugins ≡ 0) × (head doc.engine.revisions < 2 ^ 63 - 1)
-
--- it takes events, and stands for a plain one, where there is a document
-abbrev pub MayBeAsked : Option Doc → Type 0
-MayBeAsked None = ⊤
-MayBeAsked (Some doc) = TakesEvents doc × ∥ ((plain : Document) × DocStandsFor doc plain) ∥₁
-
--- the bytes are the lines of the messages, and each of these lines reads as its message
-pub record AreLinesOf (messages : List Data) (bytes : List ℕ) : Type 0 where
-  pub joined : bytes ≡ lines_written messages
-  pub each : AllByRecursion (λ message. IsLineOf message (line_of message)) messages
-
--- the line of the update reads back as it, where there is one
-abbrev pub UpdateReadsBack : Option Update → Type 0
-UpdateReadsBack None = ⊤
-UpdateReadsBack (Some update) = line_update (line_of (update_data view_id update)) ≡ Some (Some (record { view = view_id; update = update }))
-
--- what a command comes to, before it is an entry: its piece and its document
-pub record IsPrepared (before : Option Doc) (plain : Option Document) (made : Prepared) : Type 0 where
-  pub lines : AreLinesOf (messages plain made.command) (encode_utf8_all made.piece)
-  pub reads_back : UpdateReadsBack (outcome plain made.command.act).update
-  pub stands : Stands (with_change made.change before) (step plain made.command)
 
 -- THE JOURNAL of a session
 abbrev pub journal_of : {K : Type 0} → Core K → List Entry

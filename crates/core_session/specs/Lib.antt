@@ -2,7 +2,7 @@ pub mod Answer
 pub mod Session
 pub mod Journal
 pub mod Shows
-pub mod Change
 pub mod Core
 pub mod Laws
-pub mod ActEffects
+pub mod Rows
+pub mod Inner

@@ -7,10 +7,9 @@ ghost use Rattle.doc_session.specs.InMemory.{Doc, doc_contents};
 ghost use Rattle.doc_session.specs.Ready.{MayTake, with_event};
 ghost use Rattle.doc_session.specs.Stands.{DocStandsFor};
 ghost use Rattle.doc_session.specs.Step.{AreEffectsOf, EventStep, HasCaller, refusal_at, event_step};
-ghost use Rattle.core_session.specs.Core.{MayBeAsked, TakesEvents, ServesDocument, Stands};
+ghost use Rattle.core_session.specs.Core.{ServesDocument, Stands};
+ghost use Rattle.core_session.specs.Inner.{MayBeAsked, TakesEvents, IsOutcome, IsSpentOrLack, MayChange};
 ghost use Rattle.core_session.specs.Session.{outcome, edit_came, edit_outcome, open_outcome, is_first_view, insert_outcome, refusing, spent_total};
-ghost use Rattle.core_session.specs.ActEffects.{IsOutcome, IsSpentOrLack};
-ghost use Rattle.core_session.specs.Change.{MayChange};
 
 use doc_session::{Doc, DocFault, Effects, Event, ReadyEvent};
 use plain_screen::Update;

@@ -9,6 +9,7 @@ mod act;
 pub mod laws;
 mod piece;
 mod prepare;
+pub mod rows;
 mod session;
 mod write;
 

@@ -10,8 +10,7 @@ ghost use Rattle.serde_json.specs.View.{view};
 ghost use Rattle.doc_session.specs.PositionView.{position_view};
 ghost use Rattle.core_session.specs.Answer.{answers, refusal, named_refusal, refused_by, result_messages};
 ghost use Rattle.core_session.specs.Session.{view_id, update_notes, scroll_notes};
-ghost use Rattle.core_session.specs.Core.{AreLinesOf, UpdateReadsBack};
-ghost use Rattle.core_session.specs.ActEffects.{reply_of};
+ghost use Rattle.core_session.specs.Inner.{AreLinesOf, UpdateReadsBack, reply_of};
 
 use crate::act::{ActEffects, FIRST_VIEW, Reply};
 use json_rpc::{code_of, message_of, write_error, write_reply};

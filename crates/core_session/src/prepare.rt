@@ -3,8 +3,8 @@ ghost use Rattle.front_wire.specs.Front.{command_of};
 ghost use Rattle.doc_session.specs.Document.{Document};
 ghost use Rattle.core_session.specs.Journal.{closes};
 ghost use Rattle.doc_session.specs.InMemory.{doc_contents};
-ghost use Rattle.core_session.specs.Core.{Stands, MayBeAsked, IsPrepared};
-ghost use Rattle.core_session.specs.Change.{MayChange};
+ghost use Rattle.core_session.specs.Core.{Stands};
+ghost use Rattle.core_session.specs.Inner.{MayBeAsked, IsPrepared, MayChange};
 
 use crate::act::act_on;
 use crate::piece::piece_of;

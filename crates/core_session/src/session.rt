@@ -5,7 +5,7 @@ ghost use Rattle.xi_plain.specs.declared.command.Command.{Command};
 ghost use Rattle.front_wire.specs.Fair.{IsFair};
 ghost use Rattle.doc_session.specs.Document.{Document};
 ghost use Rattle.core_session.specs.Journal.{closing_entry, closes};
-ghost use Rattle.core_session.specs.Change.{MayChange, MayTakeIfAny, with_change, with_event_if_any};
+ghost use Rattle.core_session.specs.Inner.{MayChange, MayTakeIfAny, with_change, with_event_if_any};
 ghost use Rattle.front_wire.specs.Front.{command_of};
 
 use crate::act::DocumentChange;
@@ -45,7 +45,8 @@ pub struct Core<K> {
 }
 
 impl<K: Sink> Core<K> {
-    ghost use Rattle.core_session.specs.Core.{IsServing, IsPrepared, AddsSentEntry, AddsUnsentEntry, ChangesNothing, HasRoom, journal_of, sink_of, plain_of};
+    ghost use Rattle.core_session.specs.Core.{IsServing, AddsSentEntry, AddsUnsentEntry, ChangesNothing, HasRoom, journal_of, sink_of, plain_of};
+    ghost use Rattle.core_session.specs.Inner.{IsPrepared};
 
     /// A session without entries. For want of memory the sink is given back.
     pub fn make(alloc: Global, sink: K) -> Result<Core<K>, K>

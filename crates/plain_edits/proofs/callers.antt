@@ -9,3 +9,5 @@ pub mod StepLemmas
 pub mod CaretLemmas
 pub mod StyleLemmas
 pub mod WellFormedLemmas
+pub mod BlockLemmas
+pub mod CanonicalLemmas

@@ -9,4 +9,5 @@ pub mod Caret
 pub mod HistorySteps
 pub mod Styles
 pub mod Undo
+pub mod Blocks
 pub mod EditFault

@@ -1,15 +1,27 @@
 -- Laws of undo, collection, change, carets and styles, whatever the histories.
-use Rattle.std.specs.Prelude.{◌≡◌, ℕ, ◌+◌, ◌≤◌, ◌↔◌, Bool, true, false, if◌then◌else◌, List, length, None, IfSome}
+use Rattle.std.specs.Prelude.{◌≡◌, ℕ, ◌+◌, ◌≤◌, ◌↔◌, Bool, true, false, not, if◌then◌else◌, List, length, None, IfSome}
 use Rattle.std.specs.List.{list_all, AllByRecursion}
-use Rattle.plain_text.specs.Numbers.{has}
+use Rattle.plain_text.specs.Numbers.{has, IsRising, flipped}
+use Rattle.plain_edits.specs.declared.delta.UnitDelta.{UnitDelta}
 use Rattle.plain_edits.specs.Delta.{applied}
+use Rattle.plain_edits.specs.UnitDelta.{IsCanonical, unit_keeps, unit_adds}
 use Rattle.plain_edits.specs.History.{History, head, loaded, undone, is_visible, visible_at, text_at, IsSound}
 use Rattle.plain_edits.specs.Edits.{PlainEdit, edited, undid}
-use Rattle.plain_edits.specs.Collection.{is_clean, clean_floor, IsAtRest, is_at_rest, collected_at, MayCollect, collection_of, is_dropped}
+use Rattle.plain_edits.specs.Collection.{is_clean, clean_floor, IsAtRest, is_at_rest, collected_at, Qualifies, MayCollect, resting_groups, collection_of, is_dropped}
 use Rattle.plain_edits.specs.Change.{passes_at, change_keeps, change_adds}
+use Rattle.plain_edits.specs.Blocks.{edited_by_blocks}
 use Rattle.plain_edits.specs.Caret.{index_after, moved_caret, mapped_gap}
 use Rattle.plain_edits.specs.Styles.{Layer, style_of, is_shown_at, carried_layer, mapped_layer, layer_after_steps}
 use Rattle.plain_edits.specs.HistorySteps.{Step, after_step, after_steps, heads_after, MayCome, IsWellFormed}
+
+-- the edit step goes by blocks: each insertion goes into the block of its gap
+abbrev pub EditsGoByBlocks : Type 0
+EditsGoByBlocks = (history : History) (e : PlainEdit) → (edited history e).characters ≡ edited_by_blocks history e
+
+-- two canonical deltas that keep and add the same are one
+abbrev pub CanonicalDeltasAreOne : Type 0
+CanonicalDeltasAreOne = (units others : UnitDelta) → IsCanonical units → IsCanonical others → units.base ≡ others.base →
+    ((index : ℕ) → unit_keeps units index ≡ unit_keeps others index) → ((gap : ℕ) → unit_adds units gap ≡ unit_adds others gap) → units ≡ others
 
 -- of two undos, one after the other, the last one alone counts
 abbrev pub LastUndoCounts : Type 0
@@ -84,6 +96,17 @@ StylesStay = (history : History) (steps : List Step) (layer : Layer) (index : �
 -- the test of rest finds the groups at rest
 abbrev pub RestIsTested : Type 0
 RestIsTested = (history : History) (floor group : ℕ) → (is_at_rest history floor group ≡ true) ↔ IsAtRest history floor group
+
+-- the resting groups are those that qualify and are not collected
+abbrev pub RestingGroupsQualify : Type 0
+RestingGroupsQualify = (history : History) (retired : List ℕ) (floor group : ℕ) →
+    (has (resting_groups history retired floor) group ≡ true) ↔
+    (Qualifies history retired floor group × (has history.collected group ≡ false))
+
+-- of two sets, the flipped one has what is in exactly one of them
+abbrev pub FlippedIsExclusive : Type 0
+FlippedIsExclusive = (numbers others : List ℕ) (n : ℕ) → IsRising numbers → IsRising others →
+    has (flipped numbers others) n ≡ (if has others n then not (has numbers n) else has numbers n)
 
 -- the clean floor up to a revision is the greatest one
 pub record CleanFloorsAreGreatest : Type 0 where

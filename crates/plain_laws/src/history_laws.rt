@@ -1,6 +1,16 @@
 //! Laws of undo, collection, change, carets and styles, each the contract of a function: they hold of all sound histories.
 
-ghost use Rattle.plain_laws.specs.HistoryLaws.{LastUndoCounts, UndoneEditsHide, CollectionsChangeNoText, StepsGiveNothingBack, HistoriesStayWellFormed, CollectionsMayCome, DroppedIsHidden, DroppedStays, ChangesLead, CaretsFollowChanges, StylesFollowChanges, StylesStay, RestIsTested, CleanFloorsAreGreatest};
+ghost use Rattle.plain_laws.specs.HistoryLaws.{EditsGoByBlocks, CanonicalDeltasAreOne, LastUndoCounts, UndoneEditsHide, CollectionsChangeNoText, StepsGiveNothingBack, HistoriesStayWellFormed, CollectionsMayCome, DroppedIsHidden, DroppedStays, ChangesLead, CaretsFollowChanges, StylesFollowChanges, StylesStay, RestIsTested, RestingGroupsQualify, CleanFloorsAreGreatest, FlippedIsExclusive};
+
+/// An edit goes block by block: an insertion goes into the block of its gap.
+pub fn edits_go_by_blocks()
+    ensures { EditsGoByBlocks }
+{}
+
+/// Two canonical deltas of one meaning are one.
+pub fn canonical_deltas_are_one()
+    ensures { CanonicalDeltasAreOne }
+{}
 
 /// Of two undos, one after the other, the last one alone counts.
 pub fn last_undo_counts()
@@ -70,4 +80,14 @@ pub fn rest_is_tested()
 /// The clean floor up to a revision is clean, and the greatest one.
 pub fn clean_floors_are_greatest()
     ensures { CleanFloorsAreGreatest }
+{}
+
+/// The resting groups are those that qualify and are not collected yet.
+pub fn resting_groups_qualify()
+    ensures { RestingGroupsQualify }
+{}
+
+/// Two sets give the numbers in exactly one of them.
+pub fn flipped_is_exclusive()
+    ensures { FlippedIsExclusive }
 {}

@@ -37,21 +37,24 @@ lines_from-end begun b bytes is =
     (ap (λ test. if test then unended [] bytes else unended (begun ++ b ∷ []) bytes) is)
 
 -- the first line goes before the others
-first_before : (begun : List ℕ) (b : ℕ) (bytes : List ℕ) →
+first_step : (begun : List ℕ) (b : ℕ) (bytes : List ℕ) →
+    lines_from (begun ++ b ∷ []) bytes ≡ (begun ++ b ∷ first_line bytes) ∷ lines_of (after_line bytes) →
     lines_from begun (b ∷ bytes) ≡ (begun ++ first_line (b ∷ bytes)) ∷ lines_of (after_line (b ∷ bytes))
-unfolding lines_from
-first_before begun b bytes =
+first_step begun b bytes later =
     elim (b == 10) as (λ test. (b == 10) ≡ test → lines_from begun (b ∷ bytes) ≡ (begun ++ first_line (b ∷ bytes)) ∷ lines_of (after_line (b ∷ bytes))) [
       | true ↦ λ is. lines_from-end begun b bytes is ∙
           ap₂ (λ line rest. (begun ++ line) ∷ lines_of rest) (sym (first_line-end b bytes is)) (sym (after_line-end b bytes is))
-      | false ↦ λ is. lines_from-on begun b bytes is ∙ later bytes ∙
+      | false ↦ λ is. lines_from-on begun b bytes is ∙ later ∙
           ap₂ (λ line rest. (begun ++ line) ∷ lines_of rest) (sym (first_line-on b bytes is)) (sym (after_line-on b bytes is))
     ] refl
-  where
-    later : (bytes : List ℕ) → lines_from (begun ++ b ∷ []) bytes ≡ (begun ++ b ∷ first_line bytes) ∷ lines_of (after_line bytes)
-    later [] = one_line begun b
-    later (c ∷ bytes) = first_before (begun ++ b ∷ []) c bytes ∙
-        ap (λ line. line ∷ lines_of (after_line (c ∷ bytes))) (append_assoc begun (b ∷ []) (first_line (c ∷ bytes)))
+
+first_before : (begun : List ℕ) (b : ℕ) (bytes : List ℕ) →
+    lines_from begun (b ∷ bytes) ≡ (begun ++ first_line (b ∷ bytes)) ∷ lines_of (after_line (b ∷ bytes))
+unfolding lines_from
+first_before begun b [] = first_step begun b [] (one_line begun b)
+first_before begun b (c ∷ bytes) =
+    first_step begun b (c ∷ bytes) (first_before (begun ++ b ∷ []) c bytes ∙
+    ap (λ line. line ∷ lines_of (after_line (c ∷ bytes))) (append_assoc begun (b ∷ []) (first_line (c ∷ bytes))))
 
 first_length : (b : ℕ) (bytes : List ℕ) → 0 < length (first_line (b ∷ bytes))
 first_length b bytes =

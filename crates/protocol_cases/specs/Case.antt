@@ -1,7 +1,11 @@
 -- What becomes of a case.
-use Rattle.std.specs.Prelude.{◌≡◌, ℕ, ◌↔◌, List, [], Some, Result, Ok, Err}
-use Rattle.xi_plain.specs.declared.command.Entry.{Entry}
-use Rattle.xi_top.specs.Run.{Told, RunsAlone}
+use Rattle.std.specs.Prelude.{◌≡◌, ℕ, ◌↔◌, List, [], Option, Some, None, Result, Ok, Err}
+use Rattle.outside.specs.MemSource.{Stock}
+use Rattle.outside.specs.MemSink.{Store}
+use Rattle.outside.specs.Schedule.{plan_of}
+use Rattle.xi_top.specs.Run.{Outside, Passage, RunsAlone}
+use Rattle.protocol_cases.specs.declared.case.Outcome.{Outcome}
+use Rattle.protocol_cases.specs.declared.case.Run.{Run}
 use Rattle.protocol_cases.specs.declared.script.Script.{Script}
 use Rattle.protocol_cases.specs.declared.script.ReadFault.{ReadFault}
 use Rattle.protocol_cases.specs.declared.script.ReadFault.TheVariants.{BadLine as BadScript, NoMemory as NoRoom}
@@ -10,28 +14,45 @@ use Rattle.protocol_cases.specs.declared.verdict.Verdict.TheVariants.{Passes, Ba
 use Rattle.protocol_cases.specs.Script.{script_of}
 use Rattle.protocol_cases.specs.Verdict.{verdict_of}
 
--- the source and the sink of a script before its run
-abbrev pub told_before : Script → Told
-told_before script = record { left = Some script.input.bytes; source_faults = 0; held = Some []; sink_faults = 0 }
+-- the source and the sink of a script before its run: what it gives and which of its calls fail, and which calls of the sink do
+abbrev pub source_of : Script → Stock
+source_of script = record { left = script.input.bytes; plan = plan_of script.input.piece script.input.failing }
 
--- there was a run of the script's input that wrote some bytes and ended with some status, and the verdict is theirs: the case passes
--- exactly where they are those that the script says
-pub record IsJudged (script : Script) (verdict : Verdict) : Type 0 where
+abbrev pub sink_of : Script → Store
+sink_of script = record { held = Some []; plan = plan_of script.output.piece script.output.failing }
+
+-- what a source and a sink in memory tell
+abbrev pub outside_in_memory : Stock → Store → Outside
+outside_in_memory source sink = record {
+  source = record { left = Some source.left; faults = source.plan.faults };
+  sink = record { held = sink.held; faults = sink.plan.faults; failures = sink.plan.faults };
+}
+
+-- from this source and this sink to those of the run
+abbrev pub passage_between : Stock → Store → Run → Passage
+passage_between source sink run =
+    record { before = outside_in_memory source sink; after = outside_in_memory run.source run.report.sink }
+
+-- the verdict on a run, which was to write these bytes and end with this status: it passes exactly where the run did that
+pub record IsVerdictOn (run : Run) (bytes : List ℕ) (status : ℕ) (verdict : Verdict) : Type 0 where
   pub got : List ℕ
-  pub status : ℕ
-  pub journal : List Entry
-  pub after : Told
-  pub held : after.held ≡ Some got
-  pub runs : RunsAlone (told_before script) after journal status
-  pub is : verdict ≡ verdict_of script.output.bytes script.status got status
-  pub passes : (verdict ≡ Passes) ↔ ((got ≡ script.output.bytes) × (status ≡ script.status))
+  pub held : run.report.sink.held ≡ Some got
+  pub is : verdict ≡ verdict_of bytes status got run.report.status
+  pub passes : (verdict ≡ Passes) ↔ ((got ≡ bytes) × (run.report.status ≡ status))
 
--- the verdict on what a text was read as: that on a run of its script, or the bad line
-abbrev pub IsVerdictOf : Result Script ReadFault → Verdict → Type 0
-IsVerdictOf (Ok script) verdict = IsJudged script verdict
-IsVerdictOf (Err (BadScript line)) verdict = verdict ≡ BadLine line
-IsVerdictOf (Err NoRoom) verdict = ⊥
+-- THE RUN THAT WAS MADE is one of the script's source and sink, and the verdict is that on it
+pub record IsJudged (script : Script) (outcome : Outcome) : Type 0 where
+  pub run : Run
+  pub made : outcome.run ≡ Some run
+  pub runs : RunsAlone (passage_between (source_of script) (sink_of script) run) run.report.journal.items run.report.status
+  pub verdict : IsVerdictOn run script.output.bytes script.status outcome.verdict
 
--- THE VERDICT on the case whose script is this text
-abbrev pub IsVerdict : List ℕ → Verdict → Type 0
-IsVerdict text verdict = IsVerdictOf (script_of text) verdict
+-- what becomes of what a text was read as: the run of its script is judged, or there is none, and the bad line is told
+abbrev pub IsOutcomeOf : Result Script ReadFault → Outcome → Type 0
+IsOutcomeOf (Ok script) outcome = IsJudged script outcome
+IsOutcomeOf (Err (BadScript line)) outcome = (outcome.run ≡ None) × (outcome.verdict ≡ BadLine line)
+IsOutcomeOf (Err NoRoom) outcome = ⊥
+
+-- WHAT BECOMES OF THE CASE whose script is this text
+abbrev pub IsOutcome : List ℕ → Outcome → Type 0
+IsOutcome text outcome = IsOutcomeOf (script_of text) outcome

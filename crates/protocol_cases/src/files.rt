@@ -1,6 +1,6 @@
 //! The scripts of a folder.
 
-use crate::case::run_case;
+use crate::case::{Outcome, run_case};
 use crate::verdict::{Difference, Verdict};
 use case_lines::content_of;
 use std::alloc::Global;
@@ -24,7 +24,7 @@ pub fn script_names(rt: &HostRuntime, folder: &str) -> anyhow::Result<Vec<String
 pub fn run_file(rt: &HostRuntime, folder: &str, file: &str) -> anyhow::Result<Verdict> {
     let path = format!(in rt.alloc(); "{folder}/{file}")?;
     let text = fs::read(rt, path.as_str())?;
-    let verdict = run_case(rt.alloc(), &text)?;
+    let Outcome { run: _, verdict } = run_case(rt.alloc(), &text)?;
     print_verdict(rt, file.trim_end_matches(".script"), &verdict)?;
     Ok(verdict)
 }

@@ -46,7 +46,7 @@ not_many : (taken left : List ℕ) (lines later : List (List ℕ)) → IsModest 
 not_many taken left lines later modest first count = omega (arith, count, modest.few, ap length first, length-append lines later)
 
 -- what a source gave and what it has left is what it told
-told_input : (before after : Option (List ℕ)) (bytes taken left : List ℕ) → before ≡ Some bytes → Gives before after taken →
+pub told_input : (before after : Option (List ℕ)) (bytes taken left : List ℕ) → before ≡ Some bytes → Gives before after taken →
     IfSome after (λ rest. rest ≡ left) → bytes ≡ taken ++ left
 told_input before after bytes taken left is gives leaves = by after (subst (λ b. Gives b after taken) is gives) leaves
   where

@@ -25,7 +25,7 @@ use Rattle.xi_top.specs.Ending.{Outcome, most_lines, too_long}
 use Rattle.xi_top.specs.Lines.{IsShort, IsNextTooLong, AreSoMany, HoldsLines}
 use Rattle.xi_top.specs.Written.{AreSent, IsSent, IsCutOff}
 use Rattle.xi_top.specs.Run.{HasFailedIf}
-use Rattle.xi_top.specs.Intake.{Begun, IsWhole, IsAt, IsNoSourceFault, Stops, GoesOn, Finishes, Enters, FailsBy, KeepsBytes, Counts, EndsLine, HasNoEnd}
+use Rattle.xi_top.specs.Inner.{Begun, IsWhole, IsAt, IsNoSourceFault, Stops, GoesOn, Finishes, Enters, FailsBy, KeepsBytes, Counts, EndsLine, HasNoEnd}
 use Rattle.xi_top.proofs.LineLemmas.{ended_lines-more, unended-more, ended_lines-begin, unended-begin, lines_of-first, concat-first}
 
 -- how a run ended where `?` handed on why

@@ -2,4 +2,5 @@ pub mod LineLemmas
 pub mod IntakeLemmas
 pub mod CalmLemmas
 pub mod RunLemmas
+pub mod RowLemmas
 pub mod ForCallers

@@ -3,4 +3,5 @@ pub mod Lines
 pub mod Written
 pub mod Run
 pub mod Calm
-pub mod Intake
+pub mod Rows
+pub mod Inner

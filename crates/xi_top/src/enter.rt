@@ -1,7 +1,7 @@
 ghost use Rattle.outside.specs.Sink.{sink_state};
 ghost use Rattle.front_wire.specs.Front.{command_of};
 ghost use Rattle.core_session.specs.Core.{IsServing};
-ghost use Rattle.xi_top.specs.Intake.{Enters};
+ghost use Rattle.xi_top.specs.Inner.{Enters};
 
 use crate::ending::Ending;
 use core_session::{Core, Entered};

@@ -24,7 +24,7 @@ pub struct Intake {
 }
 
 impl Intake {
-    ghost use Rattle.xi_top.specs.Intake.{IsAt, Finishes, GoesOn, IsFed, IsSmall, EndsLine, HasNoEnd, KeepsBytes, Counts, begun_of};
+    ghost use Rattle.xi_top.specs.Inner.{IsAt, Finishes, GoesOn, IsFed, IsSmall, EndsLine, HasNoEnd, KeepsBytes, Counts, begun_of};
 
     /// Nothing was taken.
     pub fn new(alloc: Global) -> Intake

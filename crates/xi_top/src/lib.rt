@@ -7,6 +7,7 @@
 mod ending;
 mod enter;
 mod feed;
+pub mod rows;
 mod run;
 mod serve;
 

@@ -2,7 +2,7 @@ ghost use Rattle.std.specs.Prelude.{◌≡◌, []};
 ghost use Rattle.outside.specs.Source.{source_state};
 ghost use Rattle.outside.specs.Sink.{sink_state};
 ghost use Rattle.core_session.specs.Core.{IsServing, journal_of};
-ghost use Rattle.xi_top.specs.Intake.{IsServed};
+ghost use Rattle.xi_top.specs.Inner.{IsServed};
 
 use crate::ending::Ending;
 use crate::feed::Intake;

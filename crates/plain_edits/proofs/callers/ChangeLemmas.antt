@@ -9,7 +9,7 @@ use Rattle.plain_edits.specs.Delta.{applied}
 use Rattle.plain_edits.specs.Change.{passes_at, block, change_keeps, change_adds}
 
 -- two weaves whose gaps agree from an index on
-woven_from : {X Y : Type 0} (between between' : ℕ → List Y) (at : ℕ → X → List Y) (from : ℕ) (xs : List X) →
+pub woven_from : {X Y : Type 0} (between between' : ℕ → List Y) (at : ℕ → X → List Y) (from : ℕ) (xs : List X) →
     ((i : ℕ) → from ≤ i → between i ≡ between' i) → woven between at from xs ≡ woven between' at from xs
 woven_from between between' at from [] same = same from (omega arith)
 woven_from between between' at from (x ∷ xs) same =
@@ -17,7 +17,7 @@ woven_from between between' at from (x ∷ xs) same =
     (woven_from between between' at (from + 1) xs (λ i above. same i (omega (arith, above))))
 
 -- what stands in front of the first gap stands in front of the weave
-woven_front : {X Y : Type 0} (front : List Y) (between between' : ℕ → List Y) (at : ℕ → X → List Y) (from : ℕ) (xs : List X) →
+pub woven_front : {X Y : Type 0} (front : List Y) (between between' : ℕ → List Y) (at : ℕ → X → List Y) (from : ℕ) (xs : List X) →
     between from ≡ front ++ between' from → ((i : ℕ) → from < i → between i ≡ between' i) →
     woven between at from xs ≡ front ++ woven between' at from xs
 woven_front front between between' at from [] first same = first

@@ -1,8 +1,9 @@
 -- Each step that may come keeps a history well formed; and what is dropped is hidden at every kept revision.
-use Rattle.std.proofs.Common.{◌≡◌, ℕ, zero, suc, ◌+◌, ◌<◌, ◌≤◌, Bool, true, false, cond, not, ◌&&◌, ◌||◌, if◌then◌else◌, nat_lt, ◌==◌, List, [], ◌∷◌, ◌++◌, length, drop, fold, Some, None, slice_get, refl, ap, ap₂, subst, sym, ◌∙◌, inl, inr, arith}
+use Rattle.std.proofs.Common.{◌↔◌, filter, ◌≡◌, ℕ, zero, suc, ◌+◌, ◌<◌, ◌≤◌, Bool, true, false, cond, not, ◌&&◌, ◌||◌, if◌then◌else◌, nat_lt, ◌==◌, List, [], ◌∷◌, ◌++◌, length, drop, fold, Some, None, slice_get, refl, ap, ap₂, subst, sym, ◌∙◌, inl, inr, arith}
 use Rattle.std.specs.Prelude.{IfSome}
 use Rattle.std.specs.List.{AllByRecursion, list_all, list_any}
-use Rattle.std.proofs.lemmas.Bool.{both_ways, and_parts, or_cases, or_left, or_right, cases_lt, not-true, le-leb, le-ltb, ne_eqb, eq-eqb, and_left, and_right}
+use Rattle.std.proofs.lemmas.Bool.{cases_eq, and_from, both_ways, and_parts, or_cases, or_left, or_right, cases_lt, not-true, le-leb, le-ltb, ne_eqb, eq-eqb, and_left, and_right}
+use Rattle.std.proofs.Math.Bool.{and-true}
 use Rattle.std.proofs.lemmas.List.{length_push}
 use Rattle.std.proofs.lemmas.List.Folds.{list_any-append, list_all-append}
 use Rattle.plain_text.specs.Numbers.{has, IsRising, with_number}
@@ -10,7 +11,7 @@ use Rattle.plain_text.proofs.callers.NumberLemmas.{has-with_numbers, IsRising-wi
 use Rattle.plain_text.proofs.callers.ListLemmas.{AllByRecursion-append, AllByRecursion-weaker, AllByRecursion-map, AllByRecursion-woven}
 use Rattle.plain_edits.specs.History.{Tagged, Revision, edit, undo, History, loaded, head, revision_at, edit_group, group_of, undone, is_visible, IsTaggedBy}
 use Rattle.plain_edits.specs.Edits.{PlainEdit, edited, undid, inserted_at, is_deleted_by, with_deletion, is_edit_of}
-use Rattle.plain_edits.specs.Collection.{is_based_from, clean_floor, IsAtRest, is_at_rest, collected_at, MayCollect, Collection, is_where_to_collect, resting_groups, collection_at, collection_of, is_collected, is_dropped}
+use Rattle.plain_edits.specs.Collection.{is_based_from, clean_floor, IsAtRest, is_at_rest, collected_at, MayCollect, Qualifies, Collection, is_where_to_collect, resting_groups, collection_at, collection_of, is_collected, is_dropped}
 use Rattle.plain_edits.specs.HistorySteps.{Step, edits, undoes, collects, after_step, MayCome, MayEdit, MayUndoSet, is_edit, IsByEdits, AreBased, HasRisingSet, IsWellFormed}
 use Rattle.plain_edits.proofs.callers.HistoryLemmas.{AllByRecursion-inserted_at, becomes, IsSound-loaded, IsSound-edited, IsSound-undid, revision_at-append, revision_at-push, undone-append, undone-edit, undone-undo}
 use Rattle.plain_edits.proofs.callers.CollectionLemmas.{all_has, is_at_rest_iff, greatest_clean_floor}
@@ -271,7 +272,7 @@ dropped_is_hidden history rev formed low high =
     fails (r ∷ deleted) each some =
         elim (or_cases (is_collected history r && not (has (undone history.revisions (head history)) (group_of history.revisions r))) _ some) [
           | inl here ↦
-              let parts = and_parts _ _ here in
+              let parts = and_parts (is_collected history r) (not (has (undone history.revisions (head history)) (group_of history.revisions r))) here in
               let by_then : r ≤ rev = omega (arith, low, edit_by_floor history r formed each.0 parts.0) in
               ap₂ (λ a b. (a || b) && list_all (λ n. nat_lt rev n || has (undone history.revisions rev) (group_of history.revisions n)) deleted)
               (le-ltb rev r by_then) (settled r parts.0 ∙ not-true _ parts.1)
@@ -299,6 +300,50 @@ resting history (group ∷ retired) floor =
         AllByRecursion (IsAtRest history floor) (cond b (group ∷ resting_groups history retired floor) (resting_groups history retired floor))
     by true is rest = ((is_at_rest_iff history floor group).0 (and_parts _ _ is).1, rest)
     by false is rest = rest
+
+-- what rests is what qualifies and is not collected
+has-filter : (p : ℕ → Bool) (numbers : List ℕ) (n : ℕ) → has (filter p numbers) n ≡ (has numbers n && p n)
+has-filter p [] n = refl
+has-filter p (m ∷ numbers) n =
+    has-cond (p m) ∙ ap (λ b. m == n && p m || b) (has-filter p numbers n) ∙
+    elim (cases_eq m n) [
+      | inl same ↦ ap₂ (λ a b. a && b || has numbers n && p n) (eq-eqb m n same) (ap p same) ∙ joined (p n) (has numbers n) ∙
+          ap (λ a. (a || has numbers n) && p n) (sym (eq-eqb m n same))
+      | inr other ↦ ap (λ a. a && p m || has numbers n && p n) (ne_eqb m n other) ∙
+          ap (λ a. (a || has numbers n) && p n) (sym (ne_eqb m n other))
+    ]
+  where
+    has-cond : (b : Bool) → has (cond b (m ∷ filter p numbers) (filter p numbers)) n ≡ (m == n && b || has (filter p numbers) n)
+    has-cond true = ap (λ a. a || has (filter p numbers) n) (sym (and-true (m == n)))
+    has-cond false = ap (λ a. a || has (filter p numbers) n) (sym (and_right (m == n) false refl))
+
+    joined : (a b : Bool) → (a || b && a) ≡ a
+    joined true b = refl
+    joined false true = refl
+    joined false false = refl
+
+pub resting_groups_iff : (history : History) (retired : List ℕ) (floor group : ℕ) →
+    (has (resting_groups history retired floor) group ≡ true) ↔
+    (Qualifies history retired floor group × (has history.collected group ≡ false))
+resting_groups_iff history retired floor group = (from_rest, to_rest)
+  where
+    found : has (resting_groups history retired floor) group ≡
+        (has retired group && (not (has history.collected group) && is_at_rest history floor group))
+    found = has-filter (λ g. not (has history.collected g) && is_at_rest history floor g) retired group
+
+    from_rest : has (resting_groups history retired floor) group ≡ true →
+        Qualifies history retired floor group × (has history.collected group ≡ false)
+    from_rest is =
+        let parts = and_parts (has retired group) (not (has history.collected group) && is_at_rest history floor group) (sym found ∙ is) in
+        let more = and_parts (not (has history.collected group)) (is_at_rest history floor group) parts.1 in
+        (record { is_retired = parts.0; at_rest = (is_at_rest_iff history floor group).0 more.1 }, not-true (has history.collected group) more.0)
+
+    to_rest : Qualifies history retired floor group × (has history.collected group ≡ false) →
+        has (resting_groups history retired floor) group ≡ true
+    to_rest both =
+        found ∙ and_from (has retired group) (not (has history.collected group) && is_at_rest history floor group) both.0.is_retired
+        (and_from (not (has history.collected group)) (is_at_rest history floor group) (ap not both.1)
+        ((is_at_rest_iff history floor group).1 both.0.at_rest))
 
 may_collect_at : (history : History) (floor : ℕ) (groups : List ℕ) → MayCollect history floor groups →
     IfSome (collection_at history floor groups) (λ collection. MayCollect history collection.floor collection.groups)

@@ -1,13 +1,14 @@
 -- Numbers in order: what a binary search finds, and what an edit at that place makes of them.
-use Rattle.std.proofs.Common.{◌≡◌, ℕ, zero, suc, ◌<◌, ◌≤◌, Bool, true, false, cond, ◌||◌, ◌==◌, List, [], ◌∷◌, fold, length, get_or, insert, remove, is_ok, is_eq, nat_cmp, Ordering, Less, Equal, Greater, Result, Ok, Err, refl, ap, sym, ◌∙◌, arith}
+use Rattle.std.proofs.Common.{◌≡◌, ℕ, zero, suc, ◌<◌, ◌≤◌, Bool, true, false, cond, not, ◌||◌, if◌then◌else◌, ◌==◌, List, [], ◌∷◌, fold, length, get_or, insert, remove, is_ok, is_eq, nat_cmp, Ordering, Less, Equal, Greater, Result, Ok, Err, refl, ap, ap₂, sym, ◌∙◌, inl, inr, arith}
 use Rattle.std.specs.List.{AllByRecursion}
 use Rattle.std.specs.List.Sorted.{IsBinarySearchResult}
 use Rattle.std.specs.Ordering.{match_ordering, MatchOrdering}
 use Rattle.std.specs.BTreeMap.{is_at}
+use Rattle.std.proofs.lemmas.Bool.{cases_eq}
 use Rattle.std.proofs.lemmas.Cmp.{ranked}
 use Rattle.std.proofs.lemmas.List.Sorted.{searched}
 use Rattle.std.proofs.lemmas.Bool.Decides.{nat_tests}
-use Rattle.plain_text.specs.Numbers.{has, with_number, without_number, IsRising}
+use Rattle.plain_text.specs.Numbers.{has, with_number, without_number, turned, flipped, IsRising}
 
 -- ---- comparing
 
@@ -220,3 +221,81 @@ has-with_numbers xs (n ∷ ns) m =
 pub IsRising-with_numbers : (xs ns : List ℕ) → IsRising xs → IsRising (fold with_number xs ns)
 IsRising-with_numbers xs [] up = up
 IsRising-with_numbers xs (n ∷ ns) up = IsRising-with_numbers (with_number xs n) ns (IsRising-with xs n up)
+
+-- ---- which numbers are in exactly one of two sets
+
+above-none : (n m : ℕ) (xs : List ℕ) → AllByRecursion (λ k. n < k) xs → m ≤ n → has xs m ≡ false
+above-none n m [] above le = refl
+above-none n m (x ∷ xs) above le =
+    or_none (x == m) (has xs m) (differ x m (λ same. omega (arith, same, above.0, le))) (above-none n m xs above.1 le)
+
+has-without_number : (xs : List ℕ) (n m : ℕ) → IsRising xs → has (without_number xs n) m ≡ (if n == m then false else has xs m)
+has-without_number [] n m up = nothing (n == m)
+  where
+    nothing : (b : Bool) → false ≡ (if b then false else false)
+    nothing true = refl
+    nothing false = refl
+has-without_number (x ∷ xs) n m up =
+    elim (cases_eq n x) [
+      | inl here ↦
+          ap (λ o. has (cond (is_eq o) xs (x ∷ without_number xs n)) m) (equal n x here) ∙
+          elim (cases_eq n m) [
+            | inl is ↦ above-none x m xs up.0 (omega arith) ∙ ap (λ b. if b then false else (x == m || has xs m)) (sym (same n m is))
+            | inr other ↦
+                ap (λ b. b || has xs m) (sym (differ x m (λ is. other (omega arith)))) ∙
+                ap (λ b. if b then false else (x == m || has xs m)) (sym (differ n m other))
+          ]
+      | inr other ↦
+          ap (λ b. has (cond b xs (x ∷ without_number xs n)) m) (differ_cmp x n (λ is. other (omega arith))) ∙
+          ap (λ b. x == m || b) (has-without_number xs n m up.1) ∙
+          elim (cases_eq n m) [
+            | inl is ↦
+                ap₂ (λ a b. a || (if b then false else has xs m)) (differ x m (λ hit. other (omega arith))) (same n m is) ∙
+                ap (λ b. if b then false else (x == m || has xs m)) (sym (same n m is))
+            | inr away ↦
+                ap (λ b. x == m || (if b then false else has xs m)) (differ n m away) ∙
+                ap (λ b. if b then false else (x == m || has xs m)) (sym (differ n m away))
+          ]
+    ]
+
+IsRising-turned : (xs : List ℕ) (n : ℕ) → IsRising xs → IsRising (turned xs n)
+IsRising-turned xs n up = at_cond IsRising (has xs n) (without_number xs n) (with_number xs n) (IsRising-without xs n up) (IsRising-with xs n up)
+
+has-turned : (xs : List ℕ) (n m : ℕ) → IsRising xs → has (turned xs n) m ≡ (if n == m then not (has xs m) else has xs m)
+has-turned xs n m up = by (has xs n) refl
+  where
+    by : (b : Bool) → has xs n ≡ b → has (if b then without_number xs n else with_number xs n) m ≡ (if n == m then not (has xs m) else has xs m)
+    by true there =
+        has-without_number xs n m up ∙
+        elim (cases_eq n m) [
+          | inl is ↦ ap₂ (λ b c. if b then c else has xs m) (same n m is) (ap not (sym there ∙ ap (has xs) is)) ∙
+              ap (λ b. if b then not (has xs m) else has xs m) (sym (same n m is))
+          | inr other ↦ ap (λ b. if b then false else has xs m) (differ n m other) ∙ ap (λ b. if b then not (has xs m) else has xs m) (sym (differ n m other))
+        ]
+    by false away =
+        has-with_number xs n m ∙
+        elim (cases_eq n m) [
+          | inl is ↦ ap₂ (λ b c. b || c) (same n m is) refl ∙ ap not (sym (sym (ap (has xs) is) ∙ away)) ∙
+              ap (λ b. if b then not (has xs m) else has xs m) (sym (same n m is))
+          | inr other ↦ ap (λ b. b || has xs m) (differ n m other) ∙ ap (λ b. if b then not (has xs m) else has xs m) (sym (differ n m other))
+        ]
+
+-- in the flipped set is what is in exactly one of the two
+pub has-flipped : (xs others : List ℕ) (m : ℕ) → IsRising xs → IsRising others →
+    has (flipped xs others) m ≡ (if has others m then not (has xs m) else has xs m)
+has-flipped xs [] m up others_up = refl
+has-flipped xs (n ∷ others) m up others_up =
+    has-flipped (turned xs n) others m (IsRising-turned xs n up) others_up.1 ∙
+    elim (cases_eq n m) [
+      | inl is ↦
+          ap₂ (λ b c. if b then not c else c) (above-none n m others others_up.0 (omega arith)) (has-turned xs n m up) ∙
+          ap (λ b. if b then not (has xs m) else has xs m) (same n m is) ∙
+          ap (λ b. if b || has others m then not (has xs m) else has xs m) (sym (same n m is))
+      | inr other ↦
+          ap (λ c. if has others m then not c else c) (has-turned xs n m up ∙ ap (λ b. if b then not (has xs m) else has xs m) (differ n m other)) ∙
+          ap (λ b. if b || has others m then not (has xs m) else has xs m) (sym (differ n m other))
+    ]
+
+pub IsRising-flipped : (xs others : List ℕ) → IsRising xs → IsRising (flipped xs others)
+IsRising-flipped xs [] up = up
+IsRising-flipped xs (n ∷ others) up = IsRising-flipped (turned xs n) others (IsRising-turned xs n up)

@@ -5,7 +5,7 @@ use Rattle.outside.specs.Sink.{SinkState, sink_state}
 use Rattle.outside.proofs.ForCallers.{Gives-append, Rose-earlier}
 use Rattle.core_session.specs.Core.{sink_of}
 use Rattle.xi_top.specs.Ending.{Outcome}
-use Rattle.xi_top.specs.Intake.{IsServed, begun_of}
+use Rattle.xi_top.specs.Inner.{IsServed, begun_of}
 use Rattle.xi_top.proofs.IntakeLemmas.{failed_with, stops_source, no_failure, left_told, Gives-nothing, Gives-end}
 use Rattle.xi_top.proofs.serve.serve.Goals as goal
 

@@ -2,7 +2,7 @@ use Rattle.std.proofs.Common.{◌-◌, ◌≤◌, ◌^◌, ℕ, List}
 use Rattle.outside.specs.Source.{Gives}
 use Rattle.outside.specs.Sink.{sink_state}
 use Rattle.core_session.specs.Core.{sink_of}
-use Rattle.xi_top.specs.Intake.{IsAt, IsSmall, weight, begun_of}
+use Rattle.xi_top.specs.Inner.{IsAt, IsSmall, weight, begun_of}
 use Rattle.xi_top.proofs.serve.serve.Given as goal
 
 abbrev pub invariant-loop-intake : goal.invariant-loop-intake

@@ -1,4 +1,4 @@
-use Rattle.std.proofs.Common.{refl, ap, subst, sym, ◌∙◌, List, ℕ}
+use Rattle.std.proofs.Common.{refl, ap, subst, ◌∙◌, List, ℕ}
 use Rattle.std.specs.Str.{IsUtf8}
 use Rattle.std.proofs.lemmas.Str.{IsUtf8-string_bytes}
 use Rattle.plain_text.proofs.callers.TextLemmas.{encodes-string}

@@ -1,4 +1,4 @@
--- Where a run stands between two bytes, and how it stops.
+-- What private functions say: where a run stands between two bytes, and how it stops.
 use Rattle.std.specs.Prelude.{◌≡◌, ℕ, ◌+◌, ◌*◌, ◌<◌, ◌≤◌, List, [], ◌∷◌, ◌++◌, length, map, Option, None, IfSome, Ok, Err, ⊤}
 use Rattle.std.specs.List.{AllByRecursion}
 use Rattle.xi_plain.specs.declared.command.Command.{Command}

@@ -1,0 +1,98 @@
+-- What private functions say: what an act and a command come to in memory.
+use Rattle.std.specs.Prelude.{◌≡◌, ℕ, ◌^◌, ◌-◌, ◌<◌, List, take, Option, Some, None, ⊤, option_map}
+use Rattle.std.specs.List.{AllByRecursion}
+use Rattle.std.specs.Str.{encode_utf8_all}
+use Rattle.serde_json.specs.Data.{Data, null}
+use Rattle.plain_screen.specs.declared.screen.Update.{Update}
+use Rattle.plain_edits.specs.History.{head}
+use Rattle.json_rpc.specs.Line.{line_of, IsLineOf}
+use Rattle.view_update.specs.Written.{update_data}
+use Rattle.view_update.specs.Reading.{line_update}
+use Rattle.doc_session.specs.InMemory.{Doc}
+use Rattle.doc_session.specs.Document.{Document}
+use Rattle.doc_session.specs.Stands.{DocStandsFor}
+use Rattle.core_session.specs.declared.session.Prepared.{Prepared}
+use Rattle.core_session.specs.Session.{view_id, outcome, messages, lines_written, step, written, Outcome}
+use Rattle.doc_session.specs.declared.ready.ReadyEvent.{ReadyEvent}
+use Rattle.doc_session.specs.Ready.{MayTake, with_event}
+use Rattle.core_session.specs.declared.act.DocumentChange.{DocumentChange}
+use Rattle.core_session.specs.declared.act.DocumentChange.TheVariants.{Opened, Changed}
+use Rattle.json_rpc.specs.Response.{text_data}
+use Rattle.doc_session.specs.declared.fault.DocFault.{DocFault}
+use Rattle.doc_session.specs.declared.fault.DocFault.TheVariants as Fault
+use Rattle.doc_session.specs.PositionView.{position_view}
+use Rattle.core_session.specs.declared.act.Reply.{Reply as ReplyInMemory}
+use Rattle.core_session.specs.declared.act.Reply.TheVariants.{Opened, Accepted, Refused, Spent, Silent}
+use Rattle.core_session.specs.declared.act.ActEffects.{ActEffects}
+use Rattle.core_session.specs.Answer.{Reply, accepted, refused, spent, silent}
+use Rattle.core_session.specs.Core.{Stands}
+
+-- the document has no plugins, and may take one more edit
+abbrev pub TakesEvents : Doc → Type 0
+TakesEvents doc = (doc.plugins ≡ 0) × (head doc.engine.revisions < 2 ^ 63 - 1)
+
+-- it takes events, and stands for a plain one, where there is a document
+abbrev pub MayBeAsked : Option Doc → Type 0
+MayBeAsked None = ⊤
+MayBeAsked (Some doc) = TakesEvents doc × ∥ ((plain : Document) × DocStandsFor doc plain) ∥₁
+
+-- the bytes are the lines of the messages, and each of these lines reads as its message
+pub record AreLinesOf (messages : List Data) (bytes : List ℕ) : Type 0 where
+  pub joined : bytes ≡ lines_written messages
+  pub each : AllByRecursion (λ message. IsLineOf message (line_of message)) messages
+
+-- the line of the update reads back as it, where there is one
+abbrev pub UpdateReadsBack : Option Update → Type 0
+UpdateReadsBack None = ⊤
+UpdateReadsBack (Some update) = line_update (line_of (update_data view_id update)) ≡ Some (Some (record { view = view_id; update = update }))
+
+-- the document with an event, where there is a document
+abbrev pub with_event_if_any : ReadyEvent → Option Doc → Option Doc
+with_event_if_any ready None = None
+with_event_if_any ready (Some doc) = Some (with_event doc ready)
+
+-- and with a change, where there is one
+abbrev pub with_change : Option DocumentChange → Option Doc → Option Doc
+with_change None before = before
+with_change (Some (Opened doc)) before = Some doc
+with_change (Some (Changed ready)) before = with_event_if_any ready before
+
+-- the event may be put in, where there is a document
+abbrev pub MayTakeIfAny : ReadyEvent → Option Doc → Type 0
+MayTakeIfAny ready None = ⊤
+MayTakeIfAny ready (Some doc) = MayTake doc ready
+
+-- the change may be made
+abbrev pub MayChange : Option DocumentChange → Option Doc → Type 0
+MayChange None before = ⊤
+MayChange (Some (Opened doc)) before = ⊤
+MayChange (Some (Changed ready)) before = MayTakeIfAny ready before
+
+-- what a command comes to, before it is an entry: its piece and its document
+pub record IsPrepared (before : Option Doc) (plain : Option Document) (made : Prepared) : Type 0 where
+  pub lines : AreLinesOf (messages plain made.command) (encode_utf8_all made.piece)
+  pub reads_back : UpdateReadsBack (outcome plain made.command.act).update
+  pub stands : Stands (with_change made.change before) (step plain made.command)
+
+-- what a reply in memory is
+abbrev pub reply_of : ReplyInMemory → Reply
+reply_of Opened = accepted (text_data view_id)
+reply_of Accepted = accepted null
+reply_of (Refused fault) = refused fault
+reply_of Spent = spent
+reply_of Silent = silent
+
+-- what came of an act in memory, beside the document before, is the outcome
+pub record IsOutcome (before : Option Doc) (outcome : Outcome) (effects : ActEffects) : Type 0 where
+  pub reply : reply_of effects.reply ≡ outcome.reply
+  pub update : effects.update ≡ outcome.update
+  pub scroll : option_map position_view effects.scroll ≡ outcome.scroll
+  pub stands : Stands (with_change effects.change before) outcome.document
+
+-- a fault of the front end's own edit: its characters are spent, or memory is wanting
+abbrev pub IsSpentOrLack : DocFault → Type 0
+IsSpentOrLack (Fault.Unknown head) = ⊥
+IsSpentOrLack (Fault.Collected floor) = ⊥
+IsSpentOrLack (Fault.Misfit first) = ⊥
+IsSpentOrLack (Fault.Spent total) = ⊤
+IsSpentOrLack Fault.NoMemory = ⊤
