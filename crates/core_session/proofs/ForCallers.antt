@@ -1,21 +1,15 @@
 -- Laws for the layers above: what a session comes to with one entry more.
-use Rattle.std.proofs.Common.{◌≡◌, ℕ, false, List, [], ◌∷◌, ◌++◌, None, refl, ap, sym, ◌∙◌, subst, append-nil}
+use Rattle.std.proofs.Common.{◌≡◌, List, [], ◌∷◌, ◌++◌, None, refl, sym, ◌∙◌, subst, append-nil}
 use Rattle.xi_plain.specs.declared.command.Entry.{Entry}
 use Rattle.core_session.specs.declared.session.Core.{Core}
-use Rattle.core_session.specs.Journal.{closing_entry, closes}
-use Rattle.core_session.specs.Session.{document_after, written, piece_of}
+use Rattle.core_session.specs.Journal.{closing_entry}
+use Rattle.core_session.specs.Session.{document_after, written}
 use Rattle.core_session.specs.Core.{IsServing, Stands, journal_of, plain_of}
 use Rattle.core_session.specs.Shows.{IsShown, Shows, rebuilt}
-use Rattle.core_session.proofs.SessionLemmas.{document_after-push, written-append}
+use Rattle.core_session.proofs.SessionLemmas.{document_after-push}
 use Rattle.core_session.proofs.ShowsLemmas.{no_lines, shows_push}
-pub use Rattle.core_session.proofs.SessionLemmas.{closes-command_of}
+pub use Rattle.core_session.proofs.SessionLemmas.{closes-command_of, written-push}
 pub use Rattle.core_session.proofs.RowLemmas.{first_insertion}
-
-pub written-push : (journal : List Entry) (entry : Entry) →
-    written None (journal ++ entry ∷ []) ≡ written None journal ++ piece_of (document_after None journal) entry.command
-written-push journal entry =
-    written-append None journal (entry ∷ []) ∙
-    ap (λ rest. written None journal ++ rest) (append-nil (piece_of (document_after None journal) entry.command))
 
 -- what a session wrote shows its journal with the closing entry, which writes nothing
 pub shows_closed : {K : Type 0} (core : Core K) → IsServing core → Shows (journal_of core ++ closing_entry ∷ []) (written None (journal_of core))

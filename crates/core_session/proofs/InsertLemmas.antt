@@ -1,5 +1,5 @@
 -- What an insertion comes to where it is refused.
-use Rattle.std.proofs.Common.{◌≡◌, ◌≢◌, ℕ, List, Option, Some, None, refl, ap, sym, subst}
+use Rattle.std.proofs.Common.{◌≡◌, ◌≢◌, ℕ, List, Option, refl, subst}
 use Rattle.std.proofs.Math.Logic.{∥∥₁_elim}
 use Rattle.xi_plain.specs.declared.command.EditAct.TheVariants.{Insert}
 use Rattle.plain_edits.specs.Edits.{Refusal}
@@ -8,13 +8,12 @@ use Rattle.doc_session.specs.InMemory.{Doc}
 use Rattle.doc_session.specs.declared.event.Event.TheVariants.{Front}
 use Rattle.doc_session.specs.declared.fault.DocFault.{DocFault}
 use Rattle.doc_session.specs.declared.fault.DocFault.TheVariants.{Unknown, Collected, Misfit, Spent, NoMemory}
-use Rattle.doc_session.specs.Document.{Document, loaded_document}
+use Rattle.doc_session.specs.Document.{Document}
 use Rattle.doc_session.specs.Fault.{DocRefuses}
 use Rattle.doc_session.specs.Laws.{IsSpentIfAny}
 use Rattle.doc_session.specs.Stands.{DocStandsFor}
-use Rattle.doc_session.specs.Step.{EventStep, refusal_at}
+use Rattle.doc_session.specs.Step.{refusal_at}
 use Rattle.doc_session.proofs.ForCallers.{insertion_fits}
-use Rattle.doc_session.proofs.ForCallers.{head-stands}
 use Rattle.core_session.specs.Inner.{IsSpentOrLack}
 
 -- no refusal is one for characters spent but that one

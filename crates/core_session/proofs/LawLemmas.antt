@@ -1,20 +1,16 @@
 -- What bytes show that no core writes.
-use Rattle.std.proofs.Common.{◌≡◌, ℕ, false, List, [], ◌∷◌, Option, Some, None, refl, ap, sym, ◌∙◌, codes, append-nil}
+use Rattle.std.proofs.Common.{◌≡◌, [], ◌∷◌, Option, Some, None, ap, sym, ◌∙◌, codes, append-nil}
 use Rattle.std.specs.Prelude.{if◌then◌else◌}
-use Rattle.std.specs.List.{concat}
-use Rattle.plain_text.specs.InputLines.{lines_of}
 use Rattle.plain_screen.specs.Screen.{screen_after}
 use Rattle.serde_json.specs.Data.{Data}
-use Rattle.json_rpc.specs.Line.{line_of, IsLineOf}
+use Rattle.json_rpc.specs.Line.{line_of}
 use Rattle.json_rpc.specs.Response.{note_data}
-use Rattle.json_rpc.proofs.ForCallers.{lines_of-lines}
 use Rattle.view_update.specs.Reading.{ViewUpdate, read_params, line_update}
-use Rattle.view_update.specs.Written.{update_data, update_params}
+use Rattle.view_update.specs.Written.{update_data}
 use Rattle.view_update.proofs.ForCallers.{updates_are_read, updates_read_back}
-use Rattle.core_session.specs.Session.{view_id}
-use Rattle.core_session.specs.Shows.{updates_in, screen_with, rebuilt_from, rebuilt}
+use Rattle.core_session.specs.Shows.{screen_with, rebuilt_from, rebuilt}
 use Rattle.core_session.specs.Laws.{UnreadShowsNothing, OtherViewShowsNothing}
-use Rattle.core_session.proofs.ShowsLemmas.{updates_of, updates_of-some, updates_in-lines}
+use Rattle.core_session.proofs.ShowsLemmas.{updates_of-some, updates_in-lines}
 
 -- one message alone
 rebuilt-note : (message : Data) (note : Option ViewUpdate) → line_update (line_of message) ≡ Some note →

@@ -14,7 +14,7 @@ use Rattle.doc_session.specs.Effects.{updated, wants_update}
 use Rattle.doc_session.specs.Step.{edited_document, refusal_at, event_step}
 use Rattle.doc_session.proofs.ForCallers.{head-after}
 use Rattle.core_session.specs.Laws.{revisions_of}
-use Rattle.core_session.specs.Session.{Outcome, outcome, opening_outcome, first_document, edit_came, spent_total, insert_outcome, refusing, is_first_view, step, document_after}
+use Rattle.core_session.specs.Session.{outcome, opening_outcome, first_document, edit_came, spent_total, insert_outcome, refusing, is_first_view, step, document_after}
 use Rattle.core_session.specs.Core.{plain_of}
 pub use Rattle.core_session.specs.Laws.{revisions_of}
 

@@ -64,13 +64,13 @@ written-messages document (entry ∷ entries) =
     ap (λ rest. piece_of document entry.command ++ rest) (written-messages (step document entry.command) entries) ∙
     sym (lines_written-append (messages document entry.command) (all_messages (step document entry.command) entries))
 
-pub written-append : (document : Option Document) (front back : List Entry) →
-    written document (front ++ back) ≡ written document front ++ written (document_after document front) back
-written-append document [] back = refl
-written-append document (entry ∷ front) back =
-    ap (λ rest. piece_of document entry.command ++ rest) (written-append (step document entry.command) front back) ∙
-    sym (append_assoc (piece_of document entry.command) (written (step document entry.command) front)
-    (written (document_after (step document entry.command) front) back))
+-- one more entry writes its piece
+pub written-push : (journal : List Entry) (entry : Entry) →
+    written None (journal ++ entry ∷ []) ≡ written None journal ++ piece_of (document_after None journal) entry.command
+written-push journal entry =
+    let said = messages (document_after None journal) entry.command in
+    written-messages None (journal ++ entry ∷ []) ∙ ap lines_written (all_messages-push journal entry) ∙
+    lines_written-append (all_messages None journal) said ∙ ap (λ front. front ++ lines_written said) (sym (written-messages None journal))
 
 -- texts of lines, one after the other
 all_append : {X : Type 0} (P : X → Type 0) (xs ys : List X) → AllByRecursion P xs → AllByRecursion P ys → AllByRecursion P (xs ++ ys)

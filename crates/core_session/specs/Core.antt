@@ -1,25 +1,17 @@
 -- What a session in memory keeps, and what a call does to it.
-use Rattle.std.specs.Prelude.{◌≡◌, ℕ, ◌^◌, ◌-◌, ◌<◌, ◌≤◌, Bool, true, false, List, [], ◌∷◌, ◌++◌, length, take, Option, Some, None, vec_len, vec_capacity, ⊤}
+use Rattle.std.specs.Prelude.{◌≡◌, ℕ, ◌<◌, ◌≤◌, Bool, true, false, List, [], ◌∷◌, ◌++◌, length, take, Option, Some, None, vec_len, vec_capacity, ⊤}
 use Rattle.std.specs.List.{AllByRecursion}
-use Rattle.std.specs.Str.{encode_utf8_all}
-use Rattle.serde_json.specs.Data.{Data}
 use Rattle.xi_plain.specs.declared.command.Command.{Command}
 use Rattle.xi_plain.specs.declared.command.Entry.{Entry}
-use Rattle.plain_screen.specs.declared.screen.Update.{Update}
-use Rattle.plain_edits.specs.History.{head}
 use Rattle.plain_screen.specs.Screen.{Screen}
-use Rattle.json_rpc.specs.Line.{line_of, IsLineOf}
 use Rattle.outside.specs.Faults.{Rose, counted}
 use Rattle.outside.specs.Sink.{SinkState, Gains}
-use Rattle.view_update.specs.Written.{update_data}
-use Rattle.view_update.specs.Reading.{line_update}
 use Rattle.doc_session.specs.InMemory.{Doc}
 use Rattle.doc_session.specs.Document.{Document}
 use Rattle.doc_session.specs.ScreenOf.{IsUpToDate}
 use Rattle.doc_session.specs.Stands.{DocStandsFor}
 use Rattle.core_session.specs.declared.session.Core.{Core}
-use Rattle.core_session.specs.declared.session.Prepared.{Prepared}
-use Rattle.core_session.specs.Session.{view_id, outcome, messages, lines_written, piece_of, step, document_after, written}
+use Rattle.core_session.specs.Session.{piece_of, document_after, written}
 use Rattle.core_session.specs.Journal.{IsOpen}
 use Rattle.core_session.specs.Shows.{Shows, rebuilt}
 

@@ -1,5 +1,5 @@
 -- What private functions say: what an act and a command come to in memory.
-use Rattle.std.specs.Prelude.{◌≡◌, ℕ, ◌^◌, ◌-◌, ◌<◌, List, take, Option, Some, None, ⊤, option_map}
+use Rattle.std.specs.Prelude.{◌≡◌, ℕ, ◌^◌, ◌-◌, ◌<◌, List, Option, Some, None, ⊤, option_map}
 use Rattle.std.specs.List.{AllByRecursion}
 use Rattle.std.specs.Str.{encode_utf8_all}
 use Rattle.serde_json.specs.Data.{Data, null}
@@ -12,7 +12,7 @@ use Rattle.doc_session.specs.InMemory.{Doc}
 use Rattle.doc_session.specs.Document.{Document}
 use Rattle.doc_session.specs.Stands.{DocStandsFor}
 use Rattle.core_session.specs.declared.session.Prepared.{Prepared}
-use Rattle.core_session.specs.Session.{view_id, outcome, messages, lines_written, step, written, Outcome}
+use Rattle.core_session.specs.Session.{view_id, outcome, messages, lines_written, step, Outcome}
 use Rattle.doc_session.specs.declared.ready.ReadyEvent.{ReadyEvent}
 use Rattle.doc_session.specs.Ready.{MayTake, with_event}
 use Rattle.core_session.specs.declared.act.DocumentChange.{DocumentChange}

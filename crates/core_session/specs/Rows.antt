@@ -8,6 +8,7 @@ use Rattle.xi_plain.specs.declared.command.Act.TheVariants.{NewView, Edit}
 use Rattle.xi_plain.specs.declared.command.Entry.{Entry}
 use Rattle.core_session.specs.Journal.{closing_entry}
 use Rattle.core_session.specs.Session.{view_id, document_after, written}
+use Rattle.core_session.specs.Shows.{rebuilt}
 
 -- an entry of the front end that was sent
 abbrev pub entry_of : Id → Act → Entry
@@ -53,6 +54,11 @@ FirstView = written None (opening ∷ closing_entry ∷ []) ≡ opening_bytes
 -- an insertion after it tells its line, and where the caret is
 abbrev pub FirstInsertion : Type 0
 FirstInsertion = written None (opening ∷ insertion (97 ∷ []) ∷ []) ≡ opening_bytes ++ first_bytes
+
+-- bytes with a note of unknown shape show no screen, nor do bytes with an update of another view
+pub record StrangeNotes : Type 0 where
+  pub no_params : rebuilt (codes "{\"method\":\"update\",\"params\":{}}\n") ≡ None
+  pub other_view : rebuilt (codes "{\"method\":\"update\",\"params\":{\"update\":{\"ops\":[],\"pristine\":true},\"view_id\":\"view-id-2\"}}\n") ≡ None
 
 -- each of three insertions tells its line and where the caret is; the last begins a line
 abbrev pub ThreeInsertions : Type 0

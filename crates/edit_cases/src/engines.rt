@@ -84,6 +84,17 @@ fn engine_after(alloc: Global, loaded: &str, steps: Steps<'_>) -> Result<Engine,
     Ok(engine)
 }
 
+// Whether each revision shows what its step says, when all of them are taken.
+fn show(alloc: Global, loaded: &str, steps: Steps<'_>) -> Result<bool, EditFault> {
+    let engine = engine_after(alloc, loaded, steps)?;
+    for (rev, step) in (1u64..100).zip(steps) {
+        if engine.text_at(alloc, rev)?.as_str() != step.1 {
+            return Ok(false);
+        }
+    }
+    Ok(engine.text_at(alloc, 0)?.as_str() == loaded)
+}
+
 #[test]
 fn stale_edits_go_to_their_places(rt: HostRuntime) -> Result<(), Fail> {
     let alloc = rt.alloc();
@@ -118,13 +129,8 @@ fn stale_edits_go_to_their_places(rt: HostRuntime) -> Result<(), Fail> {
             .as_slice(),
         ),
     ] {
-        let engine = engine_after(alloc, loaded, steps)
-            .ok()
-            .expect(&rt, "refused");
-        for (rev, step) in (1u64..100).zip(steps) {
-            assert_eq!(rt; engine.text_at(alloc, rev)?.as_str(), step.1, "of {loaded}");
-        }
-        assert_eq!(rt; engine.text_at(alloc, 0)?.as_str(), loaded);
+        let shown = show(alloc, loaded, steps);
+        assert!(rt; shown == Ok(true), "{loaded}");
     }
     Ok(())
 }

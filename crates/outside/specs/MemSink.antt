@@ -2,13 +2,13 @@
 use Rattle.std.specs.Prelude.{ℕ, min, List, Option, if◌then◌else◌}
 use Rattle.outside.specs.declared.sink.Pushed.{Pushed}
 use Rattle.outside.specs.declared.sink.Pushed.TheVariants.{Took, Failed}
-use Rattle.outside.specs.Schedule.{Plan, is_due}
+use Rattle.outside.specs.Schedule.{FaultSchedule, is_due}
 
--- the bytes held, where the sink still tells them, and the plan of the calls
+-- the bytes held, where the sink still tells them, and the schedule of the calls
 pub record Store : Type 0 where
   pub held : Option (List ℕ)
-  pub plan : Plan
+  pub schedule : FaultSchedule
 
 -- what the next call answers at a piece of this length
 abbrev pub answer : Store → ℕ → Pushed
-answer store len = if is_due store.plan then Failed else Took (min len store.plan.greatest)
+answer store len = if is_due store.schedule then Failed else Took (min len store.schedule.greatest)

@@ -32,5 +32,6 @@ pub record SinkState : Type 0 where
   pub faults : ℕ
   pub failures : ℕ
 
+-- the same, put together from what each of them is for the sink
 abbrev pub sink_state : {K : Type 0} → (K → Option (List ℕ)) → (K → ℕ) → (K → ℕ) → K → SinkState
 sink_state held faults failures sink = record { held = held sink; faults = faults sink; failures = failures sink }

@@ -39,5 +39,6 @@ pub record SourceState : Type 0 where
   pub left : Option (List ℕ)
   pub faults : ℕ
 
+-- the same, put together from what each of them is for the source
 abbrev pub source_state : {S : Type 0} → (S → Option (List ℕ)) → (S → ℕ) → S → SourceState
 source_state left faults source = record { left = left source; faults = faults source }

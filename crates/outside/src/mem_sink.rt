@@ -2,7 +2,7 @@ ghost use Rattle.std.specs.Prelude.{◌≡◌, ℕ, ◌^◌, ◌<◌, ◌≤◌,
 ghost use Rattle.std.specs.Option.{option_map};
 ghost use Rattle.outside.specs.Sink.{Gains, IsPart, pushed, failures_after};
 ghost use Rattle.outside.specs.MemSink.{answer};
-ghost use Rattle.outside.specs.Schedule.{plan_of, is_due, next};
+ghost use Rattle.outside.specs.Schedule.{schedule_of, is_due, next};
 ghost use Rattle.outside.specs.Faults.{Rose};
 
 use crate::calm_sink::CalmSink;
@@ -25,7 +25,7 @@ impl Model for MemSink {
 
     ghost Value = { Store };
 
-    ghost view = { λ s. record { held = s.sink; plan = s.schedule } };
+    ghost view = { λ s. record { held = s.sink; schedule = s.schedule } };
 }
 
 impl MemSink {
@@ -34,7 +34,7 @@ impl MemSink {
     pub fn new(alloc: Global, greatest: usize, failing: Vec<u64>) -> Self
         requires { 0 < greatest }
         ensures held { result.held ≡ Some [] }
-        ensures plan { result.plan ≡ plan_of greatest failing.items }
+        ensures schedule { result.schedule ≡ schedule_of greatest failing.items }
     {
         MemSink {
             sink: CalmSink::new(alloc),
@@ -59,14 +59,14 @@ impl MemSink {
 
     /// How many calls were made. The count stands still at the end of `u64`.
     pub fn calls(&self) -> u64
-        ensures { result ≡ self.now.plan.calls }
+        ensures { result ≡ self.now.schedule.calls }
     {
         self.schedule.calls()
     }
 
     /// How many calls failed.
     pub fn faults(&self) -> u64
-        ensures { result ≡ self.now.plan.faults }
+        ensures { result ≡ self.now.schedule.faults }
     {
         self.schedule.faults()
     }
@@ -75,19 +75,19 @@ impl MemSink {
 impl Sink for MemSink {
     ghost held = { λ s. s.held };
 
-    ghost faults = { λ s. s.plan.faults };
+    ghost faults = { λ s. s.schedule.faults };
 
-    ghost failures = { λ s. s.plan.faults };
+    ghost failures = { λ s. s.schedule.faults };
 
     fn write(&mut self, piece: &[u8]) -> Pushed
         requires { 0 < length piece.now }
         ensures answer { result ≡ answer self.old (length piece.now) }
         ensures gains { Gains self.old.held self.new.held (pushed result piece.now) }
-        ensures kept { IsTrue (is_due self.old.plan) → self.new.held ≡ self.old.held }
-        ensures plan { self.new.plan ≡ next self.old.plan }
+        ensures kept { IsTrue (is_due self.old.schedule) → self.new.held ≡ self.old.held }
+        ensures schedule { self.new.schedule ≡ next self.old.schedule }
         ensures part { IsPart result (length piece.now) }
-        ensures faults_stay { self.old.plan.faults ≤ self.new.plan.faults }
-        ensures faults_fit { self.new.plan.faults < 2 ^ 64 }
+        ensures faults_stay { self.old.schedule.faults ≤ self.new.schedule.faults }
+        ensures faults_fit { self.new.schedule.faults < 2 ^ 64 }
     {
         if self.schedule.enter() {
             return Pushed::Failed;

@@ -1,7 +1,7 @@
 ghost use Rattle.std.specs.Prelude.{◌≡◌, ℕ, ◌^◌, ◌<◌, ◌≤◌, ◌++◌, Some, min, length, take, drop, [], IfSome};
 ghost use Rattle.outside.specs.Source.{Gives, IsPiece, pulled, filled};
 ghost use Rattle.outside.specs.MemSource.{given_len, answer, stock_after};
-ghost use Rattle.outside.specs.Schedule.{plan_of};
+ghost use Rattle.outside.specs.Schedule.{schedule_of};
 ghost use Rattle.outside.specs.Faults.{Rose};
 
 use crate::calm_source::CalmSource;
@@ -21,7 +21,7 @@ impl Model for MemSource {
 
     ghost Value = { Stock };
 
-    ghost view = { λ s. record { left = s.source; plan = s.schedule } };
+    ghost view = { λ s. record { left = s.source; schedule = s.schedule } };
 }
 
 impl MemSource {
@@ -30,7 +30,7 @@ impl MemSource {
     pub fn new(bytes: Vec<u8>, greatest: usize, failing: Vec<u64>) -> Self
         requires { 0 < greatest }
         ensures left { result.left ≡ bytes.items }
-        ensures plan { result.plan ≡ plan_of greatest failing.items }
+        ensures schedule { result.schedule ≡ schedule_of greatest failing.items }
     {
         MemSource {
             source: CalmSource::new(bytes),
@@ -47,14 +47,14 @@ impl MemSource {
 
     /// How many calls were made. The count stands still at the end of `u64`.
     pub fn calls(&self) -> u64
-        ensures { result ≡ self.now.plan.calls }
+        ensures { result ≡ self.now.schedule.calls }
     {
         self.schedule.calls()
     }
 
     /// How many calls failed.
     pub fn faults(&self) -> u64
-        ensures { result ≡ self.now.plan.faults }
+        ensures { result ≡ self.now.schedule.faults }
     {
         self.schedule.faults()
     }
@@ -63,7 +63,7 @@ impl MemSource {
 impl Source for MemSource {
     ghost left = { λ s. Some s.left };
 
-    ghost faults = { λ s. s.plan.faults };
+    ghost faults = { λ s. s.schedule.faults };
 
     fn read(&mut self, buf: &mut [u8]) -> Pulled
         requires { 0 < length buf.old }
@@ -72,8 +72,8 @@ impl Source for MemSource {
         ensures after { self.new ≡ stock_after self.old (length buf.old) }
         ensures piece { IsPiece result (length buf.new) }
         ensures end { result ≡ Pulled.End → self.old.left ≡ [] }
-        ensures faults_stay { self.old.plan.faults ≤ self.new.plan.faults }
-        ensures faults_fit { self.new.plan.faults < 2 ^ 64 }
+        ensures faults_stay { self.old.schedule.faults ≤ self.new.schedule.faults }
+        ensures faults_fit { self.new.schedule.faults < 2 ^ 64 }
     {
         if self.schedule.enter() {
             return Pulled::Failed;

@@ -13,9 +13,9 @@ pub(crate) struct Schedule {
 
 impl Model for Schedule {
     ghost use Rattle.std.specs.Prelude.{◌<◌};
-    ghost use Rattle.outside.specs.Schedule.{Plan};
+    ghost use Rattle.outside.specs.Schedule.{FaultSchedule};
 
-    ghost Value = { Plan };
+    ghost Value = { FaultSchedule };
 
     ghost view = { λ s. record {
       greatest = s.greatest;
@@ -28,11 +28,11 @@ impl Model for Schedule {
 }
 
 impl Schedule {
-    ghost use Rattle.outside.specs.Schedule.{plan_of, is_due, next};
+    ghost use Rattle.outside.specs.Schedule.{schedule_of, is_due, next};
 
     pub(crate) fn new(greatest: usize, failing: Vec<u64>) -> Self
         requires { 0 < greatest }
-        ensures { result ≡ plan_of greatest failing.items }
+        ensures { result ≡ schedule_of greatest failing.items }
     {
         Schedule {
             greatest,

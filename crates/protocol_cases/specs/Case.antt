@@ -1,8 +1,8 @@
 -- What becomes of a case.
-use Rattle.std.specs.Prelude.{◌≡◌, ℕ, ◌↔◌, List, [], Option, Some, None, Result, Ok, Err}
+use Rattle.std.specs.Prelude.{◌≡◌, ℕ, ◌↔◌, List, [], Some, None, Result, Ok, Err}
 use Rattle.outside.specs.MemSource.{Stock}
 use Rattle.outside.specs.MemSink.{Store}
-use Rattle.outside.specs.Schedule.{plan_of}
+use Rattle.outside.specs.Schedule.{schedule_of}
 use Rattle.xi_top.specs.Run.{Outside, Passage, RunsAlone}
 use Rattle.protocol_cases.specs.declared.case.Outcome.{Outcome}
 use Rattle.protocol_cases.specs.declared.case.Run.{Run}
@@ -16,16 +16,16 @@ use Rattle.protocol_cases.specs.Verdict.{verdict_of}
 
 -- the source and the sink of a script before its run: what it gives and which of its calls fail, and which calls of the sink do
 abbrev pub source_of : Script → Stock
-source_of script = record { left = script.input.bytes; plan = plan_of script.input.piece script.input.failing }
+source_of script = record { left = script.input.bytes; schedule = schedule_of script.input.piece script.input.failing }
 
 abbrev pub sink_of : Script → Store
-sink_of script = record { held = Some []; plan = plan_of script.output.piece script.output.failing }
+sink_of script = record { held = Some []; schedule = schedule_of script.output.piece script.output.failing }
 
 -- what a source and a sink in memory tell
 abbrev pub outside_in_memory : Stock → Store → Outside
 outside_in_memory source sink = record {
-  source = record { left = Some source.left; faults = source.plan.faults };
-  sink = record { held = sink.held; faults = sink.plan.faults; failures = sink.plan.faults };
+  source = record { left = Some source.left; faults = source.schedule.faults };
+  sink = record { held = sink.held; faults = sink.schedule.faults; failures = sink.schedule.faults };
 }
 
 -- from this source and this sink to those of the run

@@ -1,5 +1,5 @@
 -- What private functions are proved by: what their values mean, and what one line more says.
-use Rattle.std.specs.Prelude.{ℕ, ◌<◌, ◌^◌, [], ◌∷◌, ◌++◌}
+use Rattle.std.specs.Prelude.{◌<◌, ◌^◌, [], ◌∷◌, ◌++◌}
 use Rattle.protocol_cases.specs.declared.said.Way.TheVariants.{Input, Output}
 use Rattle.protocol_cases.specs.declared.said.Part.{Part}
 use Rattle.protocol_cases.specs.declared.said.Part.TheVariants.{Line, Rest, Filler, Fails, AtMost}

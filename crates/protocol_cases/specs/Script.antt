@@ -1,5 +1,5 @@
 -- What a script says.
-use Rattle.std.specs.Prelude.{ℕ, ◌+◌, ◌-◌, ◌^◌, List, [], ◌∷◌, ◌++◌, map, Option, Some, None, unwrap_or, Result, Ok, Err}
+use Rattle.std.specs.Prelude.{ℕ, ◌+◌, ◌-◌, ◌^◌, List, [], ◌∷◌, map, Option, Some, None, unwrap_or, Result, Ok, Err}
 use Rattle.std.specs.List.{concat, filter_map, last_or}
 use Rattle.plain_text.specs.InputLines.{lines_of}
 use Rattle.protocol_cases.specs.declared.said.Way.{Way}

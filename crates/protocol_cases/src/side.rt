@@ -1,5 +1,5 @@
 ghost use Rattle.std.specs.Prelude.{◌≡◌, Some, [], OnOk};
-ghost use Rattle.outside.specs.Schedule.{plan_of};
+ghost use Rattle.outside.specs.Schedule.{schedule_of};
 ghost use Rattle.protocol_cases.specs.Inner.{IsProperPiece, part_view, silent, with_piece};
 ghost use Rattle.protocol_cases.specs.Said.{filler};
 
@@ -72,7 +72,7 @@ impl Side {
     /// The source of these bytes.
     pub fn into_source(self) -> MemSource
         ensures left { result.left ≡ self.bytes }
-        ensures plan { result.plan ≡ plan_of self.piece self.failing }
+        ensures schedule { result.schedule ≡ schedule_of self.piece self.failing }
     {
         let Side {
             bytes,
@@ -85,7 +85,7 @@ impl Side {
     /// A sink whose calls go as it is said, and the bytes that it is to take.
     pub fn into_sink(self, alloc: Global) -> (MemSink, Vec<u8>)
         ensures held { result.0.held ≡ Some [] }
-        ensures plan { result.0.plan ≡ plan_of self.piece self.failing }
+        ensures schedule { result.0.schedule ≡ schedule_of self.piece self.failing }
         ensures bytes { result.1.items ≡ self.bytes }
     {
         let Side {

@@ -6,4 +6,4 @@ use Rattle.subset_runs.specs.declared.fault.SubsetFault.TheVariants.{Bad, NoMemo
 -- what is printed of a fault
 abbrev pub fault_text : SubsetFault → List ℕ
 fault_text (Bad index) = codes "range " ++ decimal index ++ codes " is at fault"
-fault_text NoMemory = codes "want of memory"
+fault_text NoMemory = codes "out of memory"

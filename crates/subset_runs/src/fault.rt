@@ -22,7 +22,7 @@ impl fmt::Display for SubsetFault {
     fn fmt<W: fmt::Write>(&self, f: &mut fmt::Formatter<W>) -> fmt::Result {
         match self {
             SubsetFault::Bad(index) => write!(f, "range {index} is at fault"),
-            SubsetFault::NoMemory => f.write_str("want of memory"),
+            SubsetFault::NoMemory => f.write_str("out of memory"),
         }
     }
 }

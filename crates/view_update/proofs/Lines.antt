@@ -5,7 +5,7 @@ use Rattle.std.proofs.lemmas.Bool.{false≢true}
 use Rattle.std.proofs.lemmas.Slice.Eq.{bytes_eq-Decides}
 use Rattle.xi_plain.specs.declared.command.Id.{Id}
 use Rattle.plain_screen.specs.declared.screen.Update.{Update}
-use Rattle.serde_json.specs.Data.{Data}
+use Rattle.serde_json.specs.Data.{Data, object, no_members}
 use Rattle.json_rpc.specs.Line.{line_of, IsLineOf}
 use Rattle.json_rpc.specs.Request.{request_of, no_request, or_refusal, value_request, line_request}
 use Rattle.json_rpc.specs.Response.{note_data, reply_data, error_data}
@@ -16,7 +16,7 @@ use Rattle.view_update.specs.Reading.{as_chars, member_as, note_params, read_par
 use Rattle.view_update.specs.Fair.{IsFairUpdate}
 use Rattle.view_update.specs.Notes.{scroll_params, scroll_data, alert_params, alert_data}
 use Rattle.view_update.specs.Laws.{UpdatesReadBack, UpdatesAreRead, ScrollsReadBack, AlertsReadBack, OthersAreNoUpdates}
-use Rattle.view_update.proofs.Plain.{IsPlain, IsPlain-update_params, IsPlain-scroll_params, IsPlain-alert_params, IsPlain-note_data}
+use Rattle.view_update.proofs.Plain.{ArePlain-none, IsPlain, IsPlain-object, IsPlain-update_params, IsPlain-scroll_params, IsPlain-alert_params, IsPlain-note_data}
 use Rattle.view_update.proofs.ReadBack.{as_chars-text_data, read_params-update_params, read_scroll-scroll_params}
 
 -- the line of a value that nests at most 127 deep
@@ -26,6 +26,10 @@ IsLineOf-plain d n small h = IsLineOf-line_of d h.proper h.whole (omega (arith, 
 -- the line of a note whose params nest at most 126 deep
 IsLineOf-note : (method : List ℕ) (params : Data) (n : ℕ) → n ≤ 126 → all_scalars method ≡ true → IsPlain n params → IsLineOf (note_data method params) (line_of (note_data method params))
 IsLineOf-note method params n small name h = IsLineOf-plain (note_data method params) (n + 1) (omega arith) (IsPlain-note_data n method params name h)
+
+-- the note of a method without members in its params is one
+pub IsLineOf-empty_note : IsLineOf (note_data (codes "update") (object no_members)) (line_of (note_data (codes "update") (object no_members)))
+IsLineOf-empty_note = IsLineOf-note (codes "update") (object no_members) 1 (omega arith) refl (IsPlain-object 0 no_members (ArePlain-none 0))
 
 -- ---- a note says what its params say
 

@@ -16,7 +16,7 @@ const USAGE: &str = "usage: xi_core alone";
 const HELP: &str = "usage: xi_core alone
 
 Serves one front end: reads its JSON lines from standard input, and answers on standard output.
-Ends with status 0 at the input's end; 2 for other words; 3 for want of memory; 4 and 5 where
+Ends with status 0 at the input's end; 2 for other words; 3 where memory runs out; 4 and 5 where
 the input or the output failed; 6 after 2^40 lines; 7 for a line of 2^24 bytes without LF.";
 
 fn main(rt: HostRuntime) -> ExitCode {

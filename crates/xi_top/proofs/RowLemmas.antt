@@ -1,12 +1,12 @@
 -- Worked rows of runs.
-use Rattle.std.proofs.Common.{◌≡◌, ℕ, suc, ◌+◌, ◌<◌, ◌≤◌, inl, inr, false, List, [], ◌∷◌, ◌++◌, length, map, drop, Option, Some, None, Ok, Err, refl, ap, sym, ◌∙◌, subst, append-nil, length-append, arith}
+use Rattle.std.proofs.Common.{◌≡◌, ℕ, ◌+◌, ◌<◌, ◌≤◌, inl, inr, List, [], ◌∷◌, ◌++◌, length, map, drop, Option, Some, None, Ok, Err, refl, ap, sym, ◌∙◌, subst, length-append, arith}
 use Rattle.std.proofs.lemmas.List.{length-map, nil_from_length}
 use Rattle.std.specs.List.{concat}
 use Rattle.std.specs.Prelude.{IfSome}
 use Rattle.xi_plain.specs.declared.command.Entry.{Entry}
 use Rattle.plain_text.specs.InputLines.{ended_lines, lines_of}
 use Rattle.front_wire.specs.Front.{command_of}
-use Rattle.outside.specs.Sink.{SinkState, Gains}
+use Rattle.outside.specs.Sink.{Gains}
 use Rattle.core_session.specs.Journal.{closing_entry}
 use Rattle.core_session.specs.Session.{written}
 use Rattle.core_session.specs.Core.{piece_after}
@@ -14,8 +14,8 @@ use Rattle.core_session.specs.Rows.{opening, insertion, opening_bytes, first_byt
 use Rattle.core_session.proofs.ForCallers.{first_insertion}
 use Rattle.xi_top.specs.declared.ending.Ending.TheVariants.{NoMemory, SourceFault, SinkFault, TooMany, TooLong}
 use Rattle.xi_top.specs.Ending.{Outcome, status_of}
-use Rattle.xi_top.specs.Written.{IsCutOff, IsProperPart}
-use Rattle.xi_top.specs.Run.{Passage, IsRun, RunsAlone}
+use Rattle.xi_top.specs.Written.{IsProperPart}
+use Rattle.xi_top.specs.Run.{Passage, IsRun}
 use Rattle.xi_top.specs.Rows.{FirstReadFails, ThirdWriteFails, HalfLine, opening_line, unsent_insertion}
 use Rattle.xi_top.proofs.CalmLemmas.{told_input}
 

@@ -1,10 +1,10 @@
 -- What a run comes to, by its status and by the count of failed writes.
-use Rattle.std.proofs.Common.{◌≡◌, ℕ, ◌+◌, ◌-◌, ◌<◌, inl, inr, List, [], ◌∷◌, ◌++◌, length, Ok, Err, refl, ap, sym, ◌∙◌, subst, length-append, arith}
+use Rattle.std.proofs.Common.{◌≡◌, ℕ, ◌+◌, ◌-◌, ◌<◌, inl, inr, List, [], ◌∷◌, length, Ok, Err, refl, ap, sym, ◌∙◌, subst, length-append, arith}
 use Rattle.std.proofs.lemmas.List.{length-map}
 use Rattle.std.specs.Prelude.{IfSome, ◌^◌, ◌⊎◌}
 use Rattle.xi_plain.specs.declared.command.Entry.{Entry}
 use Rattle.front_wire.specs.Front.{command_of}
-use Rattle.outside.specs.Faults.{Rose, counted}
+use Rattle.outside.specs.Faults.{Rose}
 use Rattle.outside.specs.Sink.{SinkState}
 use Rattle.outside.proofs.ForCallers.{Gains-none}
 use Rattle.core_session.specs.Journal.{closing_entry}
@@ -12,7 +12,7 @@ use Rattle.core_session.proofs.ForCallers.{shows_none}
 use Rattle.xi_top.specs.declared.ending.Ending.TheVariants.{NoMemory, SourceFault, SinkFault, TooMany, TooLong}
 use Rattle.xi_top.specs.Ending.{Outcome, status_of, most_lines}
 use Rattle.xi_top.specs.Written.{IsSent, IsCutOff, IsWritten, IsWrittenByCount}
-use Rattle.xi_top.specs.Run.{Outside, Passage, IsRun, IsNoRun, RunsAlone, HasCauses}
+use Rattle.xi_top.specs.Run.{Outside, Passage, IsRun, RunsAlone, HasCauses}
 
 -- ---- the causes
 

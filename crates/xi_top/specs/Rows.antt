@@ -13,10 +13,11 @@ abbrev pub FirstReadFails : Type 0
 FirstReadFails = (passage : Passage) (journal : List Entry) (bytes : List ℕ) → passage.before.source.left ≡ Some bytes →
     passage.after.source.left ≡ Some bytes → RunsAlone passage journal 4 → journal ≡ closing_entry ∷ []
 
--- where the third of three entries was not sent, the sink holds what the first two write, and a part of the third piece
+-- an insertion that was not sent
 abbrev pub unsent_insertion : Entry
 unsent_insertion = record (insertion (233 ∷ [])) { sent = false }
 
+-- where the third of three entries was not sent, the sink holds what the first two write, and a part of the third piece
 abbrev pub ThirdWriteFails : Type 0
 ThirdWriteFails = (before after : SinkState) (gained : List ℕ) → before.held ≡ Some [] → after.held ≡ Some gained →
     IsCutOff before after (opening ∷ (insertion (97 ∷ []) ∷ (unsent_insertion ∷ (closing_entry ∷ [])))) →

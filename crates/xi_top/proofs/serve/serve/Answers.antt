@@ -1,7 +1,7 @@
 use Rattle.std.proofs.Common.{◌++◌, [], take, Err, sym, subst, arith}
 use Rattle.std.specs.Prelude.{unwrap_or}
 use Rattle.outside.specs.Source.{source_state}
-use Rattle.outside.specs.Sink.{SinkState, sink_state}
+use Rattle.outside.specs.Sink.{sink_state}
 use Rattle.outside.proofs.ForCallers.{Gives-append, Rose-earlier}
 use Rattle.core_session.specs.Core.{sink_of}
 use Rattle.xi_top.specs.Ending.{Outcome}

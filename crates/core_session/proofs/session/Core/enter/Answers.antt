@@ -1,4 +1,4 @@
-use Rattle.std.proofs.Common.{refl, arith, ◌≡◌, ◌<◌, ◌-◌, length}
+use Rattle.std.proofs.Common.{refl, arith, ◌<◌, ◌-◌, length}
 use Rattle.std.specs.Prelude.{◌^◌}
 use Rattle.core_session.specs.Core.{plain_of}
 use Rattle.core_session.proofs.ShowsLemmas.{MayBeAsked-stands, Stands-contents}

@@ -1,0 +1,2 @@
+pub mod RopeLemmas
+pub mod ForCallers

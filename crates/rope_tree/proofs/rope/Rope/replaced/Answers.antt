@@ -1,0 +1,12 @@
+use Rattle.std.proofs.Common.{◌≡◌, ◌<◌, ◌^◌}
+use Rattle.plain_text.specs.Text.{byte_len}
+use Rattle.rope_node.specs.Node.{text_of}
+use Rattle.shared_tree.specs.Places.{replaced}
+use Rattle.rope_node.proofs.ForCallers.{text_fits}
+use Rattle.rope_tree.proofs.rope.Rope.replaced.Goals as goal
+
+pub edited-requires-clause-fits : goal.edited-requires-clause-fits
+edited-requires-clause-fits c =
+    let base : text_of c.tree.result.now ≡ c.args.self.now = rw c.tree.ensures c.self.view_is in
+    let fit : byte_len (replaced (text_of c.tree.result.now) c.args.from c.args.to (text_of c.in_ok-added.added)) < 2 ^ 64 = rw (base, c.in_ok-added.ensures) c.requires.fits in
+    text_fits _ fit

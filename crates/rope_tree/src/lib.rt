@@ -1,0 +1,8 @@
+//! A rope: a text in shared leaves. A copy is a few pointers, and an edit copies one path and shares the rest.
+//!
+//! To a contract a [`Rope`] is its list of characters.
+#![tactic(auto)]
+
+mod rope;
+
+pub use rope::Rope;

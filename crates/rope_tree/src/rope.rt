@@ -1,0 +1,143 @@
+ghost use Rattle.std.specs.Prelude.{◌≡◌, ◌+◌, ◌-◌, ◌^◌, ◌<◌, ◌≤◌, ◌++◌, [], length, take, drop, IfOk};
+ghost use Rattle.std.specs.Str.{chars};
+ghost use Rattle.plain_text.specs.Text.{byte_len};
+ghost use Rattle.rope_node.specs.Node.{text_of};
+ghost use Rattle.shared_tree.specs.Places.{replaced};
+
+use plain_text::{NoMemory, Text, split_at_gap};
+use rope_node::{Chunk, Node};
+use shared_tree::Tree;
+use std::alloc::Global;
+use std::marker::Model;
+
+/// A text in leaves of at most 1,024 bytes, whose copies share all that they do not change.
+#[derive(Drop)]
+pub struct Rope {
+    node: Node,
+}
+
+impl Model for Rope {
+    ghost use Rattle.std.specs.Prelude.{ℕ, List};
+    ghost use Rattle.rope_node.specs.Node.{text_of};
+
+    ghost Value = { List ℕ };
+
+    ghost view = { λ rope. text_of rope.node };
+}
+
+impl Rope {
+    /// The rope of a text, in one pass; its leaves are as full as characters allow.
+    pub fn of_text(alloc: Global, text: &Text) -> Result<Rope, NoMemory>
+        ensures { IfOk result (λ rope. rope ≡ text.now) }
+    {
+        Ok(Rope {
+            node: Node::of_tree(tree_of(alloc, text)?),
+        })
+    }
+
+    /// The same rope, which shares all with this one, in O(1).
+    pub fn copy(&self, alloc: Global) -> Result<Rope, NoMemory>
+        ensures { IfOk result (λ made. made ≡ self.now) }
+    {
+        Ok(Rope {
+            node: self.node.copy(alloc)?,
+        })
+    }
+
+    /// How many characters, in O(1).
+    pub fn len(&self) -> u64
+        ensures { result ≡ length self.now }
+    {
+        self.node.tree().len()
+    }
+
+    /// How many bytes in UTF-8, in O(1).
+    pub fn byte_len(&self) -> u64
+        ensures { result ≡ byte_len self.now }
+    {
+        self.node.tree().summary().bytes
+    }
+
+    /// The root.
+    pub fn node(&self) -> &Node
+        ensures { text_of result.now ≡ self.now }
+    {
+        &self.node
+    }
+
+    /// The rope with the characters between two gaps replaced, in O(height) and the characters that come.
+    pub fn replaced(&self, alloc: Global, from: u64, to: u64, text: &Text) -> Result<Rope, NoMemory>
+        requires ordered { from ≤ to }
+        requires inside { to ≤ length self.now }
+        requires fits { byte_len (replaced self.now from to text.now) < 2 ^ 64 }
+        ensures { IfOk result (λ made. made ≡ replaced self.now from to text.now) }
+    {
+        let added = tree_of(alloc, text)?;
+        let made = self.node.tree().edited(alloc, from, to, &added)?;
+        Ok(Rope {
+            node: Node::of_tree(made),
+        })
+    }
+
+    /// The characters between two gaps, in O(height) and what it gives.
+    pub fn slice(&self, alloc: Global, from: u64, to: u64) -> Result<Text, NoMemory>
+        requires ordered { from ≤ to }
+        requires inside { to ≤ length self.now }
+        ensures { IfOk result (λ part. part ≡ take (to - from) (drop from self.now)) }
+    {
+        let part = self.node.tree().back(alloc, from)?.front(alloc, to - from)?;
+        whole(alloc, &part)
+    }
+}
+
+/// The text of a tree, in one pass.
+fn whole(alloc: Global, tree: &Tree<Chunk>) -> Result<Text, NoMemory>
+    ensures { IfOk result (λ text. text ≡ text_of tree.now) }
+{
+    let mut text = Text::new(alloc);
+    let mut walk = tree.walk(0);
+    while let Some((chunk, from)) = walk.next() {
+        let (_, back) = split_at_gap(chunk.text().as_str(), from);
+        text.push_str(back)?;
+    }
+    Ok(text)
+}
+
+/// The tree of a text, in one pass.
+fn tree_of(alloc: Global, text: &Text) -> Result<Tree<Chunk>, NoMemory>
+    ensures { IfOk result (λ tree. text_of tree ≡ text.now) }
+{
+    let mut tree = Tree::new(alloc);
+    if text.byte_len() == 0 {
+        return Ok(tree);
+    }
+    let mut rest = text.as_str();
+    let mut left = text.char_count();
+    while left > 0 {
+        let count = fitting(rest);
+        let (front, back) = split_at_gap(rest, count);
+        let chunk = Chunk::new(Text::from_str(alloc, front)?);
+        tree.push_leaf(alloc, chunk)?;
+        rest = back;
+        left -= count;
+    }
+    Ok(tree)
+}
+
+/// How many characters stand in the first 1,024 bytes.
+fn fitting(text: &str) -> u64
+    ensures inside { result ≤ length (chars text.now) }
+    ensures short { byte_len (take result (chars text.now)) ≤ 1024 }
+    ensures some { 0 < length (chars text.now) → 0 < result }
+{
+    let mut gap: u64 = 0;
+    let mut place: u64 = 0;
+    for c in text.chars() {
+        place += c.len_utf8() as u64;
+        if place > 1024 {
+            return gap;
+        }
+        gap += 1;
+    }
+    gap
+}

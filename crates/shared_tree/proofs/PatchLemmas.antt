@@ -1,0 +1,78 @@
+-- An edit inside one node of a row, and the pieces of an edited leaf.
+use Rattle.std.proofs.Common.{◌≡◌, ℕ, zero, suc, ◌+◌, ◌-◌, ◌*◌, ◌^◌, ◌<◌, ◌≤◌, List, [], ◌∷◌, ◌++◌, length, map, max, take, drop, get_or, append_assoc, refl, sym, ap, ◌∙◌, arith, length-append, take-append-drop, Option, Some, None, IfSome}
+use Rattle.std.proofs.Math.Nat.{mul-le-mul_right, pow-suc}
+use Rattle.std.proofs.lemmas.List.{append-nil, length-map}
+use Rattle.std.specs.Arc.{arc_value}
+use Rattle.std.specs.declared.sync.Arc.{Arc}
+use Rattle.shared_tree.specs.declared.leaf.Leaf.{Ghosts}
+use Rattle.shared_tree.specs.declared.leaf.Summary.{Ghosts as Sum}
+use Rattle.shared_tree.specs.Laws.{Adds, Sums}
+use Rattle.shared_tree.specs.Shape.{Shape}
+use Rattle.shared_tree.specs.Row.{items_in, items_of, leaves_of, shapes, IsBunch, IsFit, IsLevel, IsRow, IsRowOf}
+use Rattle.shared_tree.specs.Places.{replaced}
+use Rattle.shared_tree.proofs.RowLemmas.{row_full, row_many, shapes-split, IsRow-left, IsRow-right}
+use Rattle.shared_tree.proofs.SumLemmas.{IsFit-between, IsFit-left, IsFit-right}
+use Rattle.shared_tree.proofs.CutLemmas.{drop-inside, items-cut, take-inside}
+
+regrouped-items : {X : Type 0} (a f o b c : List X) → a ++ ((f ++ (o ++ b)) ++ c) ≡ (a ++ f) ++ (o ++ (b ++ c))
+regrouped-items a f o b c = simp append_assoc
+
+pub IfSome_weaker : {X : Type 0} (option : Option X) (P Q : X → Type 0) → ((x : X) → P x → Q x) → IfSome option P → IfSome option Q
+IfSome_weaker None P Q weaker is = is
+IfSome_weaker (Some x) P Q weaker is = weaker x is
+
+power_some : (h : ℕ) → 0 < 4 ^ h
+power_some zero = omega arith
+power_some (suc h) = let below : 0 < 4 ^ h = power_some h in omega (arith, pow-suc 4 h)
+
+-- an edit of the middle is an edit of all
+pub replaced-inside : {X : Type 0} (a b c others : List X) (from to : ℕ) → length a ≤ from → from ≤ to → to ≤ length a + length b → a ++ (replaced b (from - length a) (to - length a) others ++ c) ≡ replaced (a ++ (b ++ c)) from to others
+replaced-inside a b c others from to low ordered high =
+    rw (take-inside a b c from low (omega arith), drop-inside a b c to (omega arith) high) (regrouped-items a (take (from - length a) b) others (drop (to - length a) b) c)
+
+module _ {L Item I Z : Type 0} (leaf : Ghosts L Item I) (nodes : List (Arc (Shape L) Z)) (i : ℕ) (node : Arc (Shape L) Z) (inside : i < length nodes) (is : node ≡ get_or nodes i node) where
+  -- an edit inside a node of a row
+  pub patch-cut : (others : List Item) (from to start : ℕ) → start ≡ length (items_in leaf (shapes (take i nodes))) → start ≤ from → from ≤ to → to - start ≤ length (items_of leaf (arc_value node)) → items_in leaf (shapes (take i nodes)) ++ (replaced (items_of leaf (arc_value node)) (from - start) (to - start) others ++ items_in leaf (shapes (drop (i + 1) nodes))) ≡ replaced (items_in leaf (shapes nodes)) from to others
+  patch-cut others from to start at low ordered high =
+      let edit = replaced-inside (items_in leaf (shapes (take i nodes))) (items_of leaf (arc_value node)) (items_in leaf (shapes (drop (i + 1) nodes))) others from to (omega arith) ordered (omega arith) in
+      rw (at, items-cut leaf nodes i node inside is) edit
+
+  module _ (sum : Sum I) (adds : Adds sum.zero sum.plus sum.fits sum.count) (sums : Sums leaf.summed sum.zero sum.plus sum.count) where
+    pub patch-fits : (others : List Item) (from to start : ℕ) → start ≡ length (items_in leaf (shapes (take i nodes))) → start ≤ from → from ≤ to → to - start ≤ length (items_of leaf (arc_value node)) → IsFit leaf sum (replaced (items_in leaf (shapes nodes)) from to others) → IsFit leaf sum (replaced (items_of leaf (arc_value node)) (from - start) (to - start) others)
+    patch-fits others from to start at low ordered high fit =
+        IsFit-between leaf sum adds sums (items_in leaf (shapes (take i nodes))) (replaced (items_of leaf (arc_value node)) (from - start) (to - start) others) (items_in leaf (shapes (drop (i + 1) nodes))) (rw (patch-cut others from to start at low ordered high) fit)
+
+module _ {L Item I : Type 0} (leaf : Ghosts L Item I) where
+  -- what a row of two seams comes to
+  pub seamed_twice : {Z : Type 0} (h : ℕ) (front row back rest made : List (Arc (Shape L) Z)) (fronts rows backs : List Item) (low high : ℕ) → items_in leaf (shapes front) ≡ fronts → items_in leaf (shapes row) ≡ rows → items_in leaf (shapes back) ≡ backs → IsRowOf leaf h (items_in leaf (shapes row) ++ items_in leaf (shapes back)) (max (length row) (length back)) (length row + length back) (shapes rest) → IsRowOf leaf h (items_in leaf (shapes front) ++ items_in leaf (shapes rest)) (max (length front) (length rest)) (length front + length rest) (shapes made) → low ≤ length row → length front + (length row + length back) ≤ high → IsRowOf leaf h (fronts ++ (rows ++ backs)) low high (shapes made)
+  seamed_twice h front row back rest made fronts rows backs low high a b c first second enough few =
+      let same : length (shapes rest) ≡ length rest = length-map rest arc_value in
+      let first_low : max (length row) (length back) ≤ length (shapes rest) = first.low in
+      let first_high : length (shapes rest) ≤ length row + length back = first.high in
+      let second_low : max (length front) (length rest) ≤ length (shapes made) = second.low in
+      let second_high : length (shapes made) ≤ length front + length rest = second.high in
+      record {
+        levels = second.levels;
+        same = second.same ∙ rw (first.same, a, b, c) refl;
+        low = omega arith;
+        high = omega arith;
+      }
+
+  -- the children of a node have an item or more
+  pub bunch_items : (h : ℕ) (row : List (Shape L)) → IsBunch leaf h row → 1 ≤ length (items_in leaf row)
+  bunch_items h row bunch =
+      let many : length row * 4 ^ h ≤ length (leaves_of row) = row_many leaf h row bunch.levels in
+      let full : length (leaves_of row) ≤ length (items_in leaf row) = row_full leaf h row bunch.levels in
+      let some : 1 ≤ length row = bunch.some in
+      let power : 0 < 4 ^ h = power_some h in
+      let wide : 1 * 4 ^ h ≤ length row * 4 ^ h = mul-le-mul_right (4 ^ h) some in
+      omega arith
+
+  -- the same row under other names of its height and items, and with a wider bound
+  pub same_row : (h level : ℕ) (items others : List Item) (low high more : ℕ) (row : List (Shape L)) → h ≡ level → items ≡ others → high ≤ more → IsRowOf leaf h items low high row → IsRowOf leaf level others low more row
+  same_row h level items others low high more row same_height same_items less of = record {
+    levels = rw (← same_height) of.levels;
+    same = of.same ∙ same_items;
+    low = of.low;
+    high = omega (arith, of.high);
+  }

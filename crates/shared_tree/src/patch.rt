@@ -1,0 +1,172 @@
+// An edit that falls into one leaf: one path is copied, and all beside it is shared.
+ghost use Rattle.std.specs.Prelude.{◌≡◌, ◌+◌, ◌-◌, ◌<◌, ◌≤◌, ◌++◌, length, max, take, drop, IfOk, IfSome};
+ghost use Rattle.shared_tree.specs.Row.{items_in, items_of, shapes, IsBunch, IsFit, IsRow, IsRowOf};
+ghost use Rattle.shared_tree.specs.Places.{replaced};
+
+use crate::Leaf;
+use crate::node::{Body, Node};
+use crate::row::{Link, grouped, seamed};
+use crate::seek::child_at;
+use crate::shared::single;
+use std::alloc::{AllocError, Global};
+
+/// One to three leaves: the items of a leaf before `from`, those of `others`, and those from `to` on. `None` where there are none.
+fn pieces<L: Leaf>(
+    alloc: Global,
+    leaf: &L,
+    from: u64,
+    to: u64,
+    others: &[Link<L>],
+) -> Result<Option<Vec<Link<L>>>, AllocError>
+    requires ordered { from ≤ to }
+    requires inside { to ≤ length (L.items leaf.now) }
+    requires others { IsRow L.Leaf 0 (shapes others.now) }
+    requires few { length others.now ≤ 1 }
+    requires whole { IsFit L.Leaf L.Sum.Summary (L.items leaf.now) }
+    requires fits { IsFit L.Leaf L.Sum.Summary
+        (replaced (L.items leaf.now) from to (items_in L.Leaf (shapes others.now))) }
+    ensures { IfOk result (λ made. IfSome made (λ row. IsRowOf L.Leaf 0
+        (replaced (L.items leaf.now) from to (items_in L.Leaf (shapes others.now))) 1 3
+        (shapes row.items))) }
+{
+    let front = cut(alloc, leaf, 0, from)?;
+    let back = cut(alloc, leaf, to, leaf.len())?;
+    let rest = seamed(alloc, 0, others, &back)?;
+    let row = seamed(alloc, 0, &front, &rest)?;
+    if row.is_empty() {
+        return Ok(None);
+    }
+    Ok(Some(row))
+}
+
+/// The items of a leaf from one index up to another as a row: no node where there are none.
+fn cut<L: Leaf>(alloc: Global, leaf: &L, from: u64, to: u64) -> Result<Vec<Link<L>>, AllocError>
+    requires ordered { from ≤ to }
+    requires inside { to ≤ length (L.items leaf.now) }
+    requires fits { IsFit L.Leaf L.Sum.Summary (L.items leaf.now) }
+    ensures { IfOk result (λ made. IsRowOf L.Leaf 0 (take (to - from) (drop from (L.items leaf.now)))
+        0 1 (shapes made.items)) }
+{
+    if from == to {
+        return Ok(Vec::new(alloc));
+    }
+    single(alloc, Node::tip(leaf.part(alloc, from, to)?))
+}
+
+/// The nodes with a row in place of node i, if any is left of it.
+fn within<L: Leaf>(
+    alloc: Global,
+    nodes: &[Link<L>],
+    height: u64,
+    i: usize,
+    row: &[Link<L>],
+) -> Result<Vec<Link<L>>, AllocError>
+    requires nodes { IsBunch L.Leaf height (shapes nodes.now) }
+    requires row { IsRow L.Leaf height (shapes row.now) }
+    requires few { length row.now ≤ 3 }
+    requires inside { i < length nodes.now }
+    requires fits { IsFit L.Leaf L.Sum.Summary (items_in L.Leaf (shapes (take i nodes.now))
+        ++ (items_in L.Leaf (shapes row.now) ++ items_in L.Leaf (shapes (drop (i + 1) nodes.now)))) }
+    ensures { IfOk result (λ made. IsRowOf L.Leaf height (items_in L.Leaf (shapes (take i nodes.now))
+        ++ (items_in L.Leaf (shapes row.now) ++ items_in L.Leaf (shapes (drop (i + 1) nodes.now))))
+        (length row.now) 16 (shapes made.items)) }
+{
+    let (front, _) = nodes.split_at(i);
+    let (_, back) = nodes.split_at(i + 1);
+    let rest = seamed(alloc, height, row, back)?;
+    seamed(alloc, height, front, &rest)
+}
+
+/// The row under one node or two, or `None` where it is too short for a node.
+fn regrouped<L: Leaf>(
+    alloc: Global,
+    height: u64,
+    row: Vec<Link<L>>,
+) -> Result<Option<Vec<Link<L>>>, AllocError>
+    requires above { 1 ≤ height }
+    requires levels { IsRow L.Leaf (height - 1) (shapes row.items) }
+    requires high { length row.items ≤ 16 }
+    requires fits { IsFit L.Leaf L.Sum.Summary (items_in L.Leaf (shapes row.items)) }
+    ensures { IfOk result (λ made. IfSome made (λ nodes. IsRowOf L.Leaf height
+        (items_in L.Leaf (shapes row.items)) 1 2 (shapes nodes.items))) }
+{
+    if row.len() < 4 {
+        return Ok(None);
+    }
+    Ok(Some(grouped(alloc, height, row)?))
+}
+
+/// The node with the items from one index up to another replaced, where they fall into one leaf: one to three nodes. `None` where
+/// they do not, or where too little is left for a node on the way.
+#[cycle(patch)]
+fn patched_in<L: Leaf>(
+    alloc: Global,
+    node: &Node<L>,
+    from: u64,
+    to: u64,
+    others: &[Link<L>],
+) -> Result<Option<Vec<Link<L>>>, AllocError>
+    requires whole { IsFit L.Leaf L.Sum.Summary (items_of L.Leaf node.now) }
+    requires ordered { from ≤ to }
+    requires inside { to ≤ length (items_of L.Leaf node.now) }
+    requires others { IsRow L.Leaf 0 (shapes others.now) }
+    requires few { length others.now ≤ 1 }
+    requires fits { IsFit L.Leaf L.Sum.Summary
+        (replaced (items_of L.Leaf node.now) from to (items_in L.Leaf (shapes others.now))) }
+    ensures { IfOk result (λ made. IfSome made (λ row. IsRowOf L.Leaf node.now.height
+        (replaced (items_of L.Leaf node.now) from to (items_in L.Leaf (shapes others.now)))
+        1 3 (shapes row.items))) }
+{
+    match &node.body {
+        Body::Tip(leaf) => pieces(alloc, leaf, from, to, others),
+        Body::Inner(kids) => {
+            match patched_row(alloc, kids, node.height - 1, from, to, others)? {
+                Some(row) => regrouped(alloc, node.height, row),
+                None => Ok(None),
+            }
+        }
+    }
+}
+
+/// The same of a row of nodes.
+#[cycle(patch)]
+pub(crate) fn patched_row<L: Leaf>(
+    alloc: Global,
+    nodes: &[Link<L>],
+    height: u64,
+    from: u64,
+    to: u64,
+    others: &[Link<L>],
+) -> Result<Option<Vec<Link<L>>>, AllocError>
+    requires nodes { IsBunch L.Leaf height (shapes nodes.now) }
+    requires whole { IsFit L.Leaf L.Sum.Summary (items_in L.Leaf (shapes nodes.now)) }
+    requires ordered { from ≤ to }
+    requires inside { to ≤ length (items_in L.Leaf (shapes nodes.now)) }
+    requires others { IsRow L.Leaf 0 (shapes others.now) }
+    requires few { length others.now ≤ 1 }
+    requires fits { IsFit L.Leaf L.Sum.Summary
+        (replaced (items_in L.Leaf (shapes nodes.now)) from to (items_in L.Leaf (shapes others.now))) }
+    ensures { IfOk result (λ made. IfSome made (λ row. IsRowOf L.Leaf height
+        (replaced (items_in L.Leaf (shapes nodes.now)) from to (items_in L.Leaf (shapes others.now)))
+        1 16 (shapes row.items))) }
+{
+    let (i, start) = child_at(nodes, passing(from, to));
+    let node: &Node<L> = &nodes[i];
+    if node.len() < to - start {
+        return Ok(None);
+    }
+    match patched_in(alloc, node, from - start, to - start, others)? {
+        Some(row) => Ok(Some(within(alloc, nodes, height, i, &row)?)),
+        None => Ok(None),
+    }
+}
+
+/// The number of items that a leaf has to reach for an edit to fall into it: what is only put in goes to the leaf before it.
+fn passing(from: u64, to: u64) -> u64
+    requires { from ≤ to }
+    ensures some { 0 < result }
+    ensures below { result ≤ from + 1 }
+    ensures above { result ≤ max to 1 }
+{
+    if from < to { from + 1 } else { from.max(1) }
+}
