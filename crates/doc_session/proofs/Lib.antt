@@ -1,4 +1,3 @@
-pub mod CaretLemmas
 pub mod MoveLemmas
 pub mod LoadLemmas
 pub mod InsertLemmas

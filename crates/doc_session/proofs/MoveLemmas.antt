@@ -1,14 +1,15 @@
 -- What an edit that was taken leaves: the texts on both sides of its change, where it takes gaps, and its notice.
-use Rattle.std.proofs.Common.{◌≡◌, ℕ, zero, suc, ◌+◌, ◌<◌, ◌≤◌, Bool, true, false, List, [], ◌∷◌, length, Option, Some, None, ap, ap₂, sym, ◌∙◌, arith, inl, inr}
+use Rattle.std.proofs.Common.{◌≡◌, ℕ, zero, suc, ◌+◌, ◌<◌, ◌≤◌, Bool, true, false, cond, List, [], ◌∷◌, length, take, filter, Option, Some, None, ap, ap₂, sym, ◌∙◌, arith, inl, inr}
 use Rattle.std.proofs.Math.Nat.{ℕ_set}
 use Rattle.std.proofs.Math.Path.{fun_ext}
 use Rattle.std.proofs.Math.Logic.{∥∥₁_elim}
 use Rattle.std.specs.Prelude.{if◌then◌else◌, nat_lt, ◌^◌}
+use Rattle.std.specs.List.{count_by}
 use Rattle.std.specs.Coded.{Unit-prop, le_prop}
 use Rattle.std.proofs.lemmas.Bool.{cases_lt, lt-ltb}
 use Rattle.std.proofs.lemmas.List.{length-map, length_push}
+use Rattle.std.proofs.lemmas.List.Sums.{sum_by-cons}
 use Rattle.std.proofs.lemmas.Str.{len_utf8_bounds}
-use Rattle.subset_runs.specs.Subset.{items_outside}
 use Rattle.xi_plain.specs.declared.config.Notice.{Notice}
 use Rattle.plain_edits.specs.declared.delta.Delta.{Delta}
 use Rattle.plain_edits.specs.declared.delta.Misfit.{Misfit}
@@ -16,35 +17,28 @@ use Rattle.plain_text.specs.declared.run.Run.{Run}
 use Rattle.plain_edits.specs.declared.delta.Added.{Added}
 use Rattle.plain_edits.specs.declared.delta.UnitDelta.{UnitDelta}
 use Rattle.plain_edits.specs.Caret.{moved_caret}
-use Rattle.plain_text.specs.Woven.{nth_index}
+use Rattle.plain_edits.specs.HistorySteps.{edits}
 use Rattle.plain_edits.specs.Delta.{misfit_of}
 use Rattle.plain_edits.specs.Edits.{Refusal, unknown, collected, spent, edit_refusal, misfit_or_spent}
 use Rattle.plain_edits.specs.Delta.{inserted_len}
 use Rattle.plain_edits.specs.History.{Tagged, History, head, is_visible, visible_at, text_at, inserted_count, IsSound}
 use Rattle.plain_text.specs.Text.{byte_len}
-use Rattle.plain_edits.specs.UnitDelta.{AreRuns, AreAdds, IsUnitDelta, unit_keeps, unit_adds}
+use Rattle.plain_edits.specs.UnitDelta.{AreRuns, AreAdds, IsUnitDelta}
 use Rattle.plain_edits.proofs.callers.HistoryLemmas.{text_at-edited}
 use Rattle.delta_core.specs.Units.{text_after}
 use Rattle.delta_core.specs.Wire.{wire_from, wire_of}
-use Rattle.rev_list.specs.Hidden.{hidden_at}
-use Rattle.rev_rebase.specs.Rebase.{characters_of}
 use Rattle.rev_engine.specs.declared.edit.Change.{Change}
 use Rattle.rev_engine.specs.State.{State}
 use Rattle.rev_engine.specs.Engine.{StandsFor, IsChange}
 use Rattle.rev_engine.specs.Given.{AskedEdit, after, meant}
-use Rattle.rev_engine.proofs.ForCallers.{IsFresh-given, outside_visible}
-use Rattle.rev_engine.proofs.ForCallers.{inserted_count-plain}
+use Rattle.rev_engine.proofs.ForCallers.{IsFresh-given, inserted_count-plain}
 use Rattle.selection_core.specs.Mapped.{new_gap}
+use Rattle.selection_core.proofs.ForCallers.{new_gap-after_step}
 use Rattle.doc_session.specs.declared.moved.Moved.{Moved}
 use Rattle.doc_session.specs.Inner.{IsMoved, IsTakenBy}
 use Rattle.doc_session.specs.Effects.{notice_of, change_delta}
 use Rattle.doc_session.specs.Whole.{ShowsHead}
 use Rattle.doc_session.specs.Inner.{ShowsSomeHead, IsChangeOf, LeadsTo}
-use Rattle.doc_session.proofs.CaretLemmas.{mapped-moved, moved_caret-before, moved_caret-after, left-le}
-
--- what a history shows, by its flags
-shown-at : (h : History) (rev : ℕ) → items_outside (hidden_at h rev) (characters_of h) ≡ text_at h rev
-shown-at h rev = outside_visible (is_visible h.revisions rev) h.characters
 
 pub head-after : (h : History) (asked : AskedEdit) → head (after h asked) ≡ head h + 1
 head-after h asked = length_push h.revisions _
@@ -52,51 +46,43 @@ head-after h asked = length_push h.revisions _
 pub sound-shown : (h : History) (engine : State) (text : List ℕ) → ShowsHead h engine text → IsSound h
 sound-shown h engine text shown = (IsFresh-given engine.limit h shown.stands.given).plain.sound
 
+-- the caret rule gives a gap of the text
+count_by-take-le : (q : Tagged → Bool) (n : ℕ) (xs : List Tagged) → count_by q (take n xs) ≤ length (filter q xs)
+count_by-take-le q zero xs = omega arith
+count_by-take-le q (suc n) [] = omega arith
+count_by-take-le q (suc n) (x ∷ xs) = omega (arith, sum_by-cons (λ y. cond (q y) 1 0) x (take n xs), by (q x) (count_by-take-le q n xs))
+  where
+    by : (b : Bool) → count_by q (take n xs) ≤ length (filter q xs) → cond b 1 0 + count_by q (take n xs) ≤ length (cond b (x ∷ filter q xs) (filter q xs))
+    by true rest = omega (arith, rest)
+    by false rest = omega (arith, rest)
+
+moved_caret-le : (before after : History) (right : Bool) (gap : ℕ) → moved_caret before after right gap ≤ length (visible_at after (head after))
+moved_caret-le before after false gap = count_by-take-le (is_visible after.revisions (head after)) _ after.characters
+moved_caret-le before after true zero = omega arith
+moved_caret-le before after true (suc gap) = count_by-take-le (is_visible after.revisions (head after)) _ after.characters
+
 module _ (h : History) (engine : State) (text : List ℕ) (shown : ShowsHead h engine text) (asked : AskedEdit) (rev : ℕ) (units : UnitDelta)
     (change : IsChange h (after h asked) (record { rev = rev; units = units })) where
   abbrev next : History
   next = after h asked
 
-  before-is : items_outside (hidden_at next (head h)) (characters_of next) ≡ text
-  before-is =
-      shown-at next (head h) ∙ text_at-edited h (meant h asked) (head h) (sound-shown h engine text shown) (omega arith) ∙ sym shown.text_is
-
   pub IsChangeOf-taken : IsChangeOf text units
-  IsChangeOf-taken = record { well_formed = change.units.canonical.well_formed; base = change.units.base ∙ ap length before-is }
+  IsChangeOf-taken = record { well_formed = change.canonical.well_formed; base = change.base ∙ ap length (sym shown.text_is) }
 
   -- the change leads to the head text of the history after it
   pub text_after-taken : text_after units text ≡ text_at next (head next)
-  text_after-taken = ap (text_after units) (sym before-is) ∙ change.units.leads ∙ shown-at next (head next)
+  text_after-taken = ap (text_after units) shown.text_is ∙ change.leads
+
+  abbrev sound : IsSound h
+  sound = sound-shown h engine text shown
 
   -- it takes a gap where the caret rule takes a caret
   pub new_gap-moved : (right : Bool) (gap : ℕ) → new_gap units right gap ≡ moved_caret h next right gap
-  new_gap-moved right gap =
-      mapped-moved h (meant h asked) (sound-shown h engine text shown) (unit_keeps units) (unit_adds units) right gap change.units.kept change.units.added
-
-  abbrev seen : Tagged → Bool
-  seen = is_visible next.revisions (head h)
-
-  abbrev now : Tagged → Bool
-  now = is_visible next.revisions (head next)
-
-  moved-le : (right : Bool) (gap : ℕ) → moved_caret h next right gap ≤ length (visible_at next (head next))
-  moved-le false gap =
-      omega (
-        arith,
-        moved_caret-before h (meant h asked) (sound-shown h engine text shown) gap,
-        left-le seen now (nth_index seen gap next.characters) next.characters,
-      )
-  moved-le true zero = omega arith
-  moved-le true (suc gap) =
-      omega (
-        arith,
-        moved_caret-after h (meant h asked) (sound-shown h engine text shown) gap,
-        left-le seen now (nth_index seen gap next.characters + 1) next.characters,
-      )
+  new_gap-moved right gap = new_gap-after_step h (edits (meant h asked)) units right sound change.kept change.added gap
 
   pub new_gap-le : (right : Bool) (gap : ℕ) → new_gap units right gap ≤ length (text_at next (head next))
   new_gap-le right gap =
-      omega (arith, new_gap-moved right gap, moved-le right gap, length-map (visible_at next (head next)) (λ (t : Tagged). t.character))
+      omega (arith, new_gap-moved right gap, moved_caret-le h next right gap, length-map (visible_at next (head next)) (λ (t : Tagged). t.character))
 
   -- the notice of the change
   pub notice-taken : (notice : Notice) (made : List ℕ) → made ≡ text_at next (head next) → notice.view ≡ [] → notice.author ≡ asked.author →
@@ -109,11 +95,14 @@ module _ (h : History) (engine : State) (text : List ℕ) (shown : ShowsHead h e
       ap (λ (d : Delta). record { view = []; author = asked.author; rev = head next; new_len = byte_len (text_at next (head next)); delta = d })
       (delta ∙ delta-is)
     where
-      delta-is : wire_of text units ≡ change_delta h next
+      same : text ≡ text_at next (head h)
+      same = shown.text_is ∙ sym (text_at-edited h (meant h asked) (head h) sound (omega arith))
+
+      delta-is : wire_of text units ≡ change_delta next (head h) (head next)
       delta-is =
-          ap (λ t. wire_of t units) shown.text_is ∙
-          ap₂ (λ keeps adds. record { els = wire_from keeps adds 0 0 (text_at h (head h)); base_len = byte_len (text_at h (head h)) })
-          (fun_ext change.units.kept) (fun_ext change.units.added)
+          ap (λ t. wire_of t units) same ∙
+          ap₂ (λ keeps adds. record { els = wire_from keeps adds 0 0 (text_at next (head h)); base_len = byte_len (text_at next (head h)) })
+          (fun_ext change.kept) (fun_ext change.added)
 
 -- ---- what was spent
 

@@ -1,6 +1,5 @@
 -- What a front end and the plugins are told after a document changed.
 use Rattle.std.specs.Prelude.{ℕ, ◌+◌, Bool, true, false, not, ◌&&◌, ◌||◌, if◌then◌else◌, ◌==◌, List, [], ◌∷◌, Option, Some, None, unwrap_or, is_some}
-use Rattle.subset_runs.specs.Subset.{contains, complement, shrink}
 use Rattle.xi_plain.specs.declared.config.Notice.{Notice}
 use Rattle.plain_edits.specs.declared.delta.Delta.{Delta}
 use Rattle.plain_text.specs.declared.run.Run.{Run}
@@ -9,13 +8,11 @@ use Rattle.plain_screen.specs.declared.screen.Op.{Op}
 use Rattle.plain_screen.specs.declared.screen.Update.{Update}
 use Rattle.plain_text.specs.Text.{byte_len}
 use Rattle.plain_edits.specs.History.{History, head, text_at}
+use Rattle.plain_edits.specs.Change.{change_keeps, change_adds}
 use Rattle.doc_session.specs.Layout.{Position}
 use Rattle.plain_screen.specs.Screen.{Screen, screen_after}
 use Rattle.plain_screen.specs.Plan.{is_within, update_plan}
-use Rattle.delta_core.specs.Synthesis.{appearing}
 use Rattle.delta_core.specs.Wire.{wire_from}
-use Rattle.rev_list.specs.Hidden.{hidden_at}
-use Rattle.rev_rebase.specs.Rebase.{characters_of}
 use Rattle.doc_session.specs.Document.{Document, layout_of, caret_point, is_pristine, no_request}
 use Rattle.doc_session.specs.SameLayout.{is_same_layout}
 
@@ -69,26 +66,20 @@ is_same_point before after = before.line == after.line && before.col == after.co
 abbrev pub scroll_after : Document → Document → Option Position
 scroll_after before after = if is_same_point (caret_point before) (caret_point after) then None else Some (caret_point after)
 
--- THE CHANGE from the head text of a history to that of a later one: which characters stay, and which appear at each gap
-abbrev pub change_keeps : History → History → ℕ → Bool
-change_keeps before after = contains (shrink (complement (hidden_at after (head after))) (hidden_at after (head before)))
-
-abbrev pub change_adds : History → History → ℕ → List ℕ
-change_adds before after = appearing 0 (characters_of after) (hidden_at after (head before)) (hidden_at after (head after))
-
--- the change, as the delta of the notices
-abbrev pub change_delta : History → History → Delta
-change_delta before after = record {
-  els = wire_from (change_keeps before after) (change_adds before after) 0 0 (text_at before (head before));
-  base_len = byte_len (text_at before (head before));
+-- THE CHANGE from the text of a revision to that of another one, as the delta of the notices: which characters stay, and what appears at
+-- each gap
+abbrev pub change_delta : History → ℕ → ℕ → Delta
+change_delta history from to = record {
+  els = wire_from (change_keeps history from to) (change_adds history from to) 0 0 (text_at history from);
+  base_len = byte_len (text_at history from);
 }
 
--- the notice of a change that this author made
+-- the notice of the change from one head to the next, which this author made
 abbrev pub notice_of : History → History → ℕ → Notice
 notice_of before after author = record {
   view = [];
   author = author;
   rev = head after;
   new_len = byte_len (text_at after (head after));
-  delta = change_delta before after;
+  delta = change_delta after (head before) (head after);
 }

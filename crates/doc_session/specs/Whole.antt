@@ -1,11 +1,8 @@
 -- What the parts of a document in memory keep.
-use Rattle.std.specs.Prelude.{◌≡◌, ℕ, ◌^◌, ◌<◌, ◌≤◌, Bool, List, length}
-use Rattle.plain_edits.specs.declared.delta.UnitDelta.{UnitDelta}
+use Rattle.std.specs.Prelude.{◌≡◌, ℕ, ◌^◌, ◌≤◌, List, length}
 use Rattle.plain_edits.specs.History.{History, head, text_at, inserted_count}
-use Rattle.plain_edits.specs.UnitDelta.{IsUnitDelta}
 use Rattle.rev_engine.specs.State.{State}
 use Rattle.rev_engine.specs.Engine.{StandsFor}
-use Rattle.selection_core.specs.Mapped.{new_gap}
 
 -- the engine stands for the history, whose head text this is
 pub record ShowsHead (history : History) (engine : State) (text : List ℕ) : Type 0 where

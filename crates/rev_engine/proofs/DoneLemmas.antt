@@ -26,6 +26,8 @@ use Rattle.rev_engine.specs.Given.{MayAsk, after, meant}
 use Rattle.rev_engine.specs.State.{State, IsHeld}
 use Rattle.rev_engine.specs.Inner.{IsBasedOn, IsFitting, IsMadeReady, in_characters, shown_at}
 use Rattle.rev_engine.specs.Engine.{IsChange, StandsFor, asked_by}
+use Rattle.plain_edits.proofs.callers.HistoryLemmas.{text_at-edited}
+use Rattle.rev_engine.proofs.ChangeLemmas.{IsChange-between}
 use Rattle.rev_engine.proofs.SpentLemmas.{count-insertion_flags, inserted_count-plain, length-added_text}
 use Rattle.rev_engine.proofs.ReadyLemmas.{length-put_in}
 use Rattle.rev_engine.proofs.StandLemmas.{IsFresh-given, IsGiven-after, accepted-fitting, length-shown_at, shown-stands}
@@ -178,13 +180,12 @@ module _ (engine : State) (edit : Edit) (fitting : Fitting) (ready : Ready) (h :
   last = omega (arith, ap head stands.revisions, length-append h.revisions (revision edit.rev edit.group edit.priority edit.author ∷ []))
 
   pub IsChange-after : (change : Change) → change.rev ≡ head engine.revisions + 1 → change.units ≡ ready.change.units → IsChange h (after h (asked_by edit)) change
-  IsChange-after change rev_is units_is = record {
-    rev = rev_is ∙ last;
-    units =
-        rw units_is
-        (subst (λ union. IsBetween union (hidden_at (after h (asked_by edit)) (head h)) (hidden_at (after h (asked_by edit)) (head (after h (asked_by edit)))) ready.change.units)
-        (union_is ∙ ap characters_of (sym after_is))
-        (subst (λ before. IsBetween ready.union before (hidden_at (after h (asked_by edit)) (head (after h (asked_by edit)))) ready.change.units) before_is
-        (subst (λ dead. IsBetween ready.union (expand_in (hidden_at engine.revisions (head engine.revisions)) (insertion_flags engine.revisions (in_characters edit fitting.units))) dead ready.change.units)
-        (made.edit_ready.dead ∙ (hidden_after (head engine.revisions + 1) ∙ ap (hidden_at (after h (asked_by edit))) last)) made.between)));
-  }
+  IsChange-after change rev_is units_is =
+      IsChange-between h (after h (asked_by edit)) change (rev_is ∙ last)
+      (text_at-edited h (meant h (asked_by edit)) (head h) (IsFresh-given engine.limit h stands.given).plain.sound (omega arith))
+      (rw units_is
+      (subst (λ union. IsBetween union (hidden_at (after h (asked_by edit)) (head h)) (hidden_at (after h (asked_by edit)) (head (after h (asked_by edit)))) ready.change.units)
+      (union_is ∙ ap characters_of (sym after_is))
+      (subst (λ before. IsBetween ready.union before (hidden_at (after h (asked_by edit)) (head (after h (asked_by edit)))) ready.change.units) before_is
+      (subst (λ dead. IsBetween ready.union (expand_in (hidden_at engine.revisions (head engine.revisions)) (insertion_flags engine.revisions (in_characters edit fitting.units))) dead ready.change.units)
+      (made.edit_ready.dead ∙ (hidden_after (head engine.revisions + 1) ∙ ap (hidden_at (after h (asked_by edit))) last)) made.between))))

@@ -2,6 +2,7 @@ pub mod FlatLemmas
 pub mod SpentLemmas
 pub mod ReadyLemmas
 pub mod StandLemmas
+pub mod ChangeLemmas
 pub mod DoneLemmas
 pub mod BlockLemmas
 pub mod LaidLemmas
@@ -11,4 +12,5 @@ pub mod StepLemmas
 pub mod OrderLemmas
 pub mod TakenLemmas
 pub mod CommuteLemmas
+pub mod SelectiveLemmas
 pub mod ForCallers

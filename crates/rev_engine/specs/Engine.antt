@@ -1,8 +1,9 @@
 -- What an engine is, and the histories that it stands for.
-use Rattle.std.specs.Prelude.{◌≡◌}
-use Rattle.plain_edits.specs.History.{History, head, inserted_count}
-use Rattle.delta_core.specs.Synthesis.{IsBetween}
-use Rattle.rev_list.specs.Hidden.{hidden_at}
+use Rattle.std.specs.Prelude.{◌≡◌, ℕ, length}
+use Rattle.plain_edits.specs.History.{History, head, inserted_count, text_at}
+use Rattle.plain_edits.specs.Change.{change_keeps, change_adds}
+use Rattle.plain_edits.specs.UnitDelta.{IsCanonical, unit_keeps, unit_adds}
+use Rattle.delta_core.specs.Units.{text_after}
 use Rattle.rev_list.specs.WithoutText.{without_text}
 use Rattle.rev_rebase.specs.Rebase.{characters_of}
 use Rattle.rev_engine.specs.declared.edit.Edit.{Edit}
@@ -21,8 +22,12 @@ pub record StandsFor (engine : State) (history : History) : Type 0 where
 abbrev pub asked_by : Edit → AskedEdit
 asked_by edit = record { base = edit.rev; delta = edit.delta; group = edit.group; priority = edit.priority; author = edit.author }
 
--- THE CHANGE that leads from the head text of one history to that of the next: it drops what is no longer visible, keeps the rest, and
--- adds each appearing character at the gap that counts the characters visible before left of it
+-- THE CHANGE from the head text of one history to that of the next, as the only delta of its meaning: it keeps what stays and adds what
+-- appears, and so it leads from the one text to the other
 pub record IsChange (before after : History) (change : Change) : Type 0 where
   pub rev : change.rev ≡ head after
-  pub units : IsBetween (characters_of after) (hidden_at after (head before)) (hidden_at after (head after)) change.units
+  pub canonical : IsCanonical change.units
+  pub base : change.units.base ≡ length (text_at before (head before))
+  pub kept : (index : ℕ) → unit_keeps change.units index ≡ change_keeps after (head before) (head after) index
+  pub added : (gap : ℕ) → unit_adds change.units gap ≡ change_adds after (head before) (head after) gap
+  pub leads : text_after change.units (text_at before (head before)) ≡ text_at after (head after)

@@ -1,8 +1,15 @@
 //! The laws of the histories that an engine gives. The functions do nothing: their clauses are the laws, and their proofs prove them.
 
 ghost use Rattle.rev_engine.specs.Commute.{EditsCommute};
+ghost use Rattle.rev_engine.specs.Selective.{UndoIsSelective};
 
 /// Edits of one text may come in any order: each is taken, and the text is that of all of them merged.
 pub fn edits_commute()
     ensures { EditsCommute }
+{}
+
+/// Any groups may be undone: what is theirs goes or comes back, all else stays, and undoing the former groups again gives the former
+/// text back.
+pub fn undo_is_selective()
+    ensures { UndoIsSelective }
 {}

@@ -4,7 +4,7 @@
 //! limit, and how many characters were inserted after loading. It *stands for* a history (`StandsFor`), and every contract reads:
 //! for every history that the engine stands for before the call, it stands for this one after it. The histories that the calls
 //! give are those of `IsGiven`: a loaded text, and edits that were each taken in their turn. [`laws::edits_commute`] says that edits of
-//! one text may come in any order.
+//! one text may come in any order, and [`laws::undo_is_selective`] that any groups may be undone.
 #![tactic(auto)]
 
 mod edit;

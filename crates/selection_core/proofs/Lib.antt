@@ -1,2 +1,4 @@
 pub mod MergeLemmas
 pub mod GapLemmas
+pub mod ChangeLemmas
+pub mod ForCallers

@@ -1,3 +1,4 @@
 pub mod Selection
 pub mod Mapped
+pub mod Laws
 pub mod Inner

@@ -2,8 +2,10 @@
 //!
 //! The calls are those of the trait [`Selection`] on the plain type `Sel`, which a contract sees as the list of its regions. They
 //! are sorted, and no two meet: two regions that overlap, or that touch where one is a caret, become one.
+//! [`laws::selections_follow_changes`] says that an edit takes them where the caret rule of histories does.
 #![tactic(auto)]
 
+pub mod laws;
 mod mapping;
 mod merging;
 mod selection;
