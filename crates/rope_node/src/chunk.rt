@@ -1,30 +1,31 @@
 ghost use Rattle.std.specs.Prelude.{◌≡◌, ◌≤◌, ◌++◌, length, cond, IfOk};
 ghost use Rattle.std.specs.Str.{chars};
 ghost use Rattle.plain_text.specs.Text.{byte_len};
-ghost use Rattle.rope_node.specs.Lengths.{wide_count, lf_count};
+ghost use Rattle.rope_node.specs.Lengths.{lengths_of, wide_count, lf_count};
 
 use crate::Lengths;
-use plain_text::{NoMemory, Text, TryClone};
-use shared_tree::Leaf;
+use plain_text::{NoMemory, Text, TryClone, split_at_gap};
+use shared_tree::{Leaf, Summary};
 use std::alloc::{AllocError, Global};
 use std::marker::Model;
 
-/// A text of at most 1,024 bytes.
+/// A text of at most 1,024 bytes, with its lengths.
 #[derive(Drop)]
 pub struct Chunk {
     text: Text,
-    chars: u64,
+    lengths: Lengths,
 }
 
 impl Model for Chunk {
-    ghost use Rattle.std.specs.Prelude.{◌≡◌, ℕ, ◌≤◌, List, length};
+    ghost use Rattle.std.specs.Prelude.{◌≡◌, ℕ, ◌≤◌, List};
     ghost use Rattle.plain_text.specs.Text.{byte_len};
+    ghost use Rattle.rope_node.specs.Lengths.{lengths_of};
 
     ghost Value = { List ℕ };
 
     ghost view = { λ chunk. chunk.text };
 
-    ghost invariant = { λ chunk. (chunk.chars ≡ length chunk.text) × (byte_len chunk.text ≤ 1024) };
+    ghost invariant = { λ chunk. (chunk.lengths ≡ lengths_of chunk.text) × (byte_len chunk.text ≤ 1024) };
 }
 
 impl Chunk {
@@ -32,8 +33,8 @@ impl Chunk {
         requires { byte_len text ≤ 1024 }
         ensures { result ≡ text }
     {
-        let chars = text.char_count();
-        Chunk { text, chars }
+        let lengths = measured(text.as_str());
+        Chunk { text, lengths }
     }
 
     pub fn text(&self) -> &Text
@@ -41,6 +42,30 @@ impl Chunk {
         ensures short { byte_len self.now ≤ 1024 }
     {
         &self.text
+    }
+
+    // The chunk with `added` in place of `gone`, which stands between `front` and `back`. Only what goes and comes is measured.
+    fn put(
+        &self,
+        alloc: Global,
+        front: &str,
+        gone: &str,
+        back: &str,
+        added: &Text,
+    ) -> Result<Chunk, NoMemory>
+        requires whole { self.now ≡ chars front.now ++ (chars gone.now ++ chars back.now) }
+        requires short { byte_len (chars front.now ++ (added.now ++ chars back.now)) ≤ 1024 }
+        ensures { IfOk result (λ made. made ≡ chars front.now ++ (added.now ++ chars back.now)) }
+    {
+        let lengths = self
+            .lengths
+            .changed(&measured(gone), &measured(added.as_str()));
+        let bytes = front.len() + added.as_str().len() + back.len();
+        let mut text = Text::from_string(String::with_capacity(alloc, bytes)?);
+        text.push_str(front)?;
+        text.push_text(added)?;
+        text.push_str(back)?;
+        Ok(Chunk { text, lengths })
     }
 }
 
@@ -58,37 +83,56 @@ impl Leaf for Chunk {
     ghost sums = { lengths_sum };
 
     fn len(&self) -> u64 {
-        self.chars
+        self.lengths.chars
     }
 
     fn summary(&self) -> Lengths {
-        Lengths {
-            chars: self.chars,
-            bytes: self.text.byte_len(),
-            utf16: self.chars + wide_count(self.text.as_str()),
-            lines: lf_count(self.text.as_str()),
-        }
+        self.lengths.copy()
     }
 
     fn part(&self, alloc: Global, from: u64, to: u64) -> Result<Self, AllocError> {
         match self.text.slice(alloc, from, to) {
-            Ok(text) => Ok(Chunk {
-                text,
-                chars: to - from,
-            }),
+            Ok(text) => Ok(Chunk::new(text)),
             Err(_) => Err(AllocError),
         }
     }
 
     fn glued(&self, alloc: Global, other: &Self) -> Result<Option<Self>, AllocError> {
-        if self.text.byte_len() + other.text.byte_len() > 1024 {
+        if self.lengths.bytes + other.lengths.bytes > 1024 {
             return Ok(None);
         }
         match joined(alloc, &self.text, &other.text) {
             Ok(text) => Ok(Some(Chunk {
                 text,
-                chars: self.chars + other.chars,
+                lengths: self.lengths.plus(&other.lengths),
             })),
+            Err(_) => Err(AllocError),
+        }
+    }
+
+    fn spliced(
+        &self,
+        alloc: Global,
+        from: u64,
+        to: u64,
+        other: &Self,
+    ) -> Result<Option<Self>, AllocError> {
+        let (front, rest) = split_at_gap(self.text.as_str(), from);
+        let (gone, back) = split_at_gap(rest, to - from);
+        if front.len() + other.text.as_str().len() + back.len() > 1024 {
+            return Ok(None);
+        }
+        match self.put(alloc, front, gone, back, &other.text) {
+            Ok(made) => Ok(Some(made)),
+            Err(_) => Err(AllocError),
+        }
+    }
+
+    fn without(&self, alloc: Global, from: u64, to: u64) -> Result<Self, AllocError> {
+        let (front, rest) = split_at_gap(self.text.as_str(), from);
+        let (gone, back) = split_at_gap(rest, to - from);
+        match self.put(alloc, front, gone, back, &Text::new(alloc)) {
+            Ok(made) => Ok(made),
             Err(_) => Err(AllocError),
         }
     }
@@ -100,6 +144,26 @@ fn joined(alloc: Global, left: &Text, right: &Text) -> Result<Text, NoMemory>
     let mut made = left.copy(alloc)?;
     made.push_text(right)?;
     Ok(made)
+}
+
+/// The lengths of a short text.
+fn measured(text: &str) -> Lengths
+    requires { length text.now ≤ 1024 }
+    ensures { result ≡ lengths_of (chars text.now) }
+{
+    let chars = char_count(text);
+    Lengths {
+        chars,
+        bytes: text.len() as u64,
+        utf16: chars + wide_count(text),
+        lines: lf_count(text),
+    }
+}
+
+fn char_count(text: &str) -> u64
+    ensures { result ≡ length (chars text.now) }
+{
+    text.chars().count() as u64
 }
 
 /// How many characters take two units of UTF-16.

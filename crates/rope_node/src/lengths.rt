@@ -1,3 +1,6 @@
+ghost use Rattle.std.specs.Prelude.{◌≡◌};
+ghost use Rattle.rope_node.specs.Lengths.{changed, IsChanged};
+
 use shared_tree::Summary;
 
 /// The length of a text in each unit.
@@ -10,12 +13,38 @@ pub struct Lengths {
     pub lines: u64,
 }
 
+impl Lengths {
+    pub(crate) fn copy(&self) -> Lengths
+        ensures { result ≡ self.now }
+    {
+        Lengths {
+            chars: self.chars,
+            bytes: self.bytes,
+            utf16: self.utf16,
+            lines: self.lines,
+        }
+    }
+
+    /// Without the lengths of what goes, and with those of what comes.
+    pub(crate) fn changed(&self, gone: &Lengths, come: &Lengths) -> Lengths
+        requires { IsChanged self.now gone.now come.now }
+        ensures { result ≡ changed self.now gone.now come.now }
+    {
+        Lengths {
+            chars: self.chars - gone.chars + come.chars,
+            bytes: self.bytes - gone.bytes + come.bytes,
+            utf16: self.utf16 - gone.utf16 + come.utf16,
+            lines: self.lines - gone.lines + come.lines,
+        }
+    }
+}
+
 impl Summary for Lengths {
-    ghost use Rattle.rope_node.specs.Lengths.{both, is_countable, lengths_add, no_lengths};
+    ghost use Rattle.rope_node.specs.Lengths.{is_countable, lengths_add, no_lengths, together};
 
     ghost zero = { no_lengths };
 
-    ghost plus = { both };
+    ghost plus = { together };
 
     ghost fits = { is_countable };
 

@@ -9,7 +9,7 @@ use Rattle.std.proofs.lemmas.Str.{chars_past_char, chars-nil, len_utf8_bounds}
 use lib.Utf8.{encode}
 use Rattle.plain_text.specs.Text.{byte_len}
 use Rattle.rope_node.specs.Lengths.{is_countable, lengths_of, byte_len-append}
-use Rattle.shared_tree.specs.Places.{replaced}
+use Rattle.shared_tree.specs.Replaced.{replaced}
 use Rattle.rope_node.proofs.ForCallers.{length-short, text_fits}
 
 drop-one : (text rest : List ℕ) (gap c : ℕ) → gap ≤ length text → drop gap text ≡ c ∷ rest → drop (gap + 1) text ≡ rest

@@ -4,5 +4,7 @@
 #![tactic(auto)]
 
 mod rope;
+#[cfg(test)]
+mod tests;
 
 pub use rope::Rope;

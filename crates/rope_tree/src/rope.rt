@@ -2,7 +2,7 @@ ghost use Rattle.std.specs.Prelude.{◌≡◌, ◌+◌, ◌-◌, ◌^◌, ◌<�
 ghost use Rattle.std.specs.Str.{chars};
 ghost use Rattle.plain_text.specs.Text.{byte_len};
 ghost use Rattle.rope_node.specs.Node.{text_of};
-ghost use Rattle.shared_tree.specs.Places.{replaced};
+ghost use Rattle.shared_tree.specs.Replaced.{replaced};
 
 use plain_text::{NoMemory, Text, split_at_gap};
 use rope_node::{Chunk, Node};

@@ -9,7 +9,7 @@ use Rattle.shared_tree.specs.declared.leaf.Summary.{Ghosts as Sum}
 use Rattle.shared_tree.specs.Laws.{Adds, Sums}
 use Rattle.shared_tree.specs.Shape.{Shape}
 use Rattle.shared_tree.specs.Row.{items_in, items_of, shapes, IsBunch, IsFit, IsRow, IsTop}
-use Rattle.shared_tree.specs.Places.{replaced}
+use Rattle.shared_tree.specs.Replaced.{replaced}
 use Rattle.shared_tree.proofs.RowLemmas.{items_in-append, shapes-cut, shapes-more, shapes-split, IsRow-left, IsRow-right}
 use Rattle.shared_tree.proofs.SumLemmas.{IsFit-between, IsFit-left, IsFit-right}
 

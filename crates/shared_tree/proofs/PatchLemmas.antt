@@ -1,6 +1,7 @@
 -- An edit inside one node of a row, and the pieces of an edited leaf.
-use Rattle.std.proofs.Common.{◌≡◌, ℕ, zero, suc, ◌+◌, ◌-◌, ◌*◌, ◌^◌, ◌<◌, ◌≤◌, List, [], ◌∷◌, ◌++◌, length, map, max, take, drop, get_or, append_assoc, refl, sym, ap, ◌∙◌, arith, length-append, take-append-drop, Option, Some, None, IfSome}
+use Rattle.std.proofs.Common.{◌≡◌, ℕ, zero, suc, ◌+◌, ◌-◌, ◌*◌, ◌^◌, ◌<◌, ◌≤◌, List, [], ◌∷◌, ◌++◌, length, map, max, take, drop, get_or, append_assoc, refl, sym, ap, ◌∙◌, arith, length-append, length-drop, take-append-drop, Option, Some, None, IfSome}
 use Rattle.std.proofs.Math.Nat.{mul-le-mul_right, pow-suc}
+use Rattle.std.proofs.lemmas.Grind.{common_steps}
 use Rattle.std.proofs.lemmas.List.{append-nil, length-map}
 use Rattle.std.specs.Arc.{arc_value}
 use Rattle.std.specs.declared.sync.Arc.{Arc}
@@ -9,8 +10,8 @@ use Rattle.shared_tree.specs.declared.leaf.Summary.{Ghosts as Sum}
 use Rattle.shared_tree.specs.Laws.{Adds, Sums}
 use Rattle.shared_tree.specs.Shape.{Shape}
 use Rattle.shared_tree.specs.Row.{items_in, items_of, leaves_of, shapes, IsBunch, IsFit, IsLevel, IsRow, IsRowOf}
-use Rattle.shared_tree.specs.Places.{replaced}
-use Rattle.shared_tree.proofs.RowLemmas.{row_full, row_many, shapes-split, IsRow-left, IsRow-right}
+use Rattle.shared_tree.specs.Replaced.{replaced}
+use Rattle.shared_tree.proofs.RowLemmas.{back_levels, front_levels, items_in-append, row_full, row_many, shapes-split, IsRow-append, IsRow-left, IsRow-right}
 use Rattle.shared_tree.proofs.SumLemmas.{IsFit-between, IsFit-left, IsFit-right}
 use Rattle.shared_tree.proofs.CutLemmas.{drop-inside, items-cut, take-inside}
 
@@ -76,3 +77,17 @@ module _ {L Item I : Type 0} (leaf : Ghosts L Item I) where
     low = of.low;
     high = omega (arith, of.high);
   }
+
+  -- a row put between two others
+  pub put_row : {Z : Type 0} (h i : ℕ) (nodes row front back made : List (Arc (Shape L) Z)) → i < length nodes → length nodes ≤ 8 → length row ≤ 3 → IsRow leaf h (shapes nodes) → IsRow leaf h (shapes row) → front ≡ take i nodes → back ≡ drop (i + 1) nodes → shapes made ≡ shapes front ++ (shapes row ++ shapes back) → IsRowOf leaf h (items_in leaf (shapes (take i nodes)) ++ (items_in leaf (shapes row) ++ items_in leaf (shapes (drop (i + 1) nodes)))) (length row) 16 (shapes made)
+  put_row h i nodes row front back made inside few short levels own front_is back_is is =
+      let parts : shapes made ≡ shapes (take i nodes) ++ (shapes row ++ shapes (drop (i + 1) nodes)) = rw (front_is, back_is) at is in
+      let counted : length made ≡ length front + (length row + length back) = sym (length-map made arc_value) ∙ ap length is ∙ length-append (shapes front) (shapes row ++ shapes back) ∙ rw (length-append (shapes row) (shapes back), length-map front arc_value, length-map row arc_value, length-map back arc_value) refl in
+      let front_len : length front ≤ i = rw front_is (grind (arith, common_steps)) in
+      let back_len : length back ≡ length nodes - (i + 1) = rw back_is (length-drop (i + 1) nodes) in
+      record {
+        levels = rw parts (IsRow-append leaf h _ _ (front_levels leaf h i nodes levels) (IsRow-append leaf h _ _ own (back_levels leaf h (i + 1) nodes levels)));
+        same = rw parts (items_in-append leaf (shapes (take i nodes)) (shapes row ++ shapes (drop (i + 1) nodes)) ∙ ap (λ xs. items_in leaf (shapes (take i nodes)) ++ xs) (items_in-append leaf (shapes row) (shapes (drop (i + 1) nodes))));
+        low = omega (arith, length-map made arc_value);
+        high = omega (arith, length-map made arc_value);
+      }

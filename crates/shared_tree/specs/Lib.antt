@@ -1,4 +1,5 @@
 pub mod Laws
+pub mod Replaced
 pub mod Shape
 pub mod Shared
 pub mod Batch

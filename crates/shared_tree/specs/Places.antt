@@ -18,7 +18,3 @@ pub record IsAt {Item : Type 0} (items : List Item) (at : ℕ) (part : List Item
   pub cut : items ≡ front ++ (part ++ back)
   pub place : length front + offset ≡ at
   pub inside : offset < length part
-
--- the items with those from one index up to another replaced
-abbrev pub replaced : {Item : Type 0} → List Item → ℕ → ℕ → List Item → List Item
-replaced items from to others = take from items ++ (others ++ drop to items)

@@ -1,6 +1,6 @@
 ghost use Rattle.std.specs.Prelude.{◌≡◌, ◌+◌, ◌<◌, ◌≤◌, List, [], ◌∷◌, length, slice_index_or, IfOk};
 
-use crate::shared::{copied, joined, single};
+use crate::shared::{copied, joined, joined_three, single};
 use crate::{Leaf, Summary};
 use std::alloc::{AllocError, Global};
 use std::marker::Model;
@@ -110,5 +110,30 @@ impl<T: Drop> Leaf for Batch<T> {
         Ok(Some(Batch {
             records: joined(alloc, &self.records, &other.records)?,
         }))
+    }
+
+    fn spliced(
+        &self,
+        alloc: Global,
+        from: u64,
+        to: u64,
+        other: &Self,
+    ) -> Result<Option<Self>, AllocError> {
+        let (front, _) = self.records.split_at(from as usize);
+        let (_, back) = self.records.split_at(to as usize);
+        if front.len() + other.records.len() + back.len() > 32 {
+            return Ok(None);
+        }
+        Ok(Some(Batch {
+            records: joined_three(alloc, front, &other.records, back)?,
+        }))
+    }
+
+    fn without(&self, alloc: Global, from: u64, to: u64) -> Result<Self, AllocError> {
+        let (front, _) = self.records.split_at(from as usize);
+        let (_, back) = self.records.split_at(to as usize);
+        Ok(Batch {
+            records: joined(alloc, front, back)?,
+        })
     }
 }

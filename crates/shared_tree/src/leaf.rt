@@ -1,5 +1,6 @@
-ghost use Rattle.std.specs.Prelude.{◌≡◌, ℕ, ◌-◌, ◌<◌, ◌≤◌, ◌++◌, Bool, List, length, take, drop, IfOk, IfSome, IsTrue};
+ghost use Rattle.std.specs.Prelude.{◌≡◌, ℕ, ◌-◌, ◌<◌, ◌≤◌, ◌++◌, Bool, List, [], length, take, drop, IfOk, IfSome, IsTrue};
 ghost use Rattle.shared_tree.specs.Laws.{Adds, Sums};
+ghost use Rattle.shared_tree.specs.Replaced.{replaced};
 
 use std::alloc::{AllocError, Global};
 
@@ -56,6 +57,25 @@ pub trait Leaf: Drop {
     /// Both, one after the other, where they fit into one leaf.
     fn glued(&self, alloc: Global, other: &Self) -> Result<Option<Self>, AllocError>
         ensures { IfOk result (λ both. IfSome both (λ leaf. items leaf ≡ items self.now ++ items other.now)) };
+
+    /// The items with those from one index up to another replaced by another leaf's, where all fit into one leaf.
+    fn spliced(
+        &self,
+        alloc: Global,
+        from: u64,
+        to: u64,
+        other: &Self,
+    ) -> Result<Option<Self>, AllocError>
+        requires ordered { from ≤ to }
+        requires inside { to ≤ length (items self.now) }
+        ensures { IfOk result (λ made. IfSome made (λ leaf. items leaf
+            ≡ replaced (items self.now) from to (items other.now))) };
+
+    /// The items without those from one index up to another.
+    fn without(&self, alloc: Global, from: u64, to: u64) -> Result<Self, AllocError>
+        requires ordered { from ≤ to }
+        requires inside { to ≤ length (items self.now) }
+        ensures { IfOk result (λ leaf. items leaf ≡ replaced (items self.now) from to []) };
 
     ghost sums: { Sums summed Self.Sum.zero Self.Sum.plus Self.Sum.count };
 }

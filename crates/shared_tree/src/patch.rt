@@ -1,13 +1,13 @@
 // An edit that falls into one leaf: one path is copied, and all beside it is shared.
 ghost use Rattle.std.specs.Prelude.{◌≡◌, ◌+◌, ◌-◌, ◌<◌, ◌≤◌, ◌++◌, length, max, take, drop, IfOk, IfSome};
 ghost use Rattle.shared_tree.specs.Row.{items_in, items_of, shapes, IsBunch, IsFit, IsRow, IsRowOf};
-ghost use Rattle.shared_tree.specs.Places.{replaced};
+ghost use Rattle.shared_tree.specs.Replaced.{replaced};
 
 use crate::Leaf;
 use crate::node::{Body, Node};
 use crate::row::{Link, grouped, seamed};
 use crate::seek::child_at;
-use crate::shared::single;
+use crate::shared::{joined_three, single};
 use std::alloc::{AllocError, Global};
 
 /// One to three leaves: the items of a leaf before `from`, those of `others`, and those from `to` on. `None` where there are none.
@@ -37,6 +37,56 @@ fn pieces<L: Leaf>(
         return Ok(None);
     }
     Ok(Some(row))
+}
+
+/// The leaf with its items from `from` up to `to` replaced by those of `others`, where all fit into one.
+fn in_one<L: Leaf>(
+    alloc: Global,
+    leaf: &L,
+    from: u64,
+    to: u64,
+    others: &[Link<L>],
+) -> Result<Option<L>, AllocError>
+    requires ordered { from ≤ to }
+    requires inside { to ≤ length (L.items leaf.now) }
+    requires few { length others.now ≤ 1 }
+    ensures { IfOk result (λ made. IfSome made (λ own. L.items own
+        ≡ replaced (L.items leaf.now) from to (items_in L.Leaf (shapes others.now)))) }
+{
+    if others.len() == 0 {
+        return Ok(Some(leaf.without(alloc, from, to)?));
+    }
+    let node: &Node<L> = &others[0];
+    match &node.body {
+        Body::Tip(other) => leaf.spliced(alloc, from, to, other),
+        Body::Inner(_) => Ok(None),
+    }
+}
+
+/// One leaf where all fits into one, else as `pieces`.
+fn patched_leaf<L: Leaf>(
+    alloc: Global,
+    leaf: &L,
+    from: u64,
+    to: u64,
+    others: &[Link<L>],
+) -> Result<Option<Vec<Link<L>>>, AllocError>
+    requires ordered { from ≤ to }
+    requires inside { to ≤ length (L.items leaf.now) }
+    requires others { IsRow L.Leaf 0 (shapes others.now) }
+    requires few { length others.now ≤ 1 }
+    requires whole { IsFit L.Leaf L.Sum.Summary (L.items leaf.now) }
+    requires fits { IsFit L.Leaf L.Sum.Summary
+        (replaced (L.items leaf.now) from to (items_in L.Leaf (shapes others.now))) }
+    ensures { IfOk result (λ made. IfSome made (λ row. IsRowOf L.Leaf 0
+        (replaced (L.items leaf.now) from to (items_in L.Leaf (shapes others.now))) 1 3
+        (shapes row.items))) }
+{
+    match in_one(alloc, leaf, from, to, others)? {
+        Some(own) if own.len() > 0 => Ok(Some(single(alloc, Node::tip(own))?)),
+        Some(_) => Ok(None),
+        None => pieces(alloc, leaf, from, to, others),
+    }
 }
 
 /// The items of a leaf from one index up to another as a row: no node where there are none.
@@ -73,6 +123,9 @@ fn within<L: Leaf>(
 {
     let (front, _) = nodes.split_at(i);
     let (_, back) = nodes.split_at(i + 1);
+    if height > 0 {
+        return joined_three(alloc, front, row, back);
+    }
     let rest = seamed(alloc, height, row, back)?;
     seamed(alloc, height, front, &rest)
 }
@@ -118,7 +171,7 @@ fn patched_in<L: Leaf>(
         1 3 (shapes row.items))) }
 {
     match &node.body {
-        Body::Tip(leaf) => pieces(alloc, leaf, from, to, others),
+        Body::Tip(leaf) => patched_leaf(alloc, leaf, from, to, others),
         Body::Inner(kids) => {
             match patched_row(alloc, kids, node.height - 1, from, to, others)? {
                 Some(row) => regrouped(alloc, node.height, row),

@@ -45,6 +45,24 @@ pub(crate) fn joined<T: Drop>(
     Ok(made)
 }
 
+/// Three lists, one after the other.
+pub(crate) fn joined_three<T: Drop>(
+    alloc: Global,
+    first: &[Arc<T, Global>],
+    second: &[Arc<T, Global>],
+    third: &[Arc<T, Global>],
+) -> Result<Vec<Arc<T, Global>>, AllocError>
+    requires { length first.now + length second.now + length third.now ≤ 64 }
+    ensures { IfOk result (λ made. values made.items
+        ≡ values first.now ++ (values second.now ++ values third.now)) }
+{
+    let mut made = Vec::with_capacity(alloc, first.len() + second.len() + third.len())?;
+    add_all(&mut made, first)?;
+    add_all(&mut made, second)?;
+    add_all(&mut made, third)?;
+    Ok(made)
+}
+
 /// A list, a value and a list, one after the other.
 pub(crate) fn with_between<T: Drop>(
     alloc: Global,

@@ -1,6 +1,7 @@
 ghost use Rattle.std.specs.Prelude.{◌≡◌, ◌+◌, ◌-◌, ◌*◌, ◌^◌, ◌<◌, ◌≤◌, ◌==◌, [], ◌∷◌, ◌++◌, length, take, drop, IfOk, IfSome, OnOk, OnErr};
 ghost use Rattle.shared_tree.specs.Row.{items_in, items_of, shapes, IsFit, IsRow, IsTop};
-ghost use Rattle.shared_tree.specs.Places.{replaced, IsAt, IsFound};
+ghost use Rattle.shared_tree.specs.Places.{IsAt, IsFound};
+ghost use Rattle.shared_tree.specs.Replaced.{replaced};
 
 use crate::beside::beside;
 use crate::cut::{back_of, front_of};

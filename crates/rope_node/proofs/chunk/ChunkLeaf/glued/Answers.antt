@@ -1,12 +1,19 @@
-use Rattle.std.proofs.Common.{arith, length-append}
-use Rattle.rope_node.specs.Lengths.{byte_len-append}
-use Rattle.rope_node.proofs.TextLemmas.{length-short}
+use Rattle.std.proofs.Common.{◌+◌, ◌≤◌, sym, arith}
+use Rattle.plain_text.specs.Text.{byte_len}
+use Rattle.rope_node.specs.Lengths.{byte_len-append, lengths_sum}
+use Rattle.rope_node.proofs.TextLemmas.{both_fit}
 use Rattle.rope_node.proofs.chunk.ChunkLeaf.glued.Goals as goal
 
-pub overflow_add-result : goal.overflow_add-result
-overflow_add-result c =
-    omega (arith, c.self.invariant.0, c.self.invariant.1, c.other.invariant.0, c.other.invariant.1, length-short c.self.inside.text, length-short c.other.inside.text)
+pub plus-requires : goal.plus-requires
+plus-requires c =
+    let left = c.self.inside.text in
+    let right = c.other.inside.text in
+    let bytes : byte_len left + byte_len right ≤ 1024 = rw (c.self.invariant.0, c.other.invariant.0) at c.if-self-other-gt1024.false in
+    rw (c.self.invariant.0, c.other.invariant.0) (both_fit left right bytes)
 
 pub invariant_of-result : goal.invariant_of-result
 invariant_of-result c =
-    rw c.in-Ok.ensures (omega (arith, c.self.invariant.0, c.other.invariant.0, length-append c.self.inside.text c.other.inside.text), omega (arith, byte_len-append c.self.inside.text c.other.inside.text))
+    let left = c.self.inside.text in
+    let right = c.other.inside.text in
+    let bytes : byte_len left + byte_len right ≤ 1024 = rw (c.self.invariant.0, c.other.invariant.0) at c.if-self-other-gt1024.false in
+    rw c.in-Ok.ensures (rw (c.plus.ensures, c.self.invariant.0, c.other.invariant.0) (sym (lengths_sum.joined left right)), omega (arith, byte_len-append left right))

@@ -1,7 +1,7 @@
 use Rattle.std.proofs.Common.{◌≡◌, ◌<◌, ◌^◌}
 use Rattle.plain_text.specs.Text.{byte_len}
 use Rattle.rope_node.specs.Node.{text_of}
-use Rattle.shared_tree.specs.Places.{replaced}
+use Rattle.shared_tree.specs.Replaced.{replaced}
 use Rattle.rope_node.proofs.ForCallers.{text_fits}
 use Rattle.rope_tree.proofs.rope.Rope.replaced.Goals as goal
 
