@@ -1,5 +1,5 @@
 -- Items cut where a node begins, and inside a node.
-use Rattle.std.proofs.Common.{◌≡◌, ℕ, ◌+◌, ◌-◌, ◌<◌, ◌≤◌, List, [], ◌∷◌, ◌++◌, length, take, drop, get_or, append_assoc, refl, sym, ap, ◌∙◌, arith, length-append, take-append-drop}
+use Rattle.std.proofs.Common.{◌≡◌, ℕ, ◌+◌, ◌-◌, ◌<◌, ◌≤◌, List, [], ◌∷◌, ◌++◌, length, take, drop, get_or, sym, ap, ◌∙◌, arith, length-append, take-append-drop}
 use Rattle.std.proofs.Math.Seq.{take-append-add, drop-append-add}
 use Rattle.std.proofs.lemmas.List.{append-nil, take-append-le, drop-append-le}
 use Rattle.std.specs.Arc.{arc_value}
@@ -8,8 +8,7 @@ use Rattle.shared_tree.specs.declared.leaf.Leaf.{Ghosts}
 use Rattle.shared_tree.specs.declared.leaf.Summary.{Ghosts as Sum}
 use Rattle.shared_tree.specs.Laws.{Adds, Sums}
 use Rattle.shared_tree.specs.Shape.{Shape}
-use Rattle.shared_tree.specs.Row.{items_in, items_of, shapes, IsBunch, IsFit, IsRow, IsTop}
-use Rattle.shared_tree.specs.Replaced.{replaced}
+use Rattle.shared_tree.specs.Row.{items_in, items_of, shapes, IsBunch, IsFit, IsTop}
 use Rattle.shared_tree.proofs.RowLemmas.{items_in-append, shapes-cut, shapes-more, shapes-split, IsRow-left, IsRow-right}
 use Rattle.shared_tree.proofs.SumLemmas.{IsFit-between, IsFit-left, IsFit-right}
 

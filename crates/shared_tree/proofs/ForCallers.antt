@@ -1,5 +1,5 @@
 -- What other crates may cite of the proofs of `shared_tree`.
-use Rattle.std.proofs.Common.{ℕ, ◌^◌, ◌<◌, IsTrue, List, length}
+use Rattle.std.proofs.Common.{◌^◌, ◌<◌, IsTrue, List, length}
 use Rattle.std.proofs.lemmas.Bool.{lt-ltb}
 use Rattle.shared_tree.specs.Batch.{is_few, tally_of}
 

@@ -1,5 +1,5 @@
 -- Two trees of which the last and the first leaf became one.
-use Rattle.std.proofs.Common.{◌≡◌, ℕ, List, ◌++◌, take, drop, append_assoc, refl, sym, ap, ◌∙◌}
+use Rattle.std.proofs.Common.{◌≡◌, ℕ, List, ◌++◌, take, drop, append_assoc, sym, ap, ◌∙◌}
 use Rattle.shared_tree.specs.declared.leaf.Leaf.{Ghosts}
 use Rattle.shared_tree.specs.declared.leaf.Summary.{Ghosts as Sum}
 use Rattle.shared_tree.specs.Laws.{Adds, Sums}

@@ -1,18 +1,18 @@
 -- An edit inside one node of a row, and the pieces of an edited leaf.
-use Rattle.std.proofs.Common.{◌≡◌, ℕ, zero, suc, ◌+◌, ◌-◌, ◌*◌, ◌^◌, ◌<◌, ◌≤◌, List, [], ◌∷◌, ◌++◌, length, map, max, take, drop, get_or, append_assoc, refl, sym, ap, ◌∙◌, arith, length-append, length-drop, take-append-drop, Option, Some, None, IfSome}
+use Rattle.std.proofs.Common.{◌≡◌, ℕ, zero, suc, ◌+◌, ◌-◌, ◌*◌, ◌^◌, ◌<◌, ◌≤◌, List, ◌++◌, length, max, take, drop, get_or, append_assoc, refl, sym, ap, ◌∙◌, arith, length-append, length-drop, Option, Some, None, IfSome}
 use Rattle.std.proofs.Math.Nat.{mul-le-mul_right, pow-suc}
 use Rattle.std.proofs.lemmas.Grind.{common_steps}
-use Rattle.std.proofs.lemmas.List.{append-nil, length-map}
+use Rattle.std.proofs.lemmas.List.{length-map}
 use Rattle.std.specs.Arc.{arc_value}
 use Rattle.std.specs.declared.sync.Arc.{Arc}
 use Rattle.shared_tree.specs.declared.leaf.Leaf.{Ghosts}
 use Rattle.shared_tree.specs.declared.leaf.Summary.{Ghosts as Sum}
 use Rattle.shared_tree.specs.Laws.{Adds, Sums}
 use Rattle.shared_tree.specs.Shape.{Shape}
-use Rattle.shared_tree.specs.Row.{items_in, items_of, leaves_of, shapes, IsBunch, IsFit, IsLevel, IsRow, IsRowOf}
+use Rattle.shared_tree.specs.Row.{items_in, items_of, leaves_of, shapes, IsBunch, IsFit, IsRow, IsRowOf}
 use Rattle.shared_tree.specs.Replaced.{replaced}
-use Rattle.shared_tree.proofs.RowLemmas.{back_levels, front_levels, items_in-append, row_full, row_many, shapes-split, IsRow-append, IsRow-left, IsRow-right}
-use Rattle.shared_tree.proofs.SumLemmas.{IsFit-between, IsFit-left, IsFit-right}
+use Rattle.shared_tree.proofs.RowLemmas.{back_levels, front_levels, items_in-append, row_full, row_many, IsRow-append}
+use Rattle.shared_tree.proofs.SumLemmas.{IsFit-between}
 use Rattle.shared_tree.proofs.CutLemmas.{drop-inside, items-cut, take-inside}
 
 regrouped-items : {X : Type 0} (a f o b c : List X) → a ++ ((f ++ (o ++ b)) ++ c) ≡ (a ++ f) ++ (o ++ (b ++ c))

@@ -1,15 +1,15 @@
 -- Rows: how they are cut and joined, and what a node above a row is.
-use Rattle.std.proofs.Common.{◌≡◌, ℕ, zero, suc, ◌+◌, ◌-◌, ◌*◌, ◌^◌, ◌<◌, ◌≤◌, List, [], ◌∷◌, ◌++◌, length, map, max, take, drop, get_or, refl, sym, ap, ◌∙◌, append_assoc, add-one, arith, length-append, take-append-drop}
-use Rattle.std.specs.List.{All, flat_map}
+use Rattle.std.proofs.Common.{◌≡◌, ℕ, zero, suc, ◌+◌, ◌-◌, ◌*◌, ◌^◌, ◌<◌, ◌≤◌, List, [], ◌∷◌, ◌++◌, length, max, take, drop, get_or, refl, sym, ap, subst, ◌∙◌, append_assoc, add-one, arith, length-append, take-append-drop}
+use Rattle.std.specs.List.{flat_map}
 use Rattle.std.specs.Arc.{arc_value}
 use Rattle.std.specs.declared.sync.Arc.{Arc}
 use Rattle.std.proofs.Math.Nat.{mul-le-mul_right}
 use Rattle.std.proofs.lemmas.Grind.{common_steps, flat_map-append, pow_more}
 use Rattle.std.proofs.lemmas.List.{append-nil, length-map, map-append, take_more}
-use Rattle.std.proofs.lemmas.List.Elements.{All-append, All-cons, All-head, All-tail, All-nil, All-take, All-drop, All-get_or}
+use Rattle.std.proofs.lemmas.List.Elements.{All-append, All-cons, All-head, All-tail, All-nil}
 use Rattle.shared_tree.specs.declared.leaf.Leaf.{Ghosts}
 use Rattle.shared_tree.specs.Shape.{Shape}
-use Rattle.shared_tree.specs.Row.{height_over, items_in, items_of, leaves_of, shapes, IsBunch, IsLevel, IsRow, IsRowOf}
+use Rattle.shared_tree.specs.Row.{height_over, items_in, items_of, leaves_of, shapes, AreFull, IsBunch, IsLevel, IsRow, IsRowOf}
 use Rattle.shared_tree.specs.Node.{AreKids}
 
 -- a row cut at one of its nodes
@@ -52,6 +52,10 @@ module _ {L Item I : Type 0} (leaf : Ghosts L Item I) where
   pub items_in-shown : (row : List (Shape L)) (height : ℕ) (node : Shape L) → record { leaves = leaves_of row; height = height } ≡ node → items_in leaf row ≡ items_of leaf node
   items_in-shown row height node shown = sym (items_in-by_leaves row) ∙ ap (items_of leaf) shown
 
+  -- the leaves that it shows
+  pub leaves-shown : (row : List (Shape L)) (height : ℕ) (node : Shape L) → record { leaves = leaves_of row; height = height } ≡ node → leaves_of row ≡ node.leaves
+  leaves-shown row height node shown = ap (λ (n : Shape L). n.leaves) shown
+
   pub IsRow-append : (h : ℕ) (xs ys : List (Shape L)) → IsRow leaf h xs → IsRow leaf h ys → IsRow leaf h (xs ++ ys)
   IsRow-append h xs ys a b = record { each = All-append (IsLevel leaf h) xs ys a.each b.each }
 
@@ -87,14 +91,29 @@ module _ {L Item I : Type 0} (leaf : Ghosts L Item I) where
       let rest : length row * 4 ^ h ≤ length (leaves_of row) = row_many h row (IsRow-tail h node row levels) in
       omega (arith, length-append node.leaves (leaves_of row))
 
-  -- and an item or more a leaf
-  pub row_full : (h : ℕ) (row : List (Shape L)) → IsRow leaf h row → length (leaves_of row) ≤ length (items_in leaf row)
-  row_full h [] levels = omega arith
-  row_full h (node ∷ row) levels =
+  -- leaves of which none is empty have an item each
+  pub leaves_full : (leaves : List L) → AreFull leaf leaves → length leaves ≤ length (flat_map leaf.items leaves)
+  leaves_full [] full = omega arith
+  leaves_full (own ∷ leaves) full =
+      let first : 1 ≤ length (leaf.items own) = All-head (λ x. 1 ≤ length (leaf.items x)) own leaves full in
+      let rest : length leaves ≤ length (flat_map leaf.items leaves) = leaves_full leaves (All-tail (λ x. 1 ≤ length (leaf.items x)) own leaves full) in
+      omega (arith, length-append (leaf.items own) (flat_map leaf.items leaves))
+
+  -- no leaf of a row is empty
+  pub are_full : (h : ℕ) (row : List (Shape L)) → IsRow leaf h row → AreFull leaf (leaves_of row)
+  are_full h [] levels = All-nil (λ x. 1 ≤ length (leaf.items x))
+  are_full h (node ∷ row) levels =
       let first : IsLevel leaf h node = IsRow-head h node row levels in
-      let enough : length node.leaves ≤ length (items_of leaf node) = first.full in
-      let rest : length (leaves_of row) ≤ length (items_in leaf row) = row_full h row (IsRow-tail h node row levels) in
-      omega (arith, length-append node.leaves (leaves_of row), length-append (items_of leaf node) (items_in leaf row))
+      All-append (λ x. 1 ≤ length (leaf.items x)) node.leaves (leaves_of row) first.full (are_full h row (IsRow-tail h node row levels))
+
+  pub full-shown : (h k : ℕ) (row : List (Shape L)) (node : Shape L) → IsRow leaf h row → record { leaves = leaves_of row; height = k } ≡ node → AreFull leaf node.leaves
+  full-shown h k row node levels shown = subst (λ (n : Shape L). AreFull leaf n.leaves) shown (are_full h row levels)
+
+  -- so a row has an item or more a leaf
+  pub row_full : (h : ℕ) (row : List (Shape L)) → IsRow leaf h row → length (leaves_of row) ≤ length (items_in leaf row)
+  row_full h row levels =
+      let full : length (leaves_of row) ≤ length (flat_map leaf.items (leaves_of row)) = leaves_full (leaves_of row) (are_full h row levels) in
+      rw (items_in-by_leaves row) at full
 
   -- a root above two nodes or more has as many leaves as its height asks
   pub tall : (h : ℕ) (row : List (Shape L)) → IsRow leaf h row → 2 ≤ length row → 2 * 4 ^ (height_over row h - 1) ≤ length (leaves_of row)
@@ -108,19 +127,18 @@ module _ {L Item I : Type 0} (leaf : Ghosts L Item I) where
 
   -- a leaf with an item is a node of height 0
   pub level_of_leaf : (own : L) → 1 ≤ length (leaf.items own) → IsLevel leaf 0 (record { leaves = own ∷ []; height = 0 })
-  level_of_leaf own some = record { level = refl; many = omega arith; full = omega (arith, length-append (leaf.items own) []) }
+  level_of_leaf own some = record { level = refl; many = omega arith; full = All-cons (λ x. 1 ≤ length (leaf.items x)) own [] some (All-nil (λ x. 1 ≤ length (leaf.items x))) }
 
   -- the node above 4 to 8 children
   pub level_of_kids : (h : ℕ) (kids : List (Shape L)) → AreKids leaf h kids → IsLevel leaf h (record { leaves = leaves_of kids; height = h })
   level_of_kids h kids are =
       let many : length kids * 4 ^ (h - 1) ≤ length (leaves_of kids) = row_many (h - 1) kids are.levels in
-      let full : length (leaves_of kids) ≤ length (items_in leaf kids) = row_full (h - 1) kids are.levels in
       let low : 4 ≤ length kids = are.low in
       let above : 1 ≤ h = are.above in
       let same : h - 1 + 1 ≡ h = omega arith in
       let power : 4 ^ h ≡ 4 ^ (h - 1) * 4 = rw same at (pow_more 4 (h - 1)) in
       let wide : 4 * 4 ^ (h - 1) ≤ length kids * 4 ^ (h - 1) = mul-le-mul_right (4 ^ (h - 1)) low in
-      record { level = refl; many = omega arith; full = rw (items_in-by_leaves kids) full }
+      record { level = refl; many = omega arith; full = are_full (h - 1) kids are.levels }
 
   -- a row under one node
   pub under_one : (h : ℕ) (row : List (Shape L)) → AreKids leaf h row → IsRowOf leaf h (items_in leaf row) 1 2 (record { leaves = leaves_of row; height = h } ∷ [])
@@ -179,6 +197,12 @@ module _ {L Item I : Type 0} (leaf : Ghosts L Item I) where
     level_at h row i node inside is levels =
         let cut = rw (shapes-cut row i node inside is) at levels in
         IsRow-head h (arc_value node) (shapes (drop (i + 1) row)) (IsRow-right h (shapes (take i row)) _ cut)
+
+    -- a node of the row on top is no higher than the tree
+    pub height_over-above : (h : ℕ) (row : List (Arc (Shape L) Z)) (i : ℕ) (node top : Shape L) → i < length row → IsLevel leaf h node → record { leaves = leaves_of (shapes row); height = height_over (shapes row) h } ≡ top → node.height ≤ top.height
+    height_over-above h [] i node top inside level shown = absurd (omega arith)
+    height_over-above h (one ∷ []) i node top inside level shown = omega (arith, level.level, ap (λ (n : Shape L). n.height) shown)
+    height_over-above h (one ∷ two ∷ row) i node top inside level shown = omega (arith, level.level, ap (λ (n : Shape L). n.height) shown)
 
     pub bunch_some : (h : ℕ) (row : List (Arc (Shape L) Z)) → IsBunch leaf h (shapes row) → 0 < length row
     bunch_some h row bunch = omega (arith, bunch.some, length-map row arc_value)

@@ -1,6 +1,6 @@
 -- Leaves of shared records, and the sum that counts them.
-use Rattle.std.specs.Prelude.{◌≡◌, ℕ, ◌+◌, ◌^◌, ◌<◌, Bool, IsTrue, List, length, refl}
-use Rattle.std.proofs.Common.{ap, sym, ltb, zero-add, add-zero, add_assoc, arith, length-append}
+use Rattle.std.specs.Prelude.{ℕ, ◌+◌, ◌^◌, Bool, List, length, refl}
+use Rattle.std.proofs.Common.{ap, ltb, zero-add, add-zero, add_assoc, arith, length-append}
 use Rattle.std.proofs.lemmas.Bool.{lt-ltb, ltb-true}
 use Rattle.shared_tree.specs.declared.batch.Tally.{Tally}
 use Rattle.shared_tree.specs.Laws.{Adds, Sums}

@@ -1,6 +1,6 @@
 -- Each child of a node is lower than the node.
-use Rattle.std.specs.Prelude.{◌≡◌, ℕ, ◌+◌, ◌-◌, ◌<◌, ◌≤◌, max, List, [], ◌∷◌, map, length}
-use Rattle.std.specs.List.{All, AllByRecursion}
+use Rattle.std.specs.Prelude.{◌≡◌, ℕ, ◌+◌, ◌-◌, ◌≤◌, max, List, [], ◌∷◌}
+use Rattle.std.specs.List.{All}
 use Rattle.std.specs.Arc.{arc_value}
 use Rattle.std.specs.declared.sync.Arc.{Arc}
 use Rattle.std.proofs.Common.{arith}
@@ -13,7 +13,7 @@ use Rattle.shared_tree.specs.declared.node.Body.TheVariants.{Tip, Inner}
 use Rattle.shared_tree.specs.declared.node.Node.TheDeep.{deep-Body}
 use Rattle.shared_tree.specs.Shape.{Shape}
 use Rattle.shared_tree.specs.Row.{shapes, IsLevel}
-use Rattle.shared_tree.specs.Node.{IsBuilt, AreKids}
+use Rattle.shared_tree.specs.Node.{IsBuilt}
 
 lower : {L Item I Z : Type 0} (leaf : Ghosts L Item I) (height : ℕ) (kids : List (Arc (Shape L) Z)) → All (IsLevel leaf (height - 1)) (shapes kids) → 1 ≤ height → most (λ kid. (arc_value {X = Shape L} kid).height + 1) kids ≤ height
 lower leaf height [] levels above = omega arith

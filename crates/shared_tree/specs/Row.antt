@@ -1,7 +1,6 @@
 -- A row is a list of nodes of one height, side by side.
-use Rattle.std.specs.Prelude.{◌≡◌, ℕ, ◌+◌, ◌^◌, ◌≤◌, IsTrue, List, [], ◌∷◌, map, length}
+use Rattle.std.specs.Prelude.{◌≡◌, ℕ, ◌+◌, ◌^◌, ◌≤◌, IsTrue, List, [], ◌∷◌, length}
 use Rattle.std.specs.List.{All, flat_map}
-use Rattle.std.specs.Arc.{arc_value}
 use Rattle.std.specs.declared.sync.Arc.{Arc}
 use Rattle.shared_tree.specs.declared.leaf.Leaf.{Ghosts}
 use Rattle.shared_tree.specs.declared.leaf.Summary.{Ghosts as Sum}
@@ -28,11 +27,15 @@ items_in leaf row = flat_map (items_of leaf) row
 abbrev pub IsFit : {L Item I : Type 0} → Ghosts L Item I → Sum I → List Item → Type 0
 IsFit leaf sum items = IsTrue (sum.fits (leaf.summed items))
 
--- a node of this height: it has as many leaves as its height asks, and an item or more a leaf
+-- no leaf is empty
+abbrev pub AreFull : {L Item I : Type 0} → Ghosts L Item I → List L → Type 0
+AreFull leaf leaves = All (λ own. 1 ≤ length (leaf.items own)) leaves
+
+-- a node of this height: it has as many leaves as its height asks, and none is empty
 pub record IsLevel {L Item I : Type 0} (leaf : Ghosts L Item I) (height : ℕ) (node : Shape L) : Type 0 where
   pub level : node.height ≡ height
   pub many : 4 ^ height ≤ length node.leaves
-  pub full : length node.leaves ≤ length (items_of leaf node)
+  pub full : AreFull leaf node.leaves
 
 -- all nodes of a row have this height
 pub record IsRow {L Item I : Type 0} (leaf : Ghosts L Item I) (height : ℕ) (row : List (Shape L)) : Type 0 where

@@ -17,12 +17,11 @@ mod patch;
 mod row;
 mod seek;
 mod shared;
-#[cfg(test)]
-mod tests;
 mod tree;
 mod walk;
 
 pub use batch::{Batch, Tally};
 pub use leaf::{Count, Leaf, Measure, Summary};
+pub use node::Node;
 pub use tree::Tree;
-pub use walk::Walk;
+pub use walk::{Leaves, Walk};

@@ -1,4 +1,4 @@
-ghost use Rattle.std.specs.Prelude.{◌≡◌, ◌+◌, ◌-◌, ◌^◌, ◌<◌, ◌≤◌, [], ◌∷◌, length};
+ghost use Rattle.std.specs.Prelude.{◌≡◌, ◌+◌, ◌-◌, ◌^◌, ◌<◌, ◌≤◌, ◌↔◌, [], ◌∷◌, length, IfSome, None};
 ghost use Rattle.shared_tree.specs.Row.{items_in, items_of, leaves_of, shapes, IsFit, IsLevel, IsRow};
 ghost use Rattle.shared_tree.specs.Node.{AreKids};
 
@@ -69,6 +69,24 @@ impl<L: Leaf> Node<L> {
         }
     }
 
+    /// How many levels of nodes stand below.
+    pub fn height(&self) -> u64
+        ensures { result ≡ self.now.height }
+    {
+        self.height
+    }
+
+    /// The leaf that the node is; `None` where it has children.
+    pub fn leaf(&self) -> Option<&L>
+        ensures own { IfSome result (λ leaf. self.now.leaves ≡ leaf.now ∷ []) }
+        ensures inner { (result ≡ None) ↔ (1 ≤ self.now.height) }
+    {
+        match &self.body {
+            Body::Tip(leaf) => Some(leaf),
+            Body::Inner(_) => None,
+        }
+    }
+
     pub(crate) fn summary(&self) -> &L::Sum
         ensures { result.now ≡ L.summed (items_of L.Leaf self.now) }
     {
@@ -84,6 +102,7 @@ impl<L: Leaf> Node<L> {
     /// The children of an inner node.
     pub(crate) fn kids(&self) -> &[Arc<Node<L>, Global>]
         requires { 1 ≤ self.now.height }
+        ensures leaves { leaves_of (shapes result.now) ≡ self.now.leaves }
         ensures same { items_in L.Leaf (shapes result.now) ≡ items_of L.Leaf self.now }
         ensures kids { AreKids L.Leaf self.now.height (shapes result.now) }
     {

@@ -1,9 +1,9 @@
 // The way down to where a measure passes a number.
-ghost use Rattle.std.specs.Prelude.{◌≡◌, ◌+◌, ◌<◌, ◌≤◌, length, take, IsTrue};
+ghost use Rattle.std.specs.Prelude.{◌≡◌, ◌+◌, ◌<◌, ◌≤◌, [], ◌∷◌, length, take, IsTrue};
 ghost use Rattle.shared_tree.specs.Row.{items_in, items_of, shapes, IsFit};
-ghost use Rattle.shared_tree.specs.Places.{IsFound};
+ghost use Rattle.shared_tree.specs.Places.{sum_over, IsFound};
 
-use crate::node::{Body, Node};
+use crate::node::Node;
 use crate::row::Link;
 use crate::{Count, Leaf, Measure, Summary};
 use std::alloc::Global;
@@ -53,6 +53,29 @@ pub(crate) fn child_at<L: Leaf>(row: &[Link<L>], at: u64) -> (usize, u64)
     (i, sum.count())
 }
 
+impl<L: Leaf> Node<L> {
+    /// The child in which the measure passes `at`, and the sum of all before it; `before` is the sum of all before this node.
+    pub fn child<M: Measure<L::Sum>>(
+        &self,
+        measure: &M,
+        at: u64,
+        before: L::Sum,
+    ) -> (&Node<L>, L::Sum)
+        requires above { 1 ≤ self.now.height }
+        requires fits { IsTrue (L.Sum.fits (L.Sum.plus before (sum_over L.Leaf self.now.leaves))) }
+        requires passed { M.width measure.now before < at }
+        requires reached { at ≤ M.width measure.now (L.Sum.plus before (sum_over L.Leaf self.now.leaves)) }
+        ensures below { result.0.now.height + 1 ≡ self.now.height }
+        ensures found { IsFound L.Leaf L.Sum.Summary (M.width measure.now) before self.now.leaves
+            at result.0.now.leaves result.1 }
+        ensures fits { IsTrue (L.Sum.fits (L.Sum.plus result.1 (sum_over L.Leaf result.0.now.leaves))) }
+    {
+        let kids = self.kids();
+        let (i, sum) = seek(kids, measure, at, before);
+        (&kids[i], sum)
+    }
+}
+
 /// The leaf below a node in which the measure passes `at`, and the sum of all before it.
 pub(crate) fn leaf_at<'a, L: Leaf, M: Measure<L::Sum>>(
     node: &'a Node<L>,
@@ -60,21 +83,21 @@ pub(crate) fn leaf_at<'a, L: Leaf, M: Measure<L::Sum>>(
     at: u64,
     before: L::Sum,
 ) -> (&'a L, L::Sum)
-    requires fits { IsTrue (L.Sum.fits (L.Sum.plus before (L.summed (items_of L.Leaf node.now)))) }
+    requires fits { IsTrue (L.Sum.fits (L.Sum.plus before (sum_over L.Leaf node.now.leaves))) }
     requires passed { M.width measure.now before < at }
-    requires reached { at ≤ M.width measure.now (L.Sum.plus before (L.summed (items_of L.Leaf node.now))) }
-    ensures { IsFound L.Sum.Summary L.summed (M.width measure.now) before (items_of L.Leaf node.now)
-        at (L.items result.0.now) result.1 }
+    requires reached { at ≤ M.width measure.now (L.Sum.plus before (sum_over L.Leaf node.now.leaves)) }
+    ensures { IsFound L.Leaf L.Sum.Summary (M.width measure.now) before node.now.leaves
+        at (result.0.now ∷ []) result.1 }
 {
     let mut here = node;
     let mut sum = before;
     loop {
-        match &here.body {
-            Body::Tip(leaf) => return (leaf, sum),
-            Body::Inner(kids) => {
-                let (i, next) = seek(kids, measure, at, sum);
-                sum = next;
-                here = &kids[i];
+        match here.leaf() {
+            Some(leaf) => return (leaf, sum),
+            None => {
+                let (next, all) = here.child(measure, at, sum);
+                here = next;
+                sum = all;
             }
         }
     }

@@ -1,6 +1,6 @@
-ghost use Rattle.std.specs.Prelude.{◌≡◌, ◌+◌, ◌-◌, ◌*◌, ◌^◌, ◌<◌, ◌≤◌, ◌==◌, [], ◌∷◌, ◌++◌, length, take, drop, IfOk, IfSome, OnOk, OnErr};
-ghost use Rattle.shared_tree.specs.Row.{items_in, items_of, shapes, IsFit, IsRow, IsTop};
-ghost use Rattle.shared_tree.specs.Places.{IsAt, IsFound};
+ghost use Rattle.std.specs.Prelude.{◌≡◌, ◌+◌, ◌-◌, ◌*◌, ◌^◌, ◌<◌, ◌≤◌, ◌==◌, [], ◌∷◌, ◌++◌, length, take, drop, IfOk, IfSome, IsTrue, OnOk, OnErr};
+ghost use Rattle.shared_tree.specs.Row.{items_in, items_of, shapes, AreFull, IsFit, IsRow, IsTop};
+ghost use Rattle.shared_tree.specs.Places.{sum_over, IsAt, IsFound};
 ghost use Rattle.shared_tree.specs.Replaced.{replaced};
 
 use crate::beside::beside;
@@ -10,7 +10,7 @@ use crate::patch::patched_row;
 use crate::row::{Link, grouped, sum_of};
 use crate::seek::{leaf_at, seek};
 use crate::shared::{copied, single};
-use crate::{Count, Leaf, Measure, Summary, Walk};
+use crate::{Count, Leaf, Leaves, Measure, Summary, Walk};
 use std::alloc::{AllocError, Global};
 use std::marker::Model;
 
@@ -100,11 +100,12 @@ impl<L: Leaf> Tree<L> {
         self.len() == 0
     }
 
-    /// How many levels of nodes stand above the leaves, in O(1).
+    /// How many levels of nodes stand above the leaves, of which none is empty, in O(1).
     pub fn height(&self) -> u64
         ensures height { result ≡ self.now.height }
         ensures low { result ≤ 32 }
         ensures tall { 1 ≤ self.now.height → 2 * 4 ^ (self.now.height - 1) ≤ length self.now.leaves }
+        ensures full { AreFull L.Leaf self.now.leaves }
     {
         match self.row.len() {
             0 => 0,
@@ -306,15 +307,29 @@ impl<L: Leaf> Tree<L> {
         Ok(())
     }
 
-    /// The leaf in which the measure passes `at`, and the sum of all items before that leaf, in O(height).
-    pub fn find<M: Measure<L::Sum>>(&self, measure: &M, at: u64) -> (&L, L::Sum)
+    /// The node on top in which the measure passes `at`, and the sum of all before it: the first step of a way down, which
+    /// [`Node::child`] goes on.
+    pub fn top<M: Measure<L::Sum>>(&self, measure: &M, at: u64) -> (&Node<L>, L::Sum)
         requires some { 0 < at }
-        requires within { at ≤ M.width measure.now (L.summed (items_of L.Leaf self.now)) }
-        ensures { IsFound L.Sum.Summary L.summed (M.width measure.now) L.Sum.zero
-            (items_of L.Leaf self.now) at (L.items result.0.now) result.1 }
+        requires within { at ≤ M.width measure.now (sum_over L.Leaf self.now.leaves) }
+        ensures below { result.0.now.height ≤ self.now.height }
+        ensures found { IsFound L.Leaf L.Sum.Summary (M.width measure.now) L.Sum.zero self.now.leaves
+            at result.0.now.leaves result.1 }
+        ensures fits { IsTrue (L.Sum.fits (L.Sum.plus result.1 (sum_over L.Leaf result.0.now.leaves))) }
     {
         let (i, before) = seek(&self.row, measure, at, L::Sum::zero());
-        leaf_at(&self.row[i], measure, at, before)
+        (&self.row[i], before)
+    }
+
+    /// The leaf in which the measure passes `at`, and the sum of all before that leaf, in O(height).
+    pub fn find<M: Measure<L::Sum>>(&self, measure: &M, at: u64) -> (&L, L::Sum)
+        requires some { 0 < at }
+        requires within { at ≤ M.width measure.now (sum_over L.Leaf self.now.leaves) }
+        ensures { IsFound L.Leaf L.Sum.Summary (M.width measure.now) L.Sum.zero self.now.leaves
+            at (result.0.now ∷ []) result.1 }
+    {
+        let (node, before) = self.top(measure, at);
+        leaf_at(node, measure, at, before)
     }
 
     /// The leaf that has the item of this index, and the item's index in the leaf, in O(height).
@@ -325,6 +340,14 @@ impl<L: Leaf> Tree<L> {
         let _ = &self.row;
         let (leaf, before) = self.find(&Count, index + 1);
         (leaf, index - before.count())
+    }
+
+    /// The leaves in order, in O(height) a step.
+    pub fn leaves(&self) -> Leaves<'_, L>
+        ensures { result ≡ self.now.leaves }
+    {
+        let _ = &self.row;
+        Leaves::new(self)
     }
 
     /// A walk over the leaves from a place between two items on, both ways, in O(height) a step.

@@ -1,7 +1,8 @@
 ghost use Rattle.std.specs.Prelude.{◌≡◌, ℕ, ◌<◌, ◌≤◌, ◌++◌, ◌↔◌, length, take, drop, IfSome};
-ghost use Rattle.shared_tree.specs.Row.{items_of};
+ghost use Rattle.std.specs.Iterator.{YieldsFirstRef, item_count};
+ghost use Rattle.shared_tree.specs.Row.{items_of, AreFull};
 
-use crate::{Leaf, Tree};
+use crate::{Count, Leaf, Tree};
 use std::marker::Model;
 
 /// A place between two items of a tree, from which a walk goes leaf by leaf, both ways. A step copies nothing and takes no
@@ -63,5 +64,51 @@ impl<'a, L: Leaf> Walk<'a, L> {
         let (leaf, index) = self.tree.get(self.at - 1);
         self.at -= index + 1;
         Some((leaf, index + 1))
+    }
+}
+
+/// The leaves of a tree that are still to come, in order. A step copies nothing and takes no memory.
+#[derive(Drop)]
+pub struct Leaves<'a, L: Leaf> {
+    tree: &'a Tree<L>,
+    // How many items stand in the leaves that came.
+    at: u64,
+}
+
+impl<'a, L: Leaf> Model for Leaves<'a, L> {
+    ghost use Rattle.std.specs.Prelude.{List};
+    ghost use Rattle.shared_tree.specs.Row.{AreFull};
+    ghost use Rattle.shared_tree.specs.Places.{leaves_from, IsSeam};
+
+    ghost Value = { List L };
+
+    ghost view = { λ walk. leaves_from L.Leaf walk.at walk.tree.now.leaves };
+
+    ghost invariant = { λ walk. IsSeam L.Leaf walk.at walk.tree.now.leaves × AreFull L.Leaf walk.tree.now.leaves };
+}
+
+impl<'a, L: Leaf> Leaves<'a, L> {
+    pub(crate) fn new(tree: &'a Tree<L>) -> Leaves<'a, L>
+        requires { AreFull L.Leaf tree.now.leaves }
+        ensures { result ≡ tree.now.leaves }
+    {
+        Leaves { tree, at: 0 }
+    }
+}
+
+impl<'a, L: Leaf> Iterator for Leaves<'a, L> {
+    type Item = &'a L;
+
+    ghost next_gives = { YieldsFirstRef (λ leaves. leaves) };
+
+    ghost remaining = { item_count (λ leaves. leaves) };
+
+    fn next(&mut self) -> Option<&'a L> {
+        if self.at == self.tree.len() {
+            return None;
+        }
+        let (leaf, _) = self.tree.find(&Count, self.at + 1);
+        self.at += leaf.len();
+        Some(leaf)
     }
 }

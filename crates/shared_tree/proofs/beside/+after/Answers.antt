@@ -1,4 +1,4 @@
-use Rattle.std.proofs.Common.{rules, ◌≡◌, ◌-◌, ◌<◌, ◌≤◌, ◌++◌, length, arith}
+use Rattle.std.proofs.Common.{rules, ◌-◌, ◌<◌, ◌≤◌, ◌++◌, length, arith}
 use Rattle.std.proofs.lemmas.Result.{IfOk-weaker}
 use Rattle.shared_tree.specs.Row.{items_in, shapes, IsBunch, IsFit}
 use Rattle.shared_tree.proofs.RowLemmas.{bunch_some, front_levels, items-last, bunch_of_kids, level_at}

@@ -1,7 +1,7 @@
-use Rattle.std.proofs.Common.{◌≡◌, ◌+◌, ◌-◌, ◌<◌, ◌≤◌, ◌++◌, length, ap, refl, ◌∙◌, arith}
+use Rattle.std.proofs.Common.{◌≡◌, ◌-◌, ◌<◌, length, refl, arith}
 use Rattle.std.proofs.lemmas.List.{length-map}
 use Rattle.std.specs.Arc.{arc_value}
-use Rattle.shared_tree.specs.Row.{items_in, items_of, shapes, IsRow, IsRowOf}
+use Rattle.shared_tree.specs.Row.{items_in, shapes}
 use Rattle.shared_tree.proofs.RowLemmas.{after_row, items_in-append, joined_length, level_at, two_nodes, IsRow-append}
 use Rattle.shared_tree.proofs.beside.filled.Goals as goal
 

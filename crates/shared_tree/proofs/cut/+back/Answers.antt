@@ -1,6 +1,4 @@
 use Rattle.std.proofs.Common.{rules, ◌≡◌, ◌+◌, ◌-◌, ◌*◌, ◌<◌, ◌≤◌, length, ap, sym, refl, ◌∙◌, arith}
-use Rattle.std.proofs.lemmas.Result.{IfOk-weaker}
-use Rattle.std.specs.Arc.{arc_value}
 use Rattle.shared_tree.specs.Shape.{Shape}
 use Rattle.shared_tree.specs.Row.{items_in, items_of, shapes, IsBunch, IsFit}
 use Rattle.shared_tree.proofs.RowLemmas.{bunch_of_kids, items_in-by_leaves, level_at}

@@ -3,7 +3,7 @@ use Rattle.std.proofs.lemmas.Result.{IfOk-weaker}
 use Rattle.std.proofs.lemmas.List.{length-map}
 use Rattle.std.specs.Arc.{arc_value}
 use Rattle.shared_tree.specs.Shape.{Shape}
-use Rattle.shared_tree.specs.Row.{items_in, items_of, shapes, IsBunch, IsFit, IsRowOf}
+use Rattle.shared_tree.specs.Row.{items_in, items_of, shapes, IsBunch, IsFit}
 use Rattle.shared_tree.specs.Replaced.{replaced}
 use Rattle.shared_tree.proofs.RowLemmas.{bunch_of_kids, items_in-by_leaves, level_at}
 use Rattle.shared_tree.proofs.CutLemmas.{node-fits}

@@ -1,11 +1,13 @@
 use Rattle.std.proofs.Common.{◌≡◌, ◌<◌, length, arith}
 use Rattle.std.proofs.lemmas.Bool.Decides.{nat_tests}
 use Rattle.std.proofs.lemmas.Result.{IfOk-weaker}
-use Rattle.std.specs.Arc.{arc_value}
-use Rattle.shared_tree.specs.Row.{items_of, shapes, IsRow, IsLevel}
 use Rattle.shared_tree.proofs.RowLemmas.{glued_row, joined_row, level_at}
 use Rattle.shared_tree.proofs.SumLemmas.{seam_fits}
 use Rattle.shared_tree.proofs.row.seamed.Goals as goal
+
+pub returns-then-height-gt0 : goal.returns-then-height-gt0
+returns-then-height-gt0 g c =
+    IfOk-weaker c.joined.result _ _ (λ made is. joined_row g.L.Leaf c.args.height c.args.left.now c.args.right.now made.items is c.requires.left c.requires.right) c.joined.ensures
 
 pub returns-in-Some : goal.returns-in-Some
 returns-in-Some g c =

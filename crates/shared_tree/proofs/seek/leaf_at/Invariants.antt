@@ -1,11 +1,12 @@
-use Rattle.std.proofs.Common.{◌≡◌, ◌<◌, take}
-use Rattle.shared_tree.specs.Row.{items_of}
-use Rattle.shared_tree.specs.Places.{IsFound}
+use Rattle.std.specs.Prelude.{IsTrue}
+use Rattle.shared_tree.specs.Places.{sum_over, IsFound}
 use Rattle.shared_tree.proofs.seek.leaf_at.Given as goal
 
-abbrev pub invariant-loop-here : goal.invariant-loop-here
-invariant-loop-here g l =
-    IsFound g.L.Sum.Summary g.L.Leaf.summed (g.M.Measure.width l.measure) l.fn.before (items_of g.L.Leaf l.fn.node) l.at (items_of g.L.Leaf l.here) l.sum
+abbrev pub invariant-loop-leaf : goal.invariant-loop-leaf
+invariant-loop-leaf g l = record {
+  found : IsFound g.L.Leaf g.L.Sum.Summary (g.M.Measure.width l.measure) l.fn.before l.fn.node.leaves l.at l.here.leaves l.sum;
+  fits : IsTrue (g.L.Sum.Summary.fits (g.L.Sum.Summary.plus l.sum (sum_over g.L.Leaf l.here.leaves)));
+}
 
-abbrev pub decreases-loop-here : goal.decreases-loop-here
-decreases-loop-here g l = l.here.height
+abbrev pub decreases-loop-leaf : goal.decreases-loop-leaf
+decreases-loop-leaf g l = l.here.height

@@ -1,5 +1,3 @@
-use Rattle.std.specs.List.{flat_map}
-use Rattle.shared_tree.specs.Row.{items_in, shapes}
 use Rattle.shared_tree.proofs.SumLemmas.{sound_above}
 use Rattle.shared_tree.proofs.node.Node.inner.Goals as goal
 

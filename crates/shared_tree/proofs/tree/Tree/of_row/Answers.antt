@@ -1,4 +1,4 @@
-use Rattle.std.proofs.Common.{◌<◌, ◌≤◌, ◌^◌, length, arith, sym, ◌∙◌}
+use Rattle.std.proofs.Common.{◌≤◌, length, arith, ◌∙◌}
 use Rattle.std.specs.Arc.{arc_value}
 use Rattle.std.proofs.lemmas.List.{length-map}
 use Rattle.shared_tree.specs.Row.{shapes}
