@@ -1,0 +1,11 @@
+pub mod ListLemmas
+pub mod GuardLemmas
+pub mod DroppedLemmas
+pub mod SettledLemmas
+pub mod ShownLemmas
+pub mod LaterLemmas
+pub mod EditedLemmas
+pub mod CollectedLemmas
+pub mod LeftLemmas
+pub mod ForgetfulLemmas
+pub mod ForCallers

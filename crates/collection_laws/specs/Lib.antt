@@ -1,0 +1,5 @@
+pub mod MayForget
+pub mod Left
+pub mod Forgetful
+pub mod Laws
+pub mod Rows
