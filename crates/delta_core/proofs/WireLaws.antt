@@ -123,10 +123,10 @@ FitFrom-wire k f text front (c ∷ back) gap at cut =
 IsCut-start : (text : List ℕ) → IsCut text [] text 0
 IsCut-start text = record { whole = refl; reached = refl }
 
-Fits-wire_of : (text : List ℕ) (units : UnitDelta) → Fits text (wire_of text units)
-Fits-wire_of text units =
+pub Fits-wire : (k : ℕ → Bool) (f : ℕ → List ℕ) (text : List ℕ) → Fits text (record { els = wire_from k f 0 0 text; base_len = byte_len text })
+Fits-wire k f text =
     let same : (byte_len text == byte_len text) ≡ true = grind (arith, nat_tests) in
-    rw same (FitFrom-wire (unit_keeps units) (unit_adds units) text [] text 0 0 (IsCut-start text) 0 (omega arith))
+    rw same (FitFrom-wire k f text [] text 0 0 (IsCut-start text) 0 (omega arith))
 
 -- ---- what the elements of a delta that fits show, one after the other
 
@@ -305,13 +305,18 @@ applied-shown text els fit =
     let all = gives_shown text 0 els start.0 fit in
     sym (text_of_steps-steps (is_in_runs (kept_runs text els)) (text_at_gap (insertions text 0 els)) 0 text) ∙ rw start.1 at all
 
+-- and the elements of what is kept and added lead to what that makes of the text
+pub applied-wire : (k : ℕ → Bool) (f : ℕ → List ℕ) (text : List ℕ) →
+    applied (is_in_runs (kept_runs text (wire_from k f 0 0 text))) (text_at_gap (insertions text 0 (wire_from k f 0 0 text))) text ≡ applied k f text
+applied-wire k f text =
+    applied-shown text (wire_from k f 0 0 text) (FitFrom-wire k f text [] text 0 0 (IsCut-start text) 0 (omega arith)) ∙
+    shown-wire k f text [] text 0 0 (IsCut-start text)
+
 pub IsWireOf-wire_of : (text : List ℕ) (units : UnitDelta) → units.base ≡ length text → IsWireOf text units (wire_of text units)
 IsWireOf-wire_of text units same = record {
   is = refl;
-  fits = Fits-wire_of text units;
-  leads =
-      applied-shown text (wire_of text units).els (FitFrom-wire (unit_keeps units) (unit_adds units) text [] text 0 0 (IsCut-start text) 0 (omega arith)) ∙
-      shown-wire (unit_keeps units) (unit_adds units) text [] text 0 0 (IsCut-start text);
+  fits = Fits-wire (unit_keeps units) (unit_adds units) text;
+  leads = applied-wire (unit_keeps units) (unit_adds units) text;
 }
 
 pub IsWireOf-all : (w : Gathered) (units : UnitDelta) (at base_len : ℕ) (steps : List Step) (text before : List ℕ) (els : List El) → IsUnitDelta units →

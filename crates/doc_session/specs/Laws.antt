@@ -1,6 +1,7 @@
 -- Laws: what the definitions of a document come to, whatever the document.
 use Rattle.std.specs.Prelude.{◌≡◌, ℕ, ◌≤◌, List, [], ◌∷◌, ◌++◌, length, take, drop, Option, Some, None, ⊤}
 use Rattle.xi_plain.specs.declared.command.EditAct.TheVariants.{Insert}
+use Rattle.plain_edits.specs.History.{History, text_at}
 use Rattle.plain_edits.specs.Delta.{Fits, keeps, adds, applied}
 use Rattle.plain_edits.specs.Edits.{Refusal, unknown, collected, misfit, spent}
 use Rattle.doc_session.specs.Layout.{layout}
@@ -8,7 +9,7 @@ use Rattle.plain_screen.specs.Screen.{screen_after}
 use Rattle.plain_screen.specs.Plan.{shown_lines}
 use Rattle.doc_session.specs.Asking.{insertion_delta}
 use Rattle.doc_session.specs.Document.{Document, layout_of, no_request}
-use Rattle.doc_session.specs.Effects.{ops_of, updated}
+use Rattle.doc_session.specs.Effects.{ops_of, updated, change_delta}
 use Rattle.doc_session.specs.InMemory.{Doc}
 use Rattle.doc_session.specs.ScreenOf.{IsScreenOf}
 use Rattle.doc_session.specs.Stands.{DocStandsFor}
@@ -28,6 +29,12 @@ ScreensShow = (plain : Document) → plain.screen ≡ shown_lines plain.window n
 -- the operations of a document make its updated screen, on whatever screen there was
 abbrev pub UpdatesShow : Type 0
 UpdatesShow = (before after : Document) → screen_after before.screen (ops_of after) ≡ Some ((updated after).screen)
+
+-- the delta of a notice fits the text of the one revision, and leads to that of the other
+abbrev pub NoticesLead : Type 0
+NoticesLead = (history : History) (from to : ℕ) → Fits (text_at history from) (change_delta history from to) ×
+    (applied (keeps (text_at history from) (change_delta history from to)) (adds (text_at history from) (change_delta history from to))
+    (text_at history from) ≡ text_at history to)
 
 -- the delta of an insertion fits the text, and puts the characters in at the gap
 abbrev pub InsertionsPut : Type 0

@@ -1,6 +1,6 @@
 //! Laws of the definitions, each the contract of a function: they hold of all documents.
 
-ghost use Rattle.doc_session.specs.Laws.{InsertionsFit, InsertionsPut, LayoutsTell, ScreensShow, UpdatesShow};
+ghost use Rattle.doc_session.specs.Laws.{InsertionsFit, InsertionsPut, LayoutsTell, NoticesLead, ScreensShow, UpdatesShow};
 
 /// A layout has the characters of its text and the place of its caret, and nothing else.
 pub fn layouts_tell()
@@ -15,6 +15,11 @@ pub fn screens_show()
 /// An update makes the screen that the document says its front end has.
 pub fn updates_show()
     ensures { UpdatesShow }
+{}
+
+/// A plugin that knows the text before a change has the text after it by the delta of the notice.
+pub fn notices_lead()
+    ensures { NoticesLead }
 {}
 
 /// The front end's insertion is refused only where its characters are spent.
