@@ -5,7 +5,7 @@ use plain_screen::{Line, Op, Triple, Update};
 use plain_text::{List, NoMemory, Region, Run, Sel, Text, TryClone};
 use std::alloc::Global;
 use std::test::Fail;
-use xi_plain::{Act, Command, EditAct, Entry, Id, Notice};
+use xi_plain::{Act, Command, EditAct, Entry, Id, Notice, ShelfNote};
 
 fn text(alloc: Global, characters: &str) -> Result<Text, NoMemory> {
     Text::from_str(alloc, characters)
@@ -84,6 +84,7 @@ fn entry(alloc: Global) -> Result<Entry, NoMemory> {
     Ok(Entry {
         caller: 1,
         command: Command { id, act },
+        shelf: ShelfNote::NoCall,
         sent: false,
     })
 }

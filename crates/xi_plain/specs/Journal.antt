@@ -1,7 +1,13 @@
--- The entries of a caller.
-use Rattle.std.specs.Prelude.{ℕ, ◌==◌, List}
-use Rattle.std.specs.List.{filter}
-use Rattle.xi_plain.specs.declared.command.Entry.{Entry}
+-- JOURNALS: which can be, and what is in them.
+use Rattle.std.specs.Prelude.{◌≡◌, ℕ, ◌==◌, nat_le, length, Bool, true, false, ◌&&◌, if◌then◌else◌, List, [], ◌∷◌, map, Some}
+use Rattle.std.specs.List.{filter, list_all}
+use Rattle.xi_plain.specs.declared.command.Id.TheVariants.{NoId}
+use Rattle.xi_plain.specs.declared.command.Act.{Act}
+use Rattle.xi_plain.specs.declared.command.Act.TheVariants.{NewView, Save, Closing}
+use Rattle.xi_plain.specs.declared.command.Command.{Command}
+use Rattle.xi_plain.specs.declared.entry.Entry.{Entry}
+use Rattle.xi_plain.specs.declared.entry.ShelfNote.{ShelfNote}
+use Rattle.xi_plain.specs.declared.entry.ShelfNote.TheVariants.{NoCall, Held, Absent, Failed, Done}
 
 -- the entries of a caller, and those of the front end
 abbrev pub entries_of : ℕ → List Entry → List Entry
@@ -9,3 +15,63 @@ entries_of caller journal = filter (λ entry. entry.caller == caller) journal
 
 abbrev pub front_entries : List Entry → List Entry
 front_entries journal = entries_of 0 journal
+
+-- what the entries ask
+abbrev pub commands : List Entry → List Command
+commands entries = map (λ entry. entry.command) entries
+
+-- the entry that says that no line is to come
+abbrev pub closing_entry : Entry
+closing_entry = record { caller = 0; command = record { id = NoId; act = Closing }; shelf = NoCall; sent = true }
+
+-- whether the act is that of a closing entry
+abbrev pub closes : Act → Bool
+closes Closing = true
+closes act = false
+
+abbrev pub is_closing : Entry → Bool
+is_closing entry = closes entry.command.act
+
+-- whether the shelf may have answered the opening of a file so
+abbrev pub may_open : ShelfNote → Bool
+may_open (Held bytes) = true
+may_open Absent = true
+may_open Failed = true
+may_open note = false
+
+-- and a saving, for which it is not asked where the view is not there
+abbrev pub may_save : ShelfNote → Bool
+may_save NoCall = true
+may_save Done = true
+may_save Failed = true
+may_save note = false
+
+-- and what asks it nothing
+abbrev pub is_no_call : ShelfNote → Bool
+is_no_call NoCall = true
+is_no_call note = false
+
+-- whether the note is of a kind that the act can have
+abbrev pub may_have_note : Act → ShelfNote → Bool
+may_have_note (NewView (Some path)) note = may_open note
+may_have_note (Save view path) note = may_save note
+may_have_note act note = is_no_call note
+
+-- whether these may stand after an entry: nothing after a closing one, and closing ones alone after one that was not sent
+abbrev pub may_follow : Entry → List Entry → Bool
+may_follow entry entries =
+    if is_closing entry then length entries == 0 else (if entry.sent then true else list_all is_closing entries)
+
+-- whether the entry is of one of the callers that there are, and its note can be
+abbrev pub can_be : ℕ → Entry → Bool
+can_be plugins entry = nat_le entry.caller plugins && may_have_note entry.command.act entry.shelf
+
+-- whether the journal is legal, where there are so many plugins, as far as its entries alone can tell: each can be, and may be followed by
+-- those after it
+abbrev pub is_legal : ℕ → List Entry → Bool
+is_legal plugins [] = true
+is_legal plugins (entry ∷ entries) = can_be plugins entry && (may_follow entry entries && is_legal plugins entries)
+
+-- THE LEGAL JOURNALS
+abbrev pub IsLegal : ℕ → List Entry → Type 0
+IsLegal plugins journal = is_legal plugins journal ≡ true

@@ -1,1 +1,5 @@
+pub mod Acts
+pub mod Reply
 pub mod Journal
+pub mod Chunk
+pub mod Room

@@ -13,6 +13,14 @@ pub struct Config {
     pub spaces: bool,
 }
 
+/// What a line changes of the configuration: a member that is `None` stays as it is.
+#[derive(Clone, Copy, Debug, PartialEq, Eq)]
+pub struct Changes {
+    pub tab: Option<u32>,
+    pub width: Option<u32>,
+    pub spaces: Option<bool>,
+}
+
 /// What plugins are told of a revision.
 #[derive(PartialEq, Eq, Drop)]
 pub struct Notice {
@@ -28,6 +36,12 @@ pub struct Notice {
 
 impl TryClone for Config {
     fn copy(&self, _alloc: Global) -> Result<Config, NoMemory> {
+        Ok(*self)
+    }
+}
+
+impl TryClone for Changes {
+    fn copy(&self, _alloc: Global) -> Result<Changes, NoMemory> {
         Ok(*self)
     }
 }
