@@ -1,14 +1,14 @@
 -- Laws for the layers above: what a session comes to with one entry more.
 use Rattle.std.proofs.Common.{◌≡◌, List, [], ◌∷◌, ◌++◌, None, refl, sym, ◌∙◌, subst, append-nil}
-use Rattle.xi_plain.specs.declared.command.Entry.{Entry}
+use Rattle.xi_plain.specs.declared.entry.Entry.{Entry}
 use Rattle.core_session.specs.declared.session.Core.{Core}
-use Rattle.core_session.specs.Journal.{closing_entry}
+use Rattle.xi_plain.specs.Journal.{closing_entry}
 use Rattle.core_session.specs.Session.{document_after, written}
 use Rattle.core_session.specs.Core.{IsServing, Stands, journal_of, plain_of}
 use Rattle.core_session.specs.Shows.{IsShown, Shows, rebuilt}
 use Rattle.core_session.proofs.SessionLemmas.{document_after-push}
 use Rattle.core_session.proofs.ShowsLemmas.{no_lines, shows_push}
-pub use Rattle.core_session.proofs.SessionLemmas.{closes-command_of, written-push}
+pub use Rattle.core_session.proofs.SessionLemmas.{IsOfLine-command_of, written-push}
 pub use Rattle.core_session.proofs.RowLemmas.{first_insertion}
 
 -- what a session wrote shows its journal with the closing entry, which writes nothing

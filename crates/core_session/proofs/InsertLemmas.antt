@@ -1,7 +1,7 @@
 -- What an insertion comes to where it is refused.
 use Rattle.std.proofs.Common.{◌≡◌, ◌≢◌, ℕ, List, Option, refl, subst}
 use Rattle.std.proofs.Math.Logic.{∥∥₁_elim}
-use Rattle.xi_plain.specs.declared.command.EditAct.TheVariants.{Insert}
+use Rattle.xi_plain.specs.declared.command.EditAct.{EditAct}
 use Rattle.plain_edits.specs.Edits.{Refusal}
 use Rattle.plain_edits.specs.declared.fault.EditFault.TheVariants as Edit
 use Rattle.doc_session.specs.InMemory.{Doc}
@@ -41,8 +41,8 @@ prop (Spent total) p q = refl
 prop NoMemory p q = refl
 
 -- the fault of an insertion that a document refuses
-pub IsSpentOrLack-inserted : (doc : Doc) (chars : List ℕ) (fault : DocFault) → ∥ ((plain : Document) × DocStandsFor doc plain) ∥₁ →
-    ((plain : Document) → DocStandsFor doc plain → DocRefuses (refusal_at plain (Front (Insert chars))) fault) → IsSpentOrLack fault
-IsSpentOrLack-inserted doc chars fault known refuses =
+pub IsSpentOrLack-inserted : (doc : Doc) (act : EditAct) (fault : DocFault) → ∥ ((plain : Document) × DocStandsFor doc plain) ∥₁ →
+    ((plain : Document) → DocStandsFor doc plain → DocRefuses (refusal_at plain (Front act)) fault) → IsSpentOrLack fault
+IsSpentOrLack-inserted doc act fault known refuses =
     ∥∥₁_elim known (prop fault) (λ (s : (plain : Document) × DocStandsFor doc plain).
-    spent_fault (refusal_at s.0 (Front (Insert chars))) fault (insertion_fits doc s.0 chars s.1) (refuses s.0 s.1))
+    spent_fault (refusal_at s.0 (Front act)) fault (insertion_fits doc s.0 act s.1) (refuses s.0 s.1))

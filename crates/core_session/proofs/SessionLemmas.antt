@@ -8,17 +8,17 @@ use Rattle.std.proofs.lemmas.List.Folds.{concat-append}
 use Rattle.serde_json.specs.Data.{Data}
 use Rattle.json_rpc.specs.Line.{line_of, IsLineOf}
 use Rattle.xi_plain.specs.declared.command.Command.{Command}
-use Rattle.xi_plain.specs.declared.command.Entry.{Entry}
+use Rattle.xi_plain.specs.declared.entry.Entry.{Entry}
 use Rattle.doc_session.specs.Document.{Document}
 use Rattle.core_session.specs.Session.{messages, step, document_after, lines_written, written, piece_of}
-use Rattle.core_session.specs.Core.{front_entry}
+use Rattle.core_session.specs.Core.{IsOfLine, IsOpen, front_entry}
 use Rattle.core_session.specs.Inner.{AreLinesOf}
-use Rattle.core_session.specs.Journal.{closes, IsOpen}
 use Rattle.std.proofs.Math.Seq.{take-nil}
 use Rattle.std.specs.Prelude.{if◌then◌else◌, Bool, true, false, Result, Ok, Err}
+use Rattle.xi_plain.specs.declared.command.EditAct.{EditAct}
 use Rattle.xi_plain.specs.declared.command.Act.TheVariants.{NewView}
 use Rattle.json_rpc.specs.Request.{Request, LineRefusal, line_request}
-use Rattle.front_wire.specs.Front.{insert_from, not_built, edit_act, command_from, command_of}
+use Rattle.front_wire.specs.Front.{edit_from, not_built, edit_act, command_from, command_of}
 
 -- entries after entries
 pub document_after-append : (document : Option Document) (front back : List Entry) →
@@ -98,27 +98,26 @@ AreLinesOf-parts answer update scroll a u s piece more first second third two th
     subst At whole
     (AreLinesOf-append answer (update ++ scroll) _ _ first (AreLinesOf-append update scroll _ _ second third))
 
--- no line closes the session
-asks_insert : (view : Option (List ℕ)) (inserts : Bool) (text : Option (List ℕ)) → closes (insert_from view inserts text) ≡ false
-asks_insert None inserts text = refl
-asks_insert (Some view) inserts None = refl
-asks_insert (Some view) true (Some text) = refl
-asks_insert (Some view) false (Some text) = refl
+-- no line closes the session or asks the shelf
+of_edit : (view : Option (List ℕ)) (act : Option EditAct) → IsOfLine (edit_from view act)
+of_edit None act = (refl, refl)
+of_edit (Some view) None = (refl, refl)
+of_edit (Some view) (Some act) = (refl, refl)
 
-asks_method : (opens edits file : Bool) (params : Data) →
-    closes (if opens then (if file then NewView None else not_built) else (if edits then edit_act params else not_built)) ≡ false
-asks_method true edits true params = refl
-asks_method true edits false params = refl
-asks_method false true file params = asks_insert _ _ _
-asks_method false false file params = refl
+of_method : (opens edits file : Bool) (params : Data) →
+    IsOfLine (if opens then (if file then NewView None else not_built) else (if edits then edit_act params else not_built))
+of_method true edits true params = (refl, refl)
+of_method true edits false params = (refl, refl)
+of_method false true file params = of_edit _ _
+of_method false false file params = (refl, refl)
 
-asks_from : (read : Result Request LineRefusal) → closes (command_from read).act ≡ false
-asks_from (Ok request) = asks_method _ _ _ request.params
-asks_from (Err refusal) = refl
+of_read : (read : Result Request LineRefusal) → IsOfLine (command_from read).act
+of_read (Ok request) = of_method _ _ _ request.params
+of_read (Err refusal) = (refl, refl)
 
-pub closes-command_of : (line : List ℕ) → closes (command_of line).act ≡ false
+pub IsOfLine-command_of : (line : List ℕ) → IsOfLine (command_of line).act
 unfolding command_of
-closes-command_of line = asks_from (line_request line)
+IsOfLine-command_of line = of_read (line_request line)
 
 -- the first bytes, in two parts
 pub take-plus : (m n : ℕ) (xs : List ℕ) → take (m + n) xs ≡ take m xs ++ take n (drop m xs)
@@ -129,9 +128,9 @@ take-plus (suc m) n (x ∷ xs) =
     ap (λ k. take k (x ∷ xs)) less ∙ ap (λ rest. x ∷ rest) (take-plus m n xs)
 
 -- one more entry that is open
-pub IsOpen-push : (journal : List Entry) (command : Command) → AllByRecursion IsOpen journal → closes command.act ≡ false →
+pub IsOpen-push : (journal : List Entry) (command : Command) → AllByRecursion IsOpen journal → IsOfLine command.act →
     AllByRecursion IsOpen (journal ++ front_entry command true ∷ [])
-IsOpen-push journal command sent asks = all_append IsOpen journal (front_entry command true ∷ []) sent ((refl, asks, refl), tt)
+IsOpen-push journal command sent asks = all_append IsOpen journal (front_entry command true ∷ []) sent (record { caller = refl; asks = asks; shelf = refl; sent = refl }, tt)
 
 -- the rest of a slice is what stands after its front
 take_rest : (m : ℕ) (xs : List ℕ) → take (length xs - m) (drop m xs) ≡ drop m xs

@@ -1,6 +1,6 @@
 -- One more entry is shown, where those before it are.
 use Rattle.std.proofs.Common.{◌≡◌, ℕ, suc, ◌+◌, ◌-◌, ◌<◌, ◌≤◌, ◌||◌, length, arith, Bool, true, false, List, [], ◌∷◌, ◌++◌, map, Option, Some, None, refl, ap, sym, ◌∙◌, subst, append-nil, ◌⊎◌, inl, inr, unwrap_or}
-use Rattle.std.specs.Prelude.{if◌then◌else◌, ℤ, pos, codes, option_map, ◌^◌}
+use Rattle.std.specs.Prelude.{if◌then◌else◌, ◌&&◌, ℤ, pos, codes, option_map, ◌^◌}
 use Rattle.std.specs.List.{filter_map, cons_option, AllByRecursion}
 use Rattle.serde_json.specs.Data.{Data}
 use Rattle.json_rpc.specs.Line.{line_of, IsLineOf}
@@ -10,16 +10,16 @@ use Rattle.xi_plain.specs.declared.command.Id.TheVariants.{NoId, Num, Word}
 use Rattle.xi_plain.specs.declared.command.Fault.{Fault}
 use Rattle.xi_plain.specs.declared.command.Fault.TheVariants.{Parse, Invalid, NoMethod, BadParams, NotBuilt}
 use Rattle.xi_plain.specs.declared.command.Command.{Command}
-use Rattle.xi_plain.specs.declared.command.Entry.{Entry}
+use Rattle.xi_plain.specs.declared.entry.Entry.{Entry}
 use Rattle.plain_screen.specs.declared.screen.Update.{Update}
 use Rattle.doc_session.specs.Layout.{Position}
 use Rattle.plain_text.specs.declared.run.Run.{Run}
 use Rattle.plain_screen.specs.declared.screen.Line.{Line}
 use Rattle.plain_screen.specs.declared.screen.Op.{Op}
 use Rattle.plain_screen.specs.declared.screen.Op.TheVariants.{Copy, Skip, Invalidate, Ins}
-use Rattle.xi_plain.specs.declared.command.EditAct.TheVariants.{Insert}
+use Rattle.xi_plain.specs.declared.command.EditAct.{EditAct}
 use Rattle.xi_plain.specs.declared.command.Act.{Act}
-use Rattle.xi_plain.specs.declared.command.Act.TheVariants.{Bad, Nothing, NewView, Edit, Closing}
+use Rattle.xi_plain.specs.declared.command.Act.TheVariants.{NewView, Edit}
 use Rattle.plain_screen.specs.Plan.{shown_lines}
 use Rattle.plain_screen.specs.Plan.{is_within, onto_left, onto_sent, onto_plan, is_sent, is_left, plan_from}
 use Rattle.plain_screen.proofs.ForCallers.{screen_after-plan_from}
@@ -36,17 +36,17 @@ use Rattle.doc_session.specs.Document.{Document, layout_of, no_request}
 use Rattle.doc_session.specs.declared.event.Event.TheVariants.{Front}
 use Rattle.doc_session.specs.Asking.{front_edit}
 use Rattle.doc_session.specs.Effects.{ops_of, update_of, updated, wants_update}
-use Rattle.doc_session.specs.Step.{edited_document, refusal_at, event_step}
+use Rattle.doc_session.specs.Step.{edited_document, refusal_at, typed, typing_step}
 use Rattle.core_session.specs.Answer.{Reply, accepted, refused, spent, silent, answers, refusal, refused_by, spent_refusal}
 use Rattle.json_rpc.specs.Refusal.{code_of, message_of}
-use Rattle.core_session.specs.Session.{view_id, Outcome, outcome, opening_outcome, first_document, edit_came, spent_total, insert_outcome, refusing, is_first_view, outcome_messages, update_notes, scroll_notes, messages, step, document_after, lines_written, written, piece_of}
+use Rattle.core_session.specs.Session.{view_id, Outcome, outcome, opening_outcome, first_document, edit_came, spent_total, front_outcome, is_done, refusing, is_first_view, outcome_messages, update_notes, scroll_notes, messages, step, document_after, lines_written, written, piece_of}
 use Rattle.core_session.specs.Shows.{updates_in, screen_with, rebuilt_from, rebuilt, IsShown, SendsWithin, SendWindow, Shows}
 use Rattle.doc_session.proofs.ForCallers.{head-stands}
 use Rattle.doc_session.proofs.ForCallers.{DocStandsFor-doc_contents}
 use Rattle.core_session.specs.declared.act.DocumentChange.{DocumentChange}
-use Rattle.core_session.specs.Core.{Stands, screen_of, plain_of, IsShowing, front_entry}
+use Rattle.core_session.specs.Core.{IsOfLine, IsOpen, Stands, screen_of, plain_of, IsShowing, front_entry}
 use Rattle.core_session.specs.Inner.{MayBeAsked, UpdateReadsBack, AreLinesOf, with_change}
-use Rattle.core_session.specs.Journal.{IsOpen, closes}
+use Rattle.xi_plain.specs.Journal.{closes}
 use Rattle.core_session.proofs.RevisionLemmas.{revisions_of, revisions_few}
 use Rattle.core_session.proofs.SessionLemmas.{document_after-push, all_messages, all_messages-push, written-messages, IsOpen-push}
 
@@ -225,25 +225,13 @@ unfolding note_list
 settles_if true before after same = updated_screen before after same
 settles_if false before after same = ap Some (sym same)
 
-settles_still : (document : Document) → Settles (Some document) (edit_came document None (event_step document (Front (Insert []))))
-unfolding Settles
-settles_still document = settles_if (wants_update document document) document document refl
-
-settles_edit : (document : Document) (c : ℕ) (chars : List ℕ) → Settles (Some document) (edit_came document None (event_step document (Front (Insert (c ∷ chars)))))
-unfolding Settles
-settles_edit document c chars =
-    let next = edited_document document (front_edit document (c ∷ chars)) (document.caret + length (c ∷ chars)) in
-    settles_if (wants_update document next) document next refl
-
-settles_came : (document : Document) (total : Option ℕ) (chars : List ℕ) →
-    Settles (Some document) (edit_came document total (event_step document (Front (Insert chars))))
+settles_came : (document : Document) (total : Option ℕ) (chars : List ℕ) → Settles (Some document) (edit_came document total (typing_step document chars))
 unfolding Settles note_list
 settles_came document (Some total) chars = refl
-settles_came document None [] = settles_still document
-settles_came document None (c ∷ chars) = settles_edit document c chars
-
-settles_inserting : (document : Document) (chars : List ℕ) → Settles (Some document) (insert_outcome document chars)
-settles_inserting document chars = settles_came document (spent_total (refusal_at document (Front (Insert chars)))) chars
+settles_came document None [] = settles_if (wants_update document document) document document refl
+settles_came document None (c ∷ chars) =
+    let next = edited_document document (front_edit document (c ∷ chars)) (document.caret + length (c ∷ chars)) in
+    settles_if (wants_update document next) document next refl
 
 settles_refusing : (plain : Option Document) (fault : Fault) → Settles plain (refusing plain fault)
 unfolding Settles note_list
@@ -253,21 +241,19 @@ settles_opening : Settles None opening_outcome
 unfolding Settles
 settles_opening = settles_if (wants_update first_document first_document) first_document first_document refl
 
-settles_view : (here : Bool) (document : Document) (chars : List ℕ) →
-    Settles (Some document) (if here then insert_outcome document chars else refusing (Some document) NotBuilt)
-settles_view true document chars = settles_inserting document chars
-settles_view false document chars = settles_refusing (Some document) NotBuilt
+settles_view : (taken : Bool) (document : Document) (act : EditAct) →
+    Settles (Some document) (if taken then front_outcome document act else refusing (Some document) NotBuilt)
+settles_view true document act = settles_came document (spent_total (refusal_at document (Front act))) (typed act)
+settles_view false document act = settles_refusing (Some document) NotBuilt
 
 pub settles : (plain : Option Document) (act : Act) → Settles plain (outcome plain act)
 unfolding Settles note_list
-settles plain (Bad fault) = refl
-settles plain Nothing = refl
 settles None (NewView None) = settles_opening
 settles None (NewView (Some path)) = refl
 settles (Some document) (NewView path) = refl
 settles None (Edit view act) = refl
-settles (Some document) (Edit view (Insert chars)) = settles_view (is_first_view view) document chars
-settles plain Closing = refl
+settles (Some document) (Edit view act) = settles_view (is_first_view view && is_done act) document act
+settles plain act = refl
 
 -- ---- the lines that an entry sends
 
@@ -328,7 +314,7 @@ unfolding note_list
 sends_if true after = (sends-plan_from after.window (layout_of after) 0 0, tt)
 sends_if false after = tt
 
-sends_came : (document : Document) (total : Option ℕ) (chars : List ℕ) → Sends (edit_came document total (event_step document (Front (Insert chars))))
+sends_came : (document : Document) (total : Option ℕ) (chars : List ℕ) → Sends (edit_came document total (typing_step document chars))
 unfolding Sends note_list
 sends_came document (Some total) chars = tt
 sends_came document None [] = sends_if (wants_update document document) document
@@ -336,25 +322,27 @@ sends_came document None (c ∷ chars) =
     let next = edited_document document (front_edit document (c ∷ chars)) (document.caret + length (c ∷ chars)) in
     sends_if (wants_update document next) next
 
-sends_view : (here : Bool) (document : Document) (chars : List ℕ) →
-    Sends (if here then insert_outcome document chars else refusing (Some document) NotBuilt)
+sends_view : (taken : Bool) (document : Document) (act : EditAct) →
+    Sends (if taken then front_outcome document act else refusing (Some document) NotBuilt)
 unfolding Sends note_list
-sends_view true document chars = sends_came document (spent_total (refusal_at document (Front (Insert chars)))) chars
-sends_view false document chars = tt
+sends_view true document act = sends_came document (spent_total (refusal_at document (Front act))) (typed act)
+sends_view false document act = tt
+
+-- what changes nothing tells nothing
+sends_still : (plain : Option Document) (reply : Reply) → Sends (record { reply = reply; document = plain; update = None; scroll = None })
+unfolding Sends note_list
+sends_still None reply = refl
+sends_still (Some document) reply = tt
 
 pub sends : (plain : Option Document) (act : Act) → Sends (outcome plain act)
 unfolding Sends note_list
-sends None (Bad fault) = refl
-sends (Some document) (Bad fault) = tt
-sends None Nothing = refl
-sends (Some document) Nothing = tt
 sends None (NewView None) = sends_if (wants_update first_document first_document) first_document
 sends None (NewView (Some path)) = refl
 sends (Some document) (NewView path) = tt
 sends None (Edit view act) = refl
-sends (Some document) (Edit view (Insert chars)) = sends_view (is_first_view view) document chars
-sends None Closing = refl
-sends (Some document) Closing = tt
+sends (Some document) (Edit view act) = sends_view (is_first_view view && is_done act) document act
+sends None act = refl
+sends (Some document) act = tt
 
 -- ---- one more entry is shown
 
@@ -467,7 +455,7 @@ shows_push journal entry doc stands showing lines reads =
 
 -- a command that was prepared is an entry that is served
 pub serves_push : (journal : List Entry) (command : Command) (before : Option Doc) (change : Option DocumentChange) (piece : List ℕ) →
-    AllByRecursion IsOpen journal → IsShowing journal → closes command.act ≡ false →
+    AllByRecursion IsOpen journal → IsShowing journal → IsOfLine command.act →
     AreLinesOf (messages (plain_of journal) command) piece → UpdateReadsBack (outcome (plain_of journal) command.act).update →
     Stands (with_change change before) (step (plain_of journal) command) →
     AllByRecursion IsOpen (journal ++ front_entry command true ∷ []) × IsShowing (journal ++ front_entry command true ∷ []) ×

@@ -1,8 +1,11 @@
 -- What a session in memory keeps, and what a call does to it.
 use Rattle.std.specs.Prelude.{◌≡◌, ℕ, ◌<◌, ◌≤◌, Bool, true, false, List, [], ◌∷◌, ◌++◌, length, take, Option, Some, None, vec_len, vec_capacity, ⊤}
 use Rattle.std.specs.List.{AllByRecursion}
+use Rattle.xi_plain.specs.declared.command.Act.{Act}
 use Rattle.xi_plain.specs.declared.command.Command.{Command}
-use Rattle.xi_plain.specs.declared.command.Entry.{Entry}
+use Rattle.xi_plain.specs.declared.entry.Entry.{Entry}
+use Rattle.xi_plain.specs.declared.entry.ShelfNote.TheVariants.{NoCall}
+use Rattle.xi_plain.specs.Journal.{closes, may_have_note}
 use Rattle.plain_screen.specs.Screen.{Screen}
 use Rattle.outside.specs.Faults.{Rose, counted}
 use Rattle.outside.specs.Sink.{SinkState, Gains}
@@ -12,7 +15,6 @@ use Rattle.doc_session.specs.ScreenOf.{IsUpToDate}
 use Rattle.doc_session.specs.Stands.{DocStandsFor}
 use Rattle.core_session.specs.declared.session.Core.{Core}
 use Rattle.core_session.specs.Session.{piece_of, document_after, written}
-use Rattle.core_session.specs.Journal.{IsOpen}
 use Rattle.core_session.specs.Shows.{Shows, rebuilt}
 
 -- the document in memory stands for the plain one, has no plugins, and is shown on the front end's screen
@@ -20,6 +22,17 @@ pub record ServesDocument (doc : Doc) (plain : Document) : Type 0 where
   pub stands : DocStandsFor doc plain
   pub no_plugins : doc.plugins ≡ 0
   pub shown : IsUpToDate plain
+
+-- a line of the front end asks so: it closes nothing, and the shelf is not asked
+abbrev pub IsOfLine : Act → Type 0
+IsOfLine act = (closes act ≡ false) × (may_have_note act NoCall ≡ true)
+
+-- the entry is one of the front end's lines, and its piece was sent whole
+pub record IsOpen (entry : Entry) : Type 0 where
+  pub caller : entry.caller ≡ 0
+  pub asks : IsOfLine entry.command.act
+  pub shelf : entry.shelf ≡ NoCall
+  pub sent : entry.sent ≡ true
 
 -- what the document in memory stands for, where there is one
 abbrev pub Stands : Option Doc → Option Document → Type 0
@@ -63,7 +76,7 @@ pub record IsServing {K : Type 0} (core : Core K) : Type 0 where
 
 -- the entry of a command of the front end
 abbrev pub front_entry : Command → Bool → Entry
-front_entry command sent = record { caller = 0; command = command; sent = sent }
+front_entry command sent = record { caller = 0; command = command; shelf = NoCall; sent = sent }
 
 -- the piece that a command writes after these entries
 abbrev pub piece_after : List Entry → Command → List ℕ

@@ -1,6 +1,5 @@
 pub mod Answer
 pub mod Session
-pub mod Journal
 pub mod Shows
 pub mod Core
 pub mod Laws

@@ -5,14 +5,15 @@ use Rattle.xi_plain.specs.declared.command.Id.TheVariants.{NoId, Num}
 use Rattle.xi_plain.specs.declared.command.EditAct.TheVariants.{Insert}
 use Rattle.xi_plain.specs.declared.command.Act.{Act}
 use Rattle.xi_plain.specs.declared.command.Act.TheVariants.{NewView, Edit}
-use Rattle.xi_plain.specs.declared.command.Entry.{Entry}
-use Rattle.core_session.specs.Journal.{closing_entry}
+use Rattle.xi_plain.specs.declared.entry.Entry.{Entry}
+use Rattle.xi_plain.specs.declared.entry.ShelfNote.TheVariants.{NoCall}
+use Rattle.xi_plain.specs.Journal.{closing_entry}
 use Rattle.core_session.specs.Session.{view_id, document_after, written}
 use Rattle.core_session.specs.Shows.{rebuilt}
 
 -- an entry of the front end that was sent
 abbrev pub entry_of : Id → Act → Entry
-entry_of id act = record { caller = 0; command = record { id = id; act = act }; sent = true }
+entry_of id act = record { caller = 0; command = record { id = id; act = act }; shelf = NoCall; sent = true }
 
 -- the opening of the first view, and the insertion of characters into it
 abbrev pub opening : Entry

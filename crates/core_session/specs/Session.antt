@@ -1,5 +1,5 @@
 -- THE PLAIN SESSION: what the entries of a journal do, one after the other, and what each writes.
-use Rattle.std.specs.Prelude.{ℕ, ◌^◌, Bool, if◌then◌else◌, List, [], ◌∷◌, ◌++◌, map, codes, Option, Some, None}
+use Rattle.std.specs.Prelude.{ℕ, ◌^◌, Bool, true, false, ◌&&◌, if◌then◌else◌, List, [], ◌∷◌, ◌++◌, map, codes, Option, Some, None}
 use Rattle.std.specs.Str.{encode_utf8_all, bytes_eq}
 use Rattle.std.specs.List.{concat}
 use Rattle.serde_json.specs.Data.{Data, null}
@@ -7,11 +7,11 @@ use Rattle.xi_plain.specs.declared.command.Id.{Id}
 use Rattle.xi_plain.specs.declared.command.Fault.{Fault}
 use Rattle.xi_plain.specs.declared.command.Fault.TheVariants.{NotBuilt}
 use Rattle.xi_plain.specs.declared.command.EditAct.{EditAct}
-use Rattle.xi_plain.specs.declared.command.EditAct.TheVariants.{Insert}
+use Rattle.xi_plain.specs.declared.command.EditAct.TheVariants.{Insert, InsertNewline}
 use Rattle.xi_plain.specs.declared.command.Act.{Act}
 use Rattle.xi_plain.specs.declared.command.Act.TheVariants.{Bad, Nothing, NewView, Edit, Closing}
 use Rattle.xi_plain.specs.declared.command.Command.{Command}
-use Rattle.xi_plain.specs.declared.command.Entry.{Entry}
+use Rattle.xi_plain.specs.declared.entry.Entry.{Entry}
 use Rattle.plain_screen.specs.declared.screen.Update.{Update}
 use Rattle.plain_edits.specs.Edits.{Refusal, spent as spent_by}
 use Rattle.doc_session.specs.Layout.{Position}
@@ -75,20 +75,25 @@ abbrev pub edit_came : Document → Option ℕ → EventStep → Outcome
 edit_came document None step = taking null step
 edit_came document (Some total) step = record { reply = spent; document = Some document; update = None; scroll = None }
 
--- characters are inserted
-abbrev pub insert_outcome : Document → List ℕ → Outcome
-insert_outcome document chars =
-    edit_came document (spent_total (refusal_at document (Front (Insert chars)))) (event_step document (Front (Insert chars)))
+-- a view is edited
+abbrev pub front_outcome : Document → EditAct → Outcome
+front_outcome document act = edit_came document (spent_total (refusal_at document (Front act))) (event_step document (Front act))
+
+-- whether the edits of this kind are done yet
+abbrev pub is_done : EditAct → Bool
+is_done (Insert chars) = true
+is_done InsertNewline = true
+is_done act = false
 
 -- whether the id is that of the first view, in bytes
 abbrev pub is_first_view : List ℕ → Bool
 is_first_view view = bytes_eq (encode_utf8_all view) view_id
 
--- a view is edited, where it is there
+-- a view is edited, where it is there, and the edit is done yet
 abbrev pub edit_outcome : Option Document → List ℕ → EditAct → Outcome
 edit_outcome None view act = refusing None NotBuilt
-edit_outcome (Some document) view (Insert chars) =
-    if is_first_view view then insert_outcome document chars else refusing (Some document) NotBuilt
+edit_outcome (Some document) view act =
+    if is_first_view view && is_done act then front_outcome document act else refusing (Some document) NotBuilt
 
 -- a view is opened, where none was, on no file
 abbrev pub open_outcome : Option Document → Option (List ℕ) → Outcome
@@ -96,13 +101,14 @@ open_outcome None None = opening_outcome
 open_outcome None (Some path) = refusing None NotBuilt
 open_outcome (Some document) path = refusing (Some document) NotBuilt
 
--- THE OUTCOME of an act
+-- THE OUTCOME of an act. What is not done yet is refused
 abbrev pub outcome : Option Document → Act → Outcome
 outcome document (Bad fault) = refusing document fault
 outcome document Nothing = record { reply = accepted null; document = document; update = None; scroll = None }
 outcome document (NewView path) = open_outcome document path
 outcome document (Edit view act) = edit_outcome document view act
 outcome document Closing = record { reply = silent; document = document; update = None; scroll = None }
+outcome document act = refusing document NotBuilt
 
 -- the messages of an outcome in their order
 abbrev pub outcome_messages : Id → Outcome → List Data

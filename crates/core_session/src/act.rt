@@ -9,7 +9,7 @@ ghost use Rattle.doc_session.specs.Stands.{DocStandsFor};
 ghost use Rattle.doc_session.specs.Step.{AreEffectsOf, EventStep, HasCaller, refusal_at, event_step};
 ghost use Rattle.core_session.specs.Core.{ServesDocument, Stands};
 ghost use Rattle.core_session.specs.Inner.{MayBeAsked, TakesEvents, IsOutcome, IsSpentOrLack, MayChange};
-ghost use Rattle.core_session.specs.Session.{outcome, edit_came, edit_outcome, open_outcome, is_first_view, insert_outcome, refusing, spent_total};
+ghost use Rattle.core_session.specs.Session.{outcome, edit_came, edit_outcome, open_outcome, is_first_view, is_done, front_outcome, refusing, spent_total};
 
 use doc_session::{Doc, DocFault, Effects, Event, ReadyEvent};
 use plain_screen::Update;
@@ -80,6 +80,7 @@ pub fn act_on(alloc: Global, document: &mut Option<Doc>, act: &Act) -> Result<Ac
         Act::NewView { path } => open(alloc, document, path),
         Act::Edit { view, act } => edit(alloc, document, view, act),
         Act::Closing => Ok(changed_nothing(Reply::Silent)),
+        _ => refused(alloc, &Fault::NotBuilt),
     }
 }
 
@@ -131,9 +132,7 @@ fn edit(
     ensures same { option_map doc_contents document.new ≡ option_map doc_contents document.old }
 {
     match document {
-        Some(doc) if is_first_view(view) => match act {
-            EditAct::Insert { chars } => insert(alloc, doc, chars),
-        },
+        Some(doc) if is_first_view(view) && is_done(act) => edit_document(alloc, doc, act),
         _ => refused(alloc, &Fault::NotBuilt),
     }
 }
@@ -144,17 +143,22 @@ fn is_first_view(view: &Text) -> bool
     view.as_str() == FIRST_VIEW
 }
 
-fn insert(alloc: Global, doc: &mut Doc, chars: &Text) -> Result<ActEffects, NoMemory>
+/// Whether the edits of this kind are done yet.
+fn is_done(act: &EditAct) -> bool
+    ensures { result ≡ is_done act.now }
+{
+    matches!(act, EditAct::Insert { .. } | EditAct::InsertNewline)
+}
+
+fn edit_document(alloc: Global, doc: &mut Doc, act: &EditAct) -> Result<ActEffects, NoMemory>
     requires { MayBeAsked (Some doc.old) }
     ensures stands { (plain : Document) → ServesDocument doc.old plain
-        → IfOk result (IsOutcome (Some doc.new) (insert_outcome plain chars.now)) }
+        → IfOk result (IsOutcome (Some doc.new) (front_outcome plain act.now)) }
     ensures may_change { IfOk result (λ effects. MayChange effects.change (Some doc.new)) }
     ensures same { doc_contents doc.new ≡ doc_contents doc.old }
 {
-    let event = Event::Front(EditAct::Insert {
-        chars: chars.copy(alloc)?,
-    });
-    match ready_alone(alloc, doc, event) {
+    let act = act.copy(alloc)?;
+    match ready_alone(alloc, doc, Event::Front(act)) {
         Ok((ready, effects)) => Ok(accepted(
             Reply::Accepted,
             DocumentChange::Changed(ready),

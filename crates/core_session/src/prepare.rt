@@ -1,9 +1,8 @@
-ghost use Rattle.std.specs.Prelude.{◌≡◌, Option, IfOk, false, option_map};
+ghost use Rattle.std.specs.Prelude.{◌≡◌, Option, IfOk, option_map};
 ghost use Rattle.front_wire.specs.Front.{command_of};
 ghost use Rattle.doc_session.specs.Document.{Document};
-ghost use Rattle.core_session.specs.Journal.{closes};
 ghost use Rattle.doc_session.specs.InMemory.{doc_contents};
-ghost use Rattle.core_session.specs.Core.{Stands};
+ghost use Rattle.core_session.specs.Core.{IsOfLine, Stands};
 ghost use Rattle.core_session.specs.Inner.{MayBeAsked, IsPrepared, MayChange};
 
 use crate::act::act_on;
@@ -18,7 +17,7 @@ use std::alloc::Global;
 pub fn prepare(alloc: Global, document: &mut Option<Doc>, line: &[u8]) -> Result<Prepared, NoMemory>
     requires { MayBeAsked document.old }
     ensures command { IfOk result (λ made. made.command ≡ command_of line.now) }
-    ensures asks { IfOk result (λ made. closes made.command.act ≡ false) }
+    ensures asks { IfOk result (λ made. IsOfLine made.command.act) }
     ensures prepared { (plain : Option Document) → Stands document.old plain
         → IfOk result (IsPrepared document.new plain) }
     ensures may_change { IfOk result (λ made. MayChange made.change document.new) }

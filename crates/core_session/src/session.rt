@@ -2,9 +2,10 @@ ghost use Rattle.std.specs.Prelude.{◌≡◌, ◌≢◌, ◌+◌, ◌≤◌, �
 ghost use Rattle.outside.specs.Faults.{Rose};
 ghost use Rattle.outside.specs.Sink.{sink_state};
 ghost use Rattle.xi_plain.specs.declared.command.Command.{Command};
+ghost use Rattle.xi_plain.specs.declared.entry.ShelfNote.TheVariants.{NoCall};
 ghost use Rattle.front_wire.specs.Fair.{IsFair};
 ghost use Rattle.doc_session.specs.Document.{Document};
-ghost use Rattle.core_session.specs.Journal.{closing_entry, closes};
+ghost use Rattle.xi_plain.specs.Journal.{closing_entry};
 ghost use Rattle.core_session.specs.Inner.{MayChange, MayTakeIfAny, with_change, with_event_if_any};
 ghost use Rattle.front_wire.specs.Front.{command_of};
 
@@ -15,7 +16,7 @@ use doc_session::{Doc, ReadyEvent};
 use outside::Sink;
 use plain_text::Text;
 use std::alloc::Global;
-use xi_plain::{Act, Command, Entry, Id};
+use xi_plain::{Act, Command, Entry, Id, ShelfNote};
 
 /// What became of a line.
 #[derive(Clone, Copy)]
@@ -45,7 +46,7 @@ pub struct Core<K> {
 }
 
 impl<K: Sink> Core<K> {
-    ghost use Rattle.core_session.specs.Core.{IsServing, AddsSentEntry, AddsUnsentEntry, ChangesNothing, HasRoom, journal_of, sink_of, plain_of};
+    ghost use Rattle.core_session.specs.Core.{IsOfLine, IsServing, AddsSentEntry, AddsUnsentEntry, ChangesNothing, HasRoom, journal_of, sink_of, plain_of};
     ghost use Rattle.core_session.specs.Inner.{IsPrepared};
 
     /// A session without entries. For want of memory the sink is given back.
@@ -89,7 +90,7 @@ impl<K: Sink> Core<K> {
     fn put(&mut self, made: Prepared) -> Entered
         requires serving { IsServing self.old }
         requires room { vec_len self.old.journal + 2 ≤ vec_capacity self.old.journal }
-        requires asks { closes made.command.act ≡ false }
+        requires asks { IsOfLine made.command.act }
         requires prepared { IsPrepared self.old.document (plain_of (journal_of self.old)) made }
         requires may_change { MayChange made.change self.old.document }
         ensures sent { result ≡ Entered.Taken
@@ -158,11 +159,12 @@ fn put_event(document: &mut Option<Doc>, ready: ReadyEvent)
 }
 
 fn front_entry(command: Command, sent: bool) -> Entry
-    ensures { result ≡ record { caller = 0; command = command; sent = sent } }
+    ensures { result ≡ record { caller = 0; command = command; shelf = NoCall; sent = sent } }
 {
     Entry {
         caller: 0,
         command,
+        shelf: ShelfNote::NoCall,
         sent,
     }
 }
@@ -176,6 +178,7 @@ fn closing() -> Entry
             id: Id::NoId,
             act: Act::Closing,
         },
+        shelf: ShelfNote::NoCall,
         sent: true,
     }
 }

@@ -1,7 +1,6 @@
 -- After an event the front end's screen shows the layout.
-use Rattle.std.proofs.Common.{◌≡◌, ℕ, ◌+◌, ◌≤◌, Bool, true, false, [], ◌∷◌, length, Option, Some, None, refl, ap, sym, ◌∙◌, arith}
-use Rattle.std.specs.Prelude.{if◌then◌else◌, not, ◌^◌}
-use Rattle.xi_plain.specs.declared.command.EditAct.TheVariants.{Insert}
+use Rattle.std.proofs.Common.{◌≡◌, ℕ, ◌+◌, Bool, true, false, List, [], ◌∷◌, length, Option, Some, None, refl, ap, sym, ◌∙◌}
+use Rattle.std.specs.Prelude.{if◌then◌else◌, not}
 use Rattle.plain_screen.specs.Plan.{shown_lines}
 use Rattle.rev_engine.specs.Given.{AskedEdit}
 use Rattle.doc_session.specs.InMemory.{Doc}
@@ -15,7 +14,7 @@ use Rattle.doc_session.specs.Document.{Document, layout_of, no_request}
 use Rattle.doc_session.specs.Effects.{settled, updated, wants_update}
 use Rattle.doc_session.specs.ScreenOf.{IsUpToDate}
 use Rattle.doc_session.specs.Stands.{DocStandsFor}
-use Rattle.doc_session.specs.Step.{caret_by, edited_document, event_step}
+use Rattle.doc_session.specs.Step.{caret_by, edited_document, event_step, typed, typing_step}
 use Rattle.doc_session.proofs.ScreenLemmas.{IsScreenOf-screen}
 use Rattle.doc_session.proofs.SettleLemmas.{screen-settled, screen-updated, wants_update-same, screen_by}
 
@@ -52,9 +51,12 @@ module _ (doc : Doc) (plain : Document) (stands : DocStandsFor doc plain) where
       by true is = screen-updated plain
       by false is = stands.screen ∙ valid_by doc.valid (sym (wants_update-same doc plain stands) ∙ is)
 
+  shown-typed : (chars : List ℕ) → IsUpToDate (typing_step plain chars).document
+  shown-typed [] = shown-still
+  shown-typed (c ∷ chars) = shown-edited (front_edit plain (c ∷ chars)) (plain.caret + length (c ∷ chars))
+
   pub shown-step : (event : Event) → IsUpToDate (event_step plain event).document
-  shown-step (Front (Insert [])) = shown-still
-  shown-step (Front (Insert (c ∷ chars))) = shown-edited (front_edit plain (c ∷ chars)) (plain.caret + length (c ∷ chars))
+  shown-step (Front act) = shown-typed (typed act)
   shown-step (Edit caller edit named) =
       shown-edited (plugin_edit plain caller edit) (caret_by plain (plugin_edit plain caller edit) edit.after_cursor)
   shown-step Other = shown-still

@@ -1,6 +1,6 @@
 -- Laws: what the definitions of a document come to, whatever the document.
 use Rattle.std.specs.Prelude.{◌≡◌, ℕ, ◌≤◌, List, [], ◌∷◌, ◌++◌, length, take, drop, Option, Some, None, ⊤}
-use Rattle.xi_plain.specs.declared.command.EditAct.TheVariants.{Insert}
+use Rattle.xi_plain.specs.declared.command.EditAct.{EditAct}
 use Rattle.plain_edits.specs.History.{History, text_at}
 use Rattle.plain_edits.specs.Delta.{Fits, keeps, adds, applied}
 use Rattle.plain_edits.specs.Edits.{Refusal, unknown, collected, misfit, spent}
@@ -50,7 +50,6 @@ IsSpentIfAny (Some (collected floor)) = ⊥
 IsSpentIfAny (Some (misfit first)) = ⊥
 IsSpentIfAny (Some (spent total)) = ⊤
 
--- the front end's insertion is refused only where its characters are spent: it is against the head, and its delta fits
+-- what the front end types is refused only where its characters are spent: it is against the head, and its delta fits
 abbrev pub InsertionsFit : Type 0
-InsertionsFit = (doc : Doc) (plain : Document) (chars : List ℕ) → DocStandsFor doc plain →
-    IsSpentIfAny (refusal_at plain (Front (Insert chars)))
+InsertionsFit = (doc : Doc) (plain : Document) (act : EditAct) → DocStandsFor doc plain → IsSpentIfAny (refusal_at plain (Front act))

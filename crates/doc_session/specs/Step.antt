@@ -1,7 +1,8 @@
 -- THE STEP: what an event comes to in a plain document.
-use Rattle.std.specs.Prelude.{◌≡◌, ℕ, ◌+◌, ◌≤◌, Bool, [], ◌∷◌, length, Option, Some, None, option_map, ⊤}
+use Rattle.std.specs.Prelude.{◌≡◌, ℕ, ◌+◌, ◌≤◌, Bool, List, [], ◌∷◌, length, Option, Some, None, option_map, ⊤}
 use Rattle.xi_plain.specs.declared.config.Notice.{Notice}
-use Rattle.xi_plain.specs.declared.command.EditAct.TheVariants.{Insert}
+use Rattle.xi_plain.specs.declared.command.EditAct.{EditAct}
+use Rattle.xi_plain.specs.declared.command.EditAct.TheVariants.{Insert, InsertNewline}
 use Rattle.plain_screen.specs.declared.screen.Update.{Update}
 use Rattle.plain_edits.specs.Caret.{moved_caret}
 use Rattle.plain_edits.specs.History.{head}
@@ -65,19 +66,31 @@ plugin_step document caller edit =
     edit_step document (plugin_edit document caller edit) (caret_by document (plugin_edit document caller edit) edit.after_cursor)
     (Edited (head document.history + 1) (head document.history + 1)) None
 
--- THE STEP of an event that is not refused. The front end's own insertion leaves the caret after its text, and one of no characters
--- changes nothing; at a plugin's edit the caret moves by the caret rule.
+-- the characters that an act of the front end puts in at its caret; what is not done yet puts in none
+abbrev pub typed : EditAct → List ℕ
+typed (Insert chars) = chars
+typed InsertNewline = 10 ∷ []
+typed act = []
+
+-- the front end puts characters in, which leaves the caret after them; none change nothing
+abbrev pub typing_step : Document → List ℕ → EventStep
+typing_step document [] = still_step document
+typing_step document (c ∷ chars) = front_step document (front_edit document (c ∷ chars)) (document.caret + length (c ∷ chars))
+
+-- THE STEP of an event that is not refused. At a plugin's edit the caret moves by the caret rule.
 abbrev pub event_step : Document → Event → EventStep
-event_step document (Front (Insert [])) = still_step document
-event_step document (Front (Insert (c ∷ chars))) =
-    front_step document (front_edit document (c ∷ chars)) (document.caret + length (c ∷ chars))
+event_step document (Front act) = typing_step document (typed act)
 event_step document (Edit caller edit named) = plugin_step document caller edit
 event_step document Other = still_step document
 
+-- why characters are refused
+abbrev pub typing_refusal : Document → List ℕ → Option Refusal
+typing_refusal document [] = None
+typing_refusal document (c ∷ chars) = asked_refusal document (front_edit document (c ∷ chars))
+
 -- THE REFUSAL of an event
 abbrev pub refusal_at : Document → Event → Option Refusal
-refusal_at document (Front (Insert [])) = None
-refusal_at document (Front (Insert (c ∷ chars))) = asked_refusal document (front_edit document (c ∷ chars))
+refusal_at document (Front act) = typing_refusal document (typed act)
 refusal_at document (Edit caller edit named) = asked_refusal document (plugin_edit document caller edit)
 refusal_at document Other = None
 

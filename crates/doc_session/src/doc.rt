@@ -16,7 +16,7 @@ ghost use Rattle.doc_session.specs.PositionView.{position_view};
 ghost use Rattle.doc_session.specs.Ready.{MayTake, MayTakeEdited, with_edited, with_event};
 ghost use Rattle.doc_session.specs.ScreenOf.{IsUpToDate};
 ghost use Rattle.doc_session.specs.Stands.{DocStandsFor};
-ghost use Rattle.doc_session.specs.Step.{AreEffectsOf, HasCaller, edit_step, edited_document, plugin_step, refusal_at, event_step, still_step};
+ghost use Rattle.doc_session.specs.Step.{AreEffectsOf, HasCaller, edit_step, edited_document, plugin_step, refusal_at, event_step, still_step, typed};
 ghost use Rattle.doc_session.specs.Whole.{IsStateOfSome};
 ghost use Rattle.doc_session.specs.declared.event.Event.TheVariants.{Front};
 
@@ -145,7 +145,7 @@ impl Doc {
         ensures steps { steps.new ≡ steps.old }
     {
         match event {
-            Event::Front(EditAct::Insert { chars }) => self.insert(alloc, &chars),
+            Event::Front(act) => self.insert(alloc, &typed(alloc, act)?),
             Event::Edit {
                 caller,
                 edit,
@@ -393,4 +393,15 @@ fn given(edit: Edit, caller: u32, rev: u64) -> Edit
     given.author = caller;
     given.group = rev;
     given
+}
+
+// The characters that an act of the front end puts in at the caret.
+fn typed(alloc: Global, act: EditAct) -> Result<Text, NoMemory>
+    ensures { IfOk result (λ chars. chars ≡ typed act) }
+{
+    match act {
+        EditAct::Insert { chars } => Ok(chars),
+        EditAct::InsertNewline => Text::from_ascii(alloc, "\n"),
+        _ => Ok(Text::new(alloc)),
+    }
 }

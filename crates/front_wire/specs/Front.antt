@@ -6,10 +6,13 @@ use Rattle.serde_json.specs.Find.{get, get_member, as_str}
 use Rattle.xi_plain.specs.declared.command.Id.TheVariants.{NoId}
 use Rattle.xi_plain.specs.declared.command.Fault.{Fault}
 use Rattle.xi_plain.specs.declared.command.Fault.TheVariants.{Parse, Invalid, NotBuilt}
-use Rattle.xi_plain.specs.declared.command.EditAct.TheVariants.{Insert}
+use Rattle.xi_plain.specs.declared.command.EditAct.{EditAct}
+use Rattle.xi_plain.specs.declared.command.EditAct.TheVariants.{Insert, InsertNewline}
 use Rattle.xi_plain.specs.declared.command.Act.{Act}
 use Rattle.xi_plain.specs.declared.command.Act.TheVariants.{Bad, NewView, Edit}
 use Rattle.xi_plain.specs.declared.command.Command.{Command}
+use Rattle.front_wire.specs.declared.act.EditMethod.{EditMethod}
+use Rattle.front_wire.specs.declared.act.EditMethod.TheVariants.{Inserts, BeginsLine, Other}
 use Rattle.json_rpc.specs.Request.{Request, LineRefusal, no_reading, no_request, line_request}
 
 -- what is not done yet
@@ -39,22 +42,29 @@ names_no_file (object ms) = is_absent (get_member (codes "file_path") ms)
 abbrev pub as_text : Option Data → Option (List ℕ)
 as_text member = option_map chars (option_and_then as_str member)
 
--- whether the name of the method is the one that inserts, in bytes
-abbrev pub is_insert_name : Option (List ℕ) → Bool
-is_insert_name None = false
-is_insert_name (Some name) = bytes_eq name (codes "insert")
+-- the method with this name, in bytes
+abbrev pub edit_method : Option (List ℕ) → EditMethod
+edit_method None = Other
+edit_method (Some name) =
+    if bytes_eq name (codes "insert") then Inserts else (if bytes_eq name (codes "insert_newline") then BeginsLine else Other)
 
--- the insertion of these characters into a view, where both are there and the method is that
-abbrev pub insert_from : Option (List ℕ) → Bool → Option (List ℕ) → Act
-insert_from None inserts chars = not_built
-insert_from (Some view) inserts None = not_built
-insert_from (Some view) inserts (Some chars) = if inserts then Edit view (Insert chars) else not_built
+-- what the method asks of a view, by the characters in its parameters, if any; a new line needs none
+abbrev pub asked_of_view : EditMethod → Option (List ℕ) → Option EditAct
+asked_of_view Inserts chars = option_map Insert chars
+asked_of_view BeginsLine chars = Some InsertNewline
+asked_of_view Other chars = None
+
+-- what is asked of a view, where both are there
+abbrev pub edit_from : Option (List ℕ) → Option EditAct → Act
+edit_from (Some view) (Some act) = Edit view act
+edit_from view act = not_built
 
 -- what `edit` asks
 abbrev pub edit_act : Data → Act
 edit_act params =
-    insert_from (as_text (get (codes "view_id") params)) (is_insert_name (option_and_then as_str (get (codes "method") params)))
-    (as_text (option_and_then (get (codes "chars")) (get (codes "params") params)))
+    edit_from (as_text (get (codes "view_id") params))
+    (asked_of_view (edit_method (option_and_then as_str (get (codes "method") params)))
+    (as_text (option_and_then (get (codes "chars")) (get (codes "params") params))))
 
 -- whether the method has this name, in bytes
 abbrev pub is_named : List ℕ → List ℕ → Bool

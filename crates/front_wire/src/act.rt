@@ -4,13 +4,24 @@ ghost use Rattle.std.specs.String.{string_bytes};
 ghost use Rattle.serde_json.specs.Data.{object, null};
 ghost use Rattle.serde_json.specs.Find.{get, get_member, as_str};
 ghost use Rattle.serde_json.specs.View.{view, members_view};
-ghost use Rattle.front_wire.specs.Front.{act_of, edit_act, insert_from, is_insert_name, is_named, names_no_file, is_absent, as_text, not_built};
-ghost use Rattle.front_wire.specs.Fair.{IsText, IsTextIfAny, HasTexts};
+ghost use Rattle.xi_plain.specs.declared.command.EditAct.TheVariants.{Insert};
+ghost use Rattle.front_wire.specs.Front.{act_of, edit_act, edit_from, edit_method, asked_of_view, is_named, names_no_file, is_absent, as_text, not_built};
+ghost use Rattle.front_wire.specs.Fair.{IsText, IsTextIfAny, HasChars, HasTexts};
 
 use plain_text::{NoMemory, Text};
 use serde_json::{Map, Value};
 use std::alloc::Global;
 use xi_plain::{Act, EditAct, Fault};
+
+/// The methods of `edit` that are done.
+#[derive(Clone, Copy)]
+pub enum EditMethod {
+    /// Puts the characters in that its parameters give.
+    Inserts,
+    /// Puts in a line feed.
+    BeginsLine,
+    Other,
+}
 
 /// What a method asks with its parameters.
 pub fn act_of(alloc: Global, method: &Text, params: Value) -> Result<Act, NoMemory>
@@ -64,23 +75,53 @@ fn edit(alloc: Global, params: Value) -> Result<Act, NoMemory>
     ensures texts { IfOk result HasTexts }
 {
     let view = view_of(alloc, &params)?;
-    let inserts = is_insert(text_in(&params, "method"));
+    let method = edit_method(text_in(&params, "method"));
     let chars = chars_of(params);
-    Ok(insert_of(view, inserts, chars))
+    Ok(edit_from(view, asked_of_view(method, chars)))
 }
 
-fn insert_of(view: Option<Text>, inserts: bool, chars: Option<Text>) -> Act
+fn edit_from(view: Option<Text>, act: Option<EditAct>) -> Act
     requires view { IsTextIfAny view }
-    requires chars { IsTextIfAny chars }
-    ensures act { result ≡ insert_from view inserts chars }
+    requires chars { IfSome act HasChars }
+    ensures act { result ≡ edit_from view act }
     ensures texts { HasTexts result }
 {
-    match (view, chars) {
-        (Some(view), Some(chars)) if inserts => Act::Edit {
-            view,
-            act: EditAct::Insert { chars },
-        },
+    match (view, act) {
+        (Some(view), Some(act)) => Act::Edit { view, act },
         _ => Act::Bad(Fault::NotBuilt),
+    }
+}
+
+fn asked_of_view(method: EditMethod, chars: Option<Text>) -> Option<EditAct>
+    requires { IsTextIfAny chars }
+    ensures act { result ≡ asked_of_view (method) chars }
+    ensures chars { IfSome result HasChars }
+{
+    match method {
+        EditMethod::Inserts => insertion(chars),
+        EditMethod::BeginsLine => Some(EditAct::InsertNewline),
+        EditMethod::Other => None,
+    }
+}
+
+fn insertion(chars: Option<Text>) -> Option<EditAct>
+    requires { IsTextIfAny chars }
+    ensures act { result ≡ option_map Insert chars }
+    ensures chars { IfSome result HasChars }
+{
+    match chars {
+        Some(chars) => Some(EditAct::Insert { chars }),
+        None => None,
+    }
+}
+
+fn edit_method(name: Option<&str>) -> EditMethod
+    ensures { result ≡ edit_method (option_map (λ text. text.now) name.entry) }
+{
+    match name {
+        Some("insert") => EditMethod::Inserts,
+        Some("insert_newline") => EditMethod::BeginsLine,
+        _ => EditMethod::Other,
     }
 }
 
@@ -91,15 +132,6 @@ fn view_of(alloc: Global, params: &Value) -> Result<Option<Text>, NoMemory>
     match text_in(params, "view_id") {
         Some(id) => Ok(Some(owned(alloc, id)?)),
         None => Ok(None),
-    }
-}
-
-fn is_insert(method: Option<&str>) -> bool
-    ensures { result ≡ is_insert_name (option_map (λ text. text.now) method.entry) }
-{
-    match method {
-        Some(name) => name == "insert",
-        None => false,
     }
 }
 

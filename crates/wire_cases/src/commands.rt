@@ -9,6 +9,13 @@ use xi_plain::{Act, EditAct, Fault, Id};
 const INSERTION: &[u8] =
     br#"{"id":1,"method":"edit","params":{"method":"insert","params":{"chars":"\u00e9"},"view_id":"v"}}"#;
 
+// New lines: the parameters may be anything.
+const NEW_LINES: [&str; 3] = [
+    r#"{"method":"edit","params":{"method":"insert_newline","view_id":"v"}}"#,
+    r#"{"method":"edit","params":{"method":"insert_newline","params":[],"view_id":"v"}}"#,
+    r#"{"method":"edit","params":{"method":"insert_newline","params":{"chars":7},"view_id":"v"}}"#,
+];
+
 #[test]
 fn lines_ask(rt: HostRuntime) -> Result<(), Fail> {
     let alloc = rt.alloc();
@@ -19,6 +26,13 @@ fn lines_ask(rt: HostRuntime) -> Result<(), Fail> {
     };
     let asked = command_of(alloc, INSERTION)?;
     assert!(rt; asked.id == Id::Num(1) && asked.act == act);
+    let act = Act::Edit {
+        view: Text::from_str(alloc, "v")?,
+        act: EditAct::InsertNewline,
+    };
+    for line in NEW_LINES {
+        assert!(rt; command_of(alloc, line.as_bytes())?.act == act, "{line}");
+    }
     for (line, act) in [
         ("{\"method\":\"new_view\"}", Act::NewView { path: None }),
         (

@@ -10,3 +10,5 @@ mod lines;
 mod names;
 #[cfg(test)]
 mod notes;
+#[cfg(test)]
+mod words;

@@ -1,12 +1,13 @@
 -- Lemmas on a run between two bytes: how each step goes on or stops.
 use Rattle.std.proofs.Common.{◌≡◌, ◌≢◌, ℕ, ◌+◌, ◌<◌, ◌≤◌, true, false, List, [], ◌∷◌, ◌++◌, length, take, map, Option, Some, None, Ok, Err, refl, ap, sym, ◌∙◌, subst, append_assoc, append-nil, length-append, arith}
 use Rattle.std.proofs.lemmas.List.{map-append}
-use Rattle.std.specs.Prelude.{⊤, IfSome, Bool, unwrap_or}
-use Rattle.std.specs.Bool.{MatchBool}
+use Rattle.std.specs.Prelude.{IfSome, Bool, ◌&&◌, unwrap_or}
 use Rattle.std.specs.Result.{IsErrAnd}
 use Rattle.std.specs.List.{AllByRecursion, concat}
 use Rattle.xi_plain.specs.declared.command.Command.{Command}
-use Rattle.xi_plain.specs.declared.command.Entry.{Entry}
+use Rattle.xi_plain.specs.declared.entry.Entry.{Entry}
+use Rattle.xi_plain.specs.declared.entry.ShelfNote.TheVariants.{NoCall}
+use Rattle.xi_plain.proofs.ForCallers.{front_entries-alone}
 use Rattle.plain_text.specs.InputLines.{ended_lines, unended, last_line, lines_of}
 use Rattle.plain_text.proofs.callers.InputLemmas.{concat-lines_of}
 use Rattle.front_wire.specs.Front.{command_of}
@@ -15,10 +16,10 @@ use Rattle.outside.specs.Sink.{SinkState, Gains}
 use Rattle.outside.specs.Source.{SourceState, Gives}
 use Rattle.outside.proofs.ForCallers.{Gives-append, Gains-append, Gains-none, Rose-earlier}
 use Rattle.core_session.specs.declared.session.Core.{Core}
-use Rattle.core_session.specs.Journal.{closing_entry, is_closing, closes, MayFollow, IsLegal, IsOpen, commands}
+use Rattle.xi_plain.specs.Journal.{closing_entry, may_follow, can_be, is_legal, IsLegal, commands, front_entries}
 use Rattle.core_session.specs.Session.{written}
-use Rattle.core_session.specs.Core.{IsServing, AddsSentEntry, AddsUnsentEntry, ChangesNothing, journal_of, sink_of, piece_after, front_entry}
-use Rattle.core_session.proofs.ForCallers.{written-push, closes-command_of, shows_closed}
+use Rattle.core_session.specs.Core.{IsOfLine, IsOpen, IsServing, AddsSentEntry, AddsUnsentEntry, ChangesNothing, journal_of, sink_of, piece_after, front_entry}
+use Rattle.core_session.proofs.ForCallers.{written-push, IsOfLine-command_of, shows_closed}
 use Rattle.xi_top.specs.declared.ending.Ending.{Ending}
 use Rattle.xi_top.specs.declared.ending.Ending.TheVariants.{NoMemory, SourceFault, SinkFault, TooMany, TooLong}
 use Rattle.xi_top.specs.Ending.{Outcome, most_lines, too_long}
@@ -35,31 +36,43 @@ failed_with (Err e) ending is = ap Err is
 
 -- ---- legal journals
 
-legal_front : (entries rest : List Entry) → AllByRecursion IsOpen entries → IsLegal rest → IsLegal (entries ++ rest)
+may_stand : (can follows legal : Bool) → can ≡ true → follows ≡ true → legal ≡ true → can && (follows && legal) ≡ true
+may_stand can follows legal is may rest = rw (is, may, rest) refl
+
+-- an entry of the front end that asks no shelf can be
+can_be_front : (entry : Entry) → entry.caller ≡ 0 → entry.shelf ≡ NoCall → IsOfLine entry.command.act → can_be 0 entry ≡ true
+can_be_front entry front none asks = rw (front, none) asks.1
+
+legal_front : (entries rest : List Entry) → AllByRecursion IsOpen entries → IsLegal 0 rest → IsLegal 0 (entries ++ rest)
 legal_front [] rest each legal = legal
 legal_front (entry ∷ entries) rest each legal =
-    let later : Type 0 = AllByRecursion (λ e. is_closing e ≡ true) (entries ++ rest) in
-    let Sent : Type 0 = MatchBool entry.sent ⊤ later in
-    let sent : Sent = subst (λ b. MatchBool b ⊤ later) (sym each.0.2) tt in
-    let follow : MayFollow entry (entries ++ rest) = subst (λ b. MatchBool b (entries ++ rest ≡ []) Sent) (sym each.0.1) sent in
-    (each.0.0, follow, legal_front entries rest each.1 legal)
+    let follows : may_follow entry (entries ++ rest) ≡ true = rw (each.0.asks.0, each.0.sent) refl in
+    may_stand (can_be 0 entry) (may_follow entry (entries ++ rest)) (is_legal 0 (entries ++ rest))
+    (can_be_front entry each.0.caller each.0.shelf each.0.asks) follows (legal_front entries rest each.1 legal)
 
-legal_open : (entries : List Entry) → AllByRecursion IsOpen entries → IsLegal (entries ++ closing_entry ∷ [])
-legal_open entries each = legal_front entries (closing_entry ∷ []) each (refl, refl, tt)
+legal_open : (entries : List Entry) → AllByRecursion IsOpen entries → IsLegal 0 (entries ++ closing_entry ∷ [])
+legal_open entries each = legal_front entries (closing_entry ∷ []) each refl
 
-legal_cut : (sent : List Entry) (command : Command) → AllByRecursion IsOpen sent → closes command.act ≡ false →
-    IsLegal ((sent ++ front_entry command false ∷ []) ++ closing_entry ∷ [])
+legal_cut : (sent : List Entry) (command : Command) → AllByRecursion IsOpen sent → IsOfLine command.act →
+    IsLegal 0 ((sent ++ front_entry command false ∷ []) ++ closing_entry ∷ [])
 legal_cut sent command each asks =
     let last = front_entry command false in
-    let later : Type 0 = AllByRecursion (λ e. is_closing e ≡ true) (closing_entry ∷ []) in
-    let follow : MayFollow last (closing_entry ∷ []) = subst (λ b. MatchBool b (closing_entry ∷ [] ≡ []) later) (sym asks) (refl, tt) in
-    subst IsLegal (sym (append_assoc sent (last ∷ []) (closing_entry ∷ [])))
-    (legal_front sent (last ∷ (closing_entry ∷ [])) each (refl, follow, (refl, refl, tt)))
+    let follows : may_follow last (closing_entry ∷ []) ≡ true = rw asks.0 refl in
+    subst (IsLegal 0) (sym (append_assoc sent (last ∷ []) (closing_entry ∷ [])))
+    (legal_front sent (last ∷ (closing_entry ∷ [])) each
+    (may_stand (can_be 0 last) (may_follow last (closing_entry ∷ [])) true (can_be_front last refl refl asks) follows refl))
+
+-- in a legal journal without plugins all entries are the front end's
+holds_front : (outcome : Outcome) (taken left : List ℕ) (entries : List Entry) → IsLegal 0 (entries ++ closing_entry ∷ []) →
+    HoldsLines outcome taken left (commands entries) → HoldsLines outcome taken left (commands (front_entries entries))
+holds_front outcome taken left entries legal lines =
+    let At : List Entry → Type 0 = λ front. HoldsLines outcome taken left (commands front) in
+    subst At (sym (front_entries-alone entries (closing_entry ∷ []) legal)) lines
 
 -- open entries were sent, and the closing one counts as sent
 sent_front : (entries rest : List Entry) → AllByRecursion IsOpen entries → AreSent rest → AreSent (entries ++ rest)
 sent_front [] rest each sent = sent
-sent_front (entry ∷ entries) rest each sent = (each.0.2, sent_front entries rest each.1 sent)
+sent_front (entry ∷ entries) rest each sent = (each.0.sent, sent_front entries rest each.1 sent)
 
 -- ---- one more entry
 
@@ -130,7 +143,9 @@ module _ {K : Type 0} (tell : K → SinkState) (start : SinkState) where
       let many : ended_lines [] taken ≡ ended_lines [] (taken ++ []) = ap (ended_lines []) (sym (append-nil taken)) in
       record {
         room = at.whole.serving.room;
-        lines = subst At (append-nil taken) (holds_first (Err SourceFault) taken [] left (commands (journal_of core)) at.asked many);
+        lines =
+            holds_front (Err SourceFault) taken left (journal_of core) (legal_open (journal_of core) at.whole.serving.sent)
+            (subst At (append-nil taken) (holds_first (Err SourceFault) taken [] left (commands (journal_of core)) at.asked many));
         written = sent_whole tell start core at.whole;
         legal = legal_open (journal_of core) at.whole.serving.sent;
         stays = at.whole.stays;
@@ -141,7 +156,9 @@ module _ {K : Type 0} (tell : K → SinkState) (start : SinkState) where
       Stops tell start (front ++ extra) left core (Err NoMemory)
   stops_memory front extra left core whole asked = record {
     room = whole.serving.room;
-    lines = holds_first (Err NoMemory) front extra left (commands (journal_of core)) asked tt;
+    lines =
+        holds_front (Err NoMemory) (front ++ extra) left (journal_of core) (legal_open (journal_of core) whole.serving.sent)
+        (holds_first (Err NoMemory) front extra left (commands (journal_of core)) asked tt);
     written = sent_whole tell start core whole;
     legal = legal_open (journal_of core) whole.serving.sent;
     stays = whole.stays;
@@ -153,7 +170,7 @@ module _ {K : Type 0} (tell : K → SinkState) (start : SinkState) where
       Stops tell start taken left new (Err SinkFault)
   stops_sink taken left line old new n whole adds lines =
       let last = front_entry (command_of line) false in
-      let Legal : List Entry → Type 0 = λ entries. IsLegal (entries ++ closing_entry ∷ []) in
+      let Legal : List Entry → Type 0 = λ entries. IsLegal 0 (entries ++ closing_entry ∷ []) in
       let cut : IsCutOff start (tell (sink_of new)) (journal_of new ++ closing_entry ∷ []) = record {
         sent = journal_of old;
         last = last;
@@ -170,11 +187,13 @@ module _ {K : Type 0} (tell : K → SinkState) (start : SinkState) where
         shows = whole.serving.showing.shows;
         proper = (n, adds.part, refl);
       } in
+      let legal : Legal (journal_of new) =
+      subst Legal (sym adds.entry) (legal_cut (journal_of old) (command_of line) whole.serving.sent (IsOfLine-command_of line)) in
       record {
         room = adds.room;
-        lines = lines;
+        lines = holds_front (Err SinkFault) taken left (journal_of new) legal lines;
         written = cut;
-        legal = subst Legal (sym adds.entry) (legal_cut (journal_of old) (command_of line) whole.serving.sent (closes-command_of line));
+        legal = legal;
         stays = omega (arith, whole.stays, adds.faults_stay);
       }
 
@@ -243,7 +262,9 @@ module _ {K : Type 0} (tell : K → SinkState) (start : SinkState) where
       } in
       record {
         room = at.whole.serving.room;
-        lines = holds_first (Err TooLong) taken (bytes ++ more) left (commands (journal_of core)) at.asked next;
+        lines =
+            holds_front (Err TooLong) (taken ++ (bytes ++ more)) left (journal_of core) (legal_open (journal_of core) at.whole.serving.sent)
+            (holds_first (Err TooLong) taken (bytes ++ more) left (commands (journal_of core)) at.asked next);
         written = sent_whole tell start core at.whole;
         legal = legal_open (journal_of core) at.whole.serving.sent;
         stays = at.whole.stays;
@@ -271,7 +292,9 @@ module _ {K : Type 0} (tell : K → SinkState) (start : SinkState) where
       let At : List ℕ → Type 0 = λ bytes. HoldsLines (Err TooMany) bytes left (commands (journal_of core)) in
       record {
         room = at.whole.serving.room;
-        lines = subst At (append-nil taken) (holds_first (Err TooMany) taken [] left (commands (journal_of core)) at.asked (sym at.counted ∙ full));
+        lines =
+            holds_front (Err TooMany) taken left (journal_of core) (legal_open (journal_of core) at.whole.serving.sent)
+            (subst At (append-nil taken) (holds_first (Err TooMany) taken [] left (commands (journal_of core)) at.asked (sym at.counted ∙ full)));
         written = sent_whole tell start core at.whole;
         legal = legal_open (journal_of core) at.whole.serving.sent;
         stays = at.whole.stays;
@@ -370,7 +393,9 @@ module _ {K : Type 0} (tell : K → SinkState) (start : SinkState) where
       Stops tell start taken [] core (Ok tt)
   stops_finished taken core whole asked = record {
     room = whole.serving.room;
-    lines = holds_all (Ok tt) taken (commands (journal_of core)) asked (refl, refl);
+    lines =
+        holds_front (Ok tt) taken [] (journal_of core) (legal_open (journal_of core) whole.serving.sent)
+        (holds_all (Ok tt) taken (commands (journal_of core)) asked (refl, refl));
     written = sent_whole tell start core whole;
     legal = legal_open (journal_of core) whole.serving.sent;
     stays = whole.stays;

@@ -3,11 +3,11 @@ use Rattle.std.proofs.Common.{◌≡◌, ℕ, ◌+◌, ◌<◌, ◌≤◌, inl, 
 use Rattle.std.proofs.lemmas.List.{length-map, nil_from_length}
 use Rattle.std.specs.List.{concat}
 use Rattle.std.specs.Prelude.{IfSome}
-use Rattle.xi_plain.specs.declared.command.Entry.{Entry}
+use Rattle.xi_plain.specs.declared.entry.Entry.{Entry}
 use Rattle.plain_text.specs.InputLines.{ended_lines, lines_of}
 use Rattle.front_wire.specs.Front.{command_of}
 use Rattle.outside.specs.Sink.{Gains}
-use Rattle.core_session.specs.Journal.{closing_entry}
+use Rattle.xi_plain.specs.Journal.{closing_entry}
 use Rattle.core_session.specs.Session.{written}
 use Rattle.core_session.specs.Core.{piece_after}
 use Rattle.core_session.specs.Rows.{opening, insertion, opening_bytes, first_bytes}
@@ -18,6 +18,7 @@ use Rattle.xi_top.specs.Written.{IsProperPart}
 use Rattle.xi_top.specs.Run.{Passage, IsRun}
 use Rattle.xi_top.specs.Rows.{FirstReadFails, ThirdWriteFails, HalfLine, opening_line, unsent_insertion}
 use Rattle.xi_top.proofs.CalmLemmas.{told_input}
+use Rattle.xi_top.proofs.RunLemmas.{asked-lines}
 
 -- ---- the first read fails
 
@@ -36,7 +37,7 @@ source_failed passage journal (Err SourceFault) bytes is before after run =
     let all = told_input _ _ bytes run.taken run.left before run.gives run.leaves in
     let none : run.taken ≡ [] = nothing_taken bytes run.taken (all ∙ ap (λ rest. run.taken ++ rest) (sym left)) in
     let lines : run.lines.lines ≡ [] = run.lines.so_many ∙ ap (ended_lines []) none in
-    run.closed ∙ ap (λ entries. entries ++ closing_entry ∷ []) (none_entered run.entries run.lines.lines run.lines.asked lines)
+    run.closed ∙ ap (λ entries. entries ++ closing_entry ∷ []) (none_entered run.entries run.lines.lines (asked-lines passage journal (Err SourceFault) run) lines)
 source_failed passage journal (Ok done) bytes is before after run = absurd (omega (arith, is))
 source_failed passage journal (Err NoMemory) bytes is before after run = absurd (omega (arith, is))
 source_failed passage journal (Err SinkFault) bytes is before after run = absurd (omega (arith, is))
@@ -104,7 +105,7 @@ half_run passage entry outcome before after run =
       ap length run.closed,
       length-append run.entries (closing_entry ∷ []),
       length-map run.entries (λ (entry : Entry). entry.command),
-      ap length run.lines.asked,
+      ap length (asked-lines passage (entry ∷ closing_entry ∷ []) outcome run),
       length-map run.lines.lines command_of,
     ) in
     let first : opening_line ∷ [] ≡ run.lines.lines ++ run.lines.later = sym one_line ∙ ap lines_of all ∙ run.lines.first in

@@ -1,18 +1,25 @@
 -- What a run comes to, by its status and by the count of failed writes.
-use Rattle.std.proofs.Common.{◌≡◌, ℕ, ◌+◌, ◌-◌, ◌<◌, inl, inr, List, [], ◌∷◌, length, Ok, Err, refl, ap, sym, ◌∙◌, subst, length-append, arith}
+use Rattle.std.proofs.Common.{◌≡◌, ℕ, ◌+◌, ◌-◌, ◌<◌, inl, inr, List, [], ◌∷◌, length, map, Ok, Err, refl, ap, sym, ◌∙◌, subst, length-append, arith}
 use Rattle.std.proofs.lemmas.List.{length-map}
 use Rattle.std.specs.Prelude.{IfSome, ◌^◌, ◌⊎◌}
-use Rattle.xi_plain.specs.declared.command.Entry.{Entry}
+use Rattle.xi_plain.specs.declared.entry.Entry.{Entry}
 use Rattle.front_wire.specs.Front.{command_of}
 use Rattle.outside.specs.Faults.{Rose}
 use Rattle.outside.specs.Sink.{SinkState}
 use Rattle.outside.proofs.ForCallers.{Gains-none}
-use Rattle.core_session.specs.Journal.{closing_entry}
+use Rattle.xi_plain.specs.Journal.{closing_entry, commands, IsLegal}
+use Rattle.xi_plain.proofs.ForCallers.{front_entries-alone}
 use Rattle.core_session.proofs.ForCallers.{shows_none}
 use Rattle.xi_top.specs.declared.ending.Ending.TheVariants.{NoMemory, SourceFault, SinkFault, TooMany, TooLong}
 use Rattle.xi_top.specs.Ending.{Outcome, status_of, most_lines}
 use Rattle.xi_top.specs.Written.{IsSent, IsCutOff, IsWritten, IsWrittenByCount}
 use Rattle.xi_top.specs.Run.{Outside, Passage, IsRun, RunsAlone, HasCauses}
+
+-- the entries before the closing one ask what the lines do
+pub asked-lines : (passage : Passage) (journal : List Entry) (outcome : Outcome) (run : IsRun passage journal outcome) →
+    commands run.entries ≡ map command_of run.lines.lines
+asked-lines passage journal outcome run =
+    ap commands (sym (front_entries-alone run.entries (closing_entry ∷ []) (subst (IsLegal 0) run.closed run.legal))) ∙ run.lines.asked
 
 -- ---- the causes
 
@@ -51,7 +58,7 @@ lines_cause passage journal (Err TooMany) run is =
       ap length run.closed,
       length-append run.entries (closing_entry ∷ []),
       length-map run.entries (λ entry. entry.command),
-      ap length run.lines.asked,
+      ap length (asked-lines passage journal (Err TooMany) run),
       length-map run.lines.lines command_of,
       run.lines.so_many,
     )

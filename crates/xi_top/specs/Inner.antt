@@ -7,7 +7,7 @@ use Rattle.front_wire.specs.Front.{command_of}
 use Rattle.outside.specs.Source.{SourceState, Gives}
 use Rattle.outside.specs.Sink.{SinkState, Gains}
 use Rattle.core_session.specs.declared.session.Core.{Core}
-use Rattle.core_session.specs.Journal.{closing_entry, IsLegal, commands}
+use Rattle.xi_plain.specs.Journal.{closing_entry, commands, front_entries, IsLegal}
 use Rattle.core_session.specs.Session.{written}
 use Rattle.core_session.specs.Core.{IsServing, HasRoom, AddsSentEntry, AddsUnsentEntry, ChangesNothing, journal_of, sink_of}
 use Rattle.xi_top.specs.declared.ending.Ending.{Ending}
@@ -58,9 +58,9 @@ IsNoSourceFault outcome = ⊤
 -- the run stopped after these bytes were taken, where those are left
 pub record Stops {K : Type 0} (tell : K → SinkState) (start : SinkState) (taken left : List ℕ) (core : Core K) (outcome : Outcome) : Type 0 where
   pub room : HasRoom core
-  pub lines : HoldsLines outcome taken left (commands (journal_of core))
+  pub lines : HoldsLines outcome taken left (commands (front_entries (journal_of core)))
   pub written : IsWritten outcome start (tell (sink_of core)) (journal_of core ++ closing_entry ∷ [])
-  pub legal : IsLegal (journal_of core ++ closing_entry ∷ [])
+  pub legal : IsLegal 0 (journal_of core ++ closing_entry ∷ [])
   pub stays : start.faults ≤ (tell (sink_of core)).faults
 
 -- the run goes on after these bytes, or it stopped, whatever is left

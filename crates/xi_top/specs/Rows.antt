@@ -1,8 +1,8 @@
 -- Worked rows: what a run comes to, and what is none.
 use Rattle.std.specs.Prelude.{◌≡◌, ℕ, false, List, [], ◌∷◌, ◌++◌, drop, codes, Some}
-use Rattle.xi_plain.specs.declared.command.Entry.{Entry}
+use Rattle.xi_plain.specs.declared.entry.Entry.{Entry}
 use Rattle.outside.specs.Sink.{SinkState}
-use Rattle.core_session.specs.Journal.{closing_entry}
+use Rattle.xi_plain.specs.Journal.{closing_entry}
 use Rattle.core_session.specs.Core.{piece_after}
 use Rattle.core_session.specs.Rows.{opening, insertion, opening_bytes, first_bytes}
 use Rattle.xi_top.specs.Written.{IsCutOff, IsProperPart}

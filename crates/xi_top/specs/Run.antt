@@ -1,10 +1,10 @@
 -- THE RUN: what a run of the core with a source and a sink comes to.
 use Rattle.std.specs.Prelude.{◌≡◌, ℕ, ◌+◌, ◌≤◌, codes, List, [], ◌∷◌, ◌++◌, length, Option, Err, IfSome, ⊤, ◌⊎◌}
-use Rattle.xi_plain.specs.declared.command.Entry.{Entry}
+use Rattle.xi_plain.specs.declared.entry.Entry.{Entry}
 use Rattle.outside.specs.Faults.{Rose}
 use Rattle.outside.specs.Source.{SourceState, source_state, Gives}
 use Rattle.outside.specs.Sink.{SinkState, sink_state}
-use Rattle.core_session.specs.Journal.{closing_entry, IsLegal, commands}
+use Rattle.xi_plain.specs.Journal.{closing_entry, commands, front_entries, IsLegal}
 use Rattle.xi_top.specs.declared.ending.Ending.TheVariants.{SourceFault}
 use Rattle.xi_top.specs.Ending.{Outcome, status_of, most_lines}
 use Rattle.xi_top.specs.Lines.{HoldsLines}
@@ -46,8 +46,8 @@ pub record IsRun (passage : Passage) (journal : List Entry) (outcome : Outcome) 
   pub leaves : IfSome passage.after.source.left (λ bytes. bytes ≡ left)
   pub entries : List Entry
   pub closed : journal ≡ entries ++ closing_entry ∷ []
-  pub legal : IsLegal journal
-  pub lines : HoldsLines outcome taken left (commands entries)
+  pub legal : IsLegal 0 journal
+  pub lines : HoldsLines outcome taken left (commands (front_entries entries))
   pub written : IsWritten outcome passage.before.sink passage.after.sink journal
   pub source_failed : HasFailedIf outcome passage.before.source passage.after.source
   pub source_stays : passage.before.source.faults ≤ passage.after.source.faults

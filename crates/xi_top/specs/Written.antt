@@ -1,10 +1,10 @@
 -- What a run wrote, where no write failed and where one did.
 use Rattle.std.specs.Prelude.{◌≡◌, ℕ, ◌+◌, ◌-◌, ◌^◌, ◌<◌, true, false, List, [], ◌∷◌, ◌++◌, length, take, Err, ◌⊎◌}
 use Rattle.std.specs.List.{AllByRecursion}
-use Rattle.xi_plain.specs.declared.command.Entry.{Entry}
+use Rattle.xi_plain.specs.declared.entry.Entry.{Entry}
 use Rattle.outside.specs.Faults.{Rose, counted}
 use Rattle.outside.specs.Sink.{SinkState, Gains}
-use Rattle.core_session.specs.Journal.{closing_entry}
+use Rattle.xi_plain.specs.Journal.{closing_entry}
 use Rattle.core_session.specs.Shows.{Shows}
 use Rattle.core_session.specs.Core.{piece_after}
 use Rattle.xi_top.specs.declared.ending.Ending.TheVariants.{SinkFault}

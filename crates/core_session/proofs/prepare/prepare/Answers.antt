@@ -1,7 +1,10 @@
-use Rattle.std.proofs.Common.{◌∙◌, ap}
-use Rattle.core_session.specs.Journal.{closes}
-use Rattle.core_session.proofs.SessionLemmas.{closes-command_of}
+use Rattle.std.proofs.Common.{sym, subst}
+use Rattle.xi_plain.specs.declared.command.Command.{Command}
+use Rattle.core_session.specs.Core.{IsOfLine}
+use Rattle.core_session.proofs.SessionLemmas.{IsOfLine-command_of}
 use Rattle.core_session.proofs.prepare.prepare.Goals as goal
 
 pub returns-clause-asks : goal.returns-clause-asks
-returns-clause-asks c = ap (λ command. closes command.act) c.in_ok-command.ensures.command ∙ closes-command_of c.args.line.now
+returns-clause-asks c =
+    let At : Command → Type 0 = λ command. IsOfLine command.act in
+    subst At (sym c.in_ok-command.ensures.command) (IsOfLine-command_of c.args.line.now)
