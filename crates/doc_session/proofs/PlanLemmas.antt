@@ -7,7 +7,8 @@ use Rattle.std.proofs.lemmas.List.{drop_all, take_all}
 use Rattle.plain_screen.specs.declared.screen.Line.{Line}
 use Rattle.plain_screen.specs.declared.screen.Op.{Op}
 use Rattle.plain_screen.specs.declared.screen.Op.TheVariants.{Invalidate, Ins}
-use Rattle.plain_screen.specs.Plan.{is_within, is_sent, is_left, onto_left, onto_sent, onto_plan, plan_from, update_plan}
+use Rattle.plain_screen.specs.Plan.{is_within, onto_ops, update_plan}
+use Rattle.plain_screen.proofs.callers.PlanLemmas.{plan_from, plan_from-line}
 use Rattle.doc_session.specs.Document.{first_window, no_request}
 
 -- what is told of lines that are left invalid, and of lines that are sent before them
@@ -25,29 +26,29 @@ outside index past = grind (arith, nat_tests, common_steps)
 inside : (index : ℕ) → index < 10 → (is_within first_window index || is_within no_request index) ≡ true
 inside index below = grind (arith, nat_tests, common_steps)
 
-onto_left-left_ops : (line : Line) (lines : List Line) → onto_left (left_ops lines) ≡ Invalidate (length (line ∷ lines)) ∷ []
-onto_left-left_ops line [] = refl
-onto_left-left_ops line (next ∷ lines) = ap (λ n. Invalidate n ∷ []) (add-one (length (next ∷ lines)))
+onto_ops-left : (line : Line) (lines : List Line) → onto_ops (Invalidate 1) (left_ops lines) ≡ Invalidate (length (line ∷ lines)) ∷ []
+onto_ops-left line [] = refl
+onto_ops-left line (next ∷ lines) =
+    let one_more : 1 + length (next ∷ lines) ≡ length (line ∷ next ∷ lines) = omega arith in ap (λ n. Invalidate n ∷ []) one_more
 
-onto_sent-sent_ops : (line : Line) (sent left : List Line) → onto_sent line (sent_ops sent (left_ops left)) ≡ Ins (line ∷ sent) ∷ left_ops left
-onto_sent-sent_ops line [] [] = refl
-onto_sent-sent_ops line [] (next ∷ left) = refl
-onto_sent-sent_ops line (next ∷ sent) left = refl
+onto_ops-sent : (line : Line) (sent left : List Line) → onto_ops (Ins (line ∷ [])) (sent_ops sent (left_ops left)) ≡ Ins (line ∷ sent) ∷ left_ops left
+onto_ops-sent line [] [] = refl
+onto_ops-sent line [] (next ∷ left) = refl
+onto_ops-sent line (next ∷ sent) left = refl
 
-plan_from-past : (lines : List Line) (index old : ℕ) → 10 ≤ index → plan_from first_window no_request lines [] index old ≡ left_ops lines
+plan_from-past : (lines : List Line) (index old : ℕ) → 10 ≤ index → plan_from first_window no_request index old lines ≡ left_ops lines
 plan_from-past [] index old past = refl
 plan_from-past (line ∷ lines) index old past =
-    ap (λ b. onto_plan old (if b then is_sent else is_left) line (plan_from first_window no_request lines [] (index + 1))) (outside index past) ∙
-    ap onto_left (plan_from-past lines (index + 1) old (omega arith)) ∙ onto_left-left_ops line lines
+    plan_from-line first_window no_request index old line lines false (outside index past) ∙
+    ap (onto_ops (Invalidate 1)) (plan_from-past lines (index + 1) old (omega arith)) ∙ onto_ops-left line lines
 
 plan_from-within : (k : ℕ) (lines : List Line) (index old : ℕ) → index + k ≡ 10 →
-    plan_from first_window no_request lines [] index old ≡ sent_ops (take k lines) (left_ops (drop k lines))
+    plan_from first_window no_request index old lines ≡ sent_ops (take k lines) (left_ops (drop k lines))
 plan_from-within zero lines index old sum = plan_from-past lines index old (omega arith)
 plan_from-within (suc k) [] index old sum = refl
 plan_from-within (suc k) (line ∷ lines) index old sum =
-    ap (λ b. onto_plan old (if b then is_sent else is_left) line (plan_from first_window no_request lines [] (index + 1)))
-    (inside index (omega arith)) ∙
-    ap (onto_sent line) (plan_from-within k lines (index + 1) old (omega arith)) ∙ onto_sent-sent_ops line (take k lines) (drop k lines)
+    plan_from-line first_window no_request index old line lines true (inside index (omega arith)) ∙
+    ap (onto_ops (Ins (line ∷ []))) (plan_from-within k lines (index + 1) old (omega arith)) ∙ onto_ops-sent line (take k lines) (drop k lines)
 
 left_ops-some : (lines : List Line) → 0 < length lines → left_ops lines ≡ Invalidate (length lines) ∷ []
 left_ops-some [] some = absurd (omega arith)

@@ -15,7 +15,7 @@ use Rattle.plain_text.specs.Lines.{logical_lines}
 use Rattle.plain_screen.specs.Screen.{Screen, screen_after}
 use Rattle.plain_screen.specs.Plan.{is_within, update_plan}
 use Rattle.plain_screen.specs.Plan.{shown_lines}
-use Rattle.plain_screen.proofs.ForCallers.{screen_after-plan_from}
+use Rattle.plain_screen.proofs.callers.PlanLemmas.{screen_after-plan_from}
 use Rattle.rev_engine.specs.State.{State}
 use Rattle.rev_engine.specs.Given.{AskedEdit, after}
 use Rattle.rev_engine.specs.Steps.{with_edit}

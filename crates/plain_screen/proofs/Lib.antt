@@ -1,1 +1,1 @@
-pub mod ForCallers
+pub mod callers

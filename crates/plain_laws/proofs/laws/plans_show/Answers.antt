@@ -1,4 +1,4 @@
-use Rattle.plain_screen.proofs.ForCallers.{screen_after-plan_from}
+use Rattle.plain_screen.proofs.callers.PlanLemmas.{screen_after-plan_from}
 use Rattle.plain_laws.proofs.laws.plans_show.Goals as goal
 
 pub returns : goal.returns

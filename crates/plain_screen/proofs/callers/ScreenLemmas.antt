@@ -1,16 +1,12 @@
--- Lemmas on screens, on the operations of an update, and on plans.
-use Rattle.std.proofs.Common.{◌≡◌, ℕ, suc, ◌+◌, Bool, true, false, nat_le, ◌||◌, List, [], ◌∷◌, ◌++◌, length, map, take, drop, replicate, Option, Some, None, refl, ap, sym, ◌∙◌, arith, length-append, add-one}
+-- Lemmas on screens, and on the operations of an update.
+use Rattle.std.proofs.Common.{◌≡◌, ℕ, suc, ◌+◌, Bool, true, false, nat_le, List, [], ◌∷◌, ◌++◌, length, take, drop, Option, Some, None, refl, ap, arith, length-append}
 use Rattle.std.specs.Prelude.{if◌then◌else◌, IfSome}
 use Rattle.std.specs.Option.{option_map}
-use Rattle.std.specs.List.{enumerate_from}
 use Rattle.std.proofs.lemmas.Grind.{common_steps}
 use Rattle.std.proofs.lemmas.Bool.Decides.{nat_tests}
-use Rattle.plain_text.specs.declared.run.Run.{Run}
-use Rattle.plain_screen.specs.declared.screen.Line.{Line}
 use Rattle.plain_screen.specs.declared.screen.Op.{Op}
 use Rattle.plain_screen.specs.declared.screen.Op.TheVariants.{Copy, Skip, Invalidate, Ins}
 use Rattle.plain_screen.specs.Screen.{Screen, number_after, numbered_from, copied, screen_after, line_count}
-use Rattle.plain_screen.specs.Plan.{onto_left, onto_sent, onto_plan, is_sent, is_left, plan_from, is_within}
 
 -- a copy has as many lines as it takes
 pub length-numbered_from : (number : ℕ) (lines : Screen) → length (numbered_from number lines) ≡ length lines
@@ -59,39 +55,3 @@ pub option_map-option_map : {X Y Z : Type 0} (f : Y → Z) (g : X → Y) (o : Op
     option_map f (option_map g o) ≡ option_map (λ x. f (g x)) o
 option_map-option_map f g None = refl
 option_map-option_map f g (Some x) = refl
-
--- one more line in front of the operations is one more line of the screen
-pub screen_after-onto_left : (old : Screen) (ops : List Op) →
-    screen_after old (onto_left ops) ≡ option_map (λ lines. None ∷ lines) (screen_after old ops)
-screen_after-onto_left old [] = refl
-screen_after-onto_left old (Copy n ln ∷ ops) = refl
-screen_after-onto_left old (Skip n ∷ ops) = refl
-screen_after-onto_left old (Ins new ∷ ops) = refl
-screen_after-onto_left old (Invalidate n ∷ ops) =
-    rw (add-one n) (sym (option_map-option_map (λ lines. None ∷ lines) (λ lines. replicate n None ++ lines) (screen_after old ops)))
-
-pub screen_after-onto_sent : (old : Screen) (line : Line) (ops : List Op) →
-    screen_after old (onto_sent line ops) ≡ option_map (λ lines. Some line ∷ lines) (screen_after old ops)
-screen_after-onto_sent old line [] = refl
-screen_after-onto_sent old line (Copy n ln ∷ ops) = refl
-screen_after-onto_sent old line (Skip n ∷ ops) = refl
-screen_after-onto_sent old line (Invalidate n ∷ ops) = refl
-screen_after-onto_sent old line (Ins new ∷ ops) =
-    sym (option_map-option_map (λ lines. Some line ∷ lines) (λ lines. map Some new ++ lines) (screen_after old ops))
-
--- the operations for a line without a partner
-pub screen_after-onto_plan : (old : Screen) (test : Bool) (line : Line) (at : ℕ) (rest : ℕ → List Op) →
-    screen_after old (onto_plan at (if test then is_sent else is_left) line rest) ≡
-    option_map (λ lines. (if test then Some line else None) ∷ lines) (screen_after old (rest at))
-screen_after-onto_plan old true line at rest = screen_after-onto_sent old line (rest at)
-screen_after-onto_plan old false line at rest = screen_after-onto_left old (rest at)
-
--- a plan without partners shows the lines of the window and the request
-pub screen_after-plan_from : (window request : Run) (lines : List Line) (index at : ℕ) (old : Screen) →
-    screen_after old (plan_from window request lines [] index at) ≡
-    Some (map (λ (index, line). if is_within window index || is_within request index then Some line else None) (enumerate_from index lines))
-screen_after-plan_from window request [] index at old = refl
-screen_after-plan_from window request (line ∷ lines) index at old =
-    screen_after-onto_plan old (is_within window index || is_within request index) line at (plan_from window request lines [] (index + 1)) ∙
-    ap (option_map (λ lines. (if is_within window index || is_within request index then Some line else None) ∷ lines))
-    (screen_after-plan_from window request lines (index + 1) at old)

@@ -1,0 +1,4 @@
+-- What other crates may cite of screens, plans and views.
+pub mod ScreenLemmas
+pub mod PlanLemmas
+pub mod ViewLemmas
