@@ -128,7 +128,7 @@ onto-reverse [] before = ap reverse (sym (append-nil before))
 onto-reverse (c ∷ cs) before =
     ap (onto cs) (sym (reverse-append before (c ∷ []))) ∙ onto-reverse cs (before ++ c ∷ []) ∙ ap reverse (append_assoc before (c ∷ []) cs)
 
-IsUtf8-past : (cs rest : List ℕ) → IsUtf8 (encode_utf8_all cs ++ rest) → IsUtf8 rest
+pub IsUtf8-past : (cs rest : List ℕ) → IsUtf8 (encode_utf8_all cs ++ rest) → IsUtf8 rest
 IsUtf8-past [] rest u = u
 IsUtf8-past (c ∷ cs) rest u = IsUtf8-past cs rest (IsUtf8-past_char _ _ c u (append_assoc (encode_utf8 c) (encode_utf8_all cs) rest))
 

@@ -1,3 +1,6 @@
 pub mod BoundaryLemmas
 pub mod CursorLemmas
 pub mod RisingLemmas
+pub mod ColumnLemmas
+pub mod WalkLemmas
+pub mod ForCallers

@@ -1,6 +1,8 @@
 -- The clusters of a logical line, and the boundaries between them.
-use Rattle.std.specs.Prelude.{ℕ, ◌+◌, ◌<◌, ◌≤◌, nat_lt, true, List, [], ◌∷◌, length, reverse, Option}
-use Rattle.std.specs.List.{Contains, find}
+use Rattle.std.specs.Prelude.{ℕ, ◌+◌, ◌<◌, ◌≤◌, nat_lt, true, List, [], ◌∷◌, length, map, reverse, Option, encode_utf8_all}
+use Rattle.std.specs.List.{Contains, find, flat_map}
+use Rattle.std.specs.Str.{chars}
+use Rattle.plain_text.specs.Lines.{logical_lines}
 use Rattle.unicode_segmentation.specs.Grapheme.{graphemes}
 
 -- the extended grapheme clusters of a line, each as its bytes
@@ -15,6 +17,14 @@ ends_from at (piece ∷ pieces) = (at + length piece) ∷ ends_from (at + length
 -- the ends of the clusters of a line
 abbrev pub ends_of : List ℕ → List ℕ
 ends_of line = ends_from 0 (clusters_of line)
+
+-- the clusters of a line, both as characters
+abbrev pub clusters_in : List ℕ → List (List ℕ)
+clusters_in line = map chars (clusters_of (encode_utf8_all line))
+
+-- THE BOUNDARIES OF A TEXT, as gaps: its start, and the ends of the clusters of its logical lines
+abbrev pub text_boundaries : List ℕ → List ℕ
+text_boundaries text = 0 ∷ ends_from 0 (flat_map clusters_in (logical_lines text))
 
 -- where a caret can stand: at the line's start, and at the end of each cluster
 abbrev pub boundaries_of : List ℕ → List ℕ

@@ -1,3 +1,6 @@
 pub mod Boundaries
 pub mod Columns
+pub mod Walk
 pub mod Classes
+pub mod Laws
+pub mod Rows

@@ -1,0 +1,12 @@
+-- Laws: what the definitions of columns come to, whatever the line.
+use Rattle.std.specs.Prelude.{◌≡◌, ℕ, List, ◌++◌, length}
+use Rattle.std.specs.List.{AllByRecursion, concat}
+use Rattle.cluster_core.specs.Boundaries.{clusters_in}
+use Rattle.cluster_core.specs.Columns.{columns_between}
+use Rattle.cluster_core.specs.Walk.{placed}
+
+-- a walk that counts anew at the end of some first clusters gives each later cluster with the columns between that gap and its end
+abbrev pub WalksTell : Type 0
+WalksTell = (tab : ℕ) (line : List ℕ) (front back : List (List ℕ)) → clusters_in line ≡ front ++ back →
+    AllByRecursion (λ item. item.column ≡ columns_between tab line (length (concat front)) item.end)
+    (placed tab (length (concat front)) 0 back)

@@ -1,0 +1,36 @@
+-- A walk along a logical line, cluster by cluster.
+use Rattle.std.specs.Prelude.{ℕ, ◌+◌, List, [], ◌∷◌, length, map}
+use Rattle.std.specs.Str.{chars}
+use Rattle.unicode_segmentation.specs.Iter.{graphemes_left}
+use Rattle.cluster_core.specs.Columns.{column_after}
+use Rattle.cluster_core.specs.declared.walk.Placed.{Placed}
+use Rattle.cluster_core.specs.declared.walk.Walk.{Walk}
+
+-- a cluster with the gap where it ends and the column after it
+pub record ClusterAt : Type 0 where
+  pub cluster : List ℕ
+  pub end : ℕ
+  pub column : ℕ
+
+-- the clusters from a gap on, where columns are counted on from `column`
+abbrev pub placed : ℕ → ℕ → ℕ → List (List ℕ) → List ClusterAt
+placed tab gap column [] = []
+placed tab gap column (cluster ∷ clusters) =
+    record { cluster = cluster; end = gap + length cluster; column = column_after tab column cluster } ∷
+    placed tab (gap + length cluster) (column_after tab column cluster) clusters
+
+-- what a walk gives, and what it has yet to give
+abbrev pub placed_view : Placed → ClusterAt
+placed_view item = record { cluster = chars item.cluster.now; end = item.end; column = item.column }
+
+unfoldable pub walk_clusters : Walk → List (List ℕ)
+walk_clusters walk = map chars (graphemes_left walk.clusters)
+
+unfoldable pub walk_gap : Walk → ℕ
+walk_gap walk = walk.gap
+
+unfoldable pub walk_tab : Walk → ℕ
+walk_tab walk = walk.tab
+
+unfoldable pub walk_left : Walk → List ClusterAt
+walk_left walk = placed walk.tab walk.gap walk.column (map chars (graphemes_left walk.clusters))

@@ -1,0 +1,89 @@
+ghost use Rattle.std.specs.Prelude.{◌≡◌, ◌+◌, ◌*◌, ◌^◌, ◌<◌, ◌≤◌, length};
+ghost use Rattle.std.specs.List.{concat};
+ghost use Rattle.std.specs.Iterator.{item_count, YieldsFirstBy};
+ghost use Rattle.std.specs.Str.{chars};
+ghost use Rattle.unicode_segmentation.specs.Iter.{graphemes_left};
+
+use crate::widths::{char_count, column_after};
+use unicode_segmentation::{Graphemes, UnicodeSegmentation};
+
+/// A cluster of a line, with the gap where it ends and the column after it.
+#[derive(Clone, Copy, Debug, PartialEq, Eq)]
+pub struct Placed<'a> {
+    pub cluster: &'a str,
+    pub end: u64,
+    pub column: u128,
+}
+
+/// A walk along a logical line, cluster by cluster. It takes no memory.
+#[derive(Drop)]
+pub struct Walk<'a> {
+    clusters: Graphemes<'a>,
+    tab: u32,
+    gap: u64,
+    column: u128,
+    ghost room: { gap + length (concat (graphemes_left clusters)) < 2 ^ 64 },
+    ghost bound: { column + 2 ^ 32 * length (concat (graphemes_left clusters)) ≤ 2 ^ 96 },
+}
+
+impl<'a> Walk<'a> {
+    ghost use Rattle.cluster_core.specs.Boundaries.{clusters_in};
+    ghost use Rattle.cluster_core.specs.Walk.{placed, walk_clusters, walk_gap, walk_tab, walk_left};
+
+    /// A walk from the line's start, where columns are counted from 0.
+    pub fn new(line: &'a str, tab: u32) -> Walk<'a>
+        ensures left { walk_left result ≡ placed tab 0 0 (clusters_in (chars line.now)) }
+        ensures clusters { walk_clusters result ≡ clusters_in (chars line.now) }
+        ensures gap { walk_gap result ≡ 0 }
+        ensures tab { walk_tab result ≡ tab }
+    {
+        Walk {
+            clusters: line.graphemes(true),
+            tab,
+            gap: 0,
+            column: 0,
+        }
+    }
+
+    /// The gap up to which the walk came.
+    pub fn gap(&self) -> u64
+        ensures { result ≡ walk_gap self.now }
+    {
+        self.gap
+    }
+
+    /// From here on columns are counted from 0, as those of a piece that begins here.
+    pub fn begin_piece(&mut self)
+        ensures left { walk_left self.new ≡ placed (walk_tab self.old) (walk_gap self.old) 0 (walk_clusters self.old) }
+        ensures clusters { walk_clusters self.new ≡ walk_clusters self.old }
+        ensures gap { walk_gap self.new ≡ walk_gap self.old }
+        ensures tab { walk_tab self.new ≡ walk_tab self.old }
+    {
+        self.column = 0;
+    }
+}
+
+impl<'a> Iterator for Walk<'a> {
+    ghost use Rattle.cluster_core.specs.Walk.{placed_view, walk_left};
+
+    type Item = Placed<'a>;
+
+    ghost next_gives = { YieldsFirstBy placed_view walk_left };
+
+    ghost remaining = { item_count walk_left };
+
+    fn next(&mut self) -> Option<Placed<'a>> {
+        match self.clusters.next() {
+            Some(cluster) => {
+                self.gap += char_count(cluster);
+                self.column = column_after(self.tab, self.column, cluster);
+                Some(Placed {
+                    cluster,
+                    end: self.gap,
+                    column: self.column,
+                })
+            }
+            None => None,
+        }
+    }
+}
