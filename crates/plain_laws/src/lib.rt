@@ -5,3 +5,5 @@ pub mod history_laws;
 pub mod history_rows;
 pub mod laws;
 pub mod rows;
+pub mod view_laws;
+pub mod view_rows;

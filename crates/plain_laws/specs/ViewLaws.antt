@@ -1,0 +1,38 @@
+-- Laws of views and of update plans, whatever the text, the pieces and the screen.
+use Rattle.std.specs.Prelude.{◌≡◌, ℕ, true, ◌||◌, List, length, map, Option, Some}
+use Rattle.std.specs.List.{AllByRecursion, concat}
+use Rattle.std.specs.Prelude.{slice_range}
+use Rattle.plain_text.specs.declared.run.Run.{Run}
+use Rattle.plain_screen.specs.declared.piece.Piece.{Piece}
+use Rattle.plain_screen.specs.declared.screen.Line.{Line}
+use Rattle.plain_screen.specs.Screen.{Screen, screen_after}
+use Rattle.plain_screen.specs.Plan.{is_within, with_standings, update_plan, planned_screen, ArePartners, AreNumberedFrom, sent_by, to_send}
+use Rattle.plain_screen.specs.View.{AreEnds, ArePieces, pieces_by, whole_lines, line_of, IsLineOf, logical_line_of, IsLogicalLineOf}
+
+-- the pieces of a text, one after the other, are the text; and a rule that says where each line is cut gives pieces of each text
+pub record PiecesAreTexts : Type 0 where
+  pub joined : (text : List ℕ) (pieces : List Piece) → ArePieces text pieces → concat (map (λ piece. slice_range text piece.start piece.end) pieces) ≡ text
+  pub by_rule : (ends_of : List ℕ → List ℕ) → ((line : List ℕ) → AreEnds (length line) (ends_of line)) → (text : List ℕ) →
+      ArePieces text (pieces_by ends_of text)
+  pub whole : (text : List ℕ) → ArePieces text (whole_lines text)
+
+-- each gap has a layout line, and no other; and the logical line of a gap is the last one that starts by it
+pub record GapsHaveLines : Type 0 where
+  pub line : (text : List ℕ) (pieces : List Piece) (gap : ℕ) → ArePieces text pieces → IsLineOf pieces gap (line_of pieces gap)
+  pub only : (pieces : List Piece) (gap index other : ℕ) → IsLineOf pieces gap index → IsLineOf pieces gap other → index ≡ other
+  pub logical : (text : List ℕ) (gap : ℕ) → IsLogicalLineOf text gap (logical_line_of text gap)
+
+-- THE LAW OF THE PLAN: where partners rise, each is a valid old line that is the same but for its number, and the lines are numbered on,
+-- the screen after the plan is the layout wherever the plan keeps or sends, and not valid elsewhere
+abbrev pub PlansKeep : Type 0
+PlansKeep = (screen : Screen) (window request : Run) (number : ℕ) (lines : List Line) (partners : List (Option ℕ)) →
+    ArePartners screen 0 partners lines → AreNumberedFrom number lines →
+    screen_after screen (update_plan window request lines partners) ≡ Some (planned_screen window request lines partners)
+
+-- a plan sends the lines whose standing is to be sent, no others, and these are in the window or requested
+pub record PlansSend : Type 0 where
+  pub sent : (window request : Run) (lines : List Line) (partners : List (Option ℕ)) →
+      sent_by 0 (update_plan window request lines partners) ≡ to_send 0 (with_standings window request 0 partners lines)
+  pub within : (window request : Run) (lines : List Line) (partners : List (Option ℕ)) →
+      AllByRecursion (λ (at, line). (is_within window at || is_within request at) ≡ true)
+      (to_send 0 (with_standings window request 0 partners lines))

@@ -1,0 +1,23 @@
+//! Laws of views and of update plans, each the contract of a function: they hold of all texts and screens.
+
+ghost use Rattle.plain_laws.specs.ViewLaws.{GapsHaveLines, PiecesAreTexts, PlansKeep, PlansSend};
+
+/// The pieces of a text are the text, however its lines are cut.
+pub fn pieces_are_texts()
+    ensures { PiecesAreTexts }
+{}
+
+/// Each gap belongs to one layout line, and to one logical line.
+pub fn gaps_have_lines()
+    ensures { GapsHaveLines }
+{}
+
+/// The screen after a plan is the layout wherever the plan keeps or sends.
+pub fn plans_keep()
+    ensures { PlansKeep }
+{}
+
+/// A plan sends what is to be sent, and nothing outside the window and the request.
+pub fn plans_send()
+    ensures { PlansSend }
+{}
