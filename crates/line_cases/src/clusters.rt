@@ -1,6 +1,6 @@
 //! Clusters of logical lines.
 
-use cluster_core::{Class, class_of, clusters, columns, next, prev};
+use cluster_core::{Class, Placed, Walk, class_of, clusters, columns, columns_between, next, prev};
 use std::test::Fail;
 
 const ACCENT: &str = "ae\u{301}b";
@@ -56,6 +56,58 @@ fn columns_of_tabs_controls_and_wide_characters(rt: HostRuntime) {
     ] {
         assert_eq!(rt; columns(line, tab), count, "of {line:?}");
     }
+}
+
+#[test]
+fn columns_between_two_gaps(rt: HostRuntime) {
+    for (line, from, to, count) in [
+        ("a\tb", 1, 3, 5),
+        ("a\tb", 0, 3, 5),
+        ("a\tb", 2, 3, 1),
+        ("e\u{301}", 0, 1, 1),
+        ("e\u{301}", 1, 2, 0),
+        ("e\u{301}\tx", 1, 4, 5),
+        ("\u{4E2D}\u{4E2D}", 1, 2, 2),
+        (FLAGS, 1, 4, 3),
+        (HANGUL, 3, 4, 2),
+        ("abc", 2, 1, 0),
+        ("abc", 1, 9, 2),
+        ("", 0, 0, 0),
+    ] {
+        assert_eq!(rt;
+            columns_between(line, from, to, 4),
+            count,
+            "of {line:?} from {from} to {to}"
+        );
+    }
+}
+
+#[test]
+fn a_walk_counts_anew_where_a_piece_begins(rt: HostRuntime) {
+    let mut walk = Walk::new("ab\te\u{301}c", 4);
+    for (cluster, end, column) in [("a", 1, 1), ("b", 2, 2)] {
+        assert_eq!(rt;
+            walk.next(),
+            Some(Placed {
+                cluster,
+                end,
+                column
+            })
+        );
+    }
+    assert_eq!(rt; walk.gap(), 2);
+    walk.begin_piece();
+    for (cluster, end, column) in [("\t", 3, 4), ("e\u{301}", 5, 5), ("c", 6, 6)] {
+        assert_eq!(rt;
+            walk.next(),
+            Some(Placed {
+                cluster,
+                end,
+                column
+            })
+        );
+    }
+    assert_eq!(rt; walk.next(), None);
 }
 
 #[test]
