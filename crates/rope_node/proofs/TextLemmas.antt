@@ -1,5 +1,5 @@
 -- Characters counted along a text, and the lengths of parts of a text.
-use Rattle.std.proofs.Common.{◌≡◌, ℕ, ◌+◌, ◌-◌, ◌^◌, ◌<◌, ◌≤◌, Bool, IsTrue, List, [], ◌∷◌, ◌++◌, length, take, drop, cond, ◌==◌, nat_le, refl, sym, ap, subst, ◌∙◌, arith, length-append, take-append-drop}
+use Rattle.std.proofs.Common.{◌≡◌, ℕ, zero, suc, ◌+◌, ◌-◌, ◌^◌, ◌<◌, ◌≤◌, Bool, IsTrue, List, [], ◌∷◌, ◌++◌, length, take, drop, cond, ◌==◌, nat_le, refl, sym, ap, subst, ◌∙◌, arith, length-append, take-append-drop}
 use Rattle.std.specs.List.{count_by}
 use Rattle.std.specs.Str.{chars, IsUtf8}
 use Rattle.std.specs.Char.{len_utf8}
@@ -10,7 +10,7 @@ use Rattle.std.proofs.lemmas.List.Sums.{sum_by-cons, count_by-le-length}
 use Rattle.std.proofs.lemmas.Str.{chars-nil, chars_past_char, encodes-chars, len_utf8_bounds}
 use Rattle.std.proofs.lemmas.Bool.Decides.{nat_tests}
 use lib.Utf8.{encode}
-use Rattle.plain_text.specs.Text.{byte_len}
+use Rattle.plain_text.specs.Text.{byte_len, place_of}
 use Rattle.rope_node.specs.declared.lengths.Lengths.{Lengths}
 use Rattle.plain_text.proofs.callers.TextLemmas.{length-encodes}
 use Rattle.rope_node.specs.Lengths.{changed, is_countable, lengths_of, lengths_sum, together, lf_count, utf16_len, wide_count, byte_len-append, count_by-append, same_lengths, utf16_len-append, IsChanged}
@@ -95,6 +95,14 @@ without-short text from n =
 
 pub count-le-length : (p : ℕ → Bool) (text : List ℕ) → count_by p text ≤ length text
 count-le-length p text = count_by-le-length p text
+
+-- where each character takes one byte, a place is a gap
+pub plain-place : (text : List ℕ) (gap : ℕ) → length text ≡ byte_len text → gap ≤ length text → place_of text gap ≡ gap
+plain-place text zero plain inside = refl
+plain-place [] (suc gap) plain inside = absurd (omega arith)
+plain-place (c ∷ text) (suc gap) plain inside =
+    let rest : length text ≡ byte_len text = omega (arith, len_utf8_bounds c, length-short text) in
+    omega (arith, len_utf8_bounds c, length-short text, plain-place text gap rest (omega arith))
 
 -- the lengths of two short texts fit together
 pub both_fit : (left right : List ℕ) → byte_len left + byte_len right ≤ 1024 → IsTrue (is_countable (together (lengths_of left) (lengths_of right)))

@@ -1,6 +1,6 @@
-ghost use Rattle.std.specs.Prelude.{◌≡◌, ◌≤◌, ◌++◌, length, cond, IfOk};
-ghost use Rattle.std.specs.Str.{chars};
-ghost use Rattle.plain_text.specs.Text.{byte_len};
+ghost use Rattle.std.specs.Prelude.{◌≡◌, ◌≤◌, ◌++◌, length, take, drop, cond, IfOk};
+ghost use Rattle.std.specs.Str.{chars, IsUtf8};
+ghost use Rattle.plain_text.specs.Text.{byte_len, place_of};
 ghost use Rattle.rope_node.specs.Lengths.{lengths_of, wide_count, lf_count};
 
 use crate::Lengths;
@@ -42,6 +42,22 @@ impl Chunk {
         ensures short { byte_len self.now ≤ 1024 }
     {
         &self.text
+    }
+
+    /// The characters left of a gap and those right of it. Where each takes one byte, no character is read.
+    fn cut(&self, gap: u64) -> (&str, &str)
+        requires { gap ≤ length self.now }
+        ensures front { chars result.0.now ≡ take gap self.now }
+        ensures back { chars result.1.now ≡ drop gap self.now }
+        ensures utf8 { IsUtf8 result.1.now }
+        ensures bytes { length result.0.now ≡ place_of self.now gap }
+        ensures short { byte_len self.now ≤ 1024 }
+    {
+        let text = self.text.as_str();
+        if self.lengths.chars == self.lengths.bytes {
+            return split_at_place(text, gap);
+        }
+        split_at_gap(text, gap)
     }
 
     // The chunk with `added` in place of `gone`, which stands between `front` and `back`. Only what goes and comes is measured.
@@ -117,7 +133,7 @@ impl Leaf for Chunk {
         to: u64,
         other: &Self,
     ) -> Result<Option<Self>, AllocError> {
-        let (front, rest) = split_at_gap(self.text.as_str(), from);
+        let (front, rest) = self.cut(from);
         let (gone, back) = split_at_gap(rest, to - from);
         if front.len() + other.text.as_str().len() + back.len() > 1024 {
             return Ok(None);
@@ -129,13 +145,25 @@ impl Leaf for Chunk {
     }
 
     fn without(&self, alloc: Global, from: u64, to: u64) -> Result<Self, AllocError> {
-        let (front, rest) = split_at_gap(self.text.as_str(), from);
+        let (front, rest) = self.cut(from);
         let (gone, back) = split_at_gap(rest, to - from);
         match self.put(alloc, front, gone, back, &Text::new(alloc)) {
             Ok(made) => Ok(made),
             Err(_) => Err(AllocError),
         }
     }
+}
+
+/// The first `gap` characters and the others, where each takes one byte.
+fn split_at_place(text: &str, gap: u64) -> (&str, &str)
+    requires inside { gap ≤ length (chars text.now) }
+    requires plain { length (chars text.now) ≡ byte_len (chars text.now) }
+    ensures front { chars result.0.now ≡ take gap (chars text.now) }
+    ensures back { chars result.1.now ≡ drop gap (chars text.now) }
+    ensures utf8 { IsUtf8 result.1.now }
+    ensures bytes { length result.0.now ≡ place_of (chars text.now) gap }
+{
+    text.split_at(gap as usize)
 }
 
 fn joined(alloc: Global, left: &Text, right: &Text) -> Result<Text, NoMemory>

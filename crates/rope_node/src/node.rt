@@ -1,4 +1,5 @@
 ghost use Rattle.std.specs.Prelude.{◌≡◌, ◌-◌, ◌*◌, ◌^◌, ◌<◌, ◌≤◌, ◌++◌, length, IfOk};
+ghost use Rattle.std.specs.List.{All};
 ghost use Rattle.plain_text.specs.Text.{byte_len};
 ghost use Rattle.rope_node.specs.Node.{text_of};
 
@@ -58,10 +59,11 @@ impl Node {
         })
     }
 
-    /// How many levels of nodes stand above the leaves, which all have one depth; no leaf is empty.
+    /// How many levels of nodes stand above the leaves, which all have one depth.
     pub fn height(&self) -> u32
         ensures height { result ≡ self.now.height }
         ensures tall { 1 ≤ self.now.height → 2 * 4 ^ (self.now.height - 1) ≤ length self.now.leaves }
+        ensures full { All (λ leaf. 1 ≤ length leaf) self.now.leaves }
     {
         self.tree.height() as u32
     }

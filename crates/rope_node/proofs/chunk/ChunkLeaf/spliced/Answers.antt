@@ -8,22 +8,22 @@ use Rattle.rope_node.proofs.chunk.ChunkLeaf.spliced.Goals as goal
 
 pub overflow_add-front-2 : goal.overflow_add-front-2
 overflow_add-front-2 c =
-    let text = chars c.as_str.result.now in
+    let text = c.args.self.now in
     let rest = drop c.args.from text in
-    let front : length c.split_at_gap.result.0.now ≡ byte_len (take c.args.from text) = c.split_at_gap.ensures.bytes in
-    let tail = rw c.split_at_gap.ensures.back at c.split_at_gap-2.ensures.back in
-    let back : length c.split_at_gap-2.result.1.now ≡ byte_len (drop (c.args.to - c.args.from) rest) = rw (← tail) (bytes-chars c.split_at_gap-2.result.1.now c.split_at_gap-2.ensures.utf8) in
-    let own : byte_len text ≤ 1024 = rw c.as_str.ensures.characters c.self.invariant.1 in
-    let other : length c.as_str-2.result.now ≡ byte_len c.other.inside.text = rw c.as_str-2.ensures.utf8 (length-encodes c.other.inside.text) in
+    let front : length c.cut.result.0.now ≡ byte_len (take c.args.from text) = c.cut.ensures.bytes in
+    let tail = rw c.cut.ensures.back at c.split_at_gap.ensures.back in
+    let back : length c.split_at_gap.result.1.now ≡ byte_len (drop (c.args.to - c.args.from) rest) = rw (← tail) (bytes-chars c.split_at_gap.result.1.now c.split_at_gap.ensures.utf8) in
+    let own : byte_len text ≤ 1024 = c.cut.ensures.short in
+    let other : length c.as_str.result.now ≡ byte_len c.other.inside.text = rw c.as_str.ensures.utf8 (length-encodes c.other.inside.text) in
     omega (arith, c.other.invariant.1, front-short text c.args.from, back-short text c.args.from, back-short rest (c.args.to - c.args.from))
 
 pub put-requires-clause-short : goal.put-requires-clause-short
 put-requires-clause-short c =
-    let text = chars c.as_str.result.now in
+    let text = c.args.self.now in
     let rest = drop c.args.from text in
-    let front : length c.split_at_gap.result.0.now ≡ byte_len (take c.args.from text) = c.split_at_gap.ensures.bytes in
-    let tail = rw c.split_at_gap.ensures.back at c.split_at_gap-2.ensures.back in
-    let back : length c.split_at_gap-2.result.1.now ≡ byte_len (drop (c.args.to - c.args.from) rest) = rw (← tail) (bytes-chars c.split_at_gap-2.result.1.now c.split_at_gap-2.ensures.utf8) in
-    let own : byte_len text ≤ 1024 = rw c.as_str.ensures.characters c.self.invariant.1 in
-    let other : length c.as_str-2.result.now ≡ byte_len c.other.inside.text = rw c.as_str-2.ensures.utf8 (length-encodes c.other.inside.text) in
-    rw (c.split_at_gap.ensures.front, tail) (omega (arith, byte_len-append (take c.args.from text) (c.other.inside.text ++ drop (c.args.to - c.args.from) rest), byte_len-append c.other.inside.text (drop (c.args.to - c.args.from) rest)))
+    let front : length c.cut.result.0.now ≡ byte_len (take c.args.from text) = c.cut.ensures.bytes in
+    let tail = rw c.cut.ensures.back at c.split_at_gap.ensures.back in
+    let back : length c.split_at_gap.result.1.now ≡ byte_len (drop (c.args.to - c.args.from) rest) = rw (← tail) (bytes-chars c.split_at_gap.result.1.now c.split_at_gap.ensures.utf8) in
+    let own : byte_len text ≤ 1024 = c.cut.ensures.short in
+    let other : length c.as_str.result.now ≡ byte_len c.other.inside.text = rw c.as_str.ensures.utf8 (length-encodes c.other.inside.text) in
+    rw (c.cut.ensures.front, tail) (omega (arith, byte_len-append (take c.args.from text) (c.other.inside.text ++ drop (c.args.to - c.args.from) rest), byte_len-append c.other.inside.text (drop (c.args.to - c.args.from) rest)))

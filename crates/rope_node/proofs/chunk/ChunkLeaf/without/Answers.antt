@@ -6,7 +6,7 @@ use Rattle.rope_node.proofs.chunk.ChunkLeaf.without.Goals as goal
 
 pub put-requires-clause-short : goal.put-requires-clause-short
 put-requires-clause-short c =
-    let text = chars c.as_str.result.now in
-    let tail = rw c.split_at_gap.ensures.back at c.split_at_gap-2.ensures.back in
-    let own : byte_len text ≤ 1024 = rw c.as_str.ensures.characters c.self.invariant.1 in
-    rw (c.split_at_gap.ensures.front, tail, c.new.ensures) (omega (arith, own, without-short text c.args.from (c.args.to - c.args.from)))
+    let text = c.args.self.now in
+    let tail = rw c.cut.ensures.back at c.split_at_gap.ensures.back in
+    let own : byte_len text ≤ 1024 = c.cut.ensures.short in
+    rw (c.cut.ensures.front, tail, c.new.ensures) (omega (arith, own, without-short text c.args.from (c.args.to - c.args.from)))
