@@ -1,5 +1,5 @@
 -- What private functions say: the steps of walks over deltas.
-use Rattle.std.specs.Prelude.{ℕ, ◌+◌, ◌≤◌, if◌then◌else◌, nat_lt, List, [], ◌∷◌, ◌++◌, ◌≡◌, ◌<◌, ◌⊎◌, Bool, true, false, length, replicate, zero, suc, map, ◌&&◌, ◌||◌, ◌==◌, None, IsTrue}
+use Rattle.std.specs.Prelude.{ℕ, ◌+◌, ◌≤◌, if◌then◌else◌, nat_lt, List, [], ◌∷◌, ◌++◌, ◌≡◌, ◌<◌, ◌⊎◌, Bool, true, false, length, replicate, ◌&&◌, ◌||◌, ◌==◌, None, IsTrue}
 use Rattle.plain_text.specs.declared.run.Run.{Run}
 use Rattle.plain_edits.specs.declared.delta.Added.{Added}
 use Rattle.plain_edits.specs.UnitDelta.{AreAdds, AreApart, unit_keeps, unit_adds}
@@ -7,14 +7,13 @@ use Rattle.subset_runs.specs.Subset.{count, complement, shrink}
 use Rattle.delta_core.specs.declared.carry.CarryStep.{CarryStep}
 use Rattle.delta_core.specs.declared.carry.CarryStep.TheVariants.{Own, Other, Base}
 use Rattle.plain_edits.specs.declared.delta.UnitDelta.{UnitDelta}
-use Rattle.delta_core.specs.declared.part.Part.{Part}
-use Rattle.delta_core.specs.declared.part.Part.TheVariants.{Keep, Drop, Add}
 use Rattle.plain_edits.specs.declared.delta.El.{El}
 use Rattle.plain_text.specs.Text.{gap_of, is_place}
 use Rattle.plain_edits.specs.Delta.{keeps, adds, copies_misfit, is_in_runs, text_at_gap, kept_runs, insertions}
 use Rattle.delta_core.specs.Wire.{copy_before, text_before}
 use Rattle.delta_core.specs.Carry.{carried}
 use Rattle.delta_core.specs.Step.{Step, Kept, Dropped, New}
+pub use Rattle.delta_core.specs.Step.{step_of, steps_from, steps_of, part_steps}
 use Rattle.delta_core.specs.Synthesis.{appearing}
 
 -- the run from one gap to another
@@ -48,26 +47,6 @@ pub record IsNext (after : Bool) (own other own_rest other_rest : List Bool) (n 
   pub base : length own_rest + count other_rest ≡ length other_rest + count own_rest
   pub ahead : n + (length own_rest + count other_rest) ≡ length own + count other
   pub some : length own_rest + length other_rest < length own + length other
-
--- what becomes of a character of the base
-abbrev pub step_of : Bool → Step
-step_of true = Kept
-step_of false = Dropped
-
--- the steps from a gap on, where that many characters of the base are right of it
-abbrev pub steps_from : (ℕ → Bool) → (ℕ → List ℕ) → ℕ → ℕ → List Step
-steps_from keeps adds gap zero = map New (adds gap)
-steps_from keeps adds gap (suc n) = map New (adds gap) ++ step_of (keeps gap) ∷ steps_from keeps adds (gap + 1) n
-
--- the steps of a unit delta
-abbrev pub steps_of : UnitDelta → List Step
-steps_of units = steps_from (unit_keeps units) (unit_adds units) 0 units.base
-
--- the steps of a part
-abbrev pub part_steps : Part → List Step
-part_steps (Keep n) = replicate n Kept
-part_steps (Drop n) = replicate n Dropped
-part_steps (Add text) = map New text.now
 
 -- how many characters of the base the steps go over
 abbrev pub base_count : List Step → ℕ

@@ -2,7 +2,8 @@
 //!
 //! A delta on the wire and a unit delta are the plain types of `plain_edits`, and mean what its definitions say. A contract sees a
 //! text as its list of characters, and a subset as its list of flags. The calls go from the one form to the other and back, apply
-//! a unit delta to a text, take it apart into two subsets, make it from two subsets, and carry insertions over other ones.
+//! a unit delta to a text, take it apart into two subsets, make it from two subsets, and carry insertions over other ones. A
+//! [`UnitWalk`] goes over a unit delta part by part.
 #![tactic(auto)]
 
 mod application;
@@ -21,6 +22,8 @@ pub use application::apply;
 pub use carry::carry_ins;
 pub use factoring::factor;
 pub use misfits::fits;
+pub use part::Part;
 pub use synthesis::synthesize;
 pub use unit_form::to_units;
+pub use unit_walk::UnitWalk;
 pub use wire_form::to_wire;

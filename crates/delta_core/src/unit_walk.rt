@@ -8,9 +8,9 @@ use plain_edits::{Added, UnitDelta};
 use plain_text::{Run, Text};
 use std::marker::Model;
 
-// A walk over a unit delta from the left end of its base on. To a contract it is the steps that are still ahead.
+/// A walk over a unit delta from the left end of its base on. To a contract it is the steps that are still ahead.
 #[derive(Drop)]
-pub(crate) struct UnitWalk<'a> {
+pub struct UnitWalk<'a> {
     at: u64,
     base: u64,
     // The runs that end after `at`.
@@ -34,7 +34,7 @@ impl<'a> Model for UnitWalk<'a> {
 }
 
 impl<'a> UnitWalk<'a> {
-    pub(crate) fn new(units: &'a UnitDelta) -> UnitWalk<'a>
+    pub fn new(units: &'a UnitDelta) -> UnitWalk<'a>
         requires { IsUnitDelta units.now }
         ensures { result ≡ steps_of units.now }
     {
@@ -46,14 +46,14 @@ impl<'a> UnitWalk<'a> {
         }
     }
 
-    pub(crate) fn is_empty(&self) -> bool
+    pub fn is_empty(&self) -> bool
         ensures { IsTrue result ↔ (self.now ≡ []) }
     {
         self.at == self.base && self.added.is_empty()
     }
 
-    // The next part, which is not empty.
-    pub(crate) fn next(&mut self) -> Part<'a>
+    /// The next part, which is not empty.
+    pub fn next(&mut self) -> Part<'a>
         requires { self.old ≢ [] }
         ensures next { self.old ≡ part_steps result ++ self.new }
         ensures some { 0 < length (part_steps result) }

@@ -1,2 +1,3 @@
 pub mod RopeLemmas
+pub mod EditLemmas
 pub mod ForCallers

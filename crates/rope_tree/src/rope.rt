@@ -1,10 +1,12 @@
 ghost use Rattle.std.specs.Prelude.{◌≡◌, ◌+◌, ◌-◌, ◌^◌, ◌<◌, ◌≤◌, ◌++◌, [], length, take, drop, IfOk};
+ghost use Rattle.std.specs.List.{flat_map};
 ghost use Rattle.std.specs.Str.{chars};
 ghost use Rattle.plain_text.specs.Text.{byte_len};
 ghost use Rattle.rope_node.specs.Node.{text_of};
 ghost use Rattle.shared_tree.specs.Replaced.{replaced};
 
-use plain_text::{NoMemory, Text, split_at_gap};
+use crate::Chunks;
+use plain_text::{NoMemory, Text, TryClone, split_at_gap};
 use rope_node::{Chunk, Node};
 use shared_tree::Tree;
 use std::alloc::Global;
@@ -31,7 +33,7 @@ impl Rope {
         ensures { IfOk result (λ rope. rope ≡ text.now) }
     {
         Ok(Rope {
-            node: Node::of_tree(tree_of(alloc, text)?),
+            node: node_of(alloc, text)?,
         })
     }
 
@@ -72,11 +74,57 @@ impl Rope {
         requires fits { byte_len (replaced self.now from to text.now) < 2 ^ 64 }
         ensures { IfOk result (λ made. made ≡ replaced self.now from to text.now) }
     {
-        let added = tree_of(alloc, text)?;
-        let made = self.node.tree().edited(alloc, from, to, &added)?;
+        let added = node_of(alloc, text)?;
+        let made = self.node.tree().edited(alloc, from, to, added.tree())?;
         Ok(Rope {
             node: Node::of_tree(made),
         })
+    }
+
+    pub(crate) fn empty(alloc: Global) -> Rope
+        ensures { result ≡ [] }
+    {
+        Rope {
+            node: Node::of_tree(Tree::new(alloc)),
+        }
+    }
+
+    /// Both, one after the other, in O(height).
+    pub fn joined(&self, alloc: Global, other: &Rope) -> Result<Rope, NoMemory>
+        requires { byte_len (self.now ++ other.now) < 2 ^ 64 }
+        ensures { IfOk result (λ made. made ≡ self.now ++ other.now) }
+    {
+        let made = self.node.tree().joined(alloc, other.node.tree())?;
+        Ok(Rope {
+            node: Node::of_tree(made),
+        })
+    }
+
+    /// The first `to` characters, in O(height).
+    pub fn front(&self, alloc: Global, to: u64) -> Result<Rope, NoMemory>
+        requires { to ≤ length self.now }
+        ensures { IfOk result (λ made. made ≡ take to self.now) }
+    {
+        Ok(Rope {
+            node: Node::of_tree(self.node.tree().front(alloc, to)?),
+        })
+    }
+
+    /// The characters from a gap on, in O(height).
+    pub fn back(&self, alloc: Global, from: u64) -> Result<Rope, NoMemory>
+        requires { from ≤ length self.now }
+        ensures { IfOk result (λ made. made ≡ drop from self.now) }
+    {
+        Ok(Rope {
+            node: Node::of_tree(self.node.tree().back(alloc, from)?),
+        })
+    }
+
+    /// The texts of the leaves in order, in one pass.
+    pub fn chunks(&self) -> Result<Chunks<'_>, NoMemory>
+        ensures { IfOk result (λ chunks. flat_map (λ text. text) chunks ≡ self.now) }
+    {
+        Ok(Chunks::new(self.node.tree().leaves()))
     }
 
     /// The characters between two gaps, in O(height) and what it gives.
@@ -101,6 +149,16 @@ fn whole(alloc: Global, tree: &Tree<Chunk>) -> Result<Text, NoMemory>
         text.push_str(back)?;
     }
     Ok(text)
+}
+
+/// The leaf of a short text, or the leaves of a longer one.
+fn node_of(alloc: Global, text: &Text) -> Result<Node, NoMemory>
+    ensures { IfOk result (λ node. text_of node ≡ text.now) }
+{
+    if text.byte_len() <= 1024 {
+        return Node::leaf(alloc, text.copy(alloc)?);
+    }
+    Ok(Node::of_tree(tree_of(alloc, text)?))
 }
 
 /// The tree of a text, in one pass.

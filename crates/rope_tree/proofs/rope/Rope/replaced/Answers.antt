@@ -8,5 +8,5 @@ use Rattle.rope_tree.proofs.rope.Rope.replaced.Goals as goal
 pub edited-requires-clause-fits : goal.edited-requires-clause-fits
 edited-requires-clause-fits c =
     let base : text_of c.tree.result.now ≡ c.args.self.now = rw c.tree.ensures c.self.view_is in
-    let fit : byte_len (replaced (text_of c.tree.result.now) c.args.from c.args.to (text_of c.in_ok-added.added)) < 2 ^ 64 = rw (base, c.in_ok-added.ensures) c.requires.fits in
+    let fit : byte_len (replaced (text_of c.tree.result.now) c.args.from c.args.to (text_of c.tree-2.result.now)) < 2 ^ 64 = rw (base, c.tree-2.ensures, c.in_ok-added.ensures) c.requires.fits in
     text_fits _ fit
