@@ -1,7 +1,6 @@
 pub mod MoveLemmas
 pub mod LoadLemmas
 pub mod InsertLemmas
-pub mod SameLemmas
 pub mod SettleLemmas
 pub mod StepLemmas
 pub mod FitLemmas

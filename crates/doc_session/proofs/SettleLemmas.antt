@@ -32,7 +32,7 @@ use Rattle.doc_session.specs.Whole.{IsStateOf, IsStateOfSome}
 use Rattle.doc_session.specs.SameLayout.{is_same_layout}
 use Rattle.doc_session.proofs.InsertLemmas.{IsStateOf-whole}
 use Rattle.doc_session.proofs.MoveLemmas.{head-after, head-stands}
-use Rattle.doc_session.proofs.SameLemmas.{is_same_layout-Decides}
+use Rattle.plain_screen.proofs.callers.SameLemmas.{is_same_layout-Decides}
 use Rattle.doc_session.proofs.TellLemmas.{layout_tells}
 
 -- ---- the screen

@@ -1,12 +1,12 @@
 -- Laws of views and of update plans, whatever the text, the pieces and the screen.
-use Rattle.std.specs.Prelude.{◌≡◌, ℕ, true, ◌||◌, List, length, map, Option, Some}
+use Rattle.std.specs.Prelude.{◌≡◌, ℕ, ◌+◌, ◌≤◌, true, ◌||◌, slice_get, slice_range, List, length, map, Option, Some}
 use Rattle.std.specs.List.{AllByRecursion, concat}
-use Rattle.std.specs.Prelude.{slice_range}
 use Rattle.plain_text.specs.declared.run.Run.{Run}
 use Rattle.plain_screen.specs.declared.piece.Piece.{Piece}
 use Rattle.plain_screen.specs.declared.screen.Line.{Line}
 use Rattle.plain_screen.specs.Screen.{Screen, screen_after}
 use Rattle.plain_screen.specs.Plan.{is_within, with_standings, update_plan, planned_screen, ArePartners, AreNumberedFrom, sent_by, to_send}
+use Rattle.plain_screen.specs.Touched.{by_logical_lines, partners_of, valid_partners}
 use Rattle.plain_screen.specs.View.{AreEnds, ArePieces, pieces_by, whole_lines, line_of, IsLineOf, logical_line_of, IsLogicalLineOf}
 
 -- the pieces of a text, one after the other, are the text; and a rule that says where each line is cut gives pieces of each text
@@ -28,6 +28,19 @@ abbrev pub PlansKeep : Type 0
 PlansKeep = (screen : Screen) (window request : Run) (number : ℕ) (lines : List Line) (partners : List (Option ℕ)) →
     ArePartners screen 0 partners lines → AreNumberedFrom number lines →
     screen_after screen (update_plan window request lines partners) ≡ Some (planned_screen window request lines partners)
+
+-- PARTNERS of the lines of a layout are partners, where the screen shows the lines before, and right of the touched lines stand no more
+-- than there were: those that are valid rise, and each is the same but for its number. So the plan that they make keeps to the layout.
+pub record PartnersStay : Type 0 where
+  pub partners : (screen : Screen) (touched : Run) (before after : List Line) →
+      touched.start + length (by_logical_lines after) ≤ length (by_logical_lines before) + touched.end →
+      ((i : ℕ) (line : Line) → slice_get screen i ≡ Some (Some line) → slice_get before i ≡ Some line) →
+      ArePartners screen 0 (valid_partners screen (partners_of touched before after)) after
+  pub plan : (screen : Screen) (touched window request : Run) (before after : List Line) →
+      touched.start + length (by_logical_lines after) ≤ length (by_logical_lines before) + touched.end →
+      ((i : ℕ) (line : Line) → slice_get screen i ≡ Some (Some line) → slice_get before i ≡ Some line) → AreNumberedFrom 1 after →
+      screen_after screen (update_plan window request after (valid_partners screen (partners_of touched before after))) ≡
+      Some (planned_screen window request after (valid_partners screen (partners_of touched before after)))
 
 -- a plan sends the lines whose standing is to be sent, no others, and these are in the window or requested
 pub record PlansSend : Type 0 where

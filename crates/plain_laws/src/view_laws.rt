@@ -1,6 +1,6 @@
 //! Laws of views and of update plans, each the contract of a function: they hold of all texts and screens.
 
-ghost use Rattle.plain_laws.specs.ViewLaws.{GapsHaveLines, PiecesAreTexts, PlansKeep, PlansSend};
+ghost use Rattle.plain_laws.specs.ViewLaws.{GapsHaveLines, PartnersStay, PiecesAreTexts, PlansKeep, PlansSend};
 
 /// The pieces of a text are the text, however its lines are cut.
 pub fn pieces_are_texts()
@@ -15,6 +15,11 @@ pub fn gaps_have_lines()
 /// The screen after a plan is the layout wherever the plan keeps or sends.
 pub fn plans_keep()
     ensures { PlansKeep }
+{}
+
+/// The partners of the lines of a layout rise, and the plan that they make keeps to the layout.
+pub fn partners_stay()
+    ensures { PartnersStay }
 {}
 
 /// A plan sends what is to be sent, and nothing outside the window and the request.

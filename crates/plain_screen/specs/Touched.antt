@@ -48,6 +48,13 @@ abbrev pub by_logical_lines : List Line → List (List Line)
 by_logical_lines [] = []
 by_logical_lines (line ∷ lines) = onto_logical line (by_logical_lines lines)
 
+-- all lines of some logical lines, and how many stand before the one with an index
+abbrev pub lines_in : List (List Line) → List Line
+lines_in groups = flat_map (λ lines. lines) groups
+
+abbrev pub first_of : List (List Line) → ℕ → ℕ
+first_of groups index = length (lines_in (take index groups))
+
 -- the lines of a logical line are not touched: its counterpart has as many, and each is the same but for its number
 abbrev pub is_untouched : List Line → Option (List Line) → Bool
 is_untouched lines None = false
@@ -58,7 +65,7 @@ abbrev pub partners_in : List (List Line) → Option ℕ → List Line → List 
 partners_in before None lines = map (λ line. None) lines
 partners_in before (Some index) lines =
     if is_untouched lines (slice_get before index)
-    then map (λ (old, line). Some old) (enumerate_from (length (flat_map (λ ls. ls) (take index before))) lines)
+    then map (λ (old, line). Some old) (enumerate_from (first_of before index) lines)
     else map (λ line. None) lines
 
 -- THE PARTNERS of the lines of a layout, where these logical lines are touched by text: a line's partner is the same piece of the

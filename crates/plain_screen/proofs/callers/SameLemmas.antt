@@ -1,4 +1,4 @@
--- Two layouts are the same exactly where the test says so.
+-- Two lines, and two layouts, are the same exactly where the test says so.
 use Rattle.std.proofs.Common.{◌≡◌, ℕ, List, Option, Some, None, refl, ap}
 use Rattle.std.specs.Bool.{Decides}
 use Rattle.std.specs.Str.{bytes_eq}
@@ -9,7 +9,7 @@ use Rattle.std.proofs.lemmas.Bool.Decides.{Decides-and, Decides-like, Decides-eq
 use Rattle.std.proofs.lemmas.Slice.Eq.{bytes_eq-Decides, slice_eq-Decides}
 use Rattle.plain_screen.specs.declared.screen.Triple.{Triple}
 use Rattle.plain_screen.specs.declared.screen.Line.{Line}
-use Rattle.doc_session.specs.SameLayout.{is_same_triple, is_same_number, is_same_line, is_same_layout}
+use Rattle.plain_screen.specs.SameLayout.{is_same_triple, is_same_number, is_same_line, is_same_layout}
 
 triple-Decides : (t u : Triple) → Decides (is_same_triple t u) (t ≡ u)
 triple-Decides t u =
@@ -24,8 +24,8 @@ number-Decides None (Some n) = (λ e. absurd cc, λ e. absurd cc)
 number-Decides (Some m) None = (λ e. absurd cc, λ e. absurd cc)
 number-Decides (Some m) (Some n) = Decides-like (m == n) (λ e. ap Some e) (λ e. cc) (Decides-eqb m n)
 
-line-Decides : (line other : Line) → Decides (is_same_line line other) (line ≡ other)
-line-Decides line other =
+pub is_same_line-Decides : (line other : Line) → Decides (is_same_line line other) (line ≡ other)
+is_same_line-Decides line other =
     let styles = slice_eq-Decides triple-Decides line.styles other.styles (pointwise is_same_triple line.styles other.styles) refl in
     let cursors =
     Decides-and (bytes_eq line.cursor other.cursor) (pointwise is_same_triple line.styles other.styles) (bytes_eq-Decides line.cursor other.cursor) styles in
@@ -39,4 +39,4 @@ line-Decides line other =
     (bytes_eq-Decides line.text other.text) numbers)
 
 pub is_same_layout-Decides : (lines others : List Line) → Decides (is_same_layout lines others) (lines ≡ others)
-is_same_layout-Decides lines others = slice_eq-Decides line-Decides lines others (is_same_layout lines others) refl
+is_same_layout-Decides lines others = slice_eq-Decides is_same_line-Decides lines others (is_same_layout lines others) refl
