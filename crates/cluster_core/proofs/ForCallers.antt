@@ -6,7 +6,7 @@ use Rattle.std.proofs.lemmas.List.{take_all, drop_all}
 use Rattle.std.proofs.lemmas.List.Folds.{concat-append}
 use Rattle.cluster_core.specs.Boundaries.{clusters_in}
 use Rattle.cluster_core.specs.Columns.{column_after, clipped, columns_between}
-use Rattle.cluster_core.specs.Walk.{ClusterAt, placed}
+use Rattle.cluster_core.specs.Walk.{ClusterAt, counted_anew, placed}
 use Rattle.cluster_core.proofs.ColumnLemmas.{clipped-past, clipped-inside}
 pub use Rattle.cluster_core.proofs.ColumnLemmas.{clusters_in-chars, concat-clusters, columns_between-whole}
 
@@ -80,3 +80,11 @@ walk_tells tab line front back parts =
     let same : from + 0 ≡ from = omega arith in
     subst (λ (n : ℕ). AllByRecursion (λ item. item.column ≡ columns_between tab line from item.end) (placed tab n 0 back)) same
     (walk_tells-from tab line front [] back parts)
+
+-- what is counted anew is what a walk gives that begins to count there
+pub counted_anew-placed : (tab gap column from : ℕ) (clusters : List (List ℕ)) →
+    counted_anew tab from (placed tab gap column clusters) ≡ placed tab gap from clusters
+counted_anew-placed tab gap column from [] = refl
+counted_anew-placed tab gap column from (cluster ∷ clusters) =
+    ap (λ items. record { cluster = cluster; end = gap + length cluster; column = column_after tab from cluster } ∷ items)
+    (counted_anew-placed tab (gap + length cluster) (column_after tab column cluster) (column_after tab from cluster) clusters)

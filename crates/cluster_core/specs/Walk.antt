@@ -1,5 +1,6 @@
 -- A walk along a logical line, cluster by cluster.
-use Rattle.std.specs.Prelude.{ℕ, ◌+◌, List, [], ◌∷◌, length, map}
+use Rattle.std.specs.Prelude.{◌≡◌, ℕ, ◌+◌, List, [], ◌∷◌, length, map, Option}
+use Rattle.std.specs.Iterator.{YieldsFirstBy}
 use Rattle.std.specs.Str.{chars}
 use Rattle.unicode_segmentation.specs.Iter.{graphemes_left}
 use Rattle.cluster_core.specs.Columns.{column_after}
@@ -19,18 +20,23 @@ placed tab gap column (cluster ∷ clusters) =
     record { cluster = cluster; end = gap + length cluster; column = column_after tab column cluster } ∷
     placed tab (gap + length cluster) (column_after tab column cluster) clusters
 
--- what a walk gives, and what it has yet to give
+-- the same clusters, where columns are counted anew from `column`
+abbrev pub counted_anew : ℕ → ℕ → List ClusterAt → List ClusterAt
+counted_anew tab column [] = []
+counted_anew tab column (item ∷ items) =
+    record { cluster = item.cluster; end = item.end; column = column_after tab column item.cluster } ∷
+    counted_anew tab (column_after tab column item.cluster) items
+
+-- what a walk gives, what it has yet to give, and its tab width
 abbrev pub placed_view : Placed → ClusterAt
 placed_view item = record { cluster = chars item.cluster.now; end = item.end; column = item.column }
 
-unfoldable pub walk_clusters : Walk → List (List ℕ)
-walk_clusters walk = map chars (graphemes_left walk.clusters)
-
-unfoldable pub walk_gap : Walk → ℕ
-walk_gap walk = walk.gap
+unfoldable pub walk_left : Walk → List ClusterAt
+walk_left walk = placed walk.tab walk.gap walk.column (map chars (graphemes_left walk.clusters))
 
 unfoldable pub walk_tab : Walk → ℕ
 walk_tab walk = walk.tab
 
-unfoldable pub walk_left : Walk → List ClusterAt
-walk_left walk = placed walk.tab walk.gap walk.column (map chars (graphemes_left walk.clusters))
+-- a call gave the first of what was left, or `None` where nothing was left, and the tab width stayed
+abbrev pub Walks : Walk → Option Placed → Walk → Type 0
+Walks walk item rest = YieldsFirstBy placed_view walk_left walk item rest × (walk_tab rest ≡ walk_tab walk)

@@ -1,6 +1,6 @@
 ghost use Rattle.std.specs.Prelude.{◌≡◌, ◌+◌, ◌*◌, ◌^◌, ◌<◌, ◌≤◌, length};
 ghost use Rattle.std.specs.List.{concat};
-ghost use Rattle.std.specs.Iterator.{item_count, YieldsFirstBy};
+ghost use Rattle.std.specs.Iterator.{item_count};
 ghost use Rattle.std.specs.Str.{chars};
 ghost use Rattle.unicode_segmentation.specs.Iter.{graphemes_left};
 
@@ -28,13 +28,11 @@ pub struct Walk<'a> {
 
 impl<'a> Walk<'a> {
     ghost use Rattle.cluster_core.specs.Boundaries.{clusters_in};
-    ghost use Rattle.cluster_core.specs.Walk.{placed, walk_clusters, walk_gap, walk_tab, walk_left};
+    ghost use Rattle.cluster_core.specs.Walk.{counted_anew, placed, walk_left, walk_tab};
 
     /// A walk from the line's start, where columns are counted from 0.
     pub fn new(line: &'a str, tab: u32) -> Walk<'a>
         ensures left { walk_left result ≡ placed tab 0 0 (clusters_in (chars line.now)) }
-        ensures clusters { walk_clusters result ≡ clusters_in (chars line.now) }
-        ensures gap { walk_gap result ≡ 0 }
         ensures tab { walk_tab result ≡ tab }
     {
         Walk {
@@ -45,18 +43,9 @@ impl<'a> Walk<'a> {
         }
     }
 
-    /// The gap up to which the walk came.
-    pub fn gap(&self) -> u64
-        ensures { result ≡ walk_gap self.now }
-    {
-        self.gap
-    }
-
     /// From here on columns are counted from 0, as those of a piece that begins here.
     pub fn begin_piece(&mut self)
-        ensures left { walk_left self.new ≡ placed (walk_tab self.old) (walk_gap self.old) 0 (walk_clusters self.old) }
-        ensures clusters { walk_clusters self.new ≡ walk_clusters self.old }
-        ensures gap { walk_gap self.new ≡ walk_gap self.old }
+        ensures left { walk_left self.new ≡ counted_anew (walk_tab self.old) 0 (walk_left self.old) }
         ensures tab { walk_tab self.new ≡ walk_tab self.old }
     {
         self.column = 0;
@@ -64,11 +53,11 @@ impl<'a> Walk<'a> {
 }
 
 impl<'a> Iterator for Walk<'a> {
-    ghost use Rattle.cluster_core.specs.Walk.{placed_view, walk_left};
+    ghost use Rattle.cluster_core.specs.Walk.{Walks, walk_left};
 
     type Item = Placed<'a>;
 
-    ghost next_gives = { YieldsFirstBy placed_view walk_left };
+    ghost next_gives = { Walks };
 
     ghost remaining = { item_count walk_left };
 

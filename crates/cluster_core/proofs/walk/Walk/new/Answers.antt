@@ -3,7 +3,7 @@ use Rattle.std.specs.List.{concat}
 use Rattle.std.specs.Str.{chars}
 use Rattle.unicode_segmentation.specs.Grapheme.{is_grapheme_break}
 use Rattle.unicode_segmentation.proofs.SegmentsLemmas.{concat-segments}
-use Rattle.cluster_core.specs.Walk.{placed, walk_left, walk_clusters, walk_gap, walk_tab}
+use Rattle.cluster_core.specs.Walk.{placed, walk_left, walk_tab}
 use Rattle.cluster_core.proofs.ColumnLemmas.{clusters_in-chars}
 use Rattle.cluster_core.proofs.walk.Walk.new.Goals as goal
 
@@ -24,14 +24,6 @@ unfolding walk_left
 returns-clause-left c =
     ap (λ (cs : List (List ℕ)). placed c.args.tab 0 0 (map chars cs)) c.graphemes.ensures.left ∙
     ap (placed c.args.tab 0 0) (sym (clusters_in-chars c.args.line.now c.utf8.line))
-
-pub returns-clause-clusters : goal.returns-clause-clusters
-unfolding walk_clusters
-returns-clause-clusters c = ap (map chars) c.graphemes.ensures.left ∙ sym (clusters_in-chars c.args.line.now c.utf8.line)
-
-pub returns-clause-gap : goal.returns-clause-gap
-unfolding walk_gap
-returns-clause-gap c = refl
 
 pub returns-clause-tab : goal.returns-clause-tab
 unfolding walk_tab

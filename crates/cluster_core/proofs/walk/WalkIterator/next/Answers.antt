@@ -1,13 +1,13 @@
-use Rattle.std.proofs.Common.{length, ap, arith, rules}
+use Rattle.std.proofs.Common.{length, refl, ap, arith, rules}
 use Rattle.unicode_segmentation.specs.Iter.{graphemes_left}
-use Rattle.cluster_core.specs.Walk.{walk_left}
+use Rattle.cluster_core.specs.Walk.{walk_left, walk_tab}
 use Rattle.cluster_core.proofs.WalkLemmas.{placed-step, placed-none}
 use Rattle.cluster_core.proofs.walk.WalkIterator.next.Goals as goal
 
 pub returns-in-Some-clause-steps : goal.returns-in-Some-clause-steps
-unfolding walk_left
+unfolding walk_left walk_tab
 returns-in-Some-clause-steps c =
-    placed-step _ _ _ _ _ _ _ _ c.in-Some.ensures.steps c.char_count.ensures.count c.column_after-self.ensures.value
+    (placed-step _ _ _ _ _ _ _ _ c.in-Some.ensures.steps c.char_count.ensures.count c.column_after-self.ensures.value, refl)
 
 pub returns-in-Some-clause-goes : goal.returns-in-Some-clause-goes
 unfolding walk_left
@@ -18,6 +18,6 @@ returns-in-Some-clause-goes c =
     search (rules, arith)
 
 pub returns-in-None-clause-steps : goal.returns-in-None-clause-steps
-unfolding walk_left
+unfolding walk_left walk_tab
 returns-in-None-clause-steps c =
-    (placed-none _ _ _ _ c.in-None.ensures.steps.0, placed-none _ _ _ _ c.in-None.ensures.steps.1)
+    ((placed-none _ _ _ _ c.in-None.ensures.steps.0, placed-none _ _ _ _ c.in-None.ensures.steps.1), refl)
