@@ -1,7 +1,7 @@
 -- A buffer that is filled in a part, and readers and writers that were interrupted.
 use Rattle.std.proofs.Common.{◌≡◌, ℕ, ◌≤◌, List, length, take, drop, ◌++◌, Option, Some, None, Ok, Err, Result, sym, ap, ◌∙◌, arith}
 use Rattle.std.proofs.lemmas.List.{append_assoc, take-append-drop, drop-append-le, length-take-le}
-use Rattle.std.specs.Io.KnownBytes.{Keeps, ReadConsumes, WriteAppends}
+use Rattle.std.specs.Io.KnownBytes.{Keeps, Consumes, ReadConsumes, WriteAppends}
 use Rattle.outside.specs.Source.{filled}
 
 drop-take : (buf : List ℕ) (room n : ℕ) → n ≤ room → room ≤ length buf → drop n (take room buf) ++ drop room buf ≡ drop n buf
@@ -33,3 +33,17 @@ WriteAppends-kept {E} (Some x) (Some y) None (Ok n) buf p q = absurd q
 WriteAppends-kept {E} (Some x) (Some y) None (Err e) buf p q = absurd q
 WriteAppends-kept {E} (Some x) (Some y) (Some z) (Ok n) buf p q = rw (q, p)
 WriteAppends-kept {E} (Some x) (Some y) (Some z) (Err e) buf p q = q ∙ p
+
+-- known bytes that two reads took off, the second after the first
+pub Consumes-append : (a b c : Option (List ℕ)) (xs ys : List ℕ) → Consumes a b xs → Consumes b c ys → Consumes a c (xs ++ ys)
+Consumes-append None b c xs ys p q = tt
+Consumes-append (Some x) None c xs ys p q = absurd p
+Consumes-append (Some x) (Some y) None xs ys p q = absurd q
+Consumes-append (Some x) (Some y) (Some z) xs ys p q = rw (p, q, append_assoc)
+
+-- and that an interrupted read left
+pub Consumes-kept : (a b c : Option (List ℕ)) (xs : List ℕ) → Consumes a b xs → Keeps b c → Consumes a c xs
+Consumes-kept None b c xs p q = tt
+Consumes-kept (Some x) None c xs p q = absurd p
+Consumes-kept (Some x) (Some y) None xs p q = absurd q
+Consumes-kept (Some x) (Some y) (Some z) xs p q = rw (p, q)

@@ -5,3 +5,6 @@ pub mod Sink
 pub mod Schedule
 pub mod MemSource
 pub mod MemSink
+pub mod Shelf
+pub mod MemShelf
+pub mod ShelfLaws

@@ -4,11 +4,12 @@ use Rattle.outside.specs.declared.sink.Pushed.{Pushed}
 use Rattle.outside.specs.declared.sink.Pushed.TheVariants.{Took, Failed}
 use Rattle.outside.specs.Schedule.{FaultSchedule, is_due}
 
--- the bytes held, where the sink still tells them, and the schedule of the calls
+-- the bytes held, where the sink still tells them, the greatest piece that one call takes, and the schedule of the calls
 pub record Store : Type 0 where
   pub held : Option (List ℕ)
+  pub greatest : ℕ
   pub schedule : FaultSchedule
 
 -- what the next call answers at a piece of this length
 abbrev pub answer : Store → ℕ → Pushed
-answer store len = if is_due store.schedule then Failed else Took (min len store.schedule.greatest)
+answer store len = if is_due store.schedule then Failed else Took (min len store.greatest)

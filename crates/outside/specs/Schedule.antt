@@ -1,12 +1,10 @@
--- When a source or a sink in memory fails, and how much it moves at once.
+-- When a source, a sink or a shelf in memory fails.
 use Rattle.std.specs.Prelude.{ℕ, Bool, ◌==◌, List, if◌then◌else◌}
 use Rattle.std.specs.List.{list_any}
 use Rattle.outside.specs.Faults.{counted}
 
--- which calls fail, how much one call moves, and what the calls so far came to
+-- which calls fail, and what the calls so far came to
 pub record FaultSchedule : Type 0 where
-  -- the greatest piece that one call moves, in bytes
-  pub greatest : ℕ
   -- the numbers of the calls that are to fail, counted from 1
   pub failing : List ℕ
   -- the calls so far, and those of them that failed
@@ -14,8 +12,8 @@ pub record FaultSchedule : Type 0 where
   pub faults : ℕ
 
 -- a schedule before the first call
-abbrev pub schedule_of : ℕ → List ℕ → FaultSchedule
-schedule_of greatest failing = record { greatest = greatest; failing = failing; calls = 0; faults = 0 }
+abbrev pub schedule_of : List ℕ → FaultSchedule
+schedule_of failing = record { failing = failing; calls = 0; faults = 0 }
 
 -- the next call is to fail
 abbrev pub is_due : FaultSchedule → Bool

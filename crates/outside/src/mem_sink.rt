@@ -17,15 +17,19 @@ use std::marker::Model;
 #[derive(Drop)]
 pub struct MemSink {
     sink: CalmSink,
+    greatest: usize,
     schedule: Schedule,
 }
 
 impl Model for MemSink {
+    ghost use Rattle.std.specs.Prelude.{◌<◌};
     ghost use Rattle.outside.specs.MemSink.{Store};
 
     ghost Value = { Store };
 
-    ghost view = { λ s. record { held = s.sink; schedule = s.schedule } };
+    ghost view = { λ s. record { held = s.sink; greatest = s.greatest; schedule = s.schedule } };
+
+    ghost invariant = { λ s. 0 < s.greatest };
 }
 
 impl MemSink {
@@ -34,11 +38,13 @@ impl MemSink {
     pub fn new(alloc: Global, greatest: usize, failing: Vec<u64>) -> Self
         requires { 0 < greatest }
         ensures held { result.held ≡ Some [] }
-        ensures schedule { result.schedule ≡ schedule_of greatest failing.items }
+        ensures greatest { result.greatest ≡ greatest }
+        ensures schedule { result.schedule ≡ schedule_of failing.items }
     {
         MemSink {
             sink: CalmSink::new(alloc),
-            schedule: Schedule::new(greatest, failing),
+            greatest,
+            schedule: Schedule::new(failing),
         }
     }
 
@@ -53,7 +59,11 @@ impl MemSink {
     pub fn into_bytes(self) -> Option<Vec<u8>>
         ensures { option_map (λ bytes. bytes.items) result ≡ self.held }
     {
-        let MemSink { sink, schedule: _ } = self;
+        let MemSink {
+            sink,
+            greatest: _,
+            schedule: _,
+        } = self;
         sink.into_bytes()
     }
 
@@ -84,6 +94,7 @@ impl Sink for MemSink {
         ensures answer { result ≡ answer self.old (length piece.now) }
         ensures gains { Gains self.old.held self.new.held (pushed result piece.now) }
         ensures kept { IsTrue (is_due self.old.schedule) → self.new.held ≡ self.old.held }
+        ensures greatest { self.new.greatest ≡ self.old.greatest }
         ensures schedule { self.new.schedule ≡ next self.old.schedule }
         ensures part { IsPart result (length piece.now) }
         ensures faults_stay { self.old.schedule.faults ≤ self.new.schedule.faults }
@@ -92,7 +103,7 @@ impl Sink for MemSink {
         if self.schedule.enter() {
             return Pushed::Failed;
         }
-        let room = piece.len().min(self.schedule.greatest());
+        let room = piece.len().min(self.greatest);
         self.sink.write(&piece[..room])
     }
 }

@@ -13,15 +13,19 @@ use std::marker::Model;
 #[derive(Drop)]
 pub struct MemSource {
     source: CalmSource,
+    greatest: usize,
     schedule: Schedule,
 }
 
 impl Model for MemSource {
+    ghost use Rattle.std.specs.Prelude.{◌<◌};
     ghost use Rattle.outside.specs.MemSource.{Stock};
 
     ghost Value = { Stock };
 
-    ghost view = { λ s. record { left = s.source; schedule = s.schedule } };
+    ghost view = { λ s. record { left = s.source; greatest = s.greatest; schedule = s.schedule } };
+
+    ghost invariant = { λ s. 0 < s.greatest };
 }
 
 impl MemSource {
@@ -30,11 +34,13 @@ impl MemSource {
     pub fn new(bytes: Vec<u8>, greatest: usize, failing: Vec<u64>) -> Self
         requires { 0 < greatest }
         ensures left { result.left ≡ bytes.items }
-        ensures schedule { result.schedule ≡ schedule_of greatest failing.items }
+        ensures greatest { result.greatest ≡ greatest }
+        ensures schedule { result.schedule ≡ schedule_of failing.items }
     {
         MemSource {
             source: CalmSource::new(bytes),
-            schedule: Schedule::new(greatest, failing),
+            greatest,
+            schedule: Schedule::new(failing),
         }
     }
 
@@ -78,7 +84,7 @@ impl Source for MemSource {
         if self.schedule.enter() {
             return Pulled::Failed;
         }
-        let room = buf.len().min(self.schedule.greatest());
+        let room = buf.len().min(self.greatest);
         self.source.read(&mut buf[..room])
     }
 }

@@ -16,10 +16,10 @@ use Rattle.protocol_cases.specs.Verdict.{verdict_of}
 
 -- the source and the sink of a script before its run: what it gives and which of its calls fail, and which calls of the sink do
 abbrev pub source_of : Script → Stock
-source_of script = record { left = script.input.bytes; schedule = schedule_of script.input.piece script.input.failing }
+source_of script = record { left = script.input.bytes; greatest = script.input.piece; schedule = schedule_of script.input.failing }
 
 abbrev pub sink_of : Script → Store
-sink_of script = record { held = Some []; schedule = schedule_of script.output.piece script.output.failing }
+sink_of script = record { held = Some []; greatest = script.output.piece; schedule = schedule_of script.output.failing }
 
 -- what a source and a sink in memory tell
 abbrev pub outside_in_memory : Stock → Store → Outside

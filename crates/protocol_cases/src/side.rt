@@ -72,7 +72,8 @@ impl Side {
     /// The source of these bytes.
     pub fn into_source(self) -> MemSource
         ensures left { result.left ≡ self.bytes }
-        ensures schedule { result.schedule ≡ schedule_of self.piece self.failing }
+        ensures piece { result.greatest ≡ self.piece }
+        ensures schedule { result.schedule ≡ schedule_of self.failing }
     {
         let Side {
             bytes,
@@ -85,7 +86,8 @@ impl Side {
     /// A sink whose calls go as it is said, and the bytes that it is to take.
     pub fn into_sink(self, alloc: Global) -> (MemSink, Vec<u8>)
         ensures held { result.0.held ≡ Some [] }
-        ensures schedule { result.0.schedule ≡ schedule_of self.piece self.failing }
+        ensures piece { result.0.greatest ≡ self.piece }
+        ensures schedule { result.0.schedule ≡ schedule_of self.failing }
         ensures bytes { result.1.items ≡ self.bytes }
     {
         let Side {
