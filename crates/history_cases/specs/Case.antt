@@ -1,12 +1,15 @@
 -- What the lines of a case say of a history, and what each of them leaves.
-use Rattle.std.specs.Prelude.{◌≡◌, ℕ, ◌≤◌, Bool, true, false, List, [], ◌∷◌, Option, Some, None, option_and_then}
-use Rattle.plain_edits.specs.History.{History, head, loaded, text_at}
+use Rattle.std.specs.Prelude.{◌≡◌, ℕ, ◌≤◌, Bool, true, false, List, [], ◌∷◌, map, Option, Some, None, option_and_then}
+use Rattle.std.specs.List.{filter}
+use Rattle.plain_text.specs.Numbers.{has}
+use Rattle.plain_edits.specs.History.{History, head, loaded, text_at, is_visible_under}
 use Rattle.plain_edits.specs.Edits.{MayUndo, edit_refusal, edited, undid, plain_edit}
+use Rattle.plain_edits.specs.Collection.{MayCollect, collected_at, kept}
 use Rattle.plain_edits.specs.declared.fault.EditFault.{EditFault}
 use Rattle.plain_edits.specs.EditFault.{refusal_of}
 use Rattle.rev_engine.specs.declared.edit.Edit.{Edit as AnyEdit}
 use Rattle.history_cases.specs.declared.step.Step.{Step}
-use Rattle.history_cases.specs.declared.step.Step.TheVariants.{Load, Limit, Edit, Undo, Shows}
+use Rattle.history_cases.specs.declared.step.Step.TheVariants.{Load, Limit, Edit, Undo, Collect, Shows, Under, Floor, Kept}
 use Rattle.history_cases.specs.declared.step.Line.{Line}
 
 -- a case as far as it has come: its history, and how many characters may be inserted in all
@@ -17,6 +20,10 @@ pub record Case : Type 0 where
 -- the case that begins with the empty text
 abbrev pub new_case : Case
 new_case = record { history = loaded []; limit = 1000 }
+
+-- an edit may be of the group: it is not collected
+abbrev pub IsOpen : Case → AnyEdit → Type 0
+IsOpen before e = has before.history.collected e.group ≡ false
 
 -- the answer to an edit, a fault or none, is the edit refusal
 abbrev pub IsAnswer : Case → AnyEdit → Option EditFault → Type 0
@@ -33,17 +40,32 @@ abbrev pub IsUndone : Case → List ℕ → Bool → Case → Type 0
 IsUndone before groups false after = MayUndo before.history groups × (after ≡ record before { history = undid before.history groups })
 IsUndone before groups true after = (MayUndo before.history groups → ⊥) × (after ≡ before)
 
+-- what a collection leaves, by whether it is said to be refused
+abbrev pub Collects : Case → ℕ → List ℕ → Bool → Case → Type 0
+Collects before floor groups false after =
+    MayCollect before.history floor groups × (after ≡ record before { history = collected_at before.history floor groups })
+Collects before floor groups true after = (MayCollect before.history floor groups → ⊥) × (after ≡ before)
+
 -- the revision is there and shows the text
 abbrev pub ShowsText : History → ℕ → List ℕ → Type 0
 ShowsText history rev text = (rev ≤ head history) × (text_at history rev ≡ text)
+
+-- the head would show the text if exactly these groups were undone there
+abbrev pub ShowsUnder : History → List ℕ → List ℕ → Type 0
+ShowsUnder history groups text =
+    map (λ tagged. tagged.character) (filter (is_visible_under history.revisions groups (head history)) history.characters) ≡ text
 
 -- THE LINE HOLDS in a case, and leaves this one
 abbrev pub Holds : Case → Step → Case → Type 0
 Holds before (Load text) after = after ≡ record before { history = loaded text }
 Holds before (Limit limit) after = after ≡ record before { limit = limit }
-Holds before (Edit e refusal) after = IsAnswer before e refusal × (after ≡ edit_leaves before e refusal)
+Holds before (Edit e refusal) after = IsOpen before e × IsAnswer before e refusal × (after ≡ edit_leaves before e refusal)
 Holds before (Undo groups is_refused) after = IsUndone before groups is_refused after
+Holds before (Collect floor groups is_refused) after = Collects before floor groups is_refused after
 Holds before (Shows rev text) after = ShowsText before.history rev text × (after ≡ before)
+Holds before (Under groups text) after = ShowsUnder before.history groups text × (after ≡ before)
+Holds before (Floor floor) after = (before.history.floor ≡ floor) × (after ≡ before)
+Holds before (Kept count) after = (kept before.history ≡ count) × (after ≡ before)
 
 -- each line holds, one after the other
 abbrev pub Run : Case → List Line → Case → Type 0

@@ -1,14 +1,14 @@
 //! The list of revisions, and the places of edits in it, beside the plain history.
 
-ghost use Rattle.std.specs.Prelude.{◌≡◌, IsTrue, IfOk, OnOk, map, nat_le};
-ghost use Rattle.std.specs.List.{list_any};
-ghost use Rattle.plain_text.specs.Numbers.{has};
+ghost use Rattle.std.specs.Prelude.{◌≡◌, ◌≤◌, IsTrue, IfOk, OnOk, map};
 ghost use Rattle.plain_edits.specs.History.{head};
-ghost use Rattle.history_cases.specs.Inner.{is_marked, text_inserted_by, AgreeAt, AgreeUpTo, AreOfHead};
+ghost use Rattle.rev_list.specs.Hidden.{hidden_at};
+ghost use Rattle.history_cases.specs.Inner.{is_marked, AgreeUpTo, AreOfHead};
 
-use anyhow::bail;
-use plain_history::{PlainHistory, Tagged};
-use plain_text::{NoMemory, Text};
+use crate::case_run::MOST;
+use anyhow::{bail, ensure};
+use delta_core::{fits, to_units};
+use plain_history::{PlainHistory, Tagged, has, is_visible};
 use rev_engine::Edit;
 use rev_list::{RevEdit, RevList};
 use rev_rebase::{Rebased, may_rebase, rebase};
@@ -22,99 +22,61 @@ pub fn follow(
     list: &mut RevList,
     edit: &Edit,
 ) -> anyhow::Result<()>
+    requires { 1 ≤ edit.now.group }
     ensures { OnOk result (AgreeUpTo (head plain.now) plain.now list.new.history) }
 {
-    let made = placed(alloc, plain, list, edit)?;
-    compare_places(alloc, plain, &made)?;
-    push(alloc, list, edit, made)?;
+    push(alloc, plain, list, edit)?;
     compare(alloc, plain, list)
 }
 
-/// Where the list, which does not have the edit yet, puts it.
-fn placed(
-    alloc: Global,
-    plain: &PlainHistory,
-    list: &RevList,
-    edit: &Edit,
-) -> anyhow::Result<Rebased> {
+/// Puts the edit into the list as its next revision.
+#[tactic(auto, using(crate::proofs::Sets::grown_flags, crate::proofs::Sets::same_flags))]
+fn push(alloc: Global, plain: &PlainHistory, list: &mut RevList, edit: &Edit) -> anyhow::Result<()>
+    requires { 1 ≤ edit.now.group }
+{
     let text = plain.text_at(alloc, edit.rev)?;
-    if delta_core::fits(&text, &edit.delta).is_err() {
+    if fits(&text, &edit.delta).is_err() {
         bail!("delta_core takes no delta that the plain history took");
     }
-    let units = delta_core::to_units(alloc, &text, &edit.delta)?;
-    if !may_rebase(alloc, list, edit.rev, &units)? {
-        bail!("rev_rebase takes no edit that the plain history took");
-    }
-    Ok(rebase(alloc, list, edit.rev, &units, edit.priority)?)
-}
-
-/// Whether the places and the text are those of the last revision.
-fn compare_places(alloc: Global, plain: &PlainHistory, made: &Rebased) -> anyhow::Result<()>
-    ensures { OnOk result (AreOfHead plain.now made.now) }
-{
-    let rev = plain.head();
-    let inserted = Marks::InsertedBy(rev).over(alloc, plain.characters())?;
-    let deleted = Marks::DeletedBy(rev).over(alloc, plain.characters())?;
-    let text = text_inserted_by(alloc, rev, plain.characters())?;
-    if !is_same_set(&made.inserted, &inserted)
-        || !is_same_set(&made.deleted, &deleted)
-        || made.text.as_str() != text.as_str()
-    {
-        bail!("rev_rebase puts revision {rev} elsewhere, or another text");
-    }
-    Ok(())
-}
-
-/// The characters that the revision inserted, in order.
-fn text_inserted_by(alloc: Global, rev: u64, characters: &[Tagged]) -> Result<Text, NoMemory>
-    ensures { IfOk result (λ text. text ≡ text_inserted_by rev characters.now) }
-{
-    let mut text = Text::new(alloc);
-    for tagged in characters {
-        if tagged.inserted() == rev {
-            text.push(tagged.character())?;
-        }
-    }
-    Ok(text)
-}
-
-/// Puts the edit into the list as its next revision.
-fn push(alloc: Global, list: &mut RevList, edit: &Edit, made: Rebased) -> anyhow::Result<()> {
-    let Rebased {
-        inserted,
-        deleted,
-        text: _,
-    } = made;
-    if edit.group == 0
+    let units = to_units(alloc, &text, &edit.delta)?;
+    if !may_rebase(alloc, list, edit.rev, &units)?
         || list.is_collected(edit.group)
-        || edit.rev < list.floor()
-        || list.head() < edit.rev
-        || 1_000_000 < list.head()
-        || list.union_len().checked_add(inserted.count()) != Some(inserted.len())
-        || deleted.len() != inserted.len()
+        || MOST < list.head()
     {
         bail!("rev_list takes no edit that the plain history took");
     }
+    let made = rebase(alloc, list, edit.rev, &units, edit.priority)?;
+    compare_places(alloc, plain, &made)?;
     let rev_edit = RevEdit {
         base: edit.rev,
         priority: edit.priority,
         group: edit.group,
         author: edit.author,
-        inserted,
-        deleted,
+        inserted: made.inserted,
+        deleted: made.deleted,
     };
     list.push_edit(alloc, rev_edit)?;
     Ok(())
 }
 
-/// Whether the list has the head of the plain history, and hides at each revision what that does.
+/// Whether the places are those of the last revision.
+fn compare_places(alloc: Global, plain: &PlainHistory, made: &Rebased) -> anyhow::Result<()>
+    ensures { OnOk result (AreOfHead plain.now made.now) }
+{
+    let rev = plain.head();
+    ensure!(
+        is_set_of(alloc, plain, Marks::InsertedBy(rev), &made.inserted)?
+            && is_set_of(alloc, plain, Marks::DeletedBy(rev), &made.deleted)?,
+        "rev_rebase puts revision {rev} elsewhere"
+    );
+    Ok(())
+}
+
+/// Whether the list hides at each revision what the plain history does.
 fn compare(alloc: Global, plain: &PlainHistory, list: &RevList) -> anyhow::Result<()>
     ensures { OnOk result (AgreeUpTo (head plain.now) plain.now list.now.history) }
 {
     let head = plain.head();
-    if list.head() != head {
-        bail!("rev_list has another head than {head}");
-    }
     for rev in 0..head {
         compare_at(alloc, plain, list, rev)?;
     }
@@ -122,22 +84,14 @@ fn compare(alloc: Global, plain: &PlainHistory, list: &RevList) -> anyhow::Resul
 }
 
 fn compare_at(alloc: Global, plain: &PlainHistory, list: &RevList, rev: u64) -> anyhow::Result<()>
-    ensures { OnOk result (AgreeAt plain.now list.now.history rev) }
+    ensures { OnOk result (hidden_at list.now.history rev ≡ hidden_at plain.now rev) }
 {
     let dead = list.dead_at(alloc, rev)?;
-    let hidden = Marks::HiddenAt(rev).over(alloc, plain.characters())?;
-    if !is_same_set(&dead, &hidden) {
-        bail!("rev_list has other characters for dead at revision {rev}");
-    }
+    ensure!(
+        is_set_of(alloc, plain, Marks::HiddenAt(rev), &dead)?,
+        "rev_list has other characters for dead at revision {rev}"
+    );
     Ok(())
-}
-
-/// Whether two sets have the same length and the same members.
-#[tactic(auto, using(crate::proofs::Sets::is_same))]
-fn is_same_set(one: &Subset, other: &Subset) -> bool
-    ensures { IsTrue result → one.now ≡ other.now }
-{
-    one == other
 }
 
 /// Which characters of a history a set of positions has.
@@ -147,43 +101,42 @@ enum Marks {
     InsertedBy(u64),
     /// What the revision deletes.
     DeletedBy(u64),
-    /// What a history without undos does not show at the revision.
+    /// What the revision does not show.
     HiddenAt(u64),
 }
 
 impl Marks {
-    fn marks(self, tagged: &Tagged) -> bool
-        ensures { result ≡ is_marked self tagged.now }
+    fn marks(self, plain: &PlainHistory, tagged: &Tagged) -> bool
+        ensures { result ≡ is_marked plain.now self tagged.now }
     {
         match self {
             Marks::InsertedBy(rev) => tagged.inserted() == rev,
             Marks::DeletedBy(rev) => has(tagged.deleted(), rev),
-            Marks::HiddenAt(rev) => rev < tagged.inserted() || has_up_to(tagged.deleted(), rev),
+            Marks::HiddenAt(rev) => !is_visible(plain.revisions(), rev, tagged),
         }
-    }
-
-    /// The set over these characters.
-    fn over(self, alloc: Global, characters: &[Tagged]) -> Result<Subset, AllocError>
-        ensures { IfOk result (λ set. set ≡ map (is_marked self) characters.now) }
-    {
-        let mut set = Subset::none(alloc, 0);
-        for tagged in characters {
-            set.append(1, self.marks(tagged))?;
-        }
-        Ok(set)
     }
 }
 
-/// Whether the number is in the list.
-fn has(numbers: &[u64], n: u64) -> bool
-    ensures { result ≡ has numbers.now n }
+/// Whether the set has exactly the characters that are marked.
+fn is_set_of(
+    alloc: Global,
+    plain: &PlainHistory,
+    marks: Marks,
+    set: &Subset,
+) -> Result<bool, AllocError>
+    ensures { IfOk result (λ same. IsTrue same → set.now ≡ map (is_marked plain.now marks) plain.now.characters) }
 {
-    numbers.iter().any(|m| *m == n)
+    let mut marked = Subset::none(alloc, 0);
+    for tagged in plain.characters() {
+        marked.append(1, marks.marks(plain, tagged))?;
+    }
+    Ok(is_same_set(set, &marked))
 }
 
-/// Whether a number of the list is at most `n`.
-fn has_up_to(numbers: &[u64], n: u64) -> bool
-    ensures { result ≡ list_any (λ m. nat_le m n) numbers.now }
+/// Whether two sets have the same length and the same members.
+#[tactic(auto, using(crate::proofs::Sets::is_same))]
+fn is_same_set(one: &Subset, other: &Subset) -> bool
+    ensures { IsTrue result → one.now ≡ other.now }
 {
-    numbers.iter().any(|m| *m <= n)
+    one == other
 }

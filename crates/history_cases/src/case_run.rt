@@ -1,12 +1,13 @@
-ghost use Rattle.std.specs.Prelude.{◌≡◌, ◌<◌, ◌-◌, ◌^◌, IfOk, OnOk};
+ghost use Rattle.std.specs.Prelude.{◌≡◌, ◌<◌, ◌≤◌, ◌-◌, ◌^◌, IfOk, OnOk};
 ghost use Rattle.plain_edits.specs.History.{head, loaded};
-ghost use Rattle.history_cases.specs.Case.{edit_leaves, CaseHolds, Holds, IsAnswer};
+ghost use Rattle.history_cases.specs.Case.{edit_leaves, CaseHolds, Holds, IsAnswer, IsOpen};
 
 use crate::step::{Line, Step};
 use crate::{by_engine, by_rev_list};
-use anyhow::{Context, bail};
+use anyhow::{Context, bail, ensure};
+use plain_collection::{kept, may_collect, text_under};
 use plain_edits::EditFault;
-use plain_history::PlainHistory;
+use plain_history::{PlainHistory, has};
 use plain_text::{List, Text, TryClone};
 use rev_engine::{Edit, Engine};
 use rev_list::RevList;
@@ -16,18 +17,27 @@ use std::marker::Model;
 /// How many characters may be inserted where no line says it.
 pub const LIMIT: u64 = 1_000;
 
-/// A case has at most this many revisions.
-const MOST: u64 = 1_000_000;
+/// A case has at most this many revisions, and one.
+pub const MOST: u64 = 1_000_000;
+
+/// How many steps were taken: in all, by the list of revisions, and by the engine.
+#[derive(Clone, Copy, Default)]
+pub struct Count {
+    pub steps: u64,
+    pub by_list: u64,
+    pub by_engine: u64,
+}
 
 /// A case as far as it has come: the plain history, and beside it each body that is compared with it.
 #[derive(Drop)]
 pub struct CaseRun {
     pub plain: PlainHistory,
-    /// It takes edits alone, so there is none after an undo.
+    /// It takes edits alone, so there is none after an undo or a collection.
     list: Option<RevList>,
     /// It takes edits alone too, under the limit that it began with.
     engine: Option<Engine>,
     limit: u64,
+    count: Count,
 }
 
 impl Model for CaseRun {
@@ -39,16 +49,22 @@ impl Model for CaseRun {
 }
 
 impl CaseRun {
-    /// A case that begins with this text.
-    pub fn new(alloc: Global, text: &Text, limit: u64) -> anyhow::Result<CaseRun>
+    /// A case that begins with this text, after so many steps.
+    pub fn new(alloc: Global, text: &Text, limit: u64, count: Count) -> anyhow::Result<CaseRun>
         ensures { IfOk result (λ made. made ≡ record { history = loaded text.now; limit = limit }) }
     {
         Ok(CaseRun {
             plain: PlainHistory::loaded(alloc, text)?,
             list: Some(RevList::start(alloc, text.char_count())?),
-            engine: by_engine::begun(alloc, text, limit)?,
+            engine: Some(by_engine::begun(alloc, text, limit)?),
             limit,
+            count,
         })
+    }
+
+    /// How many steps were taken.
+    pub fn count(&self) -> Count {
+        self.count
     }
 
     /// Takes what a line says, or says why it does not hold.
@@ -60,14 +76,22 @@ impl CaseRun {
             Step::Limit(limit) => self.set_limit(alloc, *limit),
             Step::Edit { edit, refusal } => self.take_edit(alloc, edit, *refusal),
             Step::Undo { groups, is_refused } => self.undo(alloc, groups, *is_refused),
+            Step::Collect {
+                floor,
+                groups,
+                is_refused,
+            } => self.collect(alloc, *floor, groups, *is_refused),
             Step::Shows { rev, text } => self.shows(alloc, *rev, text),
+            Step::Under { groups, text } => self.shows_under(alloc, groups, text),
+            Step::Floor(floor) => is_said(self.plain.floor(), *floor),
+            Step::Kept(count) => is_said(kept(&self.plain), *count),
         }
     }
 
     fn load(&mut self, alloc: Global, text: &Text) -> anyhow::Result<()>
         ensures { OnOk result (self.new ≡ record self.old { history = loaded text.now }) }
     {
-        *self = CaseRun::new(alloc, text, self.limit)?;
+        *self = CaseRun::new(alloc, text, self.limit, self.count)?;
         Ok(())
     }
 
@@ -75,11 +99,9 @@ impl CaseRun {
     fn set_limit(&mut self, alloc: Global, limit: u64) -> anyhow::Result<()>
         ensures { OnOk result (self.new ≡ record self.old { limit = limit }) }
     {
-        self.engine = if self.plain.head() == 0 {
-            by_engine::begun(alloc, &self.plain.text_at(alloc, 0)?, limit)?
-        } else {
-            None
-        };
+        ensure!(self.plain.head() == 0, "a limit stands before all edits");
+        let text = self.plain.text_at(alloc, 0)?;
+        self.engine = Some(by_engine::begun(alloc, &text, limit)?);
         self.limit = limit;
         Ok(())
     }
@@ -91,8 +113,7 @@ impl CaseRun {
         edit: &Edit,
         wanted: Option<EditFault>,
     ) -> anyhow::Result<()>
-        ensures answer { OnOk result (IsAnswer self.old edit.now wanted) }
-        ensures leaves { OnOk result (self.new ≡ edit_leaves self.old edit.now wanted) }
+        ensures { OnOk result (Holds self.old (Step.Edit edit.now wanted) self.new) }
     {
         match (self.edit(alloc, edit)?, wanted) {
             (None, None) => Ok(()),
@@ -104,11 +125,12 @@ impl CaseRun {
 
     /// Takes an edit, or tells why it is refused; each body answers the same.
     pub fn edit(&mut self, alloc: Global, edit: &Edit) -> anyhow::Result<Option<EditFault>>
+        ensures group { OnOk result (IsOpen self.old edit.now) }
         ensures answer { IfOk result (IsAnswer self.old edit.now) }
         ensures leaves { IfOk result (λ answer. self.new ≡ edit_leaves self.old edit.now answer) }
     {
-        if MOST < self.plain.head() {
-            bail!("more revisions than a case may have");
+        if edit.group == 0 || has(self.plain.collected(), edit.group) || MOST < self.plain.head() {
+            bail!("no edit can be of this group, or come after so many revisions");
         }
         let text = self.plain.text_at(alloc, edit.rev)?;
         if plain_history::misfit(&text, &edit.delta) != delta_core::fits(&text, &edit.delta).err() {
@@ -147,6 +169,7 @@ impl CaseRun {
         edit: &Edit,
         answer: Option<EditFault>,
     ) -> anyhow::Result<()>
+        requires { 1 ≤ edit.now.group }
         ensures { OnOk result (self.new ≡ self.old) }
     {
         if let Some(engine) = &mut self.engine {
@@ -158,32 +181,81 @@ impl CaseRun {
         if let Some(list) = &mut self.list {
             by_rev_list::follow(alloc, &self.plain, list, edit)?;
         }
+        self.note_step();
         Ok(())
     }
 
-    /// Says what is undone from now on, or the case says that it is refused.
-    fn undo(&mut self, alloc: Global, groups: &List<u64>, is_refused: bool) -> anyhow::Result<()>
+    /// Counts a step, for each body that is still there.
+    fn note_step(&mut self)
+        ensures { self.new ≡ self.old }
+    {
+        let Count {
+            steps,
+            by_list,
+            by_engine,
+        } = self.count;
+        self.count = Count {
+            steps: steps.saturating_add(1),
+            by_list: by_list.saturating_add(u64::from(self.list.is_some())),
+            by_engine: by_engine.saturating_add(u64::from(self.engine.is_some())),
+        };
+    }
+
+    /// Says what is undone from now on, or the case says that it is refused. No other body can take it yet.
+    pub fn undo(
+        &mut self,
+        alloc: Global,
+        groups: &List<u64>,
+        is_refused: bool,
+    ) -> anyhow::Result<()>
         ensures { OnOk result (Holds self.old (Step.Undo groups.now is_refused) self.new) }
     {
-        if MOST < self.plain.head() {
-            bail!("more revisions than a case may have");
-        }
         let may_undo = self.plain.may_undo(groups.as_slice());
-        if may_undo == is_refused {
-            bail!("whether the undo is taken: {may_undo}");
+        if may_undo == is_refused || MOST < self.plain.head() {
+            bail!("whether the undo may come: {may_undo}");
         }
         if is_refused {
             return Ok(());
         }
         self.plain.undo(groups.copy(alloc)?)?;
-        self.list = None;
-        self.engine = None;
+        self.go_on_alone();
         Ok(())
     }
 
+    /// Collects groups, or the case says that it is refused. No other body can take it yet.
+    pub fn collect(
+        &mut self,
+        alloc: Global,
+        floor: u64,
+        groups: &List<u64>,
+        is_refused: bool,
+    ) -> anyhow::Result<()>
+        ensures { OnOk result (Holds self.old (Step.Collect floor groups.now is_refused) self.new) }
+    {
+        let may = may_collect(&self.plain, floor, groups.as_slice());
+        if may == is_refused {
+            bail!("whether the collection may come: {may}");
+        }
+        if is_refused {
+            return Ok(());
+        }
+        self.plain.collect(alloc, floor, groups.as_slice())?;
+        self.go_on_alone();
+        Ok(())
+    }
+
+    /// Counts a step that the plain history alone can take, where the others stop.
+    fn go_on_alone(&mut self)
+        ensures { self.new ≡ self.old }
+    {
+        self.list = None;
+        self.engine = None;
+        self.note_step();
+    }
+
     /// A revision shows what the case says.
-    fn shows(&mut self, alloc: Global, rev: u64, wanted: &Text) -> anyhow::Result<()>
-        ensures { OnOk result (Holds self.old (Step.Shows rev wanted.now) self.new) }
+    fn shows(&self, alloc: Global, rev: u64, wanted: &Text) -> anyhow::Result<()>
+        ensures { OnOk result (Holds self.now (Step.Shows rev wanted.now) self.now) }
     {
         let head = self.plain.head();
         let shown = self.plain.text_at(alloc, rev)?;
@@ -192,17 +264,36 @@ impl CaseRun {
         }
         Ok(())
     }
+
+    /// The head would show what the case says.
+    fn shows_under(&self, alloc: Global, groups: &List<u64>, wanted: &Text) -> anyhow::Result<()>
+        ensures { OnOk result (Holds self.now (Step.Under groups.now wanted.now) self.now) }
+    {
+        let shown = text_under(alloc, &self.plain, groups.as_slice(), self.plain.head())?;
+        if shown.as_str() != wanted.as_str() {
+            bail!("it would show {shown:?}");
+        }
+        Ok(())
+    }
+}
+
+/// The number is what the case says.
+fn is_said(is: u64, said: u64) -> anyhow::Result<()>
+    ensures { OnOk result (is ≡ said) }
+{
+    ensure!(is == said, "it is {is}");
+    Ok(())
 }
 
 /// Runs a case: it passes only where each of its lines holds.
-pub fn run_case(alloc: Global, lines: &[Line]) -> anyhow::Result<()>
+pub fn run_case(alloc: Global, lines: &[Line]) -> anyhow::Result<Count>
     ensures { OnOk result (CaseHolds lines.now) }
 {
-    let mut run = CaseRun::new(alloc, &Text::new(alloc), LIMIT)?;
+    let mut run = CaseRun::new(alloc, &Text::new(alloc), LIMIT, Count::default())?;
     for line in lines {
         let number = line.number;
         run.take(alloc, &line.step)
             .context(format_args!("line {number}"))?;
     }
-    Ok(())
+    Ok(run.count())
 }

@@ -1,5 +1,5 @@
-//! Runs cases of histories, and lists of edits from seeds, through the plain history and through each crate of the revision engine, and
-//! prints for each one whether it passed, or the first line (of a list the first edit) that does not hold, and why.
+//! Runs cases of histories, and lists of steps from seeds, through the plain history and through each crate of the revision engine, and
+//! prints for each one whether it passed, or the first line (of a list the first step) that does not hold, and why.
 //!
 //! A case is a file `NAME.history` of the folder that the program runs in; the files are taken in the order of their names. A line is:
 //!
@@ -7,25 +7,31 @@
 //! |---|---|
 //! | `# remark` | nothing, as does an empty line |
 //! | `text aé` | a history begins anew, with this text loaded; a case begins with the empty text |
-//! | `limit 8` | from now on at most 8 characters may be inserted into a history in all; without it 1,000 |
+//! | `limit 8` | at most 8 characters may be inserted into a history in all; it stands before all edits, and without it there are 1,000 |
 //! | `edit base=0 group=1 priority=2 author=0 len=3 copy 0 1 insert X copy 1 3` | an edit against revision 0, with the elements of its delta; groups count from 1, and `len`, the length of the base's text, and the places are bytes |
 //! | `undo 1 2` | from now on exactly these groups are undone; `undo` alone undoes none |
+//! | `collect 3 1 2` | the floor rises to 3, and these groups are collected |
 //! | `shows 2 aXé` | revision 2 shows this text; `shows 2` alone says that it is empty |
+//! | `under 1 2 shows aé` | the head would show this text if exactly these groups were undone |
+//! | `floor 3` | revision 3 is the floor |
+//! | `kept 5` | 5 characters are kept: some revision from the floor on, or a later one, can show them |
 //! | `refused unknown 2` | the edit before this line is refused: its base is above the head, 2 |
 //! | `refused collected 1` | its base is below the floor, 1 |
 //! | `refused misfit 4 2` | the first misfit of its delta is of kind 4 at 2 |
 //! | `refused spent 9` | 9 characters would be inserted in all |
 //! | `refused undo` | the undo before this line has a group without an edit, or changes a collected one |
+//! | `refused collect` | the collection before this line has a floor below the present one, above the head or unclean, or a group that is not at rest there |
 //!
 //! In a text `\n` is the end of a line, `\t` a tab, `\s` a space and `\\` a backslash; after `insert` a text is one word. What is
-//! refused changes nothing, and its refusal has to stand in the line after it.
+//! refused changes nothing, and its refusal has to stand in the line after it. No edit may be of a collected group.
 //!
-//! For each edit `delta_core` has to find the first misfit of the plain history. While a history has no undo, `rev_rebase` has to put
-//! its edits where the plain history has them, a `rev_list` to hide at each revision what is hidden there, and an engine to answer as
-//! the plain history does, to keep as many characters, to show the same at each revision, and to tell a change that leads from the
-//! text before to that after. An engine has one limit, so that a `limit` after an edit ends it.
+//! For each edit `delta_core` has to find the first misfit of the plain history. As long as a history has edits alone, `rev_rebase` has
+//! to put them where the plain history has them, a `rev_list` to hide at each revision what is hidden there, and an engine to answer
+//! as the plain history does, to keep as many characters, to show the same at each revision, and to tell a change that leads from the
+//! text before to that after. At an undo or a collection both stop, and go on with the next history: the line that is printed says how
+//! many steps were taken in all, and how many of them each took.
 //!
-//! That a case passes only where each of its lines holds says the contract of `run_case`; how lines are read and which edits are
+//! That a case passes only where each of its lines holds says the contract of `run_case`; how lines are read and which steps are
 //! drawn, the output alone shows. A new case is a new file in `data/`, and its line in `stdout`.
 #![tactic(auto)]
 
@@ -37,11 +43,13 @@ mod seeded;
 mod step;
 
 use anyhow::ensure;
+use case_run::{Count, run_case};
+use seeded::{Drawn, run_seed};
 use std::fs;
 use std::rt::Files;
 
 /// There are lists from the seeds 1 to this one.
-const SEEDS: u64 = 16;
+const SEEDS: u64 = 32;
 
 fn main(rt: HostRuntime) -> anyhow::Result<()> {
     let mut all_hold = true;
@@ -49,11 +57,13 @@ fn main(rt: HostRuntime) -> anyhow::Result<()> {
         let outcome = run_file(&rt, name.as_str());
         all_hold &= print_outcome(&rt, name.as_str().trim_end_matches(".history"), &outcome)?;
     }
+    let mut drawn = Drawn::default();
     for seed in 1..=SEEDS {
-        let outcome = seeded::run_seed(rt.alloc(), seed);
+        let outcome = run_seed(rt.alloc(), seed, &mut drawn);
         let name = format!(in rt.alloc(); "seed {seed}")?;
         all_hold &= print_outcome(&rt, name.as_str(), &outcome)?;
     }
+    print_drawn(&rt, &drawn)?;
     ensure!(all_hold, "a case does not hold");
     Ok(())
 }
@@ -71,21 +81,37 @@ fn case_names(rt: &HostRuntime) -> anyhow::Result<Vec<String>> {
     Ok(names)
 }
 
-fn run_file(rt: &HostRuntime, file: &str) -> anyhow::Result<()> {
+fn run_file(rt: &HostRuntime, file: &str) -> anyhow::Result<Count> {
     let case = fs::read(rt, file)?;
     let lines = reading::read_lines(rt.alloc(), &case)?;
-    case_run::run_case(rt.alloc(), &lines)
+    run_case(rt.alloc(), &lines)
 }
 
 /// Prints the line of a case; whether it holds.
 fn print_outcome(
     rt: &HostRuntime,
     name: &str,
-    outcome: &anyhow::Result<()>,
+    outcome: &anyhow::Result<Count>,
 ) -> anyhow::Result<bool> {
     match outcome {
-        Ok(()) => println!(rt; "pass {name}")?,
+        Ok(
+            Count {
+                steps,
+                by_list,
+                by_engine,
+            },
+        ) => println!(rt; "pass {name}: steps {steps}, rev_list {by_list}, engine {by_engine}")?,
         Err(why) => println!(rt; "FAIL {name}: {why:#}")?,
     }
     Ok(outcome.is_ok())
+}
+
+/// Prints what the lists have beside edits in new groups.
+fn print_drawn(rt: &HostRuntime, drawn: &Drawn) -> anyhow::Result<()> {
+    println!(rt; "undos of a set: {}", drawn.undos)?;
+    println!(rt; "undos that take others back: {}", drawn.taken_back)?;
+    println!(rt; "edits in undone groups: {}", drawn.edits_in_undone_groups)?;
+    println!(rt; "edits in groups that have one: {}", drawn.further_edits)?;
+    println!(rt; "collections: {}", drawn.collections)?;
+    Ok(())
 }

@@ -52,10 +52,21 @@ fn read_step(alloc: Global, line: &[u8]) -> anyhow::Result<Step> {
             groups: read_groups(alloc, &mut words)?,
             is_refused: false,
         }),
+        b"collect" => Ok(Step::Collect {
+            floor: number(&mut words)?,
+            groups: read_groups(alloc, &mut words)?,
+            is_refused: false,
+        }),
         b"shows" => Ok(Step::Shows {
             rev: number(&mut words)?,
             text: text(alloc, words.rest)?,
         }),
+        b"under" => Ok(Step::Under {
+            groups: read_groups(alloc, &mut words)?,
+            text: text(alloc, words.rest)?,
+        }),
+        b"floor" => Ok(Step::Floor(number(&mut words)?)),
+        b"kept" => Ok(Step::Kept(number(&mut words)?)),
         _ => bail!("no line begins with this word"),
     }
 }
@@ -71,7 +82,12 @@ fn refused(before: Option<Line>, cause: &[u8]) -> anyhow::Result<Step> {
             groups,
             is_refused: true,
         }),
-        _ => bail!("only an edit or an undo is refused"),
+        Some(Step::Collect { floor, groups, .. }) => Ok(Step::Collect {
+            floor,
+            groups,
+            is_refused: true,
+        }),
+        _ => bail!("only an edit, an undo or a collection is refused"),
     }
 }
 
@@ -125,10 +141,14 @@ fn read_element(alloc: Global, words: &mut Words<'_>) -> anyhow::Result<El>
     }
 }
 
+/// The groups up to the end of the line, or to the word `shows`.
 fn read_groups(alloc: Global, words: &mut Words<'_>) -> anyhow::Result<List<u64>> {
     let mut groups = List::new(alloc);
     'groups: while !words.rest.is_empty() {
-        groups.push(number(words)?)?;
+        match words.next_word() {
+            b"shows" => break,
+            digits => groups.push(number_of(digits).context("a number is due")?)?,
+        }
     }
     Ok(groups)
 }

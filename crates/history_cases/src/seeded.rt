@@ -1,18 +1,36 @@
-//! Lists of edits from seeds.
+//! Lists of steps from seeds.
 
 ghost use Rattle.std.specs.Prelude.{◌<◌};
 
-use crate::case_run::{CaseRun, LIMIT};
+use crate::case_run::{CaseRun, Count, LIMIT};
 use anyhow::Context;
+use plain_collection::collection_of;
 use plain_edits::{Delta, El, Els};
-use plain_history::PlainHistory;
+use plain_history::{PlainHistory, has, undone};
 use plain_text::{List, NoMemory, Text};
 use rand_core::{Rng, SeedableRng};
 use rand_pcg::Lcg64Xsh32;
 use rev_engine::Edit;
 use std::alloc::Global;
 
+/// The lists up to this seed have edits alone, and so many; those of later seeds have so many steps of every kind.
+const EDITED: u64 = 16;
+
 const EDITS: u64 = 30;
+
+const STEPS: u64 = 40;
+
+/// How many steps of some kinds the lists have.
+#[derive(Drop, Default)]
+pub struct Drawn {
+    pub undos: u64,
+    /// Undos without a group that was undone before.
+    pub taken_back: u64,
+    pub edits_in_undone_groups: u64,
+    /// Edits in a group that has one.
+    pub further_edits: u64,
+    pub collections: u64,
+}
 
 /// Of 1 to 4 bytes.
 const CHARACTERS: [char; 8] = ['a', 'b', 'c', '\n', 'é', 'ß', '→', '𝄞'];
@@ -33,32 +51,129 @@ impl Draws {
     }
 }
 
-/// Takes drawn edits over a drawn text, whether they are refused or not.
-pub fn run_seed(alloc: Global, seed: u64) -> anyhow::Result<()> {
+/// Takes drawn steps over a drawn text, whether they are refused or not.
+pub fn run_seed(alloc: Global, seed: u64, drawn: &mut Drawn) -> anyhow::Result<Count> {
     let words = Lcg64Xsh32::seed_from_u64(seed);
     let mut draws = Draws { words };
     let text = drawn_text(alloc, &mut draws, 6)?;
-    let mut run = CaseRun::new(alloc, &text, LIMIT)?;
-    for number in 1..=EDITS {
-        let edit = drawn_edit(alloc, &mut draws, &run.plain)?;
-        run.edit(alloc, &edit)
-            .context(format_args!("edit {number}"))?;
+    let mut run = CaseRun::new(alloc, &text, LIMIT, Count::default())?;
+    for number in 1..=if seed <= EDITED { EDITS } else { STEPS } {
+        let kind = if seed <= EDITED { 0 } else { draws.below(10) };
+        match kind {
+            0..=6 => take_edit(alloc, &mut draws, &mut run, drawn),
+            7 | 8 => take_undo(alloc, &mut draws, &mut run, drawn),
+            _ => take_collection(alloc, &mut draws, &mut run, drawn),
+        }
+        .context(format_args!("step {number}"))?;
+    }
+    Ok(run.count())
+}
+
+fn take_edit(
+    alloc: Global,
+    draws: &mut Draws,
+    run: &mut CaseRun,
+    drawn: &mut Drawn,
+) -> anyhow::Result<()> {
+    let edit = drawn_edit(alloc, draws, &run.plain)?;
+    let is_undone = has(now_undone(&run.plain), edit.group);
+    let is_further = has_edit(&run.plain, edit.group);
+    if run.edit(alloc, &edit)?.is_none() {
+        rise(&mut drawn.edits_in_undone_groups, is_undone);
+        rise(&mut drawn.further_edits, is_further);
     }
     Ok(())
 }
 
-/// An edit against one of the last revisions, and now and then against one that is not there.
+/// An undo of any set: of the groups that are not collected each is in it or not.
+fn take_undo(
+    alloc: Global,
+    draws: &mut Draws,
+    run: &mut CaseRun,
+    drawn: &mut Drawn,
+) -> anyhow::Result<()> {
+    let mut groups = List::new(alloc);
+    let mut takes_back = false;
+    for group in 1..=last_group(&run.plain) {
+        let was_undone = has(now_undone(&run.plain), group);
+        let is_drawn = has_edit(&run.plain, group) && draws.below(3) == 0;
+        let is_in = if has(run.plain.collected(), group) {
+            was_undone
+        } else {
+            is_drawn
+        };
+        if is_in {
+            groups.push(group)?;
+        }
+        takes_back |= was_undone && !is_in;
+    }
+    rise(&mut drawn.undos, true);
+    rise(&mut drawn.taken_back, takes_back);
+    run.undo(alloc, &groups, false)
+}
+
+/// A collection of some of the groups that have an edit, at the head, where all are at rest.
+fn take_collection(
+    alloc: Global,
+    draws: &mut Draws,
+    run: &mut CaseRun,
+    drawn: &mut Drawn,
+) -> anyhow::Result<()> {
+    let mut retired = List::new(alloc);
+    for group in 1..=last_group(&run.plain) {
+        if has_edit(&run.plain, group) && draws.below(3) == 0 {
+            retired.push(group)?;
+        }
+    }
+    let found = collection_of(alloc, &run.plain, retired.as_slice(), run.plain.head())?;
+    let Some(collection) = found else {
+        return Ok(());
+    };
+    rise(&mut drawn.collections, true);
+    run.collect(alloc, collection.floor, &collection.groups, false)
+}
+
+/// The groups that are undone at the head.
+fn now_undone(plain: &PlainHistory) -> &[u64] {
+    undone(plain.revisions(), plain.head())
+}
+
+fn has_edit(plain: &PlainHistory, group: u64) -> bool {
+    plain
+        .revisions()
+        .iter()
+        .any(|revision| revision.is_edit_of(group))
+}
+
+/// The last of the groups that edits are drawn of: the four after the last collected one.
+fn last_group(plain: &PlainHistory) -> u64 {
+    match plain.collected().last() {
+        Some(group) => group.saturating_add(4),
+        None => 4,
+    }
+}
+
+fn rise(count: &mut u64, is_so: bool) {
+    *count = count.saturating_add(u64::from(is_so));
+}
+
+/// An edit against one of the last revisions, and now and then against one that is collected or not there.
 fn drawn_edit(alloc: Global, draws: &mut Draws, plain: &PlainHistory) -> Result<Edit, NoMemory> {
     let head = plain.head();
-    let rev = if draws.below(16) == 0 {
+    let mut rev = if draws.below(16) == 0 {
         head.saturating_add(1)
     } else {
         head.saturating_sub(draws.below(8))
     };
+    if rev < plain.floor() && draws.below(4) > 0 {
+        rev = plain.floor();
+    }
     let text = plain.text_at(alloc, rev)?;
     Ok(Edit {
         rev,
-        group: draws.below(4).saturating_add(1),
+        group: last_group(plain)
+            .saturating_sub(3)
+            .saturating_add(draws.below(4)),
         priority: draws.below(3) as u32,
         author: draws.below(2) as u32,
         after_cursor: false,

@@ -15,10 +15,21 @@ pub enum Step {
         groups: List<u64>,
         is_refused: bool,
     },
+    Collect {
+        floor: u64,
+        groups: List<u64>,
+        is_refused: bool,
+    },
     Shows {
         rev: u64,
         text: Text,
     },
+    Under {
+        groups: List<u64>,
+        text: Text,
+    },
+    Floor(u64),
+    Kept(u64),
 }
 
 /// A step with the number of its line, from 1.

@@ -1,51 +1,59 @@
-//! Clean floors, and which characters no kept revision can show again.
+//! The groups that are collected, and more of them.
 
-ghost use Rattle.std.specs.Prelude.{◌≡◌};
-ghost use Rattle.std.specs.List.{list_any};
-ghost use Rattle.plain_edits.specs.Collection.{is_clean, is_collected, is_dropped};
-ghost use Rattle.plain_history.specs.Inner.{is_lasting};
+ghost use Rattle.std.specs.Prelude.{◌≡◌, ◌++◌, IfOk, OnOk};
+ghost use Rattle.std.specs.List.{fold};
+ghost use Rattle.plain_text.specs.Numbers.{with_number};
 
-use crate::history::PlainHistory;
-use crate::revision::Revision;
-use crate::tagged::Tagged;
-use crate::visible::{group_of, has, is_undone};
+use plain_text::{List, NoMemory, TryClone};
+use std::alloc::Global;
+use std::cmp::Ordering;
 
-/// Whether no edit after the floor has a base below it.
-pub fn is_clean(revisions: &[Revision], floor: u64) -> bool
-    ensures { result ≡ is_clean revisions.now floor }
+/// Puts the numbers at the end, in their order.
+fn push_all(numbers: &[u64], made: &mut List<u64>) -> Result<(), NoMemory>
+    ensures { OnOk result (made.new ≡ made.old ++ numbers.now) }
 {
-    revisions
-        .iter()
-        .skip(floor as usize)
-        .all(|revision| revision.is_based_from(floor))
+    for n in numbers {
+        made.push(*n)?;
+    }
+    Ok(())
 }
 
-/// Whether the revision is of a collected group.
-fn is_collected(history: &PlainHistory, rev: u64) -> bool
-    ensures { result ≡ is_collected history.now rev }
+/// Puts the numbers and this one at the end, in order.
+fn push_with(numbers: &[u64], n: u64, made: &mut List<u64>) -> Result<(), NoMemory>
+    ensures { OnOk result (made.new ≡ made.old ++ with_number numbers.now n) }
 {
-    has(history.collected(), group_of(history.revisions(), rev))
+    let [first, rest @ ..] = numbers else {
+        return made.push(n);
+    };
+    match n.cmp(first) {
+        Ordering::Less => {
+            made.push(n)?;
+            push_all(numbers, made)
+        }
+        Ordering::Equal => push_all(numbers, made),
+        Ordering::Greater => {
+            made.push(*first)?;
+            push_with(rest, n, made)
+        }
+    }
 }
 
-/// Whether the revision is of a collected group that is not undone at the head.
-fn is_lasting(history: &PlainHistory, rev: u64) -> bool
-    ensures { result ≡ is_lasting history.now rev }
+/// The numbers and this one, in order.
+fn with_number(alloc: Global, numbers: &[u64], n: u64) -> Result<List<u64>, NoMemory>
+    ensures { IfOk result (λ made. made ≡ with_number numbers.now n) }
 {
-    is_collected(history, rev) && !is_undone(history.revisions(), history.head(), rev)
+    let mut made = List::new(alloc);
+    push_with(numbers, n, &mut made)?;
+    Ok(made)
 }
 
-/// Whether one of the deletions lasts.
-fn is_deleted_for_good(history: &PlainHistory, deleted: &[u64]) -> bool
-    ensures { result ≡ list_any (is_lasting history.now) deleted.now }
+/// The numbers and these more, in order.
+pub fn with_numbers(alloc: Global, numbers: &List<u64>, more: &[u64]) -> Result<List<u64>, NoMemory>
+    ensures { IfOk result (λ made. made ≡ fold with_number numbers.now more.now) }
 {
-    deleted.iter().any(|rev| is_lasting(history, *rev))
-}
-
-/// Whether no kept revision can show the character again.
-pub fn is_dropped(history: &PlainHistory, tagged: &Tagged) -> bool
-    ensures { result ≡ is_dropped history.now tagged.now }
-{
-    let rev = tagged.inserted();
-    is_collected(history, rev) && is_undone(history.revisions(), history.head(), rev)
-        || is_deleted_for_good(history, tagged.deleted())
+    let mut made = numbers.copy(alloc)?;
+    for n in more {
+        made = with_number(alloc, made.as_slice(), *n)?;
+    }
+    Ok(made)
 }

@@ -2,7 +2,7 @@ ghost use Rattle.std.specs.Prelude.{◌≡◌, ℕ, ◌+◌, ◌<◌, ◌≤◌,
 ghost use Rattle.plain_edits.specs.History.{loaded, head, text_at, inserted_count, is_visible};
 ghost use Rattle.plain_edits.specs.Place.{insertion_place};
 ghost use Rattle.plain_edits.specs.Edits.{plain_edit, edited, undid, MayUndo, edit_refusal};
-ghost use Rattle.plain_edits.specs.Collection.{is_clean, kept};
+ghost use Rattle.plain_edits.specs.Collection.{MayCollect, collected_at};
 ghost use Rattle.plain_history.specs.UnitEdit.{edit_of};
 ghost use Rattle.plain_edits.specs.EditFault.{Refuses};
 
@@ -64,6 +64,13 @@ impl PlainHistory {
         ensures { result.now ≡ self.now.collected }
     {
         self.collected.as_slice()
+    }
+
+    /// The first revision that may still be asked for.
+    pub fn floor(&self) -> u64
+        ensures { result ≡ self.now.floor }
+    {
+        self.floor
     }
 
     /// The last revision.
@@ -178,20 +185,14 @@ impl PlainHistory {
         Ok(rev)
     }
 
-    /// Whether a floor is clean: no edit after it has a base below it.
-    pub fn is_clean(&self, floor: u64) -> bool
-        ensures { result ≡ is_clean self.now.revisions floor }
+    /// Raises the floor and collects these groups; no character goes.
+    pub fn collect(&mut self, alloc: Global, floor: u64, groups: &[u64]) -> Result<(), NoMemory>
+        requires { MayCollect self.old floor groups.now }
+        ensures made { OnOk result (self.new ≡ collected_at self.old floor groups.now) }
+        ensures unchanged { OnErr result (self.new ≡ self.old) }
     {
-        collection::is_clean(self.revisions(), floor)
-    }
-
-    /// How many characters some kept revision can still show.
-    pub fn kept(&self) -> u64
-        ensures { result ≡ kept self.now }
-    {
-        self.characters()
-            .iter()
-            .filter(|tagged| !collection::is_dropped(self, tagged))
-            .count() as u64
+        self.collected = collection::with_numbers(alloc, &self.collected, groups)?;
+        self.floor = floor;
+        Ok(())
     }
 }

@@ -24,3 +24,4 @@ pub use plain_edits::EditFault;
 pub use revision::Revision;
 pub use tagged::Tagged;
 pub use unit_edit::UnitEdit;
+pub use visible::{group_of, has, is_undone, is_visible, undone};
