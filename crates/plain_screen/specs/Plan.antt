@@ -5,7 +5,7 @@ use Rattle.plain_text.specs.declared.run.Run.{Run}
 use Rattle.plain_screen.specs.declared.screen.Line.{Line}
 use Rattle.plain_screen.specs.declared.screen.Op.{Op}
 use Rattle.plain_screen.specs.declared.screen.Op.TheVariants.{Copy, Skip, Invalidate, Ins}
-use Rattle.plain_screen.specs.Screen.{Screen, with_number, number_after}
+use Rattle.plain_screen.specs.Screen.{Screen, numbered, number_after}
 
 -- how many lines past the window are kept on either side
 abbrev pub margin : ℕ
@@ -105,7 +105,7 @@ shown_lines window request lines =
 
 -- two lines are the same but for their numbers: numbered alike they are one
 abbrev pub IsSameButNumber : Line → Line → Type 0
-IsSameButNumber old line = (number : ℕ) → with_number old.ln number old ≡ with_number line.ln number line
+IsSameButNumber old line = (number : ℕ) → numbered old.ln number old ≡ numbered line.ln number line
 
 -- the old line with this index is valid on the screen, and the same as the line but for its number
 pub record IsPartner (screen : Screen) (old : ℕ) (line : Line) : Type 0 where
@@ -125,7 +125,7 @@ ArePartners screen from (Some old ∷ partners) (line ∷ lines) =
 abbrev pub AreNumberedFrom : ℕ → List Line → Type 0
 AreNumberedFrom number [] = ⊤
 AreNumberedFrom number (line ∷ lines) =
-    (with_number line.ln number line ≡ line) × AreNumberedFrom (number_after line.ln number) lines
+    (numbered line.ln number line ≡ line) × AreNumberedFrom (number_after line.ln number) lines
 
 -- the lines that operations send, each with its index on the new screen; the first operation makes the line with this index
 abbrev pub sent_by : ℕ → List Op → List (ℕ × Line)

@@ -10,9 +10,9 @@ abbrev pub Screen : Type 0
 Screen = List (Option Line)
 
 -- the line with this number, where it has one
-abbrev pub with_number : Option ℕ → ℕ → Line → Line
-with_number None number line = line
-with_number (Some old) number line = record line { ln = Some number }
+abbrev pub numbered : Option ℕ → ℕ → Line → Line
+numbered None number line = line
+numbered (Some old) number line = record line { ln = Some number }
 
 -- the number of the next line
 abbrev pub number_after : Option ℕ → ℕ → ℕ
@@ -23,7 +23,7 @@ number_after (Some old) number = number + 1
 abbrev pub numbered_from : ℕ → Screen → Screen
 numbered_from number [] = []
 numbered_from number (None ∷ lines) = None ∷ numbered_from number lines
-numbered_from number (Some line ∷ lines) = Some (with_number line.ln number line) ∷ numbered_from (number_after line.ln number) lines
+numbered_from number (Some line ∷ lines) = Some (numbered line.ln number line) ∷ numbered_from (number_after line.ln number) lines
 
 -- the lines as a copy takes them over
 abbrev pub copied : Option ℕ → Screen → Screen

@@ -5,7 +5,7 @@ use Rattle.std.specs.Str.{bytes_eq}
 use Rattle.std.specs.Cmp.Lexicographic.{pointwise}
 use Rattle.plain_text.specs.declared.run.Run.{Run}
 use Rattle.plain_screen.specs.declared.screen.Line.{Line}
-use Rattle.plain_screen.specs.Screen.{Screen, with_number}
+use Rattle.plain_screen.specs.Screen.{Screen, numbered}
 use Rattle.plain_screen.specs.SameLayout.{is_same_line}
 use Rattle.plain_screen.specs.View.{logical_line_of}
 
@@ -33,7 +33,7 @@ counterpart touched old new index =
 
 -- two lines are the same but for their numbers: numbered alike they are the same
 abbrev pub is_same_but_number : Line → Line → Bool
-is_same_but_number line other = is_same_line (with_number line.ln 0 line) (with_number other.ln 0 other)
+is_same_but_number line other = is_same_line (numbered line.ln 0 line) (numbered other.ln 0 other)
 
 -- the lines of a layout by logical lines: each begins with a line that has a number
 abbrev pub begins_logical : List Line → Bool

@@ -20,7 +20,7 @@ pub use entry::{Entries, Entry, ShelfNote};
 pub use motion::{Motion, Touch};
 pub use object::Object;
 pub use plain_edits::{Added, Adds, Delta, El, Els, Misfit, Span, Spans, Style, UnitDelta};
-pub use plain_screen::{Line, Lines, Op, Ops, Triple, Triples, Update};
+pub use plain_screen::{Line, Lines, Op, Ops, Piece, TextView, Triple, Triples, Update};
 pub use plain_text::{
     Bytes, List, NoMemory, Offsets, Region, Regions, Run, Runs, Sel, Steps, Text, Texts, TryClone,
 };

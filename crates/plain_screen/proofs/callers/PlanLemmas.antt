@@ -11,7 +11,7 @@ use Rattle.plain_text.specs.declared.run.Run.{Run}
 use Rattle.plain_screen.specs.declared.screen.Line.{Line}
 use Rattle.plain_screen.specs.declared.screen.Op.{Op}
 use Rattle.plain_screen.specs.declared.screen.Op.TheVariants.{Copy, Skip, Invalidate, Ins}
-use Rattle.plain_screen.specs.Screen.{Screen, with_number, number_after, numbered_from, copied, screen_after}
+use Rattle.plain_screen.specs.Screen.{Screen, numbered, number_after, numbered_from, copied, screen_after}
 use Rattle.plain_screen.specs.Plan.{Standing, stays, is_sent, is_left, sent_or_left, with_standings, ops_for, or_number, onto_ops, joined, update_plan, shown_as, planned_screen, IsSameButNumber, IsPartner, ArePartners, AreNumberedFrom, sent_by, to_send, is_within, is_near}
 use Rattle.plain_screen.proofs.callers.ScreenLemmas.{option_map-option_map}
 
@@ -66,7 +66,7 @@ value_of (Some n) = n
 number_after-same : (shown line : Line) (number : ℕ) → IsSameButNumber shown line → number_after shown.ln number ≡ number_after line.ln number
 number_after-same shown line number same = by shown.ln line.ln refl refl (same number)
   where
-    by : (a b : Option ℕ) → shown.ln ≡ a → line.ln ≡ b → with_number a number shown ≡ with_number b number line → number_after a number ≡ number_after b number
+    by : (a b : Option ℕ) → shown.ln ≡ a → line.ln ≡ b → numbered a number shown ≡ numbered b number line → number_after a number ≡ number_after b number
     by None None at is one = refl
     by (Some m) (Some n) at is one = refl
     by None (Some n) at is one = let e : None ≡ Some number = sym at ∙ ap (λ (l : Line). l.ln) one in absurd cc
@@ -78,10 +78,10 @@ unnumbered shown line same is = by shown.ln refl (number_after-same shown line 0
   where
     by : (a : Option ℕ) → shown.ln ≡ a → number_after a 0 ≡ 0 → (shown.ln ≡ None) × (shown ≡ line)
     by None at one =
-        (at, sym (ap (λ ln. with_number ln 0 shown) at) ∙ same 0 ∙ ap (λ ln. with_number ln 0 line) is)
+        (at, sym (ap (λ ln. numbered ln 0 shown) at) ∙ same 0 ∙ ap (λ ln. numbered ln 0 line) is)
     by (Some m) at one = absurd (omega arith)
 
-module _ (shown line : Line) (number : ℕ) (same : IsSameButNumber shown line) (own : with_number line.ln number line ≡ line) where
+module _ (shown line : Line) (number : ℕ) (same : IsSameButNumber shown line) (own : numbered line.ln number line ≡ line) where
   -- numbered on, the old line is the new one
   numbered-first : (lines : Screen) → numbered_from number (Some shown ∷ lines) ≡ Some line ∷ numbered_from (number_after line.ln number) lines
   numbered-first lines =
@@ -95,14 +95,14 @@ module _ (shown line : Line) (number : ℕ) (same : IsSameButNumber shown line) 
       unchanged None is = ap (λ (first : Line). Some first ∷ lines) (unnumbered shown line same is).1
       unchanged (Some l) is =
           let old = unnumbered shown line same is in
-          ap (λ ln. Some (with_number ln l shown) ∷ numbered_from (number_after ln l) lines) old.0 ∙
+          ap (λ ln. Some (numbered ln l shown) ∷ numbered_from (number_after ln l) lines) old.0 ∙
           ap (λ (first : Line). Some first ∷ numbered_from l lines) old.1
 
       by : (ln : Option ℕ) → line.ln ≡ ln → (later : Option ℕ) → copied later lines ≡ numbered_from (number_after line.ln number) lines →
           copied (or_number ln later) (Some shown ∷ lines) ≡ Some line ∷ copied later lines
       by None is later counts = unchanged later is
       by (Some m) is later counts =
-          let e : Some number ≡ Some m = ap (λ (l : Line). l.ln) (sym (ap (λ ln. with_number ln number line) is) ∙ own) ∙ is in
+          let e : Some number ≡ Some m = ap (λ (l : Line). l.ln) (sym (ap (λ ln. numbered ln number line) is) ∙ own) ∙ is in
           ap (λ n. numbered_from n (Some shown ∷ lines)) (sym (ap value_of e)) ∙ numbered-first lines ∙
           ap (λ ls. Some line ∷ ls) (sym counts)
 
@@ -228,7 +228,7 @@ abbrev kept_ops : ℕ → ℕ → Line → List (Standing × Line) → Bool → 
 kept_ops used old line lines b = joined ((if b then Skip (old - used) ∷ [] else []) ++ (Copy 1 line.ln ∷ ops_for (old + 1) lines))
 
 Makes-kept : (screen : Screen) (used number old : ℕ) (line : Line) (lines : List (Standing × Line)) → used ≤ old → IsPartner screen old line →
-    with_number line.ln number line ≡ line → Makes screen (old + 1) (number_after line.ln number) lines →
+    numbered line.ln number line ≡ line → Makes screen (old + 1) (number_after line.ln number) lines →
     Makes screen used number ((stays old, line) ∷ lines)
 Makes-kept screen used number old line lines before partner own rest = elim (cases_lt used old) [ inl below ↦ passing below | inr here ↦ staying here ]
   where

@@ -7,7 +7,7 @@ use Rattle.std.proofs.lemmas.Bool.{lt-ltb, le-ltb, cases_lt, true≢false}
 use Rattle.std.proofs.lemmas.List.{map-append}
 use Rattle.plain_text.specs.declared.run.Run.{Run}
 use Rattle.plain_screen.specs.declared.screen.Line.{Line}
-use Rattle.plain_screen.specs.Screen.{Screen, with_number}
+use Rattle.plain_screen.specs.Screen.{Screen, numbered}
 use Rattle.plain_screen.specs.Plan.{IsSameButNumber, ArePartners}
 use Rattle.plain_screen.specs.Touched.{counterpart, is_same_but_number, begins_logical, onto_logical, by_logical_lines, lines_in, first_of, is_untouched, partners_in, partners_of, if_valid, valid_partner, valid_partners}
 use Rattle.plain_screen.proofs.callers.SameLemmas.{is_same_line-Decides}
@@ -15,17 +15,17 @@ use Rattle.plain_screen.proofs.callers.SameLemmas.{is_same_line-Decides}
 -- ---- the same but for numbers
 
 renumbered : (line : Line) (number : ℕ) →
-    with_number line.ln number line ≡ with_number (with_number line.ln 0 line).ln number (with_number line.ln 0 line)
+    numbered line.ln number line ≡ numbered (numbered line.ln 0 line).ln number (numbered line.ln 0 line)
 renumbered line number = by line.ln refl
   where
-    by : (ln : Option ℕ) → line.ln ≡ ln → with_number ln number line ≡ with_number (with_number ln 0 line).ln number (with_number ln 0 line)
-    by None is = ap (λ n. with_number n number line) (sym is)
+    by : (ln : Option ℕ) → line.ln ≡ ln → numbered ln number line ≡ numbered (numbered ln 0 line).ln number (numbered ln 0 line)
+    by None is = ap (λ n. numbered n number line) (sym is)
     by (Some m) is = refl
 
 IsSameButNumber-test : (line other : Line) → is_same_but_number line other ≡ true → IsSameButNumber line other
 IsSameButNumber-test line other same number =
-    let zero_alike = (is_same_line-Decides (with_number line.ln 0 line) (with_number other.ln 0 other)).0 same in
-    renumbered line number ∙ ap (λ (l : Line). with_number l.ln number l) zero_alike ∙ sym (renumbered other number)
+    let zero_alike = (is_same_line-Decides (numbered line.ln 0 line) (numbered other.ln 0 other)).0 same in
+    renumbered line number ∙ ap (λ (l : Line). numbered l.ln number l) zero_alike ∙ sym (renumbered other number)
 
 -- ---- the logical lines of a layout
 
