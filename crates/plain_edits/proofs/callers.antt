@@ -10,4 +10,7 @@ pub mod CaretLemmas
 pub mod StyleLemmas
 pub mod WellFormedLemmas
 pub mod BlockLemmas
+pub mod RunLemmas
+pub mod FirstLemmas
+pub mod WeaveLemmas
 pub mod CanonicalLemmas

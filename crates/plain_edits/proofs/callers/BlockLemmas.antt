@@ -2,15 +2,16 @@
 use Rattle.std.proofs.Common.{◌≡◌, ℕ, zero, suc, ◌+◌, ◌-◌, ◌<◌, ◌≤◌, Bool, true, false, cond, not, ◌&&◌, if◌then◌else◌, nat_lt, ◌==◌, List, [], ◌∷◌, ◌++◌, length, map, take, drop, filter, reverse, refl, ap, ap₂, subst, sym, ◌∙◌, inl, inr, arith, append_assoc, append-nil, length-append, length-drop}
 use Rattle.std.specs.List.{AllByRecursion, count_by, suffix_len, prefix_len}
 use Rattle.std.proofs.lemmas.Bool.{cases_order, cases_eq, eq-eqb, eqb-true, ne_eqb, le-ltb}
-use Rattle.std.proofs.lemmas.List.{reverse-append, length-reverse}
+use Rattle.std.proofs.lemmas.List.{reverse-append, length-reverse, length-map, take-map, drop-map}
+use Rattle.std.proofs.lemmas.List.Elements.{filter-append}
 use Rattle.std.proofs.lemmas.List.Folds.{prefix_len-append}
 use Rattle.std.proofs.lemmas.List.Sums.{suffix_len-le-length}
 use Rattle.std.proofs.Math.Seq.{drop-append-add}
 use Rattle.plain_text.specs.Woven.{woven, nth_index}
-use Rattle.plain_text.proofs.callers.ListLemmas.{filter-yes, filter-no, nth_index-here, nth_index-yes, nth_index-no, nth_index-lt, flat_map_one, flat_map_none, count_by-take-nth_index}
+use Rattle.plain_text.proofs.callers.ListLemmas.{AllByRecursion-map, woven_same, woven_nothing, filter-yes, filter-no, nth_index-here, nth_index-yes, nth_index-no, nth_index-lt, flat_map_one, flat_map_none, count_by-take-nth_index}
 use Rattle.plain_edits.specs.History.{Tagged, inserted_by, History, head, is_visible, visible_at}
 use Rattle.plain_edits.specs.Place.{index_right_of, later_run, left_in_run, insertion_place}
-use Rattle.plain_edits.specs.Edits.{PlainEdit, gap_count, inserted_at, with_deletion, edited}
+use Rattle.plain_edits.specs.Edits.{PlainEdit, gap_count, inserted_at, is_deleted_by, with_deletion, edited}
 use Rattle.plain_edits.specs.Change.{block}
 use Rattle.plain_edits.specs.Blocks.{block_at, older_len, left_in_block, put_behind, block_after, edited_by_blocks}
 use Rattle.plain_edits.proofs.callers.HistoryLemmas.{becomes}
@@ -98,7 +99,7 @@ module _ {X : Type 0} (p : X → Bool) where
       by false fails here next = omega (arith, next fails, ap length (front-no (suc gap) x xs fails), nth_index-no p (suc gap) x xs fails)
 
   -- the items of a block fail the test
-  block_fails : (gap : ℕ) (xs : List X) → AllByRecursion (λ x. p x ≡ false) (block p gap xs)
+  pub block_fails : (gap : ℕ) (xs : List X) → AllByRecursion (λ x. p x ≡ false) (block p gap xs)
   block_fails gap [] = tt
   block_fails zero (x ∷ xs) = by (p x) refl (block_fails zero xs)
     where
@@ -295,6 +296,12 @@ module _ {X : Type 0} (Q : X → Type 0) (between : ℕ → List X) (at : ℕ �
       (let next : from + 1 + d ≡ from + suc d = omega arith in ap between next) ∙ gaps (suc d) (omega arith) ∙
       ap (λ b. if b then new else []) (same_next d left)) all.1))
 
+-- a weave of one item for each
+pub woven-map : {X Y Z : Type 0} (between : ℕ → List Z) (at : ℕ → Y → List Z) (f : X → Y) (index : ℕ) (xs : List X) →
+    woven between at index (map f xs) ≡ woven between (λ i x. at i (f x)) index xs
+woven-map between at f index [] = refl
+woven-map between at f index (x ∷ xs) = ap (λ ys. between index ++ (at index (f x) ++ ys)) (woven-map between at f (index + 1) xs)
+
 -- ---- the edit step
 
 module _ (history : History) (e : PlainEdit) where
@@ -437,3 +444,147 @@ module _ (history : History) (e : PlainEdit) where
             (let none : g ≡ 0 + g = omega arith in
             ap (λ n. (if e.kept n then tagged else with_deletion (head history + 1) tagged) ∷ []) none);
       })
+
+  -- the same of what becomes of each character: of those that the edit inserts, that stay, and that it deletes
+  pub image-by_blocks : {Y : Type 0} (new stays goes : Tagged → Y) →
+      woven (λ i. map new (inserted_at history e i)) (λ i tagged. (if is_deleted_by history e i tagged then goes tagged else stays tagged) ∷ []) 0
+      history.characters ≡
+      woven (λ gap. map stays (take (left gap) (blk gap)) ++
+      (map new (map (inserted_by (head history + 1)) (e.added gap)) ++ map stays (drop (left gap) (blk gap))))
+      (λ gap tagged. (if e.kept gap then stays tagged else goes tagged) ∷ []) 0 (visible_at history e.base)
+  image-by_blocks {Y} new stays goes =
+      woven-by_blocks shown between at keeps blocks 0 0 history.characters
+      (record {
+        gaps = λ g within.
+            let none : 0 + length (front shown g history.characters) ≡ length (front shown g history.characters) = omega arith in
+            let here : g ≡ 0 + g = omega arith in
+            ap (λ i. woven between at i (blk g)) none ∙ block_of g within ∙ ap blocks here;
+        items = λ g tagged within seen.
+            let none : 0 + nth_index shown g history.characters ≡ nth_index shown g history.characters = omega arith in
+            let here : g ≡ 0 + g = omega arith in
+            ap (λ i. at i tagged) none ∙
+            ap₂ (λ b n. (if b && not (e.kept n) then goes tagged else stays tagged) ∷ []) seen
+            (count_by-take-nth_index shown g history.characters (omega (arith, within))) ∙
+            turned (e.kept g) tagged ∙ ap (λ n. keeps n tagged) here;
+      })
+    where
+      between : ℕ → List Y
+      between i = map new (inserted_at history e i)
+
+      at : ℕ → Tagged → List Y
+      at i tagged = (if is_deleted_by history e i tagged then goes tagged else stays tagged) ∷ []
+
+      keeps : ℕ → Tagged → List Y
+      keeps gap tagged = (if e.kept gap then stays tagged else goes tagged) ∷ []
+
+      text : ℕ → List Y
+      text gap = map new (map (inserted_by (head history + 1)) (e.added gap))
+
+      blocks : ℕ → List Y
+      blocks gap = map stays (take (left gap) (blk gap)) ++ (text gap ++ map stays (drop (left gap) (blk gap)))
+
+      turned : (b : Bool) (tagged : Tagged) → (if not b then goes tagged else stays tagged) ∷ [] ≡ (if b then stays tagged else goes tagged) ∷ []
+      turned true tagged = refl
+      turned false tagged = refl
+
+      chosen : (b : Bool) (texts : List Tagged) → map new (if b then texts else []) ≡ (if b then map new texts else [])
+      chosen true texts = refl
+      chosen false texts = refl
+
+      hidden : (i : ℕ) (tagged : Tagged) → shown tagged ≡ false → at i tagged ≡ stays tagged ∷ []
+      hidden i tagged unseen =
+          ap (λ b. (if b && not (e.kept (count_by shown (take i history.characters))) then goes tagged else stays tagged) ∷ []) unseen
+
+      block_of : (g : ℕ) → g ≤ length (visible_at history e.base) →
+          woven between at (length (front shown g history.characters)) (blk g) ≡ blocks g
+      block_of g within =
+          let from = length (front shown g history.characters) in
+          woven_same (λ tagged. shown tagged ≡ false) between between at (λ _ tagged. stays tagged ∷ []) (λ i. refl) hidden from (blk g)
+          (block_fails shown g history.characters) ∙
+          sym (woven-map between (λ _ y. y ∷ []) stays from (blk g)) ∙
+          woven-put (λ y. Unit {0}) between (λ _ y. y ∷ []) (λ i y _. refl) from (left g) (text g) (map stays (blk g))
+          (omega (arith, left-le g, length-map (blk g) stays))
+          (λ d inside.
+          ap (map new) (inserted_at-block g d within (omega (arith, inside, length-map (blk g) stays))) ∙
+          chosen (d == left g) (map (inserted_by (head history + 1)) (e.added g)))
+          (AllByRecursion-map (λ y. Unit {0}) stays (λ tagged. tt) (blk g)) ∙
+          ap₂ (λ ys zs. ys ++ (text g ++ zs)) (take-map stays (left g) (blk g)) (drop-map stays (left g) (blk g))
+
+-- ---- lists by blocks
+
+-- what goes through `++`, and so what becomes of each item, by blocks
+pub at-by_blocks : {X Y : Type 0} (p : X → Bool) (f : List X → List Y) → f [] ≡ [] → ((x : X) (xs : List X) → f (x ∷ xs) ≡ f (x ∷ []) ++ f xs) → (xs : List X) →
+    woven (λ g. f (block p g xs)) (λ _ x. f (x ∷ [])) 0 (filter p xs) ≡ f xs
+at-by_blocks p f none joins xs =
+    sym (woven-by_blocks p (λ _. []) (λ _ x. f (x ∷ [])) (λ _ x. f (x ∷ [])) (λ g. f (block p g xs)) 0 0 xs
+    (record {
+      gaps = λ g within.
+          let here : g ≡ 0 + g = omega arith in
+          woven_nothing f none joins (0 + length (front p g xs)) (block p g xs) ∙ ap (λ n. f (block p n xs)) here;
+      items = λ g x within passes. refl;
+    })) ∙
+    woven_nothing f none joins 0 xs
+
+pub map-by_blocks : {X Y : Type 0} (p : X → Bool) (f : X → Y) (xs : List X) →
+    woven (λ g. map f (block p g xs)) (λ _ x. f x ∷ []) 0 (filter p xs) ≡ map f xs
+map-by_blocks p f xs = at-by_blocks p (map f) refl (λ x ys. refl) xs
+
+-- the blocks of some of the items
+module _ {X : Type 0} (p q : X → Bool) (kept : (x : X) → p x ≡ true → q x ≡ true) where
+  pub block-filter : (gap : ℕ) (xs : List X) → block p gap (filter q xs) ≡ filter q (block p gap xs)
+  block-filter gap [] = refl
+  block-filter gap (x ∷ xs) = by (λ g. block-filter g xs) gap (p x) refl (q x) refl
+    where
+      by : ((g : ℕ) → block p g (filter q xs) ≡ filter q (block p g xs)) → (gap : ℕ) (b : Bool) → p x ≡ b → (d : Bool) → q x ≡ d → block p gap (filter q (x ∷ xs)) ≡ filter q (block p gap (x ∷ xs))
+      by rest zero true passes d is =
+          ap (block p 0) (filter-yes q x xs (kept x passes)) ∙ block-here p x (filter q xs) passes ∙ sym (ap (filter q) (block-here p x xs passes))
+      by rest (suc gap) true passes d is =
+          ap (block p (suc gap)) (filter-yes q x xs (kept x passes)) ∙ block-yes p x (filter q xs) gap passes ∙ rest gap ∙
+          sym (ap (filter q) (block-yes p x xs gap passes))
+      by rest zero false fails true is =
+          ap (block p 0) (filter-yes q x xs is) ∙ block-first p x (filter q xs) fails ∙ ap (λ ys. x ∷ ys) (rest 0) ∙
+          sym (ap (filter q) (block-first p x xs fails) ∙ filter-yes q x (block p 0 xs) is)
+      by rest zero false fails false is =
+          ap (block p 0) (filter-no q x xs is) ∙ rest 0 ∙
+          sym (ap (filter q) (block-first p x xs fails) ∙ filter-no q x (block p 0 xs) is)
+      by rest (suc gap) false fails true is =
+          ap (block p (suc gap)) (filter-yes q x xs is) ∙ block-no p x (filter q xs) gap fails ∙ rest (suc gap) ∙
+          sym (ap (filter q) (block-no p x xs gap fails))
+      by rest (suc gap) false fails false is =
+          ap (block p (suc gap)) (filter-no q x xs is) ∙ rest (suc gap) ∙ sym (ap (filter q) (block-no p x xs gap fails))
+
+  front-filter : (gap : ℕ) (xs : List X) → front p gap (filter q xs) ≡ filter q (front p gap xs)
+  front-filter zero xs = refl
+  front-filter (suc gap) [] = refl
+  front-filter (suc gap) (x ∷ xs) = by (front-filter gap xs) (front-filter (suc gap) xs) (p x) refl (q x) refl
+    where
+      by : front p gap (filter q xs) ≡ filter q (front p gap xs) → front p (suc gap) (filter q xs) ≡ filter q (front p (suc gap) xs) →
+          (b : Bool) → p x ≡ b → (d : Bool) → q x ≡ d → front p (suc gap) (filter q (x ∷ xs)) ≡ filter q (front p (suc gap) (x ∷ xs))
+      by here next true passes d is =
+          ap (front p (suc gap)) (filter-yes q x xs (kept x passes)) ∙ front-yes p gap x (filter q xs) passes ∙ ap (λ ys. x ∷ ys) here ∙
+          sym (ap (filter q) (front-yes p gap x xs passes) ∙ filter-yes q x (front p gap xs) (kept x passes))
+      by here next false fails true is =
+          ap (front p (suc gap)) (filter-yes q x xs is) ∙ front-no p gap x (filter q xs) fails ∙ ap (λ ys. x ∷ ys) next ∙
+          sym (ap (filter q) (front-no p gap x xs fails) ∙ filter-yes q x (front p (suc gap) xs) is)
+      by here next false fails false is =
+          ap (front p (suc gap)) (filter-no q x xs is) ∙ next ∙
+          sym (ap (filter q) (front-no p gap x xs fails) ∙ filter-no q x (front p (suc gap) xs) is)
+
+  -- what stands left of a gap
+  pub take-nth_index-filter : (gap : ℕ) (xs : List X) →
+      take (nth_index p gap (filter q xs)) (filter q xs) ≡ filter q (take (nth_index p gap xs) xs)
+  take-nth_index-filter gap xs =
+      take-nth_index p gap (filter q xs) ∙ ap₂ (λ ys zs. ys ++ zs) (front-filter gap xs) (block-filter gap xs) ∙
+      sym (ap (filter q) (take-nth_index p gap xs) ∙ filter-append q (front p gap xs) (block p gap xs))
+
+  pub filter-weaker : (xs : List X) → filter p (filter q xs) ≡ filter p xs
+  filter-weaker [] = refl
+  filter-weaker (x ∷ xs) = by (filter-weaker xs) (p x) refl (q x) refl
+    where
+      by : filter p (filter q xs) ≡ filter p xs → (b : Bool) → p x ≡ b → (d : Bool) → q x ≡ d → filter p (filter q (x ∷ xs)) ≡ filter p (x ∷ xs)
+      by rest true passes d is =
+          ap (filter p) (filter-yes q x xs (kept x passes)) ∙ filter-yes p x (filter q xs) passes ∙ ap (λ ys. x ∷ ys) rest ∙
+          sym (filter-yes p x xs passes)
+      by rest false fails true is =
+          ap (filter p) (filter-yes q x xs is) ∙ filter-no p x (filter q xs) fails ∙ rest ∙ sym (filter-no p x xs fails)
+      by rest false fails false is = ap (filter p) (filter-no q x xs is) ∙ rest ∙ sym (filter-no p x xs fails)
