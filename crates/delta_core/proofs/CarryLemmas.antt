@@ -1,5 +1,5 @@
 -- Lemmas on insertions that are carried over other ones.
-use Rattle.std.proofs.Common.{◌≡◌, ◌≢◌, ℕ, zero, suc, true, false, Bool, not, ◌+◌, ◌<◌, ◌≤◌, ◌⊎◌, inl, inr, List, [], ◌∷◌, ◌++◌, length, drop, replicate, append-nil, add-one, refl, ap, sym, ◌∙◌, arith, length-drop}
+use Rattle.std.proofs.Common.{◌≡◌, ◌≢◌, ℕ, zero, suc, true, false, Bool, not, ◌+◌, ◌<◌, ◌≤◌, ◌⊎◌, inl, inr, List, [], ◌∷◌, ◌++◌, length, filter, drop, replicate, append-nil, add-one, refl, ap, subst, sym, ◌∙◌, arith, length-drop}
 use Rattle.std.specs.Prelude.{slice_get, Some}
 use Rattle.std.proofs.lemmas.Bool.{false≢true, true≢false}
 use Rattle.subset_runs.specs.declared.stretch.Stretch.{Stretch}
@@ -7,8 +7,10 @@ use Rattle.subset_runs.specs.Stretch.{IsFront}
 use Rattle.subset_runs.specs.Subset.{count, expand}
 use Rattle.subset_runs.proofs.ForCallers.{count_le_length, count-append, count-replicate_true, count-replicate_false}
 use Rattle.subset_runs.proofs.ForCallers.{front_part, front_len}
-use Rattle.delta_core.specs.Carry.{here, carried, IsCarried}
-use Rattle.delta_core.specs.Inner.{IsNext}
+use Rattle.plain_text.specs.Woven.{woven}
+use Rattle.plain_edits.proofs.callers.ChangeLemmas.{woven_front}
+use Rattle.delta_core.specs.Carry.{insertions_at, carried_at, carried, IsCarried}
+use Rattle.delta_core.specs.Inner.{here, IsNext}
 
 -- ---- how many insertions are at the front
 
@@ -42,27 +44,48 @@ here_le_length (false ∷ flags) = omega arith
 
 pub here_split : (flags : List Bool) → flags ≡ replicate (here flags) true ++ drop (here flags) flags
 here_split [] = refl
-here_split (true ∷ flags) = rw (add-one (here flags)) (ap (λ xs. true ∷ xs) (here_split flags))
+here_split (true ∷ flags) = ap (λ xs. true ∷ xs) (here_split flags)
 here_split (false ∷ flags) = refl
 
 -- ---- the steps
 
+-- the gaps of a weave, counted from the next one on
+woven_next : {X Y : Type 0} (between : ℕ → List Y) (at : ℕ → X → List Y) (from : ℕ) (xs : List X) →
+    woven between at (from + 1) xs ≡ woven (λ i. between (suc i)) (λ i. at (suc i)) from xs
+woven_next between at from [] = ap between (add-one from)
+woven_next between at from (x ∷ xs) =
+    ap (λ i. between i ++ (at i x ++ woven between at (from + 1 + 1) xs)) (add-one from) ∙
+    ap (λ ys. between (suc from) ++ (at (suc from) x ++ ys)) (woven_next between at (from + 1) xs)
+
 pub own_step : (after : Bool) (ins later : List Bool) → (after ≡ false) ⊎ (here later ≡ 0) → carried after (true ∷ ins) later ≡ true ∷ carried after ins later
-own_step false ins later first = refl
-own_step true ins later (inl e) = absurd (true≢false e)
-own_step true ins later (inr none) = rw none refl
+own_step after ins later first =
+    woven_front (true ∷ []) _ _ (λ _ _. false ∷ []) 0 (filter not ins) (at_first after first) (λ i above. others i above)
+  where
+    at_first : (b : Bool) → (b ≡ false) ⊎ (here later ≡ 0) → carried_at b (suc (here ins)) (here later) ≡ true ∷ carried_at b (here ins) (here later)
+    at_first false _ = refl
+    at_first true (inl e) = absurd (true≢false e)
+    at_first true (inr none) = rw none refl
+
+    others : (i : ℕ) → 0 < i → carried_at after (insertions_at (true ∷ ins) i) (insertions_at later i) ≡ carried_at after (insertions_at ins i) (insertions_at later i)
+    others zero above = absurd (omega arith)
+    others (suc i) above = refl
 
 pub other_step : (after : Bool) (ins later : List Bool) → (after ≡ true) ⊎ (here ins ≡ 0) → carried after ins (true ∷ later) ≡ false ∷ carried after ins later
-other_step after [] later first = refl
-other_step true (true ∷ ins) later first = rw (add-one (here later)) refl
-other_step false (true ∷ ins) later (inl e) = absurd (false≢true e)
-other_step false (true ∷ ins) later (inr none) = absurd (omega (arith, none))
-other_step true (false ∷ ins) later first = rw (add-one (here later), add-one (suc (here later))) refl
-other_step false (false ∷ ins) later first = rw (add-one (here later), add-one (suc (here later))) refl
+other_step after ins later first =
+    woven_front (false ∷ []) _ _ (λ _ _. false ∷ []) 0 (filter not ins) (at_first after first) (λ i above. others i above)
+  where
+    at_first : (b : Bool) → (b ≡ true) ⊎ (here ins ≡ 0) → carried_at b (here ins) (suc (here later)) ≡ false ∷ carried_at b (here ins) (here later)
+    at_first true _ = refl
+    at_first false (inl e) = absurd (false≢true e)
+    at_first false (inr none) = rw none refl
+
+    others : (i : ℕ) → 0 < i → carried_at after (insertions_at ins i) (insertions_at (true ∷ later) i) ≡ carried_at after (insertions_at ins i) (insertions_at later i)
+    others zero above = absurd (omega arith)
+    others (suc i) above = refl
 
 pub base_step : (after : Bool) (ins later : List Bool) → carried after (false ∷ ins) (false ∷ later) ≡ false ∷ carried after ins later
-base_step true ins later = refl
-base_step false ins later = refl
+base_step true ins later = ap (λ xs. false ∷ xs) (woven_next _ (λ _ _. false ∷ []) 0 (filter not ins))
+base_step false ins later = ap (λ xs. false ∷ xs) (woven_next _ (λ _ _. false ∷ []) 0 (filter not ins))
 
 pub own_steps : (n : ℕ) (after : Bool) (ins later : List Bool) → (after ≡ false) ⊎ (here later ≡ 0) →
     carried after (replicate n true ++ ins) later ≡ replicate n true ++ carried after ins later
@@ -152,40 +175,82 @@ some_left (true ∷ own) other base no_own no_other more = absurd (omega (arith,
 some_left (false ∷ own) [] base no_own no_other more = absurd (omega (arith, base, count_le_length own))
 some_left (false ∷ own) (b ∷ other) base no_own no_other more = (λ e. cc, λ e. cc)
 
--- ---- the law
+-- ---- the laws
 
-renumbered : (bound : ℕ) (after : Bool) (ins later : List Bool) → length ins + length later ≤ bound → length ins + count later ≡ length later + count ins →
-    carried after ins later ≡ expand ins (carried (not after) later ins)
-renumbered bound after [] [] small base = refl
-renumbered zero after [] (b ∷ later) small base = absurd (omega arith)
-renumbered zero after (b ∷ ins) later small base = absurd (omega arith)
-renumbered (suc bound) after [] (true ∷ later) small base =
-    other_step after [] later (inr refl) ∙ ap (λ xs. false ∷ xs) (renumbered bound after [] later (omega arith) (omega (arith, base))) ∙
-    sym (ap (λ xs. expand [] xs) (own_step (not after) later [] (inr refl)))
-renumbered (suc bound) after [] (false ∷ later) small base = absurd (omega (arith, base, count_le_length later))
-renumbered (suc bound) after (true ∷ ins) [] small base =
-    own_step after ins [] (inr refl) ∙ ap (λ xs. true ∷ xs) (renumbered bound after ins [] (omega arith) (omega (arith, base))) ∙
-    sym (ap (λ xs. expand (true ∷ ins) xs) (other_step (not after) [] ins (inr refl)))
-renumbered (suc bound) after (false ∷ ins) [] small base = absurd (omega (arith, base, count_le_length ins))
-renumbered (suc bound) true (true ∷ ins) (true ∷ later) small base =
-    other_step true (true ∷ ins) later (inl refl) ∙ ap (λ xs. false ∷ xs) (renumbered bound true (true ∷ ins) later (omega arith) (omega (arith, base))) ∙
-    sym (ap (λ xs. expand (true ∷ ins) xs) (own_step false later (true ∷ ins) (inl refl)))
-renumbered (suc bound) false (true ∷ ins) (true ∷ later) small base =
-    own_step false ins (true ∷ later) (inl refl) ∙ ap (λ xs. true ∷ xs) (renumbered bound false ins (true ∷ later) (omega arith) (omega (arith, base))) ∙
-    sym (ap (λ xs. expand (true ∷ ins) xs) (other_step true (true ∷ later) ins (inl refl)))
-renumbered (suc bound) after (true ∷ ins) (false ∷ later) small base =
-    own_step after ins (false ∷ later) (inr refl) ∙ ap (λ xs. true ∷ xs) (renumbered bound after ins (false ∷ later) (omega arith) (omega (arith, base))) ∙
-    sym (ap (λ xs. expand (true ∷ ins) xs) (other_step (not after) (false ∷ later) ins (inr refl)))
-renumbered (suc bound) after (false ∷ ins) (true ∷ later) small base =
-    other_step after (false ∷ ins) later (inr refl) ∙ ap (λ xs. false ∷ xs) (renumbered bound after (false ∷ ins) later (omega arith) (omega (arith, base))) ∙
-    sym (ap (λ xs. expand (false ∷ ins) xs) (own_step (not after) later (false ∷ ins) (inr refl)))
-renumbered (suc bound) after (false ∷ ins) (false ∷ later) small base =
-    base_step after ins later ∙ ap (λ xs. false ∷ xs) (renumbered bound after ins later (omega arith) (omega (arith, base))) ∙
-    sym (ap (λ xs. expand (false ∷ ins) xs) (base_step (not after) later ins))
+-- what the steps keep is true of two sets over one base
+module _ (after : Bool) (P : List Bool → List Bool → Type 0) (nil : P [] [])
+    (own : (ins later : List Bool) → (after ≡ false) ⊎ (here later ≡ 0) → P ins later → P (true ∷ ins) later)
+    (other : (ins later : List Bool) → (after ≡ true) ⊎ (here ins ≡ 0) → P ins later → P ins (true ∷ later))
+    (next : (ins later : List Bool) → P ins later → P (false ∷ ins) (false ∷ later)) where
+  by_steps : (bound : ℕ) (ins later : List Bool) → length ins + length later ≤ bound → length ins + count later ≡ length later + count ins → P ins later
+  by_steps bound [] [] small base = nil
+  by_steps zero [] (b ∷ later) small base = absurd (omega arith)
+  by_steps zero (b ∷ ins) later small base = absurd (omega arith)
+  by_steps (suc bound) [] (true ∷ later) small base = other [] later (inr refl) (by_steps bound [] later (omega arith) (omega (arith, base)))
+  by_steps (suc bound) [] (false ∷ later) small base = absurd (omega (arith, base, count_le_length later))
+  by_steps (suc bound) (true ∷ ins) [] small base = own ins [] (inr refl) (by_steps bound ins [] (omega arith) (omega (arith, base)))
+  by_steps (suc bound) (false ∷ ins) [] small base = absurd (omega (arith, base, count_le_length ins))
+  by_steps (suc bound) (true ∷ ins) (true ∷ later) small base =
+      elim after as (λ b. after ≡ b → P (true ∷ ins) (true ∷ later)) [
+        | true ↦ λ is. other (true ∷ ins) later (inl is) (by_steps bound (true ∷ ins) later (omega arith) (omega (arith, base)))
+        | false ↦ λ is. own ins (true ∷ later) (inl is) (by_steps bound ins (true ∷ later) (omega arith) (omega (arith, base)))
+      ] refl
+  by_steps (suc bound) (true ∷ ins) (false ∷ later) small base =
+      own ins (false ∷ later) (inr refl) (by_steps bound ins (false ∷ later) (omega arith) (omega (arith, base)))
+  by_steps (suc bound) (false ∷ ins) (true ∷ later) small base =
+      other (false ∷ ins) later (inr refl) (by_steps bound (false ∷ ins) later (omega arith) (omega (arith, base)))
+  by_steps (suc bound) (false ∷ ins) (false ∷ later) small base =
+      next ins later (by_steps bound ins later (omega arith) (omega (arith, base)))
+
+pub IsCarried-carried : (after : Bool) (ins later : List Bool) → length ins + count later ≡ length later + count ins →
+    IsCarried after ins later (carried after ins later)
+IsCarried-carried after ins later base =
+    by_steps after (λ xs ys. IsCarried after xs ys (carried after xs ys)) (none after)
+    (λ xs ys first rest. record {
+      is = refl;
+      renumbered =
+          own_step after xs ys first ∙ ap (λ zs. true ∷ zs) rest.renumbered ∙
+          sym (ap (expand (true ∷ xs)) (other_step (not after) ys xs (turned after first)));
+      len = omega (arith, ap length (own_step after xs ys first), rest.len);
+      members = omega (arith, ap count (own_step after xs ys first), rest.members);
+    })
+    (λ xs ys first rest. record {
+      is = refl;
+      renumbered =
+          other_step after xs ys first ∙ ap (λ zs. false ∷ zs) rest.renumbered ∙
+          sym (ap (expand xs) (own_step (not after) ys xs (back after first)));
+      len = omega (arith, ap length (other_step after xs ys first), rest.len);
+      members = omega (arith, ap count (other_step after xs ys first), rest.members);
+    })
+    (λ xs ys rest. record {
+      is = refl;
+      renumbered =
+          base_step after xs ys ∙ ap (λ zs. false ∷ zs) rest.renumbered ∙
+          sym (ap (expand (false ∷ xs)) (base_step (not after) ys xs));
+      len = omega (arith, ap length (base_step after xs ys), rest.len);
+      members = omega (arith, ap count (base_step after xs ys), rest.members);
+    })
+    (length ins + length later) ins later (omega arith) base
+  where
+    none : (b : Bool) → IsCarried b [] [] (carried b [] [])
+    none true = record { is = refl; renumbered = refl; len = omega arith; members = refl }
+    none false = record { is = refl; renumbered = refl; len = omega arith; members = refl }
+
+    turned : (b : Bool) {n : ℕ} → (b ≡ false) ⊎ (n ≡ 0) → (not b ≡ true) ⊎ (n ≡ 0)
+    turned b (inl is) = inl (ap not is)
+    turned b (inr none) = inr none
+
+    back : (b : Bool) {n : ℕ} → (b ≡ true) ⊎ (n ≡ 0) → (not b ≡ false) ⊎ (n ≡ 0)
+    back b (inl is) = inl (ap not is)
+    back b (inr none) = inr none
 
 pub IsCarried-all : (after : Bool) (ins later result own other : List Bool) → length ins + count later ≡ length later + count ins →
     result ++ carried after own other ≡ carried after ins later → own ≡ [] → other ≡ [] → IsCarried after ins later result
 IsCarried-all after ins later result own other base so_far no_own no_other =
     let is : result ≡ carried after ins later =
-    sym (append-nil result) ∙ ap (λ xs. result ++ xs) (sym (ap (λ xs. carried after xs other) no_own ∙ ap (λ xs. carried after [] xs) no_other)) ∙ so_far in
-    record { is = is; renumbered = is ∙ renumbered (length ins + length later) after ins later (omega arith) base }
+    sym (append-nil result) ∙ ap (λ xs. result ++ xs) (sym (ap (λ xs. carried after xs other) no_own ∙ ap (λ xs. carried after [] xs) no_other ∙ nothing after)) ∙ so_far in
+    subst (IsCarried after ins later) (sym is) (IsCarried-carried after ins later base)
+  where
+    nothing : (b : Bool) → carried b [] [] ≡ []
+    nothing true = refl
+    nothing false = refl

@@ -11,7 +11,7 @@ use Rattle.plain_edits.specs.declared.delta.El.{El}
 use Rattle.plain_text.specs.Text.{gap_of, is_place}
 use Rattle.plain_edits.specs.Delta.{keeps, adds, copies_misfit, is_in_runs, text_at_gap, kept_runs, insertions}
 use Rattle.delta_core.specs.Wire.{copy_before, text_before}
-use Rattle.delta_core.specs.Carry.{carried}
+use Rattle.delta_core.specs.Carry.{insertions_at, carried}
 use Rattle.delta_core.specs.Step.{Step, Kept, Dropped, New}
 pub use Rattle.delta_core.specs.Step.{step_of, steps_from, steps_of, part_steps}
 use Rattle.delta_core.specs.Synthesis.{appearing}
@@ -34,6 +34,10 @@ with_added adds gap (c ∷ text) = adds ++ (record { gap = gap; text = c ∷ tex
 -- the runs and one more, unless it is empty
 abbrev pub with_run : List Run → ℕ → ℕ → List Run
 with_run runs start end = runs ++ (if nat_lt start end then run_to start end ∷ [] else [])
+
+-- how many insertions stand before the next character of the base
+abbrev pub here : List Bool → ℕ
+here flags = insertions_at flags 0
 
 -- whose turn it is at a gap with so many insertions of each, and the other's by `after`
 abbrev pub IsCarryStep : ℕ → ℕ → Bool → CarryStep → Type 0

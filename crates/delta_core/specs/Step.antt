@@ -1,9 +1,5 @@
 -- A unit delta as steps from the left end of its base to the right.
-use Rattle.std.specs.Prelude.{ℕ, zero, suc, ◌+◌, Bool, true, false, List, [], ◌∷◌, ◌++◌, map, replicate}
-use Rattle.plain_edits.specs.declared.delta.UnitDelta.{UnitDelta}
-use Rattle.plain_edits.specs.UnitDelta.{unit_keeps, unit_adds}
-use Rattle.delta_core.specs.declared.part.Part.{Part}
-use Rattle.delta_core.specs.declared.part.Part.TheVariants.{Keep, Drop, Add}
+use Rattle.std.specs.Prelude.{ℕ, Bool, true, false, List, [], ◌∷◌}
 
 -- a character of the base that is kept, or one that is dropped, or a character that is added
 pub data Step : Type 0 where

@@ -1,10 +1,8 @@
 -- Unit deltas: their values by characters, and when one says what a delta on the wire says.
-use Rattle.std.specs.Prelude.{◌≡◌, ℕ, ◌||◌, List, ◌∷◌, ◌++◌, length, None, IsTrue}
+use Rattle.std.specs.Prelude.{◌≡◌, ℕ, List, length}
 use Rattle.plain_edits.specs.declared.delta.Delta.{Delta}
-use Rattle.plain_edits.specs.declared.delta.El.{El}
 use Rattle.plain_edits.specs.declared.delta.UnitDelta.{UnitDelta}
-use Rattle.plain_text.specs.Text.{gap_of, is_place}
-use Rattle.plain_edits.specs.Delta.{keeps, adds, applied, copies_misfit, is_in_runs, text_at_gap, kept_runs, insertions}
+use Rattle.plain_edits.specs.Delta.{keeps, adds, applied}
 use Rattle.plain_edits.specs.UnitDelta.{IsCanonical, unit_keeps, unit_adds}
 
 -- what a text becomes

@@ -1,7 +1,7 @@
 ghost use Rattle.std.specs.Prelude.{◌≡◌, ◌≢◌, ◌+◌, ◌^◌, ◌<◌, [], length, IfOk};
 ghost use Rattle.subset_runs.specs.Subset.{count};
-ghost use Rattle.delta_core.specs.Carry.{IsCarried, here};
-ghost use Rattle.delta_core.specs.Inner.{IsNext, IsCarryStep};
+ghost use Rattle.delta_core.specs.Carry.{IsCarried};
+ghost use Rattle.delta_core.specs.Inner.{IsCarryStep, IsNext, here};
 
 use plain_text::NoMemory;
 use std::alloc::Global;

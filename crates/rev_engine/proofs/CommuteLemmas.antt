@@ -4,19 +4,22 @@ use Rattle.std.specs.List.{AllByRecursion, sum_by, list_any}
 use Rattle.std.proofs.lemmas.List.Sums.{sum_by-cons}
 use Rattle.std.proofs.lemmas.List.Sorted.{IsPermutation-refl, IsPermutation-trans, IsPermutation-middle, IsPermutation-map, length_permutation, sum_by-IsPermutation}
 use Rattle.plain_text.specs.Numbers.{has}
+use Rattle.plain_text.specs.Woven.{woven}
 use Rattle.plain_edits.specs.Delta.{keeps, adds, misfit_of}
-use Rattle.plain_edits.specs.History.{Tagged, History, loaded, head, undone, text_at, inserted_count, IsSound}
+use Rattle.plain_edits.specs.History.{Tagged, History, head, undone, visible_at, text_at, inserted_count, IsSound}
 use Rattle.plain_edits.specs.Edits.{PlainEdit, edited, is_edit_of}
 use Rattle.plain_edits.specs.Delta.{inserted_len}
-use Rattle.plain_edits.proofs.callers.HistoryLemmas.{IsSound-loaded, IsSound-edited, text_at-edited, undone-edit}
+use Rattle.plain_edits.proofs.callers.HistoryLemmas.{IsSound-edited, text_at-edited}
 use Rattle.rev_engine.specs.Given.{AskedEdit, meant, after, after_all, IsTaken, AreTaken, IsGiven}
 use Rattle.rev_engine.specs.Commute.{DifferInPriority, IsForHead, AreForHead, ShowsMerged, EditsCommute}
-use Rattle.rev_rebase.proofs.ForCallers.{AllByRecursion-parts}
-use Rattle.rev_engine.proofs.LaidLemmas.{laid_nothing}
+use Rattle.plain_edits.specs.Blocks.{block_at}
+use Rattle.plain_edits.proofs.callers.BlockLemmas.{at-by_blocks}
+use Rattle.plain_edits.proofs.callers.RunLemmas.{AllByRecursion-parts, AllByRecursion-to_map}
 use Rattle.rev_engine.proofs.MergeLemmas.{head-edited, Done, seen_in, IsMerging, text_at-merging}
 use Rattle.rev_engine.proofs.StepLemmas.{dones_after, at_after, IsMerging-edited}
 use Rattle.rev_engine.proofs.OrderLemmas.{AllByRecursion-permutation, Differ, Differ-permutation, merged-permutation}
-use Rattle.rev_engine.proofs.TakenLemmas.{inserted_count-after, edit_refusal-none}
+use Rattle.rev_engine.proofs.SpentLemmas.{inserted_count-plain}
+use Rattle.rev_engine.proofs.StandLemmas.{IsFresh-given, refusal-none}
 
 -- ---- which histories take edits
 
@@ -27,38 +30,14 @@ pub record TakesEdits (history : History) : Type 0 where
   pub live : (group : ℕ) → list_any (is_edit_of group) history.revisions ≡ false → has (undone history.revisions (head history)) group ≡ false
   pub kept : (group : ℕ) → list_any (is_edit_of group) history.revisions ≡ false → has history.collected group ≡ false
 
--- a history that edits alone gave
-record IsPlain (history : History) : Type 0 where
-  sound : IsSound history
-  floor : history.floor ≡ 0
-  spent : undone history.revisions (head history) ≡ []
-  collected : history.collected ≡ []
-
-IsPlain-all : (history : History) (edits : List AskedEdit) → IsPlain history → IsPlain (after_all history edits)
-IsPlain-all history [] plain = plain
-IsPlain-all history (asked ∷ edits) plain =
-    let e = meant history asked in
-    IsPlain-all (after history asked) edits
-    (record {
-      sound = IsSound-edited history e plain.sound;
-      floor = plain.floor;
-      spent =
-          ap (undone (after history asked).revisions) (head-edited history e) ∙
-          undone-edit history.revisions e.base e.group e.priority e.author ∙ plain.spent;
-      collected = plain.collected;
-    })
-
 pub TakesEdits-given : (limit : ℕ) (history : History) → IsGiven limit history → TakesEdits history
 TakesEdits-given limit history given =
-    let plain : IsPlain history =
-    subst IsPlain (sym given.is)
-    (IsPlain-all (loaded given.text) given.edits
-    (record { sound = IsSound-loaded given.text; floor = refl; spent = refl; collected = refl })) in
+    let fresh = IsFresh-given limit history given in
     record {
-      sound = plain.sound;
-      floor = omega (arith, plain.floor);
-      live = λ group fresh. ap (λ groups. has groups group) plain.spent;
-      kept = λ group fresh. ap (λ groups. has groups group) plain.collected;
+      sound = fresh.plain.sound;
+      floor = omega (arith, fresh.floor);
+      live = λ group _. ap (λ groups. has groups group) (fresh.plain.none (head history));
+      kept = λ group _. ap (λ groups. has groups group) fresh.collected;
     }
 
 -- ---- one edit in its turn
@@ -100,8 +79,7 @@ module _ (limit : ℕ) (first last : History) (asked : AskedEdit) (edits : List 
       has_number = omega (arith, ready.numbers);
     };
     accepted =
-        edit_refusal-none last limit asked.base asked.delta (omega (arith, is.base, ready.later))
-        (omega (arith, is.base, ready.floor, takes.floor))
+        refusal-none last limit asked.base asked.delta (omega (arith, is.base, ready.floor, takes.floor)) (omega (arith, is.base, ready.later))
         (ap (λ text. misfit_of text asked.delta) (ap (text_at last) is.base ∙ ready.text) ∙ is.fits) (omega (arith, room_here));
   }
 
@@ -115,7 +93,7 @@ module _ (limit : ℕ) (first last : History) (asked : AskedEdit) (edits : List 
         collected = ready.collected;
         later = omega (arith, ready.later, one_more);
         text = text_at-edited last e (head first) ready.sound ready.later ∙ ready.text;
-        room = omega (arith, room_here, inserted_count-after last asked);
+        room = omega (arith, room_here, inserted_count-plain last asked.base asked.delta asked.group asked.priority asked.author);
         numbers = omega (arith, ready.numbers, one_more);
       }
 
@@ -168,10 +146,6 @@ comes limit first takes (asked ∷ order) done last dones at state ready each di
       moved = IsPermutation-trans (done ++ e ∷ edits) (e ∷ (done ++ edits)) rest.final middle rest.moved;
     }
 
-AllByRecursion-to_map : {X Y : Type 0} (P : Y → Type 0) (f : X → Y) (xs : List X) → AllByRecursion (λ x. P (f x)) xs → AllByRecursion P (map f xs)
-AllByRecursion-to_map P f [] each = tt
-AllByRecursion-to_map P f (x ∷ xs) each = (each.0, AllByRecursion-to_map P f xs each.1)
-
 Differ-meant : (history : History) (edits : List AskedEdit) → DifferInPriority edits → Differ (λ e. e.priority) (map (meant history) edits)
 Differ-meant history [] differ = tt
 Differ-meant history (asked ∷ edits) differ = (
@@ -185,7 +159,10 @@ IsMerging-none first sound = record {
   sound = sound;
   later = omega arith;
   spent = refl;
-  characters = sym (laid_nothing (seen_in first) 0 first.characters);
+  characters =
+      sym (at-by_blocks (seen_in first) (λ xs. xs) refl (λ x ys. refl) first.characters) ∙
+      ap (λ (blocks : ℕ → List Tagged). woven blocks (λ _ x. x ∷ []) 0 (visible_at first (head first)))
+      (λ i g. sym (append-nil (block_at first (head first) g)) i);
   each = tt;
   rises = tt;
   is = refl;

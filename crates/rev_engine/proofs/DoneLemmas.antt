@@ -17,7 +17,7 @@ use Rattle.rev_list.proofs.ForCallers.{grown_flags, hidden_without_text, step_wi
 use Rattle.rev_list.proofs.ForCallers.{IsPlain, hidden_at-later, length-after_edit}
 use Rattle.rev_rebase.specs.Rebase.{added_text, characters_of, put_in}
 use Rattle.rev_rebase.proofs.ForCallers.{insertion_flags-textless, deletion_flags-textless}
-use Rattle.rev_rebase.proofs.ForCallers.{step-text}
+use Rattle.rev_rebase.proofs.ForCallers.{count-insertion_flags, step-text}
 use Rattle.rev_engine.specs.declared.edit.Edit.{Edit}
 use Rattle.rev_engine.specs.declared.edit.Change.{Change}
 use Rattle.rev_engine.specs.declared.step.Fitting.{Fitting}
@@ -28,7 +28,7 @@ use Rattle.rev_engine.specs.Inner.{IsBasedOn, IsFitting, IsMadeReady, in_charact
 use Rattle.rev_engine.specs.Engine.{IsChange, StandsFor, asked_by}
 use Rattle.plain_edits.proofs.callers.HistoryLemmas.{text_at-edited}
 use Rattle.rev_engine.proofs.ChangeLemmas.{IsChange-between}
-use Rattle.rev_engine.proofs.SpentLemmas.{count-insertion_flags, inserted_count-plain, length-added_text}
+use Rattle.rev_engine.proofs.SpentLemmas.{inserted_count-plain, length-added_text}
 use Rattle.rev_engine.proofs.ReadyLemmas.{length-put_in}
 use Rattle.rev_engine.proofs.StandLemmas.{IsFresh-given, IsGiven-after, accepted-fitting, length-shown_at, shown-stands}
 

@@ -5,12 +5,9 @@ pub mod StandLemmas
 pub mod ChangeLemmas
 pub mod DoneLemmas
 pub mod BlockLemmas
-pub mod LaidLemmas
-pub mod WalkLemmas
 pub mod MergeLemmas
 pub mod StepLemmas
 pub mod OrderLemmas
-pub mod TakenLemmas
 pub mod CommuteLemmas
 pub mod SelectiveLemmas
 pub mod ForCallers

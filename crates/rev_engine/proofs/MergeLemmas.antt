@@ -1,19 +1,21 @@
 -- Edits of one text, taken one after the other: their texts stand at the gaps of the text in rising order of priority.
-use Rattle.std.proofs.Common.{◌≡◌, ◌≢◌, ℕ, ◌+◌, ◌<◌, ◌≤◌, Bool, true, false, cond, not, ◌&&◌, if◌then◌else◌, nat_le, List, [], ◌∷◌, ◌++◌, map, flat_map, refl, ap, sym, subst, ◌∙◌, arith}
+use Rattle.std.proofs.Common.{◌≡◌, ◌≢◌, ℕ, ◌+◌, ◌<◌, ◌≤◌, Bool, true, false, cond, ◌&&◌, if◌then◌else◌, nat_le, List, [], ◌∷◌, ◌++◌, map, flat_map, refl, ap, ap₂, sym, subst, ◌∙◌, arith}
 use Rattle.std.specs.List.{AllByRecursion, list_all}
 use Rattle.std.proofs.lemmas.Bool.{leb-true, leb-false}
 use Rattle.std.proofs.lemmas.List.{append_assoc, length_push}
 use Rattle.std.proofs.lemmas.List.Folds.{flat_map-map}
+use Rattle.std.proofs.lemmas.List.Elements.{filter_passes, recursion_from_All}
 use Rattle.plain_text.specs.Numbers.{has}
-use Rattle.plain_edits.specs.History.{Tagged, edit, History, head, priority_of, undone, is_visible, text_at, IsTaggedBy, IsSound}
+use Rattle.plain_text.specs.Woven.{woven}
+use Rattle.plain_edits.specs.History.{Tagged, edit, History, head, priority_of, undone, is_visible, visible_at, text_at, IsTaggedBy, IsSound}
 use Rattle.plain_edits.specs.Edits.{PlainEdit, with_deletion, edited, with_earlier, by_priority, merged}
-use Rattle.plain_text.proofs.callers.ListLemmas.{AllByRecursion-append, AllByRecursion-weaker, AllByRecursion-map, filter_all, flat_map_same, map-flat_map}
+use Rattle.plain_text.proofs.callers.ListLemmas.{AllByRecursion-append, AllByRecursion-weaker, AllByRecursion-map, at-woven, woven_same, filter_none, filter_all, flat_map_same, map-flat_map}
 use Rattle.plain_edits.proofs.callers.HistoryLemmas.{IsTaggedBy-more, IsTaggedBy-deleted, is_visible-append, is_visible-deleted_later, shown, shown-append}
 use Rattle.plain_edits.proofs.callers.EditLemmas.{is_visible-with_deletion, is_visible-edited}
-use Rattle.rev_rebase.proofs.ForCallers.{AllByRecursion-parts}
-use Rattle.rev_engine.proofs.BlockLemmas.{stays}
-use Rattle.rev_engine.proofs.LaidLemmas.{at-laid, laid_same, laid-woven}
-use Rattle.rev_engine.proofs.WalkLemmas.{in_blocks}
+use Rattle.plain_edits.specs.Blocks.{block_at}
+use Rattle.plain_edits.proofs.callers.BlockLemmas.{block_fails, woven-map}
+use Rattle.plain_edits.proofs.callers.WeaveLemmas.{AllByRecursion-block}
+use Rattle.plain_edits.proofs.callers.RunLemmas.{AllByRecursion-filter, AllByRecursion-parts}
 use Rattle.plain_edits.specs.History.{inserted_by}
 
 -- ---- what becomes of an old character
@@ -42,7 +44,7 @@ pub record StaysOf (last : History) (base : ℕ) (kept : Bool) (x y : Tagged) : 
 
 pub StaysOf-edited : (last : History) (e : PlainEdit) (base : ℕ) (kept : Bool) (x y : Tagged) → base ≤ head last →
     has (undone last.revisions (head last)) e.group ≡ false → StaysOf last base kept x y → (keeps : Bool) →
-    StaysOf (edited last e) base (keeps && kept) x (if not keeps then with_deletion (head last + 1) y else y)
+    StaysOf (edited last e) base (keeps && kept) x (if keeps then y else with_deletion (head last + 1) y)
 StaysOf-edited last e base kept x y later live stays true = record {
   inserted = stays.inserted;
   character = stays.character;
@@ -160,12 +162,41 @@ pub record IsDone (base : ℕ) (history : History) (d : Done) : Type 0 where
 abbrev pub seen_in : History → Tagged → Bool
 seen_in history = is_visible history.revisions (head history)
 
+-- what the head shows, and what stands in its blocks
+pub record IsShown (first : History) (x : Tagged) : Type 0 where
+  pub tagged : IsTaggedBy (head first) x
+  pub seen : seen_in first x ≡ true
+
+pub record IsOld (first : History) (x : Tagged) : Type 0 where
+  pub tagged : IsTaggedBy (head first) x
+  pub hidden : seen_in first x ≡ false
+
+pub AllByRecursion-both : {X : Type 0} (P Q R : X → Type 0) → ((x : X) → P x → Q x → R x) → (xs : List X) →
+    AllByRecursion P xs → AllByRecursion Q xs → AllByRecursion R xs
+AllByRecursion-both P Q R join [] ps qs = tt
+AllByRecursion-both P Q R join (x ∷ xs) ps qs = (join x ps.0 qs.0, AllByRecursion-both P Q R join xs ps.1 qs.1)
+
+module _ (first : History) (sound : IsSound first) where
+  pub each_shown : AllByRecursion (IsShown first) (visible_at first (head first))
+  each_shown =
+      AllByRecursion-both (IsTaggedBy (head first)) (λ x. seen_in first x ≡ true) (IsShown first) (λ x tagged seen. record { tagged = tagged; seen = seen })
+      (visible_at first (head first))
+      (AllByRecursion-filter (IsTaggedBy (head first)) (seen_in first) first.characters sound)
+      (recursion_from_All (λ x. seen_in first x ≡ true) (visible_at first (head first)) (filter_passes (seen_in first) first.characters))
+
+  pub each_old : (g : ℕ) → AllByRecursion (IsOld first) (block_at first (head first) g)
+  each_old g =
+      AllByRecursion-both (IsTaggedBy (head first)) (λ x. seen_in first x ≡ false) (IsOld first) (λ x tagged hidden. record { tagged = tagged; hidden = hidden })
+      (block_at first (head first) g) (AllByRecursion-block (IsTaggedBy (head first)) (seen_in first) g first.characters sound)
+      (block_fails (seen_in first) g first.characters)
+
 -- `last` is the first history after the edits of its head, which are `done` as they were taken, the last one first
 pub record IsMerging (first : History) (done : List PlainEdit) (last : History) (dones : List Done) (at : ℕ → Tagged → Tagged) : Type 0 where
   pub sound : IsSound last
   pub later : head first ≤ head last
   pub spent : undone last.revisions (head last) ≡ undone first.revisions (head first)
-  pub characters : last.characters ≡ in_blocks (seen_in first) (blocks_of dones) at 0 first.characters
+  pub characters : last.characters ≡
+      woven (λ g. block_at first (head first) g ++ blocks_of dones g) (λ n x. at n x ∷ []) 0 (visible_at first (head first))
   pub each : AllByRecursion (IsDone (head first) last) dones
   pub rises : Rises dones
   pub is : edits_of dones ≡ by_priority done
@@ -179,13 +210,12 @@ pub text_at-merging : (first : History) → IsSound first → (done : List Plain
     IsMerging first done last dones at → text_at last (head last) ≡ merged (text_at first (head first)) done
 text_at-merging first sound done last dones at state =
     ap (shown now) state.characters ∙
-    at-laid (shown now) (shown-append now) (seen_in first) (blocks_of dones) (λ n x. at n x ∷ []) (λ x. x ∷ []) 0 first.characters ∙
-    laid_same (IsTaggedBy (head first)) (seen_in first) (λ n. shown now (blocks_of dones n)) texts
-    (λ n x. shown now (at n x ∷ [])) (λ n x. keeps n x.character) (λ x. shown now (x ∷ [])) (λ x. [])
-    block_text kept_text
-    (λ x tagged fails. ap (λ b. map (λ t. t.character) (cond b (x ∷ []) [])) (state.others x tagged ∙ fails))
-    0 first.characters sound ∙
-    laid-woven (seen_in first) (λ x. x.character) texts keeps 0 first.characters
+    at-woven (shown now) (shown-append now) (λ g. block_at first (head first) g ++ blocks_of dones g) (λ n x. at n x ∷ []) 0 (visible_at first (head first)) ∙
+    woven_same (IsShown first) (λ g. shown now (block_at first (head first) g ++ blocks_of dones g)) texts
+    (λ n x. shown now (at n x ∷ [])) (λ n x. keeps n x.character)
+    (λ g. shown-append now (block_at first (head first) g) (blocks_of dones g) ∙ ap₂ (λ xs ys. xs ++ ys) (block_old g) (block_text g))
+    (λ n x is. kept_text n x is.tagged is.seen) 0 (visible_at first (head first)) (each_shown first sound) ∙
+    sym (woven-map texts keeps (λ x. x.character) 0 (visible_at first (head first)))
   where
     now : Tagged → Bool
     now = seen_in last
@@ -195,6 +225,12 @@ text_at-merging first sound done last dones at state =
 
     keeps : ℕ → ℕ → List ℕ
     keeps n c = if list_all (λ e. e.kept n) done then c ∷ [] else []
+
+    block_old : (g : ℕ) → shown now (block_at first (head first) g) ≡ []
+    block_old g =
+        ap (map (λ x. x.character)) (filter_none now (block_at first (head first) g)
+        (AllByRecursion-weaker (IsOld first) (λ x. now x ≡ false) (λ x is. state.others x is.tagged ∙ is.hidden)
+        (block_at first (head first) g) (each_old first sound g)))
 
     new_seen : (n : ℕ) (d : Done) → IsDone (head first) last d → AllByRecursion (λ x. now x ≡ true) (text_of n d)
     new_seen n d is = AllByRecursion-map (λ x. now x ≡ true) (inserted_by d.rev) is.seen (d.edit.added n)

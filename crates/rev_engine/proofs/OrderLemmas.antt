@@ -8,16 +8,12 @@ use Rattle.std.proofs.lemmas.List.Sorted.{All-permutation, sum_by-IsPermutation,
 use Rattle.plain_text.specs.Woven.{woven}
 use Rattle.plain_edits.specs.Edits.{PlainEdit, with_earlier, by_priority, merged}
 use Rattle.plain_text.proofs.callers.ListLemmas.{AllByRecursion-weaker, count_by-yes, count_by-no}
+use Rattle.rev_engine.proofs.MergeLemmas.{AllByRecursion-both}
 use Rattle.rev_engine.proofs.StepLemmas.{AllByRecursion-with_earlier, AllByRecursion-by_priority}
 
 pub AllByRecursion-permutation : {X : Type 0} (P : X → Type 0) (xs ys : List X) → IsPermutation xs ys → AllByRecursion P xs → AllByRecursion P ys
 AllByRecursion-permutation P xs ys moved each =
     recursion_from_All P ys (All-permutation P xs ys moved (All-from_recursion P xs each))
-
-pub AllByRecursion-both : {X : Type 0} (P Q R : X → Type 0) → ((x : X) → P x → Q x → R x) → (xs : List X) →
-    AllByRecursion P xs → AllByRecursion Q xs → AllByRecursion R xs
-AllByRecursion-both P Q R join [] ps qs = tt
-AllByRecursion-both P Q R join (x ∷ xs) ps qs = (join x ps.0 qs.0, AllByRecursion-both P Q R join xs ps.1 qs.1)
 
 -- ---- lists with no two items of one number
 

@@ -19,7 +19,7 @@ use Rattle.rev_rebase.specs.Rebase.{added_text, put_in}
 use Rattle.rev_engine.specs.declared.edit.Edit.{Edit}
 use Rattle.rev_engine.specs.Given.{MayAsk}
 use Rattle.rev_engine.specs.Inner.{IsBasedOn, in_characters}
-use Rattle.rev_engine.proofs.SpentLemmas.{count-insertion_flags}
+use Rattle.rev_rebase.proofs.ForCallers.{count-insertion_flags}
 
 -- what an edit inserts and deletes, in positions
 pub record IsPlaced (union : List ℕ) (revisions : History) (edit : Edit) (units : UnitDelta) (inserted deleted : List Bool) (text : List ℕ) : Type 0 where

@@ -15,20 +15,16 @@ use Rattle.plain_text.specs.Text.{gap_at, gap_of}
 use Rattle.plain_edits.specs.Delta.{adds, insertions}
 use Rattle.plain_edits.specs.UnitDelta.{unit_adds}
 use Rattle.plain_text.specs.Woven.{woven}
-use Rattle.plain_edits.specs.History.{Tagged, History, head, is_visible, visible_at, text_at, inserted_count}
-use Rattle.plain_edits.specs.Place.{insertion_place}
-use Rattle.plain_edits.specs.Edits.{PlainEdit, with_deletion, edited, gap_count, inserted_at, is_deleted_by, plain_edit}
+use Rattle.plain_edits.specs.History.{Tagged, History, head, visible_at, text_at, inserted_count}
+use Rattle.plain_edits.specs.Edits.{PlainEdit, with_deletion, edited, inserted_at, is_deleted_by, plain_edit}
 use Rattle.plain_edits.specs.Delta.{inserted_len}
-use Rattle.plain_text.proofs.callers.ListLemmas.{count_by-yes, flat_map_same, nth_index-le}
-use Rattle.plain_edits.proofs.callers.PlaceLemmas.{insertion_place-le}
+use Rattle.plain_text.proofs.callers.ListLemmas.{count_by-yes, flat_map_same}
 use Rattle.plain_edits.proofs.callers.HistoryLemmas.{AllByRecursion-inserted_at}
 use Rattle.plain_text.proofs.callers.TextLemmas.{gap_at_iff}
 use Rattle.delta_core.specs.Units.{IsUnitsOf}
 use Rattle.rev_list.specs.WithoutText.{insertion_flags}
 use Rattle.rev_rebase.specs.Rebase.{added_text, text_of_edit}
-use Rattle.rev_rebase.proofs.ForCallers.{texts_at}
-use Rattle.rev_rebase.proofs.ForCallers.{insertion_flags-at_gaps}
-use Rattle.rev_rebase.proofs.ForCallers.{count-at_gaps}
+use Rattle.rev_rebase.proofs.ForCallers.{count-insertion_flags}
 
 -- ---- texts by their places are as long as the texts
 
@@ -118,20 +114,6 @@ length-added_text text delta units is =
     (ap (λ n. length (flat_map (adds text delta) (range_with_len 0 (n + 1)))) is.base ∙ length-adds text delta)
 
 -- ---- the characters of an edit
-
--- an edit inserts at its places as many characters as its text has
-pub count-insertion_flags : (h : History) (e : PlainEdit) → count (insertion_flags h e) ≡ length (text_of_edit h e)
-count-insertion_flags h e =
-    ap count (insertion_flags-at_gaps h e) ∙
-    (count-at_gaps (texts_at place e.added 0 (gap_count h e.base)) 0 (length h.characters) ∙
-    length-by_place place e.added (suc (length h.characters)) (range_with_len 0 (gap_count h e.base)) (each (range_with_len 0 (gap_count h e.base))))
-  where
-    place : ℕ → ℕ
-    place = insertion_place h e.base e.priority
-
-    each : (gaps : List ℕ) → AllByRecursion (λ gap. place gap < suc (length h.characters)) gaps
-    each [] = tt
-    each (gap ∷ gaps) = (omega (arith, insertion_place-le h e.base e.priority gap, nth_index-le (is_visible h.revisions e.base) gap h.characters), each gaps)
 
 abbrev is_later : Tagged → Bool
 is_later tagged = nat_lt 0 tagged.inserted

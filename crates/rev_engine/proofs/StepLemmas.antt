@@ -1,19 +1,24 @@
 -- One more edit of the same text.
-use Rattle.std.proofs.Common.{◌≡◌, ◌≢◌, ℕ, ◌+◌, ◌<◌, true, false, if◌then◌else◌, nat_lt, nat_le, List, [], ◌∷◌, ◌++◌, map, ap, sym, subst, ◌∙◌, arith}
+use Rattle.std.proofs.Common.{◌≡◌, ◌≢◌, ℕ, ◌+◌, ◌<◌, ◌≤◌, Bool, true, false, if◌then◌else◌, nat_lt, nat_le, List, [], ◌∷◌, ◌++◌, length, map, drop, filter, refl, ap, ap₂, sym, subst, ◌∙◌, arith, append_assoc}
 use Rattle.std.specs.List.{AllByRecursion, list_all}
-use Rattle.std.proofs.lemmas.Bool.{lt-ltb, le-ltb, le-leb, lt-leb}
+use Rattle.std.proofs.lemmas.Bool.{lt-ltb, ltb-true, le-ltb, le-leb, lt-leb}
 use Rattle.std.proofs.lemmas.List.{map-append}
+use Rattle.std.proofs.Math.Seq.{take-append_seam, take-append-add, drop-append-add}
 use Rattle.plain_text.specs.Numbers.{has}
-use Rattle.plain_edits.specs.History.{Tagged, edit, History, head, edit_priority, priority_of, undone, is_visible, IsTaggedBy, IsSound}
-use Rattle.plain_edits.specs.Edits.{PlainEdit, edited, with_earlier, by_priority}
+use Rattle.plain_text.specs.Woven.{woven}
+use Rattle.plain_edits.specs.History.{Tagged, edit, History, head, edit_priority, priority_of, undone, is_visible, visible_at, IsTaggedBy, IsSound}
+use Rattle.plain_edits.specs.Edits.{PlainEdit, with_deletion, edited, with_earlier, by_priority}
 use Rattle.plain_text.proofs.callers.ListLemmas.{AllByRecursion-append, AllByRecursion-weaker, AllByRecursion-map}
-use Rattle.plain_edits.proofs.callers.HistoryLemmas.{IsTaggedBy-more, IsSound-edited, revision_at-push, priority_of-append, undone-edit}
+use Rattle.plain_edits.proofs.callers.HistoryLemmas.{IsTaggedBy-more, IsSound-edited, is_visible-later, revision_at-push, priority_of-append, undone-edit}
 use Rattle.plain_edits.proofs.callers.EditLemmas.{is_visible-inserted_at}
-use Rattle.rev_rebase.proofs.ForCallers.{AllByRecursion-parts}
+use Rattle.plain_edits.specs.Change.{block}
+use Rattle.plain_edits.specs.Blocks.{block_at, left_in_block, put_behind, block_after}
+use Rattle.plain_edits.proofs.callers.BlockLemmas.{characters-edited}
+use Rattle.plain_edits.proofs.callers.RunLemmas.{AllByRecursion-parts, left_in_block-parts}
+use Rattle.plain_edits.proofs.callers.WeaveLemmas.{woven_within, woven-items, filter-weave, block-weave}
 use Rattle.rev_engine.proofs.BlockLemmas.{stays, left_in_run-parts}
-use Rattle.rev_engine.proofs.WalkLemmas.{after_edit, in_blocks, FitsBlocks, characters-edited}
 use Rattle.plain_edits.specs.History.{inserted_by}
-use Rattle.rev_engine.proofs.MergeLemmas.{head-edited, is_visible-at_head, is_visible-at_base, StaysOf-edited, Done, text_of, blocks_of, Rises, Parts, parts, Rises-insert, flat_map-append, AllByRecursion-flat_map_each, IsDone, seen_in, IsMerging}
+use Rattle.rev_engine.proofs.MergeLemmas.{head-edited, is_visible-at_head, is_visible-at_base, StaysOf-edited, Done, text_of, blocks_of, Rises, Parts, parts, Rises-insert, flat_map-append, AllByRecursion-flat_map_each, IsDone, IsShown, IsOld, AllByRecursion-both, each_shown, each_old, IsMerging}
 
 -- what holds of each edit holds of each in rising order of priority
 pub AllByRecursion-with_earlier : (P : PlainEdit → Type 0) (e : PlainEdit) (edits : List PlainEdit) → P e → AllByRecursion P edits →
@@ -54,16 +59,12 @@ module _ (first : History) (sound : IsSound first)
   dones_after = cut.front ++ record { rev = head last + 1; edit = e } ∷ cut.back
 
   abbrev pub at_after : ℕ → Tagged → Tagged
-  at_after = after_edit e (head last + 1) at
+  at_after n x = if e.kept n then at n x else with_deletion (head last + 1) (at n x)
 
   each_parts : AllByRecursion (IsDone (head first) last) cut.front × AllByRecursion (IsDone (head first) last) cut.back
   each_parts =
       AllByRecursion-parts (IsDone (head first) last) cut.front cut.back
       (subst (AllByRecursion (IsDone (head first) last)) cut.whole state.each)
-
-  both : (P Q : Done → Type 0) (ds : List Done) → AllByRecursion P ds → AllByRecursion Q ds → AllByRecursion (λ d. P d × Q d) ds
-  both P Q [] ps qs = tt
-  both P Q (d ∷ ds) ps qs = ((ps.0, qs.0), both P Q ds ps.1 qs.1)
 
   late : (n : ℕ) (ds : List Done) → AllByRecursion (IsDone (head first) last) ds →
       AllByRecursion (λ tagged. nat_lt e.base tagged.inserted ≡ true) (blocks_of ds n)
@@ -78,7 +79,7 @@ module _ (first : History) (sound : IsSound first)
       (λ d. IsDone (head first) last d × (d.edit.priority < e.priority)) (text_of n)
       (λ d is. AllByRecursion-map (λ tagged. stays last.revisions e.priority tagged ≡ true) (inserted_by d.rev)
       (λ c. le-leb (priority_of last.revisions d.rev) e.priority (omega (arith, is.0.priority, is.1))) (d.edit.added n))
-      cut.front (both (IsDone (head first) last) (λ d. d.edit.priority < e.priority) cut.front each_parts.0 cut.below)
+      cut.front (AllByRecursion-both (IsDone (head first) last) (λ d. d.edit.priority < e.priority) _ (λ d is less. (is, less)) cut.front each_parts.0 cut.below)
 
   back_goes : (n : ℕ) → AllByRecursion (λ tagged. stays last.revisions e.priority tagged ≡ false) (blocks_of cut.back n)
   back_goes n =
@@ -86,36 +87,73 @@ module _ (first : History) (sound : IsSound first)
       (λ d. IsDone (head first) last d × (e.priority < d.edit.priority)) (text_of n)
       (λ d is. AllByRecursion-map (λ tagged. stays last.revisions e.priority tagged ≡ false) (inserted_by d.rev)
       (λ c. lt-leb (priority_of last.revisions d.rev) e.priority (omega (arith, is.0.priority, is.1))) (d.edit.added n))
-      cut.back (both (IsDone (head first) last) (λ d. e.priority < d.edit.priority) cut.back each_parts.1 cut.above)
+      cut.back (AllByRecursion-both (IsDone (head first) last) (λ d. e.priority < d.edit.priority) _ (λ d is more. (is, more)) cut.back each_parts.1 cut.above)
 
-  fits : FitsBlocks last e (seen_in first) (IsTaggedBy (head first)) (blocks_of cut.front) (blocks_of cut.back) at
-  fits = record {
-    late = λ n.
-        AllByRecursion-append (λ tagged. nat_lt e.base tagged.inserted ≡ true) (blocks_of cut.front n) (blocks_of cut.back n)
-        (late n cut.front each_parts.0) (late n cut.back each_parts.1);
-    left = λ n. left_in_run-parts last.revisions e.priority (blocks_of cut.front n) (blocks_of cut.back n) (front_stays n) (back_goes n);
-    at_early = λ n x tagged is.
-        le-ltb e.base (at n x).inserted (omega (arith, (state.stays n x tagged is).inserted, tagged.inserted, at_base));
-    at_seen = λ n x tagged is.
-        ap (λ rev. is_visible last.revisions rev (at n x)) at_base ∙ (state.stays n x tagged is).at_base;
-    other_early = λ x tagged. le-ltb e.base x.inserted (omega (arith, tagged.inserted, at_base));
-    other_unseen = λ x tagged fails.
-        ap (λ rev. is_visible last.revisions rev x) at_base ∙ state.others_before x tagged ∙ fails;
-  }
+  -- the blocks of the base are those of the first history, and behind them the texts of the edits
+  abbrev old : ℕ → List Tagged
+  old g = block_at first (head first) g
 
-  -- the blocks in two parts, and with the new text between them
-  characters_before : last.characters ≡ in_blocks (seen_in first) (λ n. blocks_of cut.front n ++ blocks_of cut.back n) at 0 first.characters
-  characters_before =
-      state.characters ∙
-      ap (λ blocks. in_blocks (seen_in first) blocks at 0 first.characters)
-      (λ i n. (ap (λ ds. blocks_of ds n) cut.whole ∙ flat_map-append (text_of n) cut.front cut.back) i)
+  abbrev there : Tagged → Bool
+  there = is_visible last.revisions (head first)
 
-  characters_after : (edited last e).characters ≡ in_blocks (seen_in first) (blocks_of dones_after) at_after 0 first.characters
+  abbrev texts_in : ℕ → List Tagged
+  texts_in g = blocks_of cut.front g ++ blocks_of cut.back g
+
+  late_in : (g : ℕ) → AllByRecursion (λ tagged. nat_lt e.base tagged.inserted ≡ true) (texts_in g)
+  late_in g =
+      AllByRecursion-append (λ tagged. nat_lt e.base tagged.inserted ≡ true) (blocks_of cut.front g) (blocks_of cut.back g)
+      (late g cut.front each_parts.0) (late g cut.back each_parts.1)
+
+  parts_of : (g : ℕ) → blocks_of dones g ≡ texts_in g
+  parts_of g = ap (λ ds. blocks_of ds g) cut.whole ∙ flat_map-append (text_of g) cut.front cut.back
+
+  hidden : (g : ℕ) → AllByRecursion (λ x. there x ≡ false) (old g ++ blocks_of dones g)
+  hidden g =
+      AllByRecursion-append (λ x. there x ≡ false) (old g) (blocks_of dones g)
+      (AllByRecursion-weaker (IsOld first) (λ x. there x ≡ false) (λ x is. state.others_before x is.tagged ∙ is.hidden) (old g) (each_old first sound g))
+      (AllByRecursion-weaker (λ tagged. nat_lt e.base tagged.inserted ≡ true) (λ x. there x ≡ false)
+      (λ x is. is_visible-later last.revisions (head first) x (omega (arith, ltb-true e.base x.inserted is, at_base))) (blocks_of dones g)
+      (subst (AllByRecursion (λ tagged. nat_lt e.base tagged.inserted ≡ true)) (sym (parts_of g)) (late_in g)))
+
+  visible_is : visible_at last e.base ≡ woven (λ _. []) (λ n x. at n x ∷ []) 0 (visible_at first (head first))
+  visible_is =
+      ap (visible_at last) at_base ∙ ap (filter there) state.characters ∙
+      filter-weave there (IsShown first) (λ g. old g ++ blocks_of dones g) at hidden (λ n x is. (state.stays n x is.tagged is.seen).at_base) 0
+      (visible_at first (head first)) (each_shown first sound)
+
+  block_is : (g : ℕ) → g ≤ length (visible_at first (head first)) → block_at last e.base g ≡ old g ++ texts_in g
+  block_is g within =
+      ap (λ base. block_at last base g) at_base ∙ ap (block there g) state.characters ∙
+      block-weave there (IsShown first) (λ k. old k ++ blocks_of dones k) at hidden (λ n x is. (state.stays n x is.tagged is.seen).at_base) g 0
+      (visible_at first (head first)) within (each_shown first sound) ∙
+      (let none : 0 + g ≡ g = omega arith in ap (λ k. old k ++ blocks_of dones k) none) ∙ ap (λ xs. old g ++ xs) (parts_of g)
+
+  -- and the text of one more edit goes between those of lower priority and those of higher
+  put_is : (g : ℕ) → g ≤ length (visible_at first (head first)) → block_after last e g ≡ old g ++ blocks_of dones_after g
+  put_is g within =
+      ap (λ xs. put_behind (left_in_block last.revisions e.base e.priority xs) (text_of g newest) xs) (block_is g within) ∙
+      ap (λ k. put_behind k (text_of g newest) (old g ++ texts_in g))
+      (left_in_block-parts last.revisions e.base e.priority (old g) (texts_in g)
+      (AllByRecursion-weaker (IsOld first) (λ x. nat_lt e.base x.inserted ≡ false)
+      (λ x is. le-ltb e.base x.inserted (omega (arith, is.tagged.inserted, at_base))) (old g) (each_old first sound g)) (late_in g) ∙
+      ap (λ k. length (old g) + k)
+      (left_in_run-parts last.revisions e.priority (blocks_of cut.front g) (blocks_of cut.back g) (front_stays g) (back_goes g))) ∙
+      ap₂ (λ xs ys. xs ++ (text_of g newest ++ ys))
+      (take-append-add (old g) (texts_in g) (length (blocks_of cut.front g)) ∙ ap (λ xs. old g ++ xs) (take-append_seam (blocks_of cut.front g) (blocks_of cut.back g)))
+      (drop-append-add (old g) (texts_in g) (length (blocks_of cut.front g)) ∙
+      (let none : length (blocks_of cut.front g) ≡ length (blocks_of cut.front g) + 0 = omega arith in ap (λ n. drop n (texts_in g)) none) ∙
+      drop-append-add (blocks_of cut.front g) (blocks_of cut.back g) 0) ∙
+      append_assoc (old g) (blocks_of cut.front g) (text_of g newest ++ blocks_of cut.back g) ∙
+      ap (λ xs. old g ++ xs) (sym (flat_map-append (text_of g) cut.front (newest ∷ cut.back)))
+
+  characters_after : (edited last e).characters ≡
+      woven (λ g. old g ++ blocks_of dones_after g) (λ n x. at_after n x ∷ []) 0 (visible_at first (head first))
   characters_after =
-      characters-edited last e (seen_in first) (IsTaggedBy (head first)) (blocks_of cut.front) (blocks_of cut.back) at fits
-      first.characters characters_before sound ∙
-      ap (λ blocks. in_blocks (seen_in first) blocks at_after 0 first.characters)
-      (λ i n. sym (flat_map-append (text_of n) cut.front (newest ∷ cut.back)) i)
+      characters-edited last e ∙
+      ap (woven (block_after last e) (λ n x. (if e.kept n then x else with_deletion (head last + 1) x) ∷ []) 0) visible_is ∙
+      woven-items (block_after last e) (λ n x. (if e.kept n then x else with_deletion (head last + 1) x) ∷ []) at 0 (visible_at first (head first)) ∙
+      woven_within (IsShown first) (block_after last e) (λ g. old g ++ blocks_of dones_after g) (λ n x. at_after n x ∷ []) (λ n x. at_after n x ∷ [])
+      (λ n x is. refl) 0 (visible_at first (head first)) (λ g low high. put_is g (omega (arith, high))) (each_shown first sound)
 
   one_more : head (edited last e) ≡ head last + 1
   one_more = head-edited last e

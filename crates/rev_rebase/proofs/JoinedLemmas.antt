@@ -1,5 +1,5 @@
 -- The texts of a unit delta, joined.
-use Rattle.std.proofs.Common.{◌≡◌, ◌≢◌, ℕ, zero, suc, ◌+◌, ◌<◌, inl, inr, if◌then◌else◌, List, [], ◌∷◌, ◌++◌, drop, length, get_or, flat_map, suc-add, append-nil, append_assoc, refl, ap, ap₂, sym, ◌∙◌, arith}
+use Rattle.std.proofs.Common.{◌≡◌, ◌≢◌, ℕ, zero, suc, ◌+◌, ◌<◌, ◌≤◌, inl, inr, if◌then◌else◌, List, [], ◌∷◌, ◌++◌, flat_map, append-nil, refl, ap, ap₂, sym, ◌∙◌, arith}
 use Rattle.std.specs.List.{range_with_len}
 use Rattle.std.proofs.lemmas.Bool.{cases_eq, eq-eqb, ne_eqb}
 use Rattle.plain_edits.specs.declared.delta.Added.{Added}
@@ -7,7 +7,12 @@ use Rattle.plain_edits.specs.declared.delta.UnitDelta.{UnitDelta}
 use Rattle.plain_edits.specs.Delta.{text_at_gap}
 use Rattle.plain_edits.specs.UnitDelta.{AreAdds, IsUnitDelta}
 use Rattle.rev_rebase.specs.Rebase.{added_text}
-use Rattle.rev_rebase.proofs.TextLemmas.{flat_map_same_from}
+
+flat_map_same_from : (f g : ℕ → List ℕ) (from n : ℕ) → ((i : ℕ) → from ≤ i → f i ≡ g i) →
+    flat_map f (range_with_len from n) ≡ flat_map g (range_with_len from n)
+flat_map_same_from f g from zero same = refl
+flat_map_same_from f g from (suc n) same =
+    ap₂ (λ xs ys. xs ++ ys) (same from (omega arith)) (flat_map_same_from f g (from + 1) n (λ i low. same i (omega arith)))
 
 text_at_gap-before : (base from gap : ℕ) (adds : List Added) → AreAdds base from adds → gap < from → text_at_gap adds gap ≡ []
 text_at_gap-before base from gap [] are below = refl
@@ -41,10 +46,3 @@ texts_joined base from (suc n) (added ∷ adds) are all =
 
 pub added_text-joined : (units : UnitDelta) → IsUnitDelta units → flat_map (λ added. added.text) units.added ≡ added_text units
 added_text-joined units is = sym (texts_joined units.base 0 (units.base + 1) units.added is.adds (omega arith))
-
-pub flat_map-front : (out : List ℕ) (adds : List Added) (i : ℕ) (added : Added) → i < length adds → added ≡ get_or adds i added →
-    (out ++ added.text) ++ flat_map (λ a. a.text) (drop (i + 1) adds) ≡ out ++ flat_map (λ a. a.text) (drop i adds)
-flat_map-front out [] i added lt is = absurd (omega arith)
-flat_map-front out (a ∷ adds) zero added lt is =
-    append_assoc out added.text (flat_map (λ b. b.text) adds) ∙ ap (λ b. out ++ (b.text ++ flat_map (λ b. b.text) adds)) is
-flat_map-front out (a ∷ adds) (suc i) added lt is = rw (suc-add i 1) (flat_map-front out adds i added (omega arith) is)

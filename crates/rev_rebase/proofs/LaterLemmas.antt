@@ -1,9 +1,8 @@
 -- A stale edit over the edits after its base.
-use Rattle.std.proofs.Common.{◌≡◌, ℕ, zero, suc, ◌+◌, ◌^◌, ◌<◌, ◌≤◌, Bool, true, false, not, cond, nat_le, if◌then◌else◌, List, [], ◌∷◌, length, map, drop, get_or, filter, flat_map, replicate, suc-add, refl, ap, ap₂, sym, ◌∙◌, arith, length-append}
-use Rattle.std.specs.List.{fold, range_with_len}
-use Rattle.std.proofs.lemmas.List.{length-map, length-replicate}
+use Rattle.std.proofs.Common.{◌≡◌, ℕ, suc, ◌+◌, ◌^◌, ◌<◌, ◌≤◌, Bool, true, false, not, cond, nat_le, if◌then◌else◌, List, [], ◌∷◌, length, map, drop, get_or, filter, refl, ap, ap₂, subst, sym, ◌∙◌, arith}
+use Rattle.std.specs.List.{fold}
+use Rattle.std.proofs.lemmas.List.{drop_more, length-map}
 use Rattle.subset_runs.specs.Subset.{count, expand}
-use Rattle.subset_runs.proofs.ForCallers.{count-append, count-replicate_true}
 use Rattle.plain_edits.specs.History.{History, head, edit_priority}
 use Rattle.plain_edits.specs.Place.{is_by, goes_right}
 use Rattle.plain_edits.specs.Edits.{PlainEdit}
@@ -13,11 +12,8 @@ use Rattle.rev_list.specs.Hidden.{union_at, IsEditAt, AreEditsAfter}
 use Rattle.rev_list.specs.WithoutText.{insertion_flags}
 use Rattle.rev_rebase.specs.Until.{until}
 use Rattle.rev_rebase.specs.Inner.{insertions_after, deletions_after, Grow}
-use Rattle.rev_rebase.proofs.CarriedLemmas.{at_gaps, count-carried, length-carried}
-use Rattle.rev_rebase.proofs.InsertionLemmas.{insertion_flags-step}
-use Rattle.rev_rebase.proofs.DeletionLemmas.{dropped_then, dropped_then-step}
-use Rattle.rev_rebase.proofs.UntilLemmas.{length-union_at}
-use Rattle.rev_rebase.proofs.PlaceSteps.{union_at-before}
+use Rattle.rev_rebase.proofs.FlagLemmas.{insertion_flags-step, dropped_then, dropped_then-step}
+use Rattle.rev_rebase.proofs.UntilLemmas.{length-union_at, union_at-before}
 
 -- ---- the edits after a revision
 
@@ -73,13 +69,16 @@ Grow-edits h own m len (e ∷ edits) after bound is =
     let said = (first_edit h m e edits after).inserted in
     let long : length e.inserted ≡ length (union_at h (m + 1)) = ap length said ∙ length-map (union_at h (m + 1)) (is_by (m + 1)) in
     let grown : length (union_at h m) + count e.inserted ≡ length (union_at h (m + 1)) =
-    ap₂ (λ xs flags. length xs + count flags) (sym (union_at-before m h.characters)) said ∙ count-others (is_by (m + 1)) (union_at h (m + 1)) in (
+    ap₂ (λ xs flags. length xs + count flags) (sym (union_at-before h m)) said ∙ count-others (is_by (m + 1)) (union_at h (m + 1)) in (
       omega (arith, long, grown, is),
       omega (arith, long, bound, length-union_at h (m + 1)),
       Grow-edits h own (m + 1) (length e.inserted + own) edits (other_edits h m e edits after) bound (ap (λ n. n + own) long),
     )
 
 -- the next edit of a walk
+front_at : {X : Type 0} (xs : List X) (i : ℕ) (x : X) → i < length xs → x ≡ get_or xs i x → drop i xs ≡ x ∷ drop (i + 1) xs
+front_at xs i x lt is = drop_more xs i x lt ∙ ap (λ y. y ∷ drop (i + 1) xs) (sym is)
+
 pub record IsGrowth (own len : ℕ) (e : RevEdit) (edits : List RevEdit) : Type 0 where
   pub grown : len + count e.inserted ≡ length e.inserted + own
   pub bound : length e.inserted + own < 2 ^ 64
@@ -87,53 +86,9 @@ pub record IsGrowth (own len : ℕ) (e : RevEdit) (edits : List RevEdit) : Type 
 
 pub growth_at : (own len : ℕ) (edits : List RevEdit) (i : ℕ) (e : RevEdit) → Grow own len (drop i edits) → i < length edits →
     e ≡ get_or edits i e → IsGrowth own len e (drop (i + 1) edits)
-growth_at own len [] i e grow lt is = absurd (omega arith)
-growth_at own len (f ∷ edits) zero e grow lt is =
-    let same : f ≡ e = sym is in
-    rw (← same) (record { grown = grow.0; bound = grow.1; rest = grow.2 })
-growth_at own len (f ∷ edits) (suc i) e grow lt is = rw (suc-add i 1) (growth_at own len edits i e grow (omega arith) is)
-
--- insertions after one more edit
-pub record IsCarriedOn (own : ℕ) (ins later result : List Bool) : Type 0 where
-  pub len : length result ≡ length later + own
-  pub own_count : count result ≡ own
-
-pub IsCarriedOn-carried : (after : Bool) (ins later result : List Bool) (own : ℕ) → result ≡ carried after ins later → count ins ≡ own →
-    length ins + count later ≡ length later + own → IsCarriedOn own ins later result
-IsCarriedOn-carried after ins later result own is counted base = record {
-  len = ap length is ∙ (length-carried after ins later (omega (arith, base, counted)) ∙ ap (λ n. length later + n) counted);
-  own_count = ap count is ∙ (count-carried after ins later ∙ counted);
-}
-
--- ---- insertions at the gaps of a text
-
-pub length-at_gaps : (many : ℕ → ℕ) (i n : ℕ) → length (at_gaps many i n) ≡ n + count (at_gaps many i n)
-length-at_gaps many i zero = omega (arith, length-replicate (many i) true, count-replicate_true (many i))
-length-at_gaps many i (suc n) =
-    omega (
-      arith,
-      length-append (replicate (many i) true) (false ∷ at_gaps many (i + 1) n),
-      count-append (replicate (many i) true) (false ∷ at_gaps many (i + 1) n),
-      length-replicate (many i) true,
-      count-replicate_true (many i),
-      length-at_gaps many (i + 1) n,
-    )
-
-pub count-at_gaps : (texts : ℕ → List ℕ) (i n : ℕ) → count (at_gaps (λ k. length (texts k)) i n) ≡ length (flat_map texts (range_with_len i (suc n)))
-count-at_gaps texts i zero = omega (arith, count-replicate_true (length (texts i)), length-append (texts i) [])
-count-at_gaps texts i (suc n) =
-    omega (
-      arith,
-      count-append (replicate (length (texts i)) true) (false ∷ at_gaps (λ k. length (texts k)) (i + 1) n),
-      count-replicate_true (length (texts i)),
-      length-append (texts i) (flat_map texts (range_with_len (i + 1) (suc n))),
-      count-at_gaps texts (i + 1) n,
-    )
-
--- ---- the next step of a walk
+growth_at own len edits i e grow lt is =
+    let parts = subst (Grow own len) (front_at edits i e lt is) grow in record { grown = parts.0; bound = parts.1; rest = parts.2 }
 
 pub fold-front : {X Y : Type 0} (f : Y → X → Y) (out : Y) (xs : List X) (i : ℕ) (x : X) → i < length xs → x ≡ get_or xs i x →
     fold f (f out x) (drop (i + 1) xs) ≡ fold f out (drop i xs)
-fold-front f out [] i x lt is = absurd (omega arith)
-fold-front f out (y ∷ xs) zero x lt is = ap (λ z. fold f (f out z) xs) is
-fold-front f out (y ∷ xs) (suc i) x lt is = rw (suc-add i 1) (fold-front f out xs i x (omega arith) is)
+fold-front f out xs i x lt is = sym (ap (fold f out) (front_at xs i x lt is))

@@ -1,11 +1,8 @@
-pub mod RunSteps
-pub mod PlaceSteps
+pub mod OverLemmas
+pub mod BlockLemmas
 pub mod UntilLemmas
-pub mod CarriedLemmas
-pub mod InsertionLemmas
-pub mod DeletionLemmas
+pub mod FlagLemmas
 pub mod TextLemmas
-pub mod TextlessLemmas
 pub mod LaterLemmas
 pub mod JoinedLemmas
 pub mod PlacesLemmas

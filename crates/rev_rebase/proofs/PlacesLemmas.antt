@@ -1,13 +1,16 @@
 -- The places of a unit delta, from its base to the last revision.
-use Rattle.std.proofs.Common.{◌≡◌, ℕ, ◌+◌, ◌^◌, ◌<◌, ◌≤◌, Bool, true, List, length, flat_map, add-one, refl, ap, ap₂, sym, ◌∙◌, arith}
+use Rattle.std.proofs.Common.{◌≡◌, ℕ, suc, ◌+◌, ◌^◌, ◌<◌, ◌≤◌, Bool, true, not, List, length, replicate, flat_map, add-one, ap, ap₂, sym, ◌∙◌, arith}
 use Rattle.std.specs.List.{fold, range_with_len}
 use Rattle.std.proofs.lemmas.List.{length-map}
 use Rattle.std.proofs.lemmas.List.FromFn.{length-range_with_len}
 use Rattle.subset_runs.specs.Subset.{count, expand}
 use Rattle.plain_edits.specs.declared.delta.UnitDelta.{UnitDelta}
 use Rattle.plain_edits.specs.UnitDelta.{unit_keeps, unit_adds}
-use Rattle.plain_edits.specs.History.{History, head, visible_at}
-use Rattle.plain_edits.specs.Edits.{edited}
+use Rattle.plain_edits.specs.History.{History, head, visible_at, IsSound}
+use Rattle.plain_edits.specs.Edits.{PlainEdit, edited}
+use Rattle.plain_edits.specs.Blocks.{block_at}
+use Rattle.subset_runs.proofs.ForCallers.{count-replicate_true}
+use Rattle.delta_core.proofs.ForCallers.{IsCarried-carried}
 use Rattle.delta_core.specs.Carry.{carried}
 use Rattle.delta_core.specs.Factor.{dropped_flags, inserted_flags}
 use Rattle.rev_list.specs.declared.edit.RevEdit.{RevEdit}
@@ -16,24 +19,30 @@ use Rattle.rev_list.specs.WithoutText.{insertion_flags, deletion_flags, without_
 use Rattle.rev_list.proofs.ForCallers.{grown_flags}
 use Rattle.rev_rebase.specs.Until.{until}
 use Rattle.rev_rebase.specs.Rebase.{unit_edit, added_text, text_of_edit, characters_of, put_in}
-use Rattle.rev_rebase.specs.Inner.{insertions_after, deletions_after, Grow}
-use Rattle.rev_rebase.proofs.CarriedLemmas.{at_gaps}
-use Rattle.rev_rebase.proofs.UntilLemmas.{alive_then, length-union_at}
+use Rattle.rev_rebase.specs.Inner.{insertions_after, deletions_after, GoTogether, insertions_over_all, deletions_over_all}
+use Rattle.rev_rebase.proofs.BlockLemmas.{count-blocks, count-put_between, length-weave}
+use Rattle.rev_rebase.proofs.FlagLemmas.{left_part, right_part, put_in_block, insertion_flags-blocks, insertion_flags-base, insertion_flags-textless, visible_at-textless, dropped_then, dropped_then-base, deletion_flags-until, length-dropped_then}
+use Rattle.rev_rebase.proofs.UntilLemmas.{alive_then, length-union_at, until-head}
 use Rattle.rev_rebase.proofs.TextLemmas.{edited-put_in}
-use Rattle.rev_rebase.proofs.TextlessLemmas.{visible_at-textless, insertion_flags-textless}
-use Rattle.rev_rebase.proofs.InsertionLemmas.{insertion_flags-base, inserted_flags-at_gaps}
-use Rattle.rev_rebase.proofs.DeletionLemmas.{dropped_then, dropped_then-base, deletion_flags-until, length-dropped_then}
-use Rattle.rev_rebase.proofs.LaterLemmas.{insertions_fold, deletions_fold, count-others, Grow-edits, IsCarriedOn-carried, length-at_gaps, count-at_gaps}
+use Rattle.rev_rebase.proofs.LaterLemmas.{insertions_fold, deletions_fold, count-others, Grow-edits}
+
+-- an edit inserts at its places as many characters as its text has
+pub count-insertion_flags : (h : History) (e : PlainEdit) → count (insertion_flags h e) ≡ length (text_of_edit h e)
+count-insertion_flags h e =
+    ap count (insertion_flags-blocks h e) ∙
+    count-blocks (λ g. put_in_block h.revisions e.base e.priority (length (e.added g)) (block_at h e.base g)) e.added
+    (λ g. count-put_between (length (e.added g)) (left_part h.revisions e.base e.priority (block_at h e.base g)) (right_part h.revisions e.base e.priority (block_at h e.base g)))
+    0 (visible_at h e.base) ∙
+    ap (λ n. length (flat_map e.added (range_with_len 0 n))) (sym (add-one (length (visible_at h e.base))))
 
 count-inserted_flags : (units : UnitDelta) → count (inserted_flags units) ≡ length (added_text units)
 count-inserted_flags units =
-    ap count (inserted_flags-at_gaps units) ∙ count-at_gaps (unit_adds units) 0 units.base ∙
-    ap (λ n. length (flat_map (unit_adds units) (range_with_len 0 n))) (sym (add-one units.base))
+    count-blocks (λ g. replicate (length (unit_adds units g)) true) (unit_adds units) (λ g. count-replicate_true (length (unit_adds units g))) 0 (range_with_len 0 units.base) ∙
+    ap (λ n. length (flat_map (unit_adds units) (range_with_len 0 n))) (ap suc (length-range_with_len 0 units.base) ∙ sym (add-one units.base))
 
 length-inserted_flags : (units : UnitDelta) → length (inserted_flags units) ≡ units.base + count (inserted_flags units)
 length-inserted_flags units =
-    ap length (inserted_flags-at_gaps units) ∙ length-at_gaps (λ gap. length (unit_adds units gap)) 0 units.base ∙
-    ap (λ n. units.base + n) (ap count (sym (inserted_flags-at_gaps units)))
+    length-weave (λ g. length (unit_adds units g)) 0 (range_with_len 0 units.base) ∙ ap (λ n. n + count (inserted_flags units)) (length-range_with_len 0 units.base)
 
 -- how many characters a revision shows
 pub length-visible_at : (h : History) (base : ℕ) → length (visible_at h base) + count (hidden_then h base) ≡ length (hidden_then h base)
@@ -41,95 +50,91 @@ length-visible_at h base =
     ap (λ xs. length xs + count (hidden_then h base)) (sym (alive_then h base)) ∙
     (count-others (is_hidden h base) (union_at h base) ∙ sym (length-map (union_at h base) (is_hidden h base)))
 
--- the sets of a unit delta, beside what is dead at its base
-pub record AreBeside (units : UnitDelta) (dead : List Bool) : Type 0 where
-  pub own_bound : length (inserted_flags units) < 2 ^ 64
-  pub base : length (inserted_flags units) + count dead ≡ length dead + count (inserted_flags units)
-  pub bound : length (inserted_flags units) + count dead < 2 ^ 64
-  pub dropped : length (dropped_flags units) + count dead ≡ length dead
+-- the sets of a unit delta
+pub inserted_flags-bound : (h : History) (base : ℕ) (units : UnitDelta) → units.base ≡ length (visible_at h base) →
+    length h.characters + length (added_text units) < 2 ^ 64 → length (inserted_flags units) < 2 ^ 64
+inserted_flags-bound h base units alive bound =
+    omega (
+      arith,
+      count-inserted_flags units,
+      length-inserted_flags units,
+      length-visible_at h base,
+      length-map (union_at h base) (is_hidden h base),
+      length-union_at h base,
+      alive,
+      bound,
+    )
 
-pub AreBeside-base : (h : History) (base : ℕ) (units : UnitDelta) → units.base ≡ length (visible_at h base) →
-    length h.characters + length (added_text units) < 2 ^ 64 → AreBeside units (hidden_then h base)
-AreBeside-base h base units alive bound =
-    let own = count-inserted_flags units in
-    let all = length-inserted_flags units in
-    let dead = length-visible_at h base in
-    let long : length (hidden_then h base) ≡ length (union_at h base) = length-map (union_at h base) (is_hidden h base) in
-    let within = length-union_at h base in
-    record {
-      own_bound = omega (arith, own, all, dead, within, alive, bound);
-      base = omega (arith, all, dead, long, alive);
-      bound = omega (arith, own, all, dead, within, alive, bound);
-      dropped = omega (arith, length-dropped, dead, long, alive);
-    }
+-- carried over the edits after its base they come to its places
+pub record ArePlacesOver (h : History) (base : ℕ) (units : UnitDelta) (priority : ℕ) (edits : List RevEdit) : Type 0 where
+  pub together : GoTogether (inserted_flags units) (dropped_flags units) (hidden_then h base) edits priority
+  pub insertions : insertions_over_all (inserted_flags units) (hidden_then h base) edits priority ≡ insertion_flags h (unit_edit base units priority)
+  pub deletions : expand (deletions_over_all (dropped_flags units) (hidden_then h base) edits)
+      (insertions_over_all (inserted_flags units) (hidden_then h base) edits priority) ≡ deletion_flags h (unit_edit base units priority)
+
+pub places_over : (h : History) (base : ℕ) (units : UnitDelta) (priority : ℕ) (edits : List RevEdit) → base ≤ head h → IsSound h →
+    units.base ≡ length (visible_at h base) → length h.characters + length (added_text units) < 2 ^ 64 → AreEditsAfter h base edits →
+    ArePlacesOver h base units priority edits
+places_over h base units priority edits known sound alive bound after = record {
+  together = record {
+    beside = beside;
+    beside_bound = omega (arith, own, all, dead, within, alive, bound);
+    dropped_beside =
+        omega (arith, length-map (range_with_len 0 units.base) (λ i. not (unit_keeps units i)), length-range_with_len 0 units.base, dead, alive);
+    insertions_grow =
+        Grow-edits h (count first) base (length first) edits after
+        (omega (arith, own, (IsCarried-carried true (inserted_flags units) (hidden_then h base) beside).members, bound))
+        (ap length first_is ∙ grown_flags (until h base) e ∙ ap (λ flags. length (union_at h base) + count flags) (sym first_is));
+    deletions_grow =
+        Grow-edits h 0 base (length (expand (dropped_flags units) (hidden_then h base))) edits after (omega (arith, bound))
+        (ap length (dropped_then-base h base units alive) ∙ length-dropped_then h base (unit_keeps units) base (omega arith) ∙ omega arith);
+    same_length =
+        omega (
+          arith,
+          ap length deletions_is,
+          length-dropped_then h base (unit_keeps units) (head h) known,
+          ap length insertions_is,
+          ap count insertions_is,
+          grown_flags (until h (head h)) e,
+        );
+  };
+  insertions = insertions_is ∙ ap (λ g. insertion_flags g e) whole;
+  deletions = ap₂ expand deletions_is insertions_is ∙ sym (deletion_flags-until h e (head h) known) ∙ ap (λ g. deletion_flags g e) whole;
+}
   where
-    length-dropped : length (dropped_flags units) ≡ units.base
-    length-dropped = length-map (range_with_len 0 units.base) _ ∙ length-range_with_len 0 units.base
+    e : PlainEdit
+    e = unit_edit base units priority
 
--- the insertions over what is dead at the base
-pub record IsFirst (h : History) (base : ℕ) (units : UnitDelta) (priority : ℕ) (edits : List RevEdit) (first : List Bool) : Type 0 where
-  pub is : first ≡ insertion_flags (until h base) (unit_edit base units priority)
-  pub grow : Grow (count first) (length first) edits
+    own : count (inserted_flags units) ≡ length (added_text units)
+    own = count-inserted_flags units
 
-pub IsFirst-carried : (h : History) (base : ℕ) (units : UnitDelta) (priority : ℕ) (edits : List RevEdit) (own dead first : List Bool) →
-    units.base ≡ length (visible_at h base) → length h.characters + length (added_text units) < 2 ^ 64 → AreEditsAfter h base edits →
-    own ≡ inserted_flags units → dead ≡ hidden_then h base → first ≡ carried true own dead → IsFirst h base units priority edits first
-IsFirst-carried h base units priority edits own dead first alive bound after own_is dead_is is =
-    let flags : first ≡ carried true (inserted_flags units) (hidden_then h base) = is ∙ ap₂ (carried true) own_is dead_is in
-    let all : inserted_flags units ≡ at_gaps (λ gap. length (unit_adds units gap)) 0 (length (visible_at h base)) =
-    inserted_flags-at_gaps units ∙ ap (at_gaps (λ gap. length (unit_adds units gap)) 0) alive in
-    let here : first ≡ insertion_flags (until h base) (unit_edit base units priority) =
-    flags ∙ (ap (λ ins. carried true ins (hidden_then h base)) all ∙ insertion_flags-base h (unit_edit base units priority)) in
-    let on = IsCarriedOn-carried true (inserted_flags units) (hidden_then h base) first (count (inserted_flags units)) flags refl (AreBeside-base h base units alive bound).base in
-    record {
-      is = here;
-      grow =
-          Grow-edits h (count first) base (length first) edits after (omega (arith, on.own_count, count-inserted_flags units, bound))
-          (ap length here ∙ (grown_flags (until h base) (unit_edit base units priority) ∙ ap (λ flags. length (union_at h base) + count flags) (sym here)));
-    }
+    all : length (inserted_flags units) ≡ units.base + count (inserted_flags units)
+    all = length-inserted_flags units
 
-pub insertions_last : (h : History) (base : ℕ) (units : UnitDelta) (priority : ℕ) (edits : List RevEdit) (first inserted : List Bool) →
-    AreEditsAfter h base edits → first ≡ insertion_flags (until h base) (unit_edit base units priority) →
-    inserted ≡ fold (insertions_after priority) first edits → inserted ≡ insertion_flags (until h (head h)) (unit_edit base units priority)
-insertions_last h base units priority edits first inserted after first_is is =
-    is ∙ ap (λ ins. fold (insertions_after priority) ins edits) first_is ∙
-    insertions_fold h (unit_edit base units priority) base edits (omega arith) after
+    dead : length (visible_at h base) + count (hidden_then h base) ≡ length (hidden_then h base)
+    dead = length-visible_at h base
 
--- the deletions over what is dead at the base
-pub record IsGone (h : History) (base : ℕ) (units : UnitDelta) (edits : List RevEdit) (gone : List Bool) : Type 0 where
-  pub is : gone ≡ dropped_then h base (unit_keeps units) base
-  pub grow : Grow 0 (length gone) edits
+    within : length (hidden_then h base) ≤ length h.characters
+    within = omega (arith, length-map (union_at h base) (is_hidden h base), length-union_at h base)
 
-pub IsGone-expanded : (h : History) (base : ℕ) (units : UnitDelta) (edits : List RevEdit) (dropped dead gone : List Bool) →
-    units.base ≡ length (visible_at h base) → length h.characters + length (added_text units) < 2 ^ 64 → AreEditsAfter h base edits →
-    dropped ≡ dropped_flags units → dead ≡ hidden_then h base → gone ≡ expand dropped dead → IsGone h base units edits gone
-IsGone-expanded h base units edits dropped dead gone alive bound after dropped_is dead_is is =
-    let here : gone ≡ dropped_then h base (unit_keeps units) base = is ∙ (ap₂ expand dropped_is dead_is ∙ dropped_then-base h base units alive) in
-    record {
-      is = here;
-      grow =
-          Grow-edits h 0 base (length gone) edits after (omega (arith, bound))
-          (ap length here ∙ (length-dropped_then h base (unit_keeps units) base ∙ omega arith));
-    }
+    beside : length (inserted_flags units) + count (hidden_then h base) ≡ length (hidden_then h base) + count (inserted_flags units)
+    beside = omega (arith, all, dead, alive)
 
-pub record AreLast (h : History) (base : ℕ) (units : UnitDelta) (priority : ℕ) (inserted gone : List Bool) : Type 0 where
-  pub len : length gone + count inserted ≡ length inserted
-  pub deleted : expand gone inserted ≡ deletion_flags (until h (head h)) (unit_edit base units priority)
+    first : List Bool
+    first = carried true (inserted_flags units) (hidden_then h base)
 
-pub AreLast-folded : (h : History) (base : ℕ) (units : UnitDelta) (priority : ℕ) (edits : List RevEdit) (inserted first gone : List Bool) →
-    base ≤ head h → AreEditsAfter h base edits → inserted ≡ insertion_flags (until h (head h)) (unit_edit base units priority) →
-    first ≡ dropped_then h base (unit_keeps units) base → gone ≡ fold deletions_after first edits → AreLast h base units priority inserted gone
-AreLast-folded h base units priority edits inserted first gone known after inserted_is first_is is =
-    let here : gone ≡ dropped_then h base (unit_keeps units) (head h) =
-    is ∙ (ap (λ del. fold deletions_after del edits) first_is ∙ deletions_fold h base (unit_keeps units) base edits (omega arith) after) in
-    let long : length gone ≡ length (union_at h (head h)) = ap length here ∙ length-dropped_then h base (unit_keeps units) (head h) in
-    let grown : length inserted ≡ length (union_at h (head h)) + count inserted =
-    ap length inserted_is ∙ (grown_flags (until h (head h)) (unit_edit base units priority) ∙
-    ap (λ flags. length (union_at h (head h)) + count flags) (sym inserted_is)) in
-    record {
-      len = omega (arith, long, grown);
-      deleted = ap₂ expand here inserted_is ∙ sym (deletion_flags-until h (unit_edit base units priority) (head h) known);
-    }
+    first_is : carried true (inserted_flags units) (hidden_then h base) ≡ insertion_flags (until h base) e
+    first_is = insertion_flags-base h e (range_with_len 0 units.base) (length-range_with_len 0 units.base ∙ alive)
+
+    insertions_is : insertions_over_all (inserted_flags units) (hidden_then h base) edits priority ≡ insertion_flags (until h (head h)) e
+    insertions_is = ap (λ ins. fold (insertions_after priority) ins edits) first_is ∙ insertions_fold h e base edits (omega arith) after
+
+    deletions_is : deletions_over_all (dropped_flags units) (hidden_then h base) edits ≡ dropped_then h base (unit_keeps units) (head h)
+    deletions_is =
+        ap (λ del. fold deletions_after del edits) (dropped_then-base h base units alive) ∙ deletions_fold h base (unit_keeps units) base edits (omega arith) after
+
+    whole : until h (head h) ≡ h
+    whole = until-head h sound
 
 pub step-text : (h : History) (base : ℕ) (units : UnitDelta) (priority : ℕ) (inserted : List Bool) (text : List ℕ) →
     units.base ≡ length (visible_at h base) → inserted ≡ insertion_flags h (unit_edit base units priority) → text ≡ added_text units →

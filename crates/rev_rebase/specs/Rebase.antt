@@ -5,7 +5,6 @@ use Rattle.plain_edits.specs.declared.delta.UnitDelta.{UnitDelta}
 use Rattle.plain_edits.specs.UnitDelta.{unit_keeps, unit_adds}
 use Rattle.plain_edits.specs.History.{History, head, visible_at}
 use Rattle.plain_edits.specs.Edits.{PlainEdit, gap_count}
-use Rattle.rev_list.specs.WithoutText.{insertion_flags, deletion_flags}
 
 -- a unit delta against a revision; the group and the author of an edit decide nothing about its places
 abbrev pub unit_edit : ℕ → UnitDelta → ℕ → PlainEdit

@@ -7,7 +7,7 @@ ghost use Rattle.plain_edits.specs.Edits.{PlainEdit, edited};
 ghost use Rattle.rev_list.specs.Hidden.{union_at};
 ghost use Rattle.rev_list.specs.WithoutText.{deletion_flags, insertion_flags, without_text};
 ghost use Rattle.rev_rebase.specs.Rebase.{characters_of, put_in, text_of_edit};
-ghost use Rattle.rev_rebase.specs.Until.{index_over, until};
+ghost use Rattle.rev_rebase.specs.Until.{IsOver, until};
 
 /// The places of an edit do not depend on the text of the history, and its text, put in at them, makes the characters of the
 /// edit step.
@@ -20,15 +20,16 @@ pub fn places()
         ≡ put_in (insertion_flags history e) (text_of_edit history e) (characters_of history) }
 {}
 
-/// An insertion place is carried over one revision after the other, from the base's own text on, where it is right of what is dead:
-/// the eldest edit of a run decides on its whole block without being looked for.
+/// An insertion place is carried over one revision after the other, from the base's own text on, where it is right of what is dead.
+/// After the next revision the same older characters are left and right of it, and of the revision's own characters beside it all
+/// are left of it, or all are right: the eldest edit of a run decides on its whole block without being looked for.
 pub fn places_step()
     ensures base { (history : History) (base priority gap : ℕ)
         → insertion_place (until history base) base priority gap
         ≡ index_right_of (until history base) base gap }
     ensures step { (history : History) (base priority gap rev : ℕ) → base ≤ rev
-        → insertion_place (until history (rev + 1)) base priority gap
-        ≡ index_over (is_by (rev + 1)) (goes_right history.revisions priority (rev + 1))
-        (union_at history (rev + 1)) (insertion_place (until history rev) base priority gap) }
+        → IsOver (is_by (rev + 1)) (goes_right history.revisions priority (rev + 1)) (union_at history (rev + 1))
+        (insertion_place (until history rev) base priority gap)
+        (insertion_place (until history (rev + 1)) base priority gap) }
     ensures last { (history : History) → IsSound history → until history (head history) ≡ history }
 {}

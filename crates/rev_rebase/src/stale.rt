@@ -1,18 +1,18 @@
 ghost use Rattle.std.specs.Prelude.{◌≡◌, ◌+◌, ◌^◌, ◌<◌, ◌≤◌, ◌↔◌, length, IfOk, IsTrue};
-ghost use Rattle.subset_runs.specs.Subset.{count};
+ghost use Rattle.subset_runs.specs.Subset.{expand};
 ghost use Rattle.plain_edits.specs.UnitDelta.{IsUnitDelta};
 ghost use Rattle.plain_edits.specs.History.{History, head, visible_at};
 ghost use Rattle.plain_edits.specs.Edits.{edited};
 ghost use Rattle.rev_list.specs.Hidden.{hidden_then};
 ghost use Rattle.rev_list.specs.WithoutText.{deletion_flags, insertion_flags, without_text};
 ghost use Rattle.rev_rebase.specs.Rebase.{added_text, characters_of, put_in, unit_edit};
-ghost use Rattle.rev_rebase.specs.Inner.{ArePlaces};
+ghost use Rattle.rev_rebase.specs.Inner.{GoTogether, deletions_over_all, insertions_over_all};
 
 use crate::later::{deletions_over, insertions_over};
 use delta_core::{carry_ins, factor};
 use plain_edits::UnitDelta;
 use plain_text::{NoMemory, Text};
-use rev_list::RevList;
+use rev_list::{RevEdit, RevList};
 use std::alloc::Global;
 use subset_runs::Subset;
 
@@ -53,7 +53,10 @@ pub fn rebase(
         → characters_of (edited history (unit_edit rev units.now priority))
         ≡ put_in made.inserted made.text (characters_of history)) }
 {
-    let (inserted, deleted) = places(alloc, revs, rev, units, priority)?;
+    let (dropped, own) = factor(alloc, units)?;
+    let dead = dead_then(alloc, revs, rev)?;
+    let later = revs.edits_after(rev);
+    let (inserted, deleted) = carried_over(alloc, &own, &dropped, &dead, later, priority)?;
     let text = joined(alloc, units)?;
     Ok(Rebased {
         inserted,
@@ -62,27 +65,25 @@ pub fn rebase(
     })
 }
 
-// The insertions and deletions, first in the union of the base, and then over the edits after it.
-fn places(
+// What an edit inserts and drops in a text, over what is dead there, and then over the later edits.
+fn carried_over(
     alloc: Global,
-    revs: &RevList,
-    rev: u64,
-    units: &UnitDelta,
+    own: &Subset,
+    dropped: &Subset,
+    dead: &Subset,
+    later: &[RevEdit],
     priority: u32,
 ) -> Result<(Subset, Subset), NoMemory>
-    requires kept { revs.now.history.floor ≤ rev }
-    requires known { rev ≤ head revs.now.history }
-    requires well_formed { IsUnitDelta units.now }
-    requires alive { units.now.base ≡ length (visible_at revs.now.history rev) }
-    requires bound { length revs.now.history.characters + length (added_text units.now) < 2 ^ 64 }
-    ensures { IfOk result (λ sets. ArePlaces revs.now.history rev units.now priority sets.0 sets.1) }
+    requires { GoTogether own.now dropped.now dead.now later.now priority }
+    ensures inserted { IfOk result (λ sets. sets.0
+        ≡ insertions_over_all own.now dead.now later.now priority) }
+    ensures deleted { IfOk result (λ sets. sets.1
+        ≡ expand (deletions_over_all dropped.now dead.now later.now)
+        (insertions_over_all own.now dead.now later.now priority)) }
 {
-    let (dropped, own) = factor(alloc, units)?;
-    let dead = dead_then(alloc, revs, rev)?;
-    let later = revs.edits_after(rev);
-    let first = carry_ins(alloc, &own, &dead, true)?;
+    let first = carry_ins(alloc, own, dead, true)?;
     let inserted = insertions_over(alloc, first, later, priority)?;
-    let gone = deletions_over(alloc, dropped.expand(alloc, &dead)?, later)?;
+    let gone = deletions_over(alloc, dropped.expand(alloc, dead)?, later)?;
     let deleted = gone.expand(alloc, &inserted)?;
     Ok((inserted, deleted))
 }

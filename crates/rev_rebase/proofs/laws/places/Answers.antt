@@ -1,5 +1,5 @@
 use Rattle.rev_rebase.proofs.TextLemmas.{edited-put_in}
-use Rattle.rev_rebase.proofs.TextlessLemmas.{insertion_flags-textless, deletion_flags-textless}
+use Rattle.rev_rebase.proofs.FlagLemmas.{insertion_flags-textless, deletion_flags-textless}
 use Rattle.rev_rebase.proofs.laws.places.Goals as goal
 
 pub returns : goal.returns

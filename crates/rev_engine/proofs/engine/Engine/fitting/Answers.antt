@@ -1,6 +1,5 @@
-use Rattle.std.proofs.Common.{arith, ap, ◌∙◌, Err}
+use Rattle.std.proofs.Common.{arith, ap, Err}
 use Rattle.std.proofs.lemmas.Result.{err_from_is_err_and}
-use Rattle.plain_edits.specs.Delta.{inserted_len}
 use Rattle.rev_engine.specs.State.{State}
 use Rattle.rev_engine.proofs.StandLemmas.{Refuses-base, refused-misfit, refused-spent}
 use Rattle.rev_engine.proofs.engine.Engine.fitting.Goals as goal
