@@ -8,7 +8,7 @@ use Rattle.plain_edits.specs.declared.delta.Added.{Added}
 use Rattle.plain_edits.specs.declared.delta.UnitDelta.{UnitDelta}
 use Rattle.plain_edits.specs.Delta.{is_in_runs, text_at_gap}
 use Rattle.plain_edits.specs.UnitDelta.{AreRuns, AreAdds, IsUnitDelta}
-use Rattle.delta_core.specs.Step.{Step, New}
+use Rattle.delta_core.specs.UnitStep.{UnitStep, New}
 use Rattle.delta_core.specs.Inner.{step_of, steps_from, steps_of}
 use Rattle.delta_core.specs.Inner.{Rise, ReachesPast, next_stop, IsToCome, IsRestOfKept, IsStretch}
 
@@ -146,7 +146,7 @@ some_added base at text adds rest ahead is =
 pub steps_none : (k : ℕ → Bool) (adds : List Added) (at n : ℕ) → n ≡ 0 → adds ≡ [] → steps_from k (text_at_gap adds) at n ≡ []
 steps_none k adds at n done none = rw (done, none) refl
 
-not_empty : (xs : List Step) (y : Step) (ys : List Step) → xs ++ y ∷ ys ≡ [] → ⊥
+not_empty : (xs : List UnitStep) (y : UnitStep) (ys : List UnitStep) → xs ++ y ∷ ys ≡ [] → ⊥
 not_empty [] y ys e = cc
 not_empty (x ∷ xs) y ys e = cc
 
@@ -217,7 +217,7 @@ steps_of-start units rest left =
     let all : units.base - 0 ≡ units.base = omega arith in
     rw all (steps_from-same (is_in_runs rest) (is_in_runs units.kept) (text_at_gap units.added) (text_at_gap units.added) 0 units.base (λ j low. left.kept j low) (λ j low. refl))
 
-pub empty_iff : (k : ℕ → Bool) (base at : ℕ) (adds : List Added) (self : List Step) (result : Bool) → AreAdds base at adds →
+pub empty_iff : (k : ℕ → Bool) (base at : ℕ) (adds : List Added) (self : List UnitStep) (result : Bool) → AreAdds base at adds →
     steps_from k (text_at_gap adds) at (base - at) ≡ self → result ≡ (length adds == 0) → at ≡ base → (IsTrue result → self ≡ []) × (self ≡ [] → IsTrue result)
 empty_iff k base at adds self result good is test here = (
   λ yes. sym is ∙ steps_none k adds at (base - at) (omega arith) (no_items adds (sym test ∙ yes)),
@@ -228,7 +228,7 @@ empty_iff k base at adds self result good is test here = (
     no_items [] e = refl
     no_items (x ∷ xs) e = absurd (grind (arith, nat_tests))
 
-pub not_empty_yet : (k : ℕ → Bool) (base at : ℕ) (adds : List Added) (self : List Step) → at ≤ base → AreAdds base at adds →
+pub not_empty_yet : (k : ℕ → Bool) (base at : ℕ) (adds : List Added) (self : List UnitStep) → at ≤ base → AreAdds base at adds →
     steps_from k (text_at_gap adds) at (base - at) ≡ self → at ≢ base → self ≢ []
 not_empty_yet k base at adds self reached good is other none =
     let done = steps_some k base adds at (base - at) (omega arith) good (is ∙ none) in

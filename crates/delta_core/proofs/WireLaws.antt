@@ -15,7 +15,7 @@ use Rattle.plain_edits.specs.Delta.{copies_misfit, is_in_runs, text_at_gap, kept
 use Rattle.plain_edits.specs.UnitDelta.{unit_keeps, unit_adds}
 use Rattle.delta_core.specs.Inner.{run_to}
 use Rattle.delta_core.specs.Inner.{Rise}
-use Rattle.delta_core.specs.Step.{Step, Kept, Dropped}
+use Rattle.delta_core.specs.UnitStep.{UnitStep, Kept, Dropped}
 use Rattle.delta_core.specs.Inner.{steps_from, text_of_steps}
 use Rattle.delta_core.specs.Wire.{copy_before, text_before, wire_from, wire_of, IsWireOf}
 use Rattle.plain_text.proofs.callers.PlaceLemmas.{IsPlaced, IsPlaced-from, gap_from-seam, gaps_rise}
@@ -319,7 +319,7 @@ IsWireOf-wire_of text units same = record {
   leads = applied-wire (unit_keeps units) (unit_adds units) text;
 }
 
-pub IsWireOf-all : (w : Gathered) (units : UnitDelta) (at base_len : ℕ) (steps : List Step) (text before : List ℕ) (els : List El) → IsUnitDelta units →
+pub IsWireOf-all : (w : Gathered) (units : UnitDelta) (at base_len : ℕ) (steps : List UnitStep) (text before : List ℕ) (els : List El) → IsUnitDelta units →
     units.base ≡ length before → IsWiring w at steps text before (wire_from (unit_keeps units) (unit_adds units) 0 0 before) → steps ≡ [] → els ≡ whole w [] →
     base_len ≡ byte_len before → IsWireOf before units (record { els = els; base_len = base_len })
 IsWireOf-all w units at base_len steps text before els good same wiring none els_is len_is =

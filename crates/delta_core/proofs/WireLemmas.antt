@@ -10,7 +10,7 @@ use Rattle.plain_edits.specs.declared.delta.UnitDelta.{UnitDelta}
 use Rattle.plain_text.specs.Text.{byte_len, place_of}
 use Rattle.plain_edits.specs.UnitDelta.{unit_keeps, unit_adds}
 use Rattle.plain_text.proofs.callers.PlaceLemmas.{place_of-rises_strictly}
-use Rattle.delta_core.specs.Step.{Step, Kept, Dropped, New}
+use Rattle.delta_core.specs.UnitStep.{UnitStep, Kept, Dropped, New}
 use Rattle.delta_core.specs.Inner.{step_of, steps_from, steps_of, base_count}
 use Rattle.delta_core.specs.Wire.{copy_before, text_before, wire_from}
 use Rattle.delta_core.specs.Inner.{Gathered, whole}
@@ -66,7 +66,7 @@ text_before-joined (c ∷ text) (d ∷ more) (Insert later ∷ els) = ap (λ t. 
 
 -- ---- the elements of the steps
 
-abbrev pub wire_steps : ℕ → List Step → List ℕ → List El
+abbrev pub wire_steps : ℕ → List UnitStep → List ℕ → List El
 wire_steps at [] text = []
 wire_steps at (New c ∷ steps) text = text_before (c ∷ []) (wire_steps at steps text)
 wire_steps at (Kept ∷ steps) [] = []
@@ -74,20 +74,20 @@ wire_steps at (Kept ∷ steps) (c ∷ text) = copy_before at (at + len_utf8 c) (
 wire_steps at (Dropped ∷ steps) [] = []
 wire_steps at (Dropped ∷ steps) (c ∷ text) = wire_steps (at + len_utf8 c) steps text
 
-pub wire_steps-added : (at : ℕ) (more : List ℕ) (steps : List Step) (text : List ℕ) →
+pub wire_steps-added : (at : ℕ) (more : List ℕ) (steps : List UnitStep) (text : List ℕ) →
     wire_steps at (map New more ++ steps) text ≡ text_before more (wire_steps at steps text)
 wire_steps-added at [] steps text = refl
 wire_steps-added at (c ∷ more) steps text =
     ap (λ els. text_before (c ∷ []) els) (wire_steps-added at more steps text) ∙ text_before-joined (c ∷ []) more (wire_steps at steps text)
 
-pub wire_steps-dropped : (at end n : ℕ) (steps : List Step) (text : List ℕ) → n ≤ length text → end ≡ at + place_of text n →
+pub wire_steps-dropped : (at end n : ℕ) (steps : List UnitStep) (text : List ℕ) → n ≤ length text → end ≡ at + place_of text n →
     wire_steps at (replicate n Dropped ++ steps) text ≡ wire_steps end steps (drop n text)
 wire_steps-dropped at end zero steps text within far =
     let here : at ≡ end = omega arith in ap (λ k. wire_steps k steps text) here
 wire_steps-dropped at end (suc n) steps [] within far = absurd (omega arith)
 wire_steps-dropped at end (suc n) steps (c ∷ text) within far = wire_steps-dropped (at + len_utf8 c) end n steps text (omega arith) (omega arith)
 
-pub wire_steps-kept : (at end n : ℕ) (steps : List Step) (text : List ℕ) → n ≤ length text → end ≡ at + place_of text n →
+pub wire_steps-kept : (at end n : ℕ) (steps : List UnitStep) (text : List ℕ) → n ≤ length text → end ≡ at + place_of text n →
     wire_steps at (replicate n Kept ++ steps) text ≡ copy_before at end (wire_steps end steps (drop n text))
 wire_steps-kept at end zero steps text within far =
     let here : at ≡ end = omega arith in
@@ -104,7 +104,7 @@ wire_steps-news : (at : ℕ) (more text : List ℕ) → wire_steps at (map New m
 wire_steps-news at [] text = refl
 wire_steps-news at (c ∷ more) text = ap (λ els. text_before (c ∷ []) els) (wire_steps-news at more text) ∙ text_before-joined (c ∷ []) more []
 
-wire_steps-step : (at : ℕ) (b : Bool) (steps : List Step) (c : ℕ) (text : List ℕ) →
+wire_steps-step : (at : ℕ) (b : Bool) (steps : List UnitStep) (c : ℕ) (text : List ℕ) →
     wire_steps at (step_of b ∷ steps) (c ∷ text) ≡
     (if b then copy_before at (at + len_utf8 c) (wire_steps (at + len_utf8 c) steps text) else wire_steps (at + len_utf8 c) steps text)
 wire_steps-step at true steps c text = refl
@@ -126,29 +126,29 @@ place_split text zero = omega arith
 place_split [] (suc n) = refl
 place_split (c ∷ text) (suc n) = omega (arith, place_split text n)
 
-pub record IsWiring (w : Gathered) (at : ℕ) (steps : List Step) (text before : List ℕ) (all : List El) : Type 0 where
+pub record IsWiring (w : Gathered) (at : ℕ) (steps : List UnitStep) (text before : List ℕ) (all : List El) : Type 0 where
   pub so_far : whole w (wire_steps at steps text) ≡ all
   pub room : base_count steps ≡ length text
   pub reached : at + byte_len text ≡ byte_len before
 
-pub wiring_kept : (n : ℕ) (steps more : List Step) (text : List ℕ) → base_count steps ≡ length text → steps ≡ replicate n Kept ++ more → n ≤ length text
+pub wiring_kept : (n : ℕ) (steps more : List UnitStep) (text : List ℕ) → base_count steps ≡ length text → steps ≡ replicate n Kept ++ more → n ≤ length text
 wiring_kept n steps more text room next = omega (arith, room, ap base_count next, base_count-kept n more)
 
-pub wiring_dropped : (n : ℕ) (steps more : List Step) (text : List ℕ) → base_count steps ≡ length text → steps ≡ replicate n Dropped ++ more → n ≤ length text
+pub wiring_dropped : (n : ℕ) (steps more : List UnitStep) (text : List ℕ) → base_count steps ≡ length text → steps ≡ replicate n Dropped ++ more → n ≤ length text
 wiring_dropped n steps more text room next = omega (arith, room, ap base_count next, base_count-dropped n more)
 
-pub wiring_bound : (w : Gathered) (at : ℕ) (steps : List Step) (text before : List ℕ) (all : List El) (n width : ℕ) → IsWiring w at steps text before all →
+pub wiring_bound : (w : Gathered) (at : ℕ) (steps : List UnitStep) (text before : List ℕ) (all : List El) (n width : ℕ) → IsWiring w at steps text before all →
     width ≡ place_of text n → at + width ≤ byte_len before
 wiring_bound w at steps text before all n width wiring is = omega (arith, wiring.reached, place_split text n)
 
-pub wiring_ahead : (n width : ℕ) (steps more : List Step) (text : List ℕ) → base_count steps ≡ length text → steps ≡ replicate n Kept ++ more →
+pub wiring_ahead : (n width : ℕ) (steps more : List UnitStep) (text : List ℕ) → base_count steps ≡ length text → steps ≡ replicate n Kept ++ more →
     width ≡ place_of text n → 0 < length (replicate n Kept) → 0 < width
 wiring_ahead zero width steps more text room next is some = absurd (omega arith)
 wiring_ahead (suc n) width steps more text room next is some =
     let within = wiring_kept (suc n) steps more text room next in
     omega (arith, place_of-rises_strictly text 0 (suc n) (omega arith) within)
 
-pub IsWiring-kept : (w new : Gathered) (at end width n : ℕ) (steps more : List Step) (text back before : List ℕ) (all : List El) → IsWiring w at steps text before all →
+pub IsWiring-kept : (w new : Gathered) (at end width n : ℕ) (steps more : List UnitStep) (text back before : List ℕ) (all : List El) → IsWiring w at steps text before all →
     steps ≡ replicate n Kept ++ more → back ≡ drop n text → width ≡ place_of text n → end ≡ at + width →
     ((ahead : List El) → whole new ahead ≡ whole w (copy_before at end ahead)) → IsWiring new end more back before all
 IsWiring-kept w new at end width n steps more text back before all wiring next back_is is far put =
@@ -160,7 +160,7 @@ IsWiring-kept w new at end width n steps more text back before all wiring next b
       reached = omega (arith, wiring.reached, place_split text n, ap byte_len back_is);
     }
 
-pub IsWiring-dropped : (w : Gathered) (at end width n : ℕ) (steps more : List Step) (text back before : List ℕ) (all : List El) → IsWiring w at steps text before all →
+pub IsWiring-dropped : (w : Gathered) (at end width n : ℕ) (steps more : List UnitStep) (text back before : List ℕ) (all : List El) → IsWiring w at steps text before all →
     steps ≡ replicate n Dropped ++ more → back ≡ drop n text → width ≡ place_of text n → end ≡ at + width → IsWiring w end more back before all
 IsWiring-dropped w at end width n steps more text back before all wiring next back_is is far =
     let within = wiring_dropped n steps more text wiring.room next in
@@ -170,7 +170,7 @@ IsWiring-dropped w at end width n steps more text back before all wiring next ba
       reached = omega (arith, wiring.reached, place_split text n, ap byte_len back_is);
     }
 
-pub IsWiring-added : (w new : Gathered) (at : ℕ) (steps more : List Step) (added text before : List ℕ) (all : List El) → IsWiring w at steps text before all →
+pub IsWiring-added : (w new : Gathered) (at : ℕ) (steps more : List UnitStep) (added text before : List ℕ) (all : List El) → IsWiring w at steps text before all →
     steps ≡ map New added ++ more → ((ahead : List El) → whole new ahead ≡ whole w (text_before added ahead)) → IsWiring new at more text before all
 IsWiring-added w new at steps more added text before all wiring next put = record {
   so_far = put (wire_steps at more text) ∙ ap (λ els. whole w els) (sym (ap (λ s. wire_steps at s text) next ∙ wire_steps-added at added more text)) ∙ wiring.so_far;
@@ -178,7 +178,7 @@ IsWiring-added w new at steps more added text before all wiring next put = recor
   reached = wiring.reached;
 }
 
-pub IsWiring-start : (w : Gathered) (units : UnitDelta) (steps : List Step) (text before : List ℕ) → units.base ≡ length before → text ≡ before → steps ≡ steps_of units →
+pub IsWiring-start : (w : Gathered) (units : UnitDelta) (steps : List UnitStep) (text before : List ℕ) → units.base ≡ length before → text ≡ before → steps ≡ steps_of units →
     ((ahead : List El) → whole w ahead ≡ ahead) → IsWiring w 0 steps text before (wire_from (unit_keeps units) (unit_adds units) 0 0 before)
 IsWiring-start w units steps text before same here is put = record {
   so_far = put (wire_steps 0 steps text) ∙ rw (is, here, same) (wire_steps-from (unit_keeps units) (unit_adds units) 0 0 before);

@@ -12,8 +12,8 @@ use Rattle.plain_text.specs.Text.{gap_of, is_place}
 use Rattle.plain_edits.specs.Delta.{keeps, adds, copies_misfit, is_in_runs, text_at_gap, kept_runs, insertions}
 use Rattle.delta_core.specs.Wire.{copy_before, text_before}
 use Rattle.delta_core.specs.Carry.{insertions_at, carried}
-use Rattle.delta_core.specs.Step.{Step, Kept, Dropped, New}
-pub use Rattle.delta_core.specs.Step.{step_of, steps_from, steps_of, part_steps}
+use Rattle.delta_core.specs.UnitStep.{UnitStep, Kept, Dropped, New}
+pub use Rattle.delta_core.specs.UnitStep.{step_of, steps_from, steps_of, part_steps}
 use Rattle.delta_core.specs.Synthesis.{appearing}
 
 -- the run from one gap to another
@@ -53,14 +53,14 @@ pub record IsNext (after : Bool) (own other own_rest other_rest : List Bool) (n 
   pub some : length own_rest + length other_rest < length own + length other
 
 -- how many characters of the base the steps go over
-abbrev pub base_count : List Step → ℕ
+abbrev pub base_count : List UnitStep → ℕ
 base_count [] = 0
 base_count (Kept ∷ steps) = base_count steps + 1
 base_count (Dropped ∷ steps) = base_count steps + 1
 base_count (New c ∷ steps) = base_count steps
 
 -- what the steps make of a text
-abbrev pub text_of_steps : List Step → List ℕ → List ℕ
+abbrev pub text_of_steps : List UnitStep → List ℕ → List ℕ
 text_of_steps [] text = []
 text_of_steps (New c ∷ steps) text = c ∷ text_of_steps steps text
 text_of_steps (Kept ∷ steps) [] = []
@@ -69,7 +69,7 @@ text_of_steps (Dropped ∷ steps) [] = []
 text_of_steps (Dropped ∷ steps) (c ∷ text) = text_of_steps steps text
 
 -- for each step whether it adds a character
-abbrev pub news : List Step → List Bool
+abbrev pub news : List UnitStep → List Bool
 news [] = []
 news (Kept ∷ steps) = false ∷ news steps
 news (Dropped ∷ steps) = false ∷ news steps

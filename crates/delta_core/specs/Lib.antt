@@ -1,5 +1,5 @@
 pub mod Units
-pub mod Step
+pub mod UnitStep
 pub mod Wire
 pub mod Factor
 pub mod Synthesis

@@ -1,7 +1,7 @@
 ghost use Rattle.std.specs.Prelude.{◌≡◌, ◌+◌, ◌<◌, ◌^◌, ◌++◌, length, IfOk, OnOk};
 ghost use Rattle.plain_edits.specs.UnitDelta.{IsUnitDelta};
 ghost use Rattle.delta_core.specs.Factor.{IsFactored, inserted_flags};
-ghost use Rattle.delta_core.specs.Step.{drops};
+ghost use Rattle.delta_core.specs.UnitStep.{drops};
 ghost use Rattle.delta_core.specs.Inner.{base_count, news, part_steps};
 
 use crate::part::Part;

@@ -22,11 +22,11 @@ pub struct UnitWalk<'a> {
 impl<'a> Model for UnitWalk<'a> {
     ghost use Rattle.std.specs.Prelude.{◌-◌, List};
     ghost use Rattle.plain_edits.specs.Delta.{is_in_runs, text_at_gap};
-    ghost use Rattle.delta_core.specs.Step.{Step};
+    ghost use Rattle.delta_core.specs.UnitStep.{UnitStep};
     ghost use Rattle.delta_core.specs.Inner.{steps_from};
     ghost use Rattle.delta_core.specs.Inner.{IsToCome};
 
-    ghost Value = { List Step };
+    ghost Value = { List UnitStep };
 
     ghost view = { λ w. steps_from (is_in_runs w.kept.now) (text_at_gap w.added.now) w.at (w.base - w.at) };
 

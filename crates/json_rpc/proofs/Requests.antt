@@ -7,7 +7,7 @@ use Rattle.serde_json.specs.Read.{read}
 use Rattle.json_rpc.specs.declared.fault.RpcFault.{RpcFault}
 use Rattle.json_rpc.specs.declared.fault.RpcFault.TheVariants.{Parse, Invalid, NoMemory}
 use Rattle.json_rpc.specs.declared.rpc.Rpc.{Rpc}
-use Rattle.json_rpc.specs.Fault.{refusal_of}
+use Rattle.json_rpc.specs.Fault.{fault_refusal}
 use Rattle.json_rpc.specs.Line.{HasNoLf, without_lf, text_value, reading}
 use Rattle.json_rpc.specs.Request.{Request, request, request_of, LineRefusal, no_reading, no_request, or_refusal, value_request, line_request}
 use Rattle.json_rpc.proofs.Lines.{reading-ended, text_value-read, text_value-none}
@@ -30,13 +30,13 @@ asked r None e = tt
 asked r (Some rpc) e = e
 
 pub refused : (r : Result Request LineRefusal) (o : Option Rpc) → r ≡ or_refusal no_request (option_map request o) →
-    IfErr (ok_or o Invalid) (λ fault. IfSome (refusal_of fault) (λ refusal. r ≡ Err refusal))
+    IfErr (ok_or o Invalid) (λ fault. IfSome (fault_refusal fault) (λ refusal. r ≡ Err refusal))
 refused r None e = e
 refused r (Some rpc) e = tt
 
 -- the fault of a reading that failed says that there is none, but for want of memory
 pub unread : (fault : RpcFault) (Memory : Type 0) (r : Result Request LineRefusal) → ((fault ≡ NoMemory) ↔ Memory) →
-    ((fault ≡ Parse) ↔ (Memory → ⊥)) → ((Memory → ⊥) → r ≡ Err no_reading) → IfSome (refusal_of fault) (λ refusal. r ≡ Err refusal)
+    ((fault ≡ Parse) ↔ (Memory → ⊥)) → ((Memory → ⊥) → r ≡ Err no_reading) → IfSome (fault_refusal fault) (λ refusal. r ≡ Err refusal)
 unread Parse Memory r memory parse none = none (parse.0 refl)
 unread NoMemory Memory r memory parse none = tt
 unread Invalid Memory r memory parse none = absurd (no_parse (parse.1 (λ held. no_memory (memory.1 held))))

@@ -5,10 +5,10 @@ use Rattle.json_rpc.specs.declared.fault.RpcFault.TheVariants.{Parse, Invalid, N
 use Rattle.json_rpc.specs.Request.{LineRefusal, no_reading, no_request}
 
 -- the refusal that a fault says: want of memory is none
-abbrev pub refusal_of : RpcFault → Option LineRefusal
-refusal_of Parse = Some no_reading
-refusal_of Invalid = Some no_request
-refusal_of NoMemory = None
+abbrev pub fault_refusal : RpcFault → Option LineRefusal
+fault_refusal Parse = Some no_reading
+fault_refusal Invalid = Some no_request
+fault_refusal NoMemory = None
 
 -- the message of the fault
 abbrev pub refusal_text : RpcFault → List ℕ

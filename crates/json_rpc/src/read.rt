@@ -4,7 +4,7 @@ ghost use Rattle.serde_json.specs.Data.{object};
 ghost use Rattle.serde_json.specs.Errors.{IsMemory};
 ghost use Rattle.serde_json.specs.Find.{get_member, as_str};
 ghost use Rattle.serde_json.specs.View.{view, number_view, members_view};
-ghost use Rattle.json_rpc.specs.Fault.{refusal_of};
+ghost use Rattle.json_rpc.specs.Fault.{fault_refusal};
 ghost use Rattle.json_rpc.specs.Line.{without_lf};
 ghost use Rattle.json_rpc.specs.Request.{request, request_of, request_from, no_request, or_refusal, line_request, member_id, number_id, IsWireId, IsAsked};
 
@@ -22,7 +22,7 @@ const LINE_FEED: u8 = b'\n';
 /// escapes, and then moved.
 pub fn read_line(alloc: Global, line: &[u8]) -> Result<Rpc, RpcFault>
     ensures asks { IfOk result (λ rpc. line_request line.now ≡ Ok (request rpc)) }
-    ensures refused { IfErr result (λ fault. IfSome (refusal_of fault)
+    ensures refused { IfErr result (λ fault. IfSome (fault_refusal fault)
         (λ refusal. line_request line.now ≡ Err refusal)) }
     ensures id_fits { IfOk result (λ rpc. IsWireId rpc.id) }
     ensures asked { IfOk result (λ rpc. IsAsked (request rpc)) }
@@ -44,7 +44,7 @@ fn without_lf(line: &[u8]) -> &[u8]
 fn value_in(alloc: Global, line: &[u8]) -> Result<Value, RpcFault>
     ensures ok { IfOk result (λ value. line_request line.now
         ≡ or_refusal no_request (request_of (view value))) }
-    ensures refused { IfErr result (λ fault. IfSome (refusal_of fault)
+    ensures refused { IfErr result (λ fault. IfSome (fault_refusal fault)
         (λ refusal. line_request line.now ≡ Err refusal)) }
 {
     match Value::from_slice(alloc, without_lf(line)) {

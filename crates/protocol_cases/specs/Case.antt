@@ -18,8 +18,8 @@ use Rattle.protocol_cases.specs.Verdict.{verdict_of}
 abbrev pub source_of : Script → Stock
 source_of script = record { left = script.input.bytes; greatest = script.input.piece; schedule = schedule_of script.input.failing }
 
-abbrev pub sink_of : Script → Store
-sink_of script = record { held = Some []; greatest = script.output.piece; schedule = schedule_of script.output.failing }
+abbrev pub sink_from : Script → Store
+sink_from script = record { held = Some []; greatest = script.output.piece; schedule = schedule_of script.output.failing }
 
 -- what a source and a sink in memory tell
 abbrev pub outside_in_memory : Stock → Store → Outside
@@ -44,7 +44,7 @@ pub record IsVerdictOn (run : Run) (bytes : List ℕ) (status : ℕ) (verdict : 
 pub record IsJudged (script : Script) (outcome : Outcome) : Type 0 where
   pub run : Run
   pub made : outcome.run ≡ Some run
-  pub runs : RunsAlone (passage_between (source_of script) (sink_of script) run) run.report.journal.items run.report.status
+  pub runs : RunsAlone (passage_between (source_of script) (sink_from script) run) run.report.journal.items run.report.status
   pub verdict : IsVerdictOn run script.output.bytes script.status outcome.verdict
 
 -- what becomes of what a text was read as: the run of its script is judged, or there is none, and the bad line is told
@@ -54,5 +54,5 @@ IsOutcomeOf (Err (BadScript line)) outcome = (outcome.run ≡ None) × (outcome.
 IsOutcomeOf (Err NoRoom) outcome = ⊥
 
 -- WHAT BECOMES OF THE CASE whose script is this text
-abbrev pub IsOutcome : List ℕ → Outcome → Type 0
-IsOutcome text outcome = IsOutcomeOf (script_of text) outcome
+abbrev pub IsCaseOutcome : List ℕ → Outcome → Type 0
+IsCaseOutcome text outcome = IsOutcomeOf (script_of text) outcome

@@ -1,6 +1,6 @@
 ghost use Rattle.std.specs.Prelude.{◌≡◌, IfOk};
 ghost use Rattle.xi_top.specs.Run.{RunsAlone};
-ghost use Rattle.protocol_cases.specs.Case.{IsJudged, IsOutcome, IsVerdictOn, passage_between};
+ghost use Rattle.protocol_cases.specs.Case.{IsJudged, IsCaseOutcome, IsVerdictOn, passage_between};
 
 use crate::script::{ReadFault, Script, read_script};
 use crate::verdict::{Verdict, judge};
@@ -25,7 +25,7 @@ pub struct Outcome {
 
 /// Runs the case with this script.
 pub fn run_case(alloc: Global, text: &[u8]) -> Result<Outcome, NoMemory>
-    ensures { IfOk result (λ outcome. IsOutcome text.now outcome) }
+    ensures { IfOk result (λ outcome. IsCaseOutcome text.now outcome) }
 {
     match read_script(alloc, text) {
         Ok(script) => run_script(alloc, script),

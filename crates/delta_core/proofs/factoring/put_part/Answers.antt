@@ -1,5 +1,5 @@
 use Rattle.std.proofs.Common.{ap, sym, ◌∙◌, ◌++◌, List, Bool, arith, append-nil, replicate, true, ℕ}
-use Rattle.delta_core.specs.Step.{drops}
+use Rattle.delta_core.specs.UnitStep.{drops}
 use Rattle.delta_core.specs.Inner.{base_count, part_steps, news}
 use Rattle.delta_core.proofs.StepLemmas.{drops_of_kept, drops_of_dropped, drops_of_added, news_of_kept, news_of_dropped, news_of_added, count_of_kept, count_of_dropped}
 use Rattle.delta_core.proofs.factoring.put_part.Goals as goal

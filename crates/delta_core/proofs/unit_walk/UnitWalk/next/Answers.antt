@@ -1,6 +1,6 @@
 use Rattle.std.proofs.Common.{◌≡◌, ◌-◌, ◌++◌, ℕ, Bool, List, drop, replicate, sym, ap, subst, ◌∙◌}
 use Rattle.std.proofs.lemmas.List.{take_rest}
-use Rattle.delta_core.specs.Step.{Step}
+use Rattle.delta_core.specs.UnitStep.{UnitStep}
 use Rattle.delta_core.specs.Inner.{step_of, part_steps, steps_from}
 use Rattle.plain_edits.specs.Delta.{is_in_runs, text_at_gap}
 use Rattle.delta_core.specs.Inner.{IsStretch}
@@ -29,4 +29,4 @@ returns-after-kept-clause-next c =
     ] in
     sym c.self.view_is ∙
     stretch_next w.base w.at end w.kept.now rest w.added.now kept c.self.invariant stretch c.runs_after-self-inside.ensures.rest ∙
-    ap (λ (steps : List Step). steps ++ steps_from (is_in_runs rest) (text_at_gap w.added.now) end (w.base - end)) (sym part)
+    ap (λ (steps : List UnitStep). steps ++ steps_from (is_in_runs rest) (text_at_gap w.added.now) end (w.base - end)) (sym part)
