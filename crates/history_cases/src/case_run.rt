@@ -189,16 +189,12 @@ impl CaseRun {
     fn note_step(&mut self)
         ensures { self.new ≡ self.old }
     {
-        let Count {
-            steps,
-            by_list,
-            by_engine,
-        } = self.count;
-        self.count = Count {
-            steps: steps.saturating_add(1),
-            by_list: by_list.saturating_add(u64::from(self.list.is_some())),
-            by_engine: by_engine.saturating_add(u64::from(self.engine.is_some())),
-        };
+        let count = &mut self.count;
+        count.steps = count.steps.saturating_add(1);
+        count.by_list = count.by_list.saturating_add(u64::from(self.list.is_some()));
+        count.by_engine = count
+            .by_engine
+            .saturating_add(u64::from(self.engine.is_some()));
     }
 
     /// Says what is undone from now on, or the case says that it is refused. No other body can take it yet.

@@ -4,7 +4,7 @@ ghost use Rattle.std.specs.Prelude.{◌<◌};
 
 use crate::case_run::{CaseRun, Count, LIMIT};
 use anyhow::Context;
-use plain_collection::collection_of;
+use plain_collection::{Collection, collection_of};
 use plain_edits::{Delta, El, Els};
 use plain_history::{PlainHistory, has, undone};
 use plain_text::{List, NoMemory, Text};
@@ -56,81 +56,79 @@ pub fn run_seed(alloc: Global, seed: u64, drawn: &mut Drawn) -> anyhow::Result<C
     let words = Lcg64Xsh32::seed_from_u64(seed);
     let mut draws = Draws { words };
     let text = drawn_text(alloc, &mut draws, 6)?;
-    let mut run = CaseRun::new(alloc, &text, LIMIT, Count::default())?;
+    let run = CaseRun::new(alloc, &text, LIMIT, Count::default())?;
+    let mut list = Drawing { draws, run };
     for number in 1..=if seed <= EDITED { EDITS } else { STEPS } {
-        let kind = if seed <= EDITED { 0 } else { draws.below(10) };
+        let kind = if seed <= EDITED {
+            0
+        } else {
+            list.draws.below(10)
+        };
         match kind {
-            0..=6 => take_edit(alloc, &mut draws, &mut run, drawn),
-            7 | 8 => take_undo(alloc, &mut draws, &mut run, drawn),
-            _ => take_collection(alloc, &mut draws, &mut run, drawn),
+            0..=6 => list.take_edit(alloc, drawn),
+            7 | 8 => list.take_undo(alloc, drawn),
+            _ => list.take_collection(alloc, drawn),
         }
         .context(format_args!("step {number}"))?;
     }
-    Ok(run.count())
+    Ok(list.run.count())
 }
 
-fn take_edit(
-    alloc: Global,
-    draws: &mut Draws,
-    run: &mut CaseRun,
-    drawn: &mut Drawn,
-) -> anyhow::Result<()> {
-    let edit = drawn_edit(alloc, draws, &run.plain)?;
-    let is_undone = has(now_undone(&run.plain), edit.group);
-    let is_further = has_edit(&run.plain, edit.group);
-    if run.edit(alloc, &edit)?.is_none() {
-        rise(&mut drawn.edits_in_undone_groups, is_undone);
-        rise(&mut drawn.further_edits, is_further);
+/// A list that is being drawn, as far as it has come.
+#[derive(Drop)]
+struct Drawing {
+    draws: Draws,
+    run: CaseRun,
+}
+
+impl Drawing {
+    fn take_edit(&mut self, alloc: Global, drawn: &mut Drawn) -> anyhow::Result<()> {
+        let edit = drawn_edit(alloc, &mut self.draws, &self.run.plain)?;
+        let is_undone = has(now_undone(&self.run.plain), edit.group);
+        let is_further = has_edit(&self.run.plain, edit.group);
+        if self.run.edit(alloc, &edit)?.is_none() {
+            rise(&mut drawn.edits_in_undone_groups, is_undone);
+            rise(&mut drawn.further_edits, is_further);
+        }
+        Ok(())
     }
-    Ok(())
-}
 
-/// An undo of any set: of the groups that are not collected each is in it or not.
-fn take_undo(
-    alloc: Global,
-    draws: &mut Draws,
-    run: &mut CaseRun,
-    drawn: &mut Drawn,
-) -> anyhow::Result<()> {
-    let mut groups = List::new(alloc);
-    let mut takes_back = false;
-    for group in 1..=last_group(&run.plain) {
-        let was_undone = has(now_undone(&run.plain), group);
-        let is_drawn = has_edit(&run.plain, group) && draws.below(3) == 0;
-        let is_in = if has(run.plain.collected(), group) {
-            was_undone
-        } else {
-            is_drawn
+    /// An undo of any set: a group that is not collected is in it or not.
+    fn take_undo(&mut self, alloc: Global, drawn: &mut Drawn) -> anyhow::Result<()> {
+        let plain = &self.run.plain;
+        let mut groups = List::new(alloc);
+        let mut takes_back = false;
+        for group in 1..=last_group(plain) {
+            let was_undone = has(now_undone(plain), group);
+            let is_drawn = has_edit(plain, group) && self.draws.below(3) == 0;
+            let is_frozen = has(plain.collected(), group);
+            if is_frozen && was_undone || !is_frozen && is_drawn {
+                groups.push(group)?;
+            } else {
+                takes_back |= was_undone;
+            }
+        }
+        rise(&mut drawn.undos, true);
+        rise(&mut drawn.taken_back, takes_back);
+        self.run.undo(alloc, &groups, false)
+    }
+
+    /// A collection of some of the groups that have an edit, at the head, where all are at rest.
+    fn take_collection(&mut self, alloc: Global, drawn: &mut Drawn) -> anyhow::Result<()> {
+        let plain = &self.run.plain;
+        let mut retired = List::new(alloc);
+        for group in 1..=last_group(plain) {
+            if has_edit(plain, group) && self.draws.below(3) == 0 {
+                retired.push(group)?;
+            }
+        }
+        let found = collection_of(alloc, plain, retired.as_slice(), plain.head())?;
+        let Some(Collection { floor, groups }) = found else {
+            return Ok(());
         };
-        if is_in {
-            groups.push(group)?;
-        }
-        takes_back |= was_undone && !is_in;
+        rise(&mut drawn.collections, true);
+        self.run.collect(alloc, floor, &groups, false)
     }
-    rise(&mut drawn.undos, true);
-    rise(&mut drawn.taken_back, takes_back);
-    run.undo(alloc, &groups, false)
-}
-
-/// A collection of some of the groups that have an edit, at the head, where all are at rest.
-fn take_collection(
-    alloc: Global,
-    draws: &mut Draws,
-    run: &mut CaseRun,
-    drawn: &mut Drawn,
-) -> anyhow::Result<()> {
-    let mut retired = List::new(alloc);
-    for group in 1..=last_group(&run.plain) {
-        if has_edit(&run.plain, group) && draws.below(3) == 0 {
-            retired.push(group)?;
-        }
-    }
-    let found = collection_of(alloc, &run.plain, retired.as_slice(), run.plain.head())?;
-    let Some(collection) = found else {
-        return Ok(());
-    };
-    rise(&mut drawn.collections, true);
-    run.collect(alloc, collection.floor, &collection.groups, false)
 }
 
 /// The groups that are undone at the head.
