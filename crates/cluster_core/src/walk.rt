@@ -43,6 +43,22 @@ impl<'a> Walk<'a> {
         }
     }
 
+    /// The same walk, as it stands, to come back to.
+    pub fn copy(&self) -> Walk<'a>
+        ensures left { walk_left result ≡ walk_left self.now }
+        ensures tab { walk_tab result ≡ walk_tab self.now }
+    {
+        match self.clusters.clone() {
+            Ok(clusters) => Walk {
+                clusters,
+                tab: self.tab,
+                gap: self.gap,
+                column: self.column,
+            },
+            Err(_) => unreachable!(),
+        }
+    }
+
     /// From here on columns are counted from 0, as those of a piece that begins here.
     pub fn begin_piece(&mut self)
         ensures left { walk_left self.new ≡ counted_anew (walk_tab self.old) 0 (walk_left self.old) }

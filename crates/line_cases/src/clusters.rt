@@ -95,11 +95,20 @@ fn a_walk_counts_anew_where_a_piece_begins(rt: HostRuntime) {
             })
         );
     }
+    let mut again = walk.copy();
     walk.begin_piece();
     let mut last = None;
     for item in walk {
         last = Some(item);
     }
+    assert_eq!(rt;
+        again.next(),
+        Some(Placed {
+            cluster: "\t",
+            end: 3,
+            column: 4
+        })
+    );
     assert_eq!(rt;
         last,
         Some(Placed {
