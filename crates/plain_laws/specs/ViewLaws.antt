@@ -7,7 +7,7 @@ use Rattle.plain_screen.specs.declared.screen.Line.{Line}
 use Rattle.plain_screen.specs.Screen.{Screen, screen_after}
 use Rattle.plain_screen.specs.Plan.{is_within, with_standings, update_plan, planned_screen, ArePartners, AreNumberedFrom, sent_by, to_send}
 use Rattle.plain_screen.specs.Touched.{by_logical_lines, partners_of, valid_partners}
-use Rattle.plain_screen.specs.View.{AreEnds, ArePieces, pieces_by, whole_lines, line_of, IsLineOf, logical_line_of, IsLogicalLineOf}
+use Rattle.plain_screen.specs.View.{AreEnds, ArePieces, pieces_by, whole_lines, layout_line_of, IsLayoutLineOf, logical_line_of, IsLogicalLineOf}
 
 -- the pieces of a text, one after the other, are the text; and a rule that says where each line is cut gives pieces of each text
 pub record PiecesAreTexts : Type 0 where
@@ -18,8 +18,8 @@ pub record PiecesAreTexts : Type 0 where
 
 -- each gap has a layout line, and no other; and the logical line of a gap is the last one that starts by it
 pub record GapsHaveLines : Type 0 where
-  pub line : (text : List ℕ) (pieces : List Piece) (gap : ℕ) → ArePieces text pieces → IsLineOf pieces gap (line_of pieces gap)
-  pub only : (pieces : List Piece) (gap index other : ℕ) → IsLineOf pieces gap index → IsLineOf pieces gap other → index ≡ other
+  pub line : (text : List ℕ) (pieces : List Piece) (gap : ℕ) → ArePieces text pieces → IsLayoutLineOf pieces gap (layout_line_of pieces gap)
+  pub only : (pieces : List Piece) (gap index other : ℕ) → IsLayoutLineOf pieces gap index → IsLayoutLineOf pieces gap other → index ≡ other
   pub logical : (text : List ℕ) (gap : ℕ) → IsLogicalLineOf text gap (logical_line_of text gap)
 
 -- THE LAW OF THE PLAN: where partners rise, each is a valid old line that is the same but for its number, and the lines are numbered on,

@@ -4,7 +4,7 @@ use Rattle.plain_screen.specs.declared.screen.Line.{Line}
 use Rattle.plain_screen.specs.declared.screen.Op.TheVariants.{Copy, Skip, Invalidate, Ins}
 use Rattle.plain_screen.specs.Plan.{update_plan}
 use Rattle.plain_screen.specs.Touched.{touched_by_text, partners_of, valid_partners}
-use Rattle.plain_screen.specs.View.{pieces_by, whole_lines, line_of, logical_line_of}
+use Rattle.plain_screen.specs.View.{pieces_by, whole_lines, layout_line_of, logical_line_of}
 use Rattle.plain_laws.specs.Rows.{numbered_line}
 
 -- a text that ends with LF has an empty last line; and `aa bb`, cut at 3
@@ -17,9 +17,9 @@ pub record Pieces : Type 0 where
 
 -- the gap at a cut is of the later piece, and the gap after LF of the line after it
 pub record LinesOfGaps : Type 0 where
-  pub at_cut : line_of (pieces_by (λ line. 3 ∷ 5 ∷ []) (codes "aa bb")) 3 ≡ 1
-  pub before_cut : line_of (pieces_by (λ line. 3 ∷ 5 ∷ []) (codes "aa bb")) 2 ≡ 0
-  pub end : line_of (whole_lines (97 ∷ 10 ∷ [])) 2 ≡ 1
+  pub at_cut : layout_line_of (pieces_by (λ line. 3 ∷ 5 ∷ []) (codes "aa bb")) 3 ≡ 1
+  pub before_cut : layout_line_of (pieces_by (λ line. 3 ∷ 5 ∷ []) (codes "aa bb")) 2 ≡ 0
+  pub end : layout_line_of (whole_lines (97 ∷ 10 ∷ [])) 2 ≡ 1
   pub logical : logical_line_of (97 ∷ 10 ∷ 98 ∷ []) 2 ≡ record { index = 1; start = 2; text = 98 ∷ [] }
   pub at_feed : logical_line_of (97 ∷ 10 ∷ 98 ∷ []) 1 ≡ record { index = 0; start = 0; text = 97 ∷ 10 ∷ [] }
 

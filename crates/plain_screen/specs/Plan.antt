@@ -80,13 +80,13 @@ onto_ops (Ins lines) (Ins more ∷ ops) = Ins (lines ++ more) ∷ ops
 onto_ops op ops = op ∷ ops
 
 -- THIRD STEP: neighbours of one kind are joined
-abbrev pub joined : List Op → List Op
-joined [] = []
-joined (op ∷ ops) = onto_ops op (joined ops)
+abbrev pub joined_ops : List Op → List Op
+joined_ops [] = []
+joined_ops (op ∷ ops) = onto_ops op (joined_ops ops)
 
 -- THE UPDATE PLAN for a layout, from the partners of its lines that are valid on the screen, the window and the lines requested
 abbrev pub update_plan : Run → Run → List Line → List (Option ℕ) → List Op
-update_plan window request lines partners = joined (ops_for 0 (with_standings window request 0 partners lines))
+update_plan window request lines partners = joined_ops (ops_for 0 (with_standings window request 0 partners lines))
 
 -- what a line with this standing is on the screen after the plan
 abbrev pub shown_as : Standing × Line → Option Line

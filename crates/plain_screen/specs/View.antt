@@ -41,11 +41,11 @@ abbrev pub whole_lines : List ℕ → List Piece
 whole_lines text = pieces_by (λ line. length line ∷ []) text
 
 -- THE LAYOUT LINE OF A GAP: the index of the last piece whose start is not after it
-abbrev pub line_of : List Piece → ℕ → ℕ
-line_of pieces gap = count_by (λ piece. nat_le piece.start gap) pieces - 1
+abbrev pub layout_line_of : List Piece → ℕ → ℕ
+layout_line_of pieces gap = count_by (λ piece. nat_le piece.start gap) pieces - 1
 
 -- the same said of an index: the piece starts by the gap, and each later one after it
-pub record IsLineOf (pieces : List Piece) (gap index : ℕ) : Type 0 where
+pub record IsLayoutLineOf (pieces : List Piece) (gap index : ℕ) : Type 0 where
   pub inside : index < length pieces
   pub by_then : (piece : Piece) → slice_get pieces index ≡ Some piece → piece.start ≤ gap
   pub last : (later : ℕ) (piece : Piece) → index < later → slice_get pieces later ≡ Some piece → gap < piece.start

@@ -3,6 +3,7 @@ use Rattle.std.specs.Prelude.{◌≡◌, ℕ, ◌+◌, ◌<◌, ◌≤◌, Bool,
 use Rattle.std.specs.List.{filter}
 use Rattle.plain_text.specs.Numbers.{has}
 use Rattle.plain_edits.specs.History.{Tagged, Revision, edit, undo, History, head, revision_at, is_there, is_visible}
+pub use Rattle.plain_edits.specs.HistorySteps.{is_edit}
 use Rattle.rev_list.specs.declared.edit.RevEdit.{RevEdit}
 use Rattle.rev_list.specs.Edit.{edit_revision}
 
@@ -39,12 +40,6 @@ pub record IsEditAt (history : History) (rev : ℕ) (e : RevEdit) : Type 0 where
 pub record AreEditsAfter (history : History) (base : ℕ) (edits : List RevEdit) : Type 0 where
   pub len : length edits + base ≡ head history
   pub each : (k : ℕ) (e : RevEdit) → slice_get edits k ≡ Some e → IsEditAt history (base + 1 + k) e
-
--- whether it is a revision that edits
-abbrev pub is_edit : Option Revision → Bool
-is_edit None = false
-is_edit (Some (edit base group priority author)) = true
-is_edit (Some (undo groups)) = false
 
 -- the revision is from the floor to the head
 abbrev pub IsKeptAt : History → ℕ → Type 0

@@ -13,15 +13,15 @@ HasNoText (Edit.Find chars case_sensitive regex whole_words) = ⊥
 HasNoText act = ⊤
 
 -- nor is it a click, a drag or a step of a search
-abbrev pub IsShort : EditAct → Type 0
-IsShort (Edit.Insert chars) = ⊥
-IsShort (Edit.Paste chars) = ⊥
-IsShort (Edit.Find chars case_sensitive regex whole_words) = ⊥
-IsShort (Edit.Click line col modifiers count) = ⊥
-IsShort (Edit.Drag line col modifiers) = ⊥
-IsShort (Edit.FindNext wrap_around allow_same) = ⊥
-IsShort (Edit.FindPrevious wrap_around allow_same) = ⊥
-IsShort act = ⊤
+abbrev pub IsSimple : EditAct → Type 0
+IsSimple (Edit.Insert chars) = ⊥
+IsSimple (Edit.Paste chars) = ⊥
+IsSimple (Edit.Find chars case_sensitive regex whole_words) = ⊥
+IsSimple (Edit.Click line col modifiers count) = ⊥
+IsSimple (Edit.Drag line col modifiers) = ⊥
+IsSimple (Edit.FindNext wrap_around allow_same) = ⊥
+IsSimple (Edit.FindPrevious wrap_around allow_same) = ⊥
+IsSimple act = ⊤
 
 -- the act is one that plugins ask
 abbrev pub IsOfPlugin : Act → Type 0

@@ -1,5 +1,5 @@
 ghost use Rattle.std.specs.Prelude.{◌≡◌, IfOk};
-ghost use Rattle.xi_plain.specs.Acts.{HasNoText, IsShort, IsOfPlugin, HasList};
+ghost use Rattle.xi_plain.specs.Acts.{HasNoText, IsSimple, IsOfPlugin, HasList};
 
 use crate::config::Changes;
 use crate::motion::{Motion, Touch};
@@ -281,7 +281,7 @@ fn without_text(act: &EditAct) -> EditAct
 
 /// A copy of an act that stands on one line.
 fn of_a_line(act: &EditAct) -> EditAct
-    requires { IsShort act.now }
+    requires { IsSimple act.now }
     ensures { result ≡ act.now }
 {
     match *act {

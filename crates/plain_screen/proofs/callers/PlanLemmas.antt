@@ -12,7 +12,7 @@ use Rattle.plain_screen.specs.declared.screen.Line.{Line}
 use Rattle.plain_screen.specs.declared.screen.Op.{Op}
 use Rattle.plain_screen.specs.declared.screen.Op.TheVariants.{Copy, Skip, Invalidate, Ins}
 use Rattle.plain_screen.specs.Screen.{Screen, numbered, number_after, numbered_from, copied, screen_after}
-use Rattle.plain_screen.specs.Plan.{Standing, stays, is_sent, is_left, sent_or_left, with_standings, ops_for, or_number, onto_ops, joined, update_plan, shown_as, planned_screen, IsSameButNumber, IsPartner, ArePartners, AreNumberedFrom, sent_by, to_send, is_within, is_near}
+use Rattle.plain_screen.specs.Plan.{Standing, stays, is_sent, is_left, sent_or_left, with_standings, ops_for, or_number, onto_ops, joined_ops, update_plan, shown_as, planned_screen, IsSameButNumber, IsPartner, ArePartners, AreNumberedFrom, sent_by, to_send, is_within, is_near}
 use Rattle.plain_screen.proofs.callers.ScreenLemmas.{option_map-option_map}
 
 one-add : (n : ℕ) → 1 + n ≡ suc n
@@ -220,12 +220,12 @@ NumbersFrom-left number old (Ins lines ∷ ops) = tt
 
 -- the operations make of the old lines that are left what the lines are to be, and number on
 record Makes (screen : Screen) (used number : ℕ) (lines : List (Standing × Line)) : Type 0 where
-  pub after : screen_after (drop used screen) (joined (ops_for used lines)) ≡ Some (map shown_as lines)
-  pub numbers : NumbersFrom number (drop used screen) (joined (ops_for used lines))
+  pub after : screen_after (drop used screen) (joined_ops (ops_for used lines)) ≡ Some (map shown_as lines)
+  pub numbers : NumbersFrom number (drop used screen) (joined_ops (ops_for used lines))
 
 -- the operations from a line that stays on, by the test whether old lines are passed over before it
 abbrev kept_ops : ℕ → ℕ → Line → List (Standing × Line) → Bool → List Op
-kept_ops used old line lines b = joined ((if b then Skip (old - used) ∷ [] else []) ++ (Copy 1 line.ln ∷ ops_for (old + 1) lines))
+kept_ops used old line lines b = joined_ops ((if b then Skip (old - used) ∷ [] else []) ++ (Copy 1 line.ln ∷ ops_for (old + 1) lines))
 
 Makes-kept : (screen : Screen) (used number old : ℕ) (line : Line) (lines : List (Standing × Line)) → used ≤ old → IsPartner screen old line →
     numbered line.ln number line ≡ line → Makes screen (old + 1) (number_after line.ln number) lines →
@@ -238,17 +238,17 @@ Makes-kept screen used number old line lines before partner own rest = elim (cas
     at : drop old screen ≡ Some partner.shown ∷ drop (old + 1) screen
     at = drop-at screen old (Some partner.shown) partner.is ∙ ap (λ n. Some partner.shown ∷ drop n screen) (sym (add-one old))
 
-    copying : screen_after (drop old screen) (onto_ops (Copy 1 line.ln) (joined (ops_for (old + 1) lines))) ≡ Some (Some line ∷ map shown_as lines)
+    copying : screen_after (drop old screen) (onto_ops (Copy 1 line.ln) (joined_ops (ops_for (old + 1) lines))) ≡ Some (Some line ∷ map shown_as lines)
     copying =
-        ap (λ s. screen_after s (onto_ops (Copy 1 line.ln) (joined (ops_for (old + 1) lines)))) at ∙
-        screen_after-copied partner.shown line number partner.same own (drop (old + 1) screen) (joined (ops_for (old + 1) lines)) rest.numbers ∙
+        ap (λ s. screen_after s (onto_ops (Copy 1 line.ln) (joined_ops (ops_for (old + 1) lines)))) at ∙
+        screen_after-copied partner.shown line number partner.same own (drop (old + 1) screen) (joined_ops (ops_for (old + 1) lines)) rest.numbers ∙
         ap (option_map (λ shown. Some line ∷ shown)) rest.after
 
-    numbering : NumbersFrom number (drop old screen) (onto_ops (Copy 1 line.ln) (joined (ops_for (old + 1) lines)))
+    numbering : NumbersFrom number (drop old screen) (onto_ops (Copy 1 line.ln) (joined_ops (ops_for (old + 1) lines)))
     numbering =
-        let At : Screen → Type 0 = λ s. NumbersFrom number s (onto_ops (Copy 1 line.ln) (joined (ops_for (old + 1) lines))) in
+        let At : Screen → Type 0 = λ s. NumbersFrom number s (onto_ops (Copy 1 line.ln) (joined_ops (ops_for (old + 1) lines))) in
         subst At (sym at)
-        (NumbersFrom-copied partner.shown line number partner.same own (drop (old + 1) screen) (joined (ops_for (old + 1) lines)) rest.numbers)
+        (NumbersFrom-copied partner.shown line number partner.same own (drop (old + 1) screen) (joined_ops (ops_for (old + 1) lines)) rest.numbers)
 
     made_by : (b : Bool) → nat_lt used old ≡ b → screen_after (drop used screen) (kept_ops used old line lines b) ≡ Some (Some line ∷ map shown_as lines) →
         NumbersFrom number (drop used screen) (kept_ops used old line lines b) → Makes screen used number ((stays old, line) ∷ lines)
@@ -263,10 +263,10 @@ Makes-kept screen used number old line lines before partner own rest = elim (cas
         let few : old - used ≤ length (drop used screen) = omega (arith, length-drop used screen, inside) in
         let sum : used + (old - used) ≡ old = omega arith in
         made_by true (lt-ltb used old below)
-        (screen_after-skipped (old - used) (drop used screen) line.ln (joined (ops_for (old + 1) lines)) few ∙
-        ap (λ s. screen_after s (onto_ops (Copy 1 line.ln) (joined (ops_for (old + 1) lines))))
+        (screen_after-skipped (old - used) (drop used screen) line.ln (joined_ops (ops_for (old + 1) lines)) few ∙
+        ap (λ s. screen_after s (onto_ops (Copy 1 line.ln) (joined_ops (ops_for (old + 1) lines))))
         (drop-drop (old - used) used screen ∙ ap (λ n. drop n screen) sum) ∙ copying)
-        (NumbersFrom-skipped (old - used) number (drop used screen) line.ln (joined (ops_for (old + 1) lines)))
+        (NumbersFrom-skipped (old - used) number (drop used screen) line.ln (joined_ops (ops_for (old + 1) lines)))
 
     staying : old ≤ used → Makes screen used number ((stays old, line) ∷ lines)
     staying here =
@@ -284,13 +284,13 @@ Makes-plan screen used from number ((stays old, line) ∷ lines) before partners
     (Makes-plan screen (old + 1) (old + 1) (number_after line.ln number) lines (omega arith) partners.2 numbers.1)
 Makes-plan screen used from number ((is_sent, line) ∷ lines) before partners numbers =
     let rest = Makes-plan screen used from (number_after line.ln number) lines before partners numbers.1 in record {
-      after = screen_after-sent (drop used screen) line (joined (ops_for used lines)) ∙ ap (option_map (λ shown. Some line ∷ shown)) rest.after;
-      numbers = NumbersFrom-sent number (drop used screen) line (joined (ops_for used lines));
+      after = screen_after-sent (drop used screen) line (joined_ops (ops_for used lines)) ∙ ap (option_map (λ shown. Some line ∷ shown)) rest.after;
+      numbers = NumbersFrom-sent number (drop used screen) line (joined_ops (ops_for used lines));
     }
 Makes-plan screen used from number ((is_left, line) ∷ lines) before partners numbers =
     let rest = Makes-plan screen used from (number_after line.ln number) lines before partners numbers.1 in record {
-      after = screen_after-left (drop used screen) (joined (ops_for used lines)) ∙ ap (option_map (λ shown. None ∷ shown)) rest.after;
-      numbers = NumbersFrom-left number (drop used screen) (joined (ops_for used lines));
+      after = screen_after-left (drop used screen) (joined_ops (ops_for used lines)) ∙ ap (option_map (λ shown. None ∷ shown)) rest.after;
+      numbers = NumbersFrom-left number (drop used screen) (joined_ops (ops_for used lines));
     }
 
 unpartnered : (screen : Screen) (from : ℕ) (line : Line) (lines : List (Standing × Line)) (b : Bool) → AreStanding screen from lines →
@@ -382,18 +382,18 @@ sent_by-skipped index n (Invalidate m ∷ ops) = refl
 sent_by-skipped index n (Ins lines ∷ ops) = refl
 
 -- a plan sends the lines whose standing is to be sent, and no others
-pub sent_by-plan : (index used : ℕ) (lines : List (Standing × Line)) → sent_by index (joined (ops_for used lines)) ≡ to_send index lines
+pub sent_by-plan : (index used : ℕ) (lines : List (Standing × Line)) → sent_by index (joined_ops (ops_for used lines)) ≡ to_send index lines
 sent_by-plan index used [] = refl
 sent_by-plan index used ((stays old, line) ∷ lines) =
-    by (nat_lt used old) ∙ sent_by-copied index line.ln (joined (ops_for (old + 1) lines)) ∙ sent_by-plan (index + 1) (old + 1) lines
+    by (nat_lt used old) ∙ sent_by-copied index line.ln (joined_ops (ops_for (old + 1) lines)) ∙ sent_by-plan (index + 1) (old + 1) lines
   where
-    by : (b : Bool) → sent_by index (kept_ops used old line lines b) ≡ sent_by index (joined (Copy 1 line.ln ∷ ops_for (old + 1) lines))
-    by true = sent_by-skipped index (old - used) (joined (Copy 1 line.ln ∷ ops_for (old + 1) lines))
+    by : (b : Bool) → sent_by index (kept_ops used old line lines b) ≡ sent_by index (joined_ops (Copy 1 line.ln ∷ ops_for (old + 1) lines))
+    by true = sent_by-skipped index (old - used) (joined_ops (Copy 1 line.ln ∷ ops_for (old + 1) lines))
     by false = refl
 sent_by-plan index used ((is_sent, line) ∷ lines) =
-    sent_by-sent index line (joined (ops_for used lines)) ∙ ap (λ rest. (index, line) ∷ rest) (sent_by-plan (index + 1) used lines)
+    sent_by-sent index line (joined_ops (ops_for used lines)) ∙ ap (λ rest. (index, line) ∷ rest) (sent_by-plan (index + 1) used lines)
 sent_by-plan index used ((is_left, line) ∷ lines) =
-    sent_by-left index (joined (ops_for used lines)) ∙ sent_by-plan (index + 1) used lines
+    sent_by-left index (joined_ops (ops_for used lines)) ∙ sent_by-plan (index + 1) used lines
 
 abbrev SendsWithin : Run → Run → List (ℕ × Line) → Type 0
 SendsWithin window request lines = AllByRecursion (λ (at, line). (is_within window at || is_within request at) ≡ true) lines
@@ -428,7 +428,7 @@ to_send-within window request index (Some old ∷ partners) (line ∷ lines) =
 
 -- the plan of lines from this index on
 abbrev pub plan_from : Run → Run → ℕ → ℕ → List Line → List Op
-plan_from window request index used lines = joined (ops_for used (with_standings window request index [] lines))
+plan_from window request index used lines = joined_ops (ops_for used (with_standings window request index [] lines))
 
 -- by its first line, which is sent or left by a test
 pub plan_from-line : (window request : Run) (index used : ℕ) (line : Line) (lines : List Line) (b : Bool) →
@@ -436,9 +436,9 @@ pub plan_from-line : (window request : Run) (index used : ℕ) (line : Line) (li
     plan_from window request index used (line ∷ lines) ≡
     onto_ops (if b then Ins (line ∷ []) else Invalidate 1) (plan_from window request (index + 1) used lines)
 plan_from-line window request index used line lines b is =
-    ap (λ c. joined (ops_for used ((if c then is_sent else is_left, line) ∷ with_standings window request (index + 1) [] lines))) is ∙ by b
+    ap (λ c. joined_ops (ops_for used ((if c then is_sent else is_left, line) ∷ with_standings window request (index + 1) [] lines))) is ∙ by b
   where
-    by : (b : Bool) → joined (ops_for used ((if b then is_sent else is_left, line) ∷ with_standings window request (index + 1) [] lines)) ≡
+    by : (b : Bool) → joined_ops (ops_for used ((if b then is_sent else is_left, line) ∷ with_standings window request (index + 1) [] lines)) ≡
         onto_ops (if b then Ins (line ∷ []) else Invalidate 1) (plan_from window request (index + 1) used lines)
     by true = refl
     by false = refl

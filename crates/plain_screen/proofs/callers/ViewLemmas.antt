@@ -11,7 +11,7 @@ use Rattle.std.proofs.lemmas.Option.{slice_get_cases}
 use Rattle.plain_text.proofs.callers.ListLemmas.{count_by-yes, count_by-no}
 use Rattle.plain_text.specs.Lines.{logical_lines}
 use Rattle.plain_screen.specs.declared.piece.Piece.{Piece}
-use Rattle.plain_screen.specs.View.{RiseTo, AreEnds, pieces_of_line, pieces_from, ArePieces, pieces_by, whole_lines, line_of, IsLineOf, LogicalLine, logical_line_from, logical_line_of, IsLogicalLineOf}
+use Rattle.plain_screen.specs.View.{RiseTo, AreEnds, pieces_of_line, pieces_from, ArePieces, pieces_by, whole_lines, layout_line_of, IsLayoutLineOf, LogicalLine, logical_line_from, logical_line_of, IsLogicalLineOf}
 
 -- ---- the logical lines of a text
 
@@ -162,7 +162,7 @@ record AreCounted (gap count : ℕ) (pieces : List Piece) : Type 0 where
   pub before : (i : ℕ) (piece : Piece) → i < count → slice_get pieces i ≡ Some piece → piece.start ≤ gap
   pub after : (i : ℕ) (piece : Piece) → count ≤ i → slice_get pieces i ≡ Some piece → gap < piece.start
 
--- the test of `line_of`
+-- the test of `layout_line_of`
 abbrev starts_by : ℕ → Piece → Bool
 starts_by gap piece = nat_le piece.start gap
 
@@ -254,17 +254,17 @@ some_first gap (piece ∷ pieces) first =
     omega (arith, count_by-yes (starts_by gap) piece pieces (le-leb piece.start gap by_then))
 
 -- THE LAYOUT LINE OF A GAP is there, and there is no other
-pub IsLineOf-line_of : (text : List ℕ) (pieces : List Piece) (gap : ℕ) → ArePieces text pieces → IsLineOf pieces gap (line_of pieces gap)
-IsLineOf-line_of text pieces gap are =
+pub IsLayoutLineOf-layout_line_of : (text : List ℕ) (pieces : List Piece) (gap : ℕ) → ArePieces text pieces → IsLayoutLineOf pieces gap (layout_line_of pieces gap)
+IsLayoutLineOf-layout_line_of text pieces gap are =
     let known = ArePieces-starts text pieces are in
     let counted = AreCounted-starts gap 0 pieces known.0 in
     let some = some_first gap pieces known.1 in record {
       inside = let le = counted.inside in omega arith;
-      by_then = λ piece is. counted.before (line_of pieces gap) piece (omega arith) is;
+      by_then = λ piece is. counted.before (layout_line_of pieces gap) piece (omega arith) is;
       last = λ later piece lt is. counted.after later piece (omega arith) is;
     }
 
-not_before : (pieces : List Piece) (gap index other : ℕ) → IsLineOf pieces gap index → IsLineOf pieces gap other → index < other → ⊥
+not_before : (pieces : List Piece) (gap index other : ℕ) → IsLayoutLineOf pieces gap index → IsLayoutLineOf pieces gap other → index < other → ⊥
 not_before pieces gap index other is too before = by (slice_get_cases pieces other).1
   where
     by : ((piece : Piece) × (other < length pieces) × (slice_get pieces other ≡ Some piece) × (get_or pieces other piece ≡ piece)) ⊎
@@ -274,8 +274,8 @@ not_before pieces gap index other is too before = by (slice_get_cases pieces oth
         let by_then = too.by_then found.0 found.2 in omega arith
     by (inr outside) = let inside = too.inside in let le = outside.0 in omega arith
 
-pub IsLineOf-only : (pieces : List Piece) (gap index other : ℕ) → IsLineOf pieces gap index → IsLineOf pieces gap other → index ≡ other
-IsLineOf-only pieces gap index other is too = elim (cases_order index other) [
+pub IsLayoutLineOf-only : (pieces : List Piece) (gap index other : ℕ) → IsLayoutLineOf pieces gap index → IsLayoutLineOf pieces gap other → index ≡ other
+IsLayoutLineOf-only pieces gap index other is too = elim (cases_order index other) [
   | inl same ↦ same
   | inr (inl before) ↦ absurd (not_before pieces gap index other is too before)
   | inr (inr after) ↦ absurd (not_before pieces gap other index too is after)
