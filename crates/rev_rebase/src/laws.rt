@@ -28,7 +28,8 @@ pub fn places_step()
         → insertion_place (until history base) base priority gap
         ≡ index_right_of (until history base) base gap }
     ensures step { (history : History) (base priority gap rev : ℕ) → base ≤ rev
-        → IsOver (is_by (rev + 1)) (goes_right history.revisions priority (rev + 1)) (union_at history (rev + 1))
+        → IsOver (is_by (rev + 1)) (goes_right history.revisions priority (rev + 1))
+        (union_at history (rev + 1))
         (insertion_place (until history rev) base priority gap)
         (insertion_place (until history (rev + 1)) base priority gap) }
     ensures last { (history : History) → IsSound history → until history (head history) ≡ history }
