@@ -1,0 +1,5 @@
+pub mod Queue
+pub mod Journal
+pub mod Shelf
+pub mod Steps
+pub mod Turns
