@@ -55,7 +55,7 @@ other_than views id v at live k s same =
     (subst (λ (u : View). is_spent u.stage ≡ true) (some-injective s.0 v (sym s.1 ∙ (ap (λ (n : ℕ). get_elem? views n) same ∙ at))) s.2)
     live
 
-spent_set : (views : List View) (id : ℕ) (v w : View) → get_elem? views id ≡ some v → is_spent v.stage ≡ false → (k : ℕ) → IsSpentAt views k → IsSpentAt (set views id w) k
+pub spent_set : (views : List View) (id : ℕ) (v w : View) → get_elem? views id ≡ some v → is_spent v.stage ≡ false → (k : ℕ) → IsSpentAt views k → IsSpentAt (set views id w) k
 spent_set views id v w at live k s = (s.0, set_else views id k w (other_than views id v at live k s) ∙ s.1, s.2)
 
 pub all_on : {A : Type 0} (P Q : A → Type 0) (xs : List A) → ((x : A) → P x → Q x) → AllByRecursion P xs → AllByRecursion Q xs

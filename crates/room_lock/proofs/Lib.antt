@@ -3,3 +3,4 @@ pub mod Journal
 pub mod Shelf
 pub mod Steps
 pub mod Turns
+pub mod Ends

@@ -41,6 +41,10 @@ GainsNone receipt before after = (receipt.place ≡ length after.seen) × (own a
 abbrev pub Tells : Receipt → Known → Known → Type 0
 Tells receipt before after = MatchBool receipt.entered (GainsEntry receipt before after) (GainsNone receipt before after)
 
+-- the pass of caller 0 at the start
+abbrev pub first_pass : TableId → Known
+first_pass room = record { room = room; caller = 0; seen = []; made = 1 }
+
 -- the next caller's pass, which has seen as much
 abbrev pub next_pass : Known → Known
 next_pass pass = record { room = pass.room; caller = pass.made; seen = pass.seen; made = 0 }

@@ -46,6 +46,7 @@ impl<O: Object> Room<O> {
         requires fits { O.fits self.now.table.shared.key.first.value caller ask }
         ensures seat { (seat.new.table_id ≡ seat.old.table_id) × IsRested seat.new }
         ensures served { IsServed O.legal self.now.table.shared.key.first.value O.serves ask result.0 result.1 (known_at seat.old) (known_at seat.new) }
+        ensures short { result.1.place < 2 ^ 63 }
     {
         let mut object = self.take(rt, seat);
         let reply = object.serve(caller, ask);

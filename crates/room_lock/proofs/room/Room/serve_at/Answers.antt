@@ -1,4 +1,4 @@
-use Rattle.std.proofs.Common.{rules, ◌≡◌, ℕ, Bool, List, [], ◌∷◌, Some, length, refl, ap, sym, ◌∙◌, subst}
+use Rattle.std.proofs.Common.{rules, ◌≡◌, ℕ, Bool, List, [], ◌∷◌, Some, length, ◌<◌, ◌^◌, refl, ap, sym, ◌∙◌, subst}
 use Rattle.xi_plain.specs.declared.entry.Entry.{Entry}
 use Rattle.xi_plain.specs.Reply.{has_entry}
 use Rattle.xi_plain.specs.Room.{AddsEntryIf}
@@ -58,3 +58,8 @@ returns-clause-served g c =
     (subst (λ (z : ℕ × List Entry). AddsEntryIf (has_entry c.serve-reply.result) (journal before) z.0 z.1) to (g.met.O.Object.one_entry _ _ _ _ _ _ served))
     (subst (g.O.Object.legal first) (ap (λ z. z.1) to) (g.met.O.Object.legal_on first object (journal object) (g.met.O.Object.onward first before object grown c.serve-reply.ensures.grown) (g.met.O.Object.legal_now object)))
     (subst (λ (z : ℕ × List Entry). g.O.Object.serves first (journal before) z.0 c.args.ask c.serve-reply.result z.1) to (g.met.O.Object.serves_on first before _ _ _ _ _ grown served))
+
+pub returns-clause-short : goal.returns-clause-short
+returns-clause-short g c =
+    let me = ap (λ m. m.0) c.put.ensures.put ∙ ap (λ m. m.0) c.take-object.ensures.view in
+    subst (λ (n : ℕ). n < 2 ^ 63) (sym (c.count-place.ensures.place ∙ ap (λ x. length x.seen) me)) (g.met.O.Object.short c.take-object.result)
