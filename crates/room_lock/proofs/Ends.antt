@@ -1,6 +1,7 @@
 -- How seats come and go: the first, the next, one that is joined away, and the end.
 use Rattle.std.proofs.Common.{◌≡◌, ◌≢◌, ◌⊎◌, ℕ, zero, suc, ◌+◌, ◌%◌, ◌^◌, ◌<◌, ◌≤◌, Bool, true, false, true≢false, List, [], ◌∷◌, ◌++◌, map, length, set, Option, Some, refl, sym, ap, ◌∙◌, subst, ⊎_elim, inl, inr, arith, length-append, length-set}
 use Rattle.std.specs.List.{AllByRecursion}
+use Rattle.std.proofs.lemmas.List.{append_assoc}
 use mathlib.Core.Option.{some, none, some-injective, some-ne-none}
 use mathlib.Core.Logic.{dite}
 use native.Mathlib.Decide.{ℕ_discrete}
@@ -15,7 +16,7 @@ use Rattle.room_lock.specs.declared.view.Stage.TheVariants.{Idle, Waits, Turn, S
 use Rattle.room_lock.specs.declared.view.Parted.{Parted}
 use Rattle.room_lock.specs.declared.view.View.{View}
 use Rattle.room_lock.specs.Room.{Known, own, IsKnownOf, AreAllFrom, AreAll}
-use Rattle.room_lock.specs.Inner.{idle, held, has_turn, is_spent, FitsQueue, IsQueue, IsSpentAt, Agrees, IsParted, IsTrue, IsJournal, Kept, AtHome, IsOut, one_more, next_caller, parted, joined_to, spent, parted_pass, gathered}
+use Rattle.room_lock.specs.Inner.{idle, held, has_turn, is_spent, FitsQueue, IsQueue, IsSpentAt, Agrees, IsParted, IsTrue, IsJournal, Kept, AtHome, IsOut, one_more, next_caller, parted, joined_to, spent, parted_pass, gathered, AreIn}
 use Rattle.room_lock.proofs.Queue.{at_short, queue_set, queue_new}
 use Rattle.room_lock.proofs.Journal.{no_both, begins_same, begins_none, all_on, all_append, spent_set, journal_same, joined_same, true_same}
 use Rattle.room_lock.proofs.Shelf.{none_set, shelf_set}
@@ -58,33 +59,33 @@ journal_new journal views id v j at live front =
     let long : length (now ++ next ∷ []) ≡ length now + 1 = length-append now (next ∷ []) in
     let here = at_short views id v at in
     let on : (ps : List Parted) → AllByRecursion (IsParted journal views) ps → AllByRecursion (IsParted journal (now ++ next ∷ [])) ps =
-        λ ps a. all_on (IsParted journal views) (IsParted journal (now ++ next ∷ [])) ps
-            (λ p b. (b.0, spent_longer now next p.caller (spent_set views id v w at live p.caller b.1))) a in
+    λ ps a. all_on (IsParted journal views) (IsParted journal (now ++ next ∷ [])) ps
+    (λ p b. (b.0, spent_longer now next p.caller (spent_set views id v w at live p.caller b.1))) a in
     let none_yet : entries_of v.made journal ≡ [] = j.unborn v.made (omega arith) in record {
       each = λ seat u e alive.
           ⊎_elim
           (λ (old : get_elem? now seat ≡ some u).
-              ⊎_elim
-              (λ (x : (seat ≡ id) × (w ≡ u)).
-                  subst (λ (y : ℕ × View). IsTrue journal (now ++ next ∷ []) y.0 y.1) (λ i. (sym x.0 i, x.1 i))
-                  (record { caller = mine.caller; seen = mine.seen; whole = mine.whole; made = λ _. omega arith; joined = on v.joined mine.joined }))
-              (λ (x : (seat ≢ id) × (get_elem? views seat ≡ some u)). let t = j.each seat u x.1 alive in record {
-                caller = t.caller;
-                seen = t.seen;
-                whole = t.whole;
-                made = λ zero_seat. absurd (x.0 (zero_seat ∙ sym front));
-                joined = on u.joined t.joined;
-              })
-              (at_set views id seat w u old))
+          ⊎_elim
+          (λ (x : (seat ≡ id) × (w ≡ u)).
+          subst (λ (y : ℕ × View). IsTrue journal (now ++ next ∷ []) y.0 y.1) (λ i. (sym x.0 i, x.1 i))
+          (record { caller = mine.caller; seen = mine.seen; whole = mine.whole; made = λ _. omega arith; joined = on v.joined mine.joined }))
+          (λ (x : (seat ≢ id) × (get_elem? views seat ≡ some u)). let t = j.each seat u x.1 alive in record {
+            caller = t.caller;
+            seen = t.seen;
+            whole = t.whole;
+            made = λ zero_seat. absurd (x.0 (zero_seat ∙ sym front));
+            joined = on u.joined t.joined;
+          })
+          (at_set views id seat w u old))
           (λ (new : (next ≡ u) × (seat ≡ length now)).
-              subst (λ (y : ℕ × View). IsTrue journal (now ++ next ∷ []) y.0 y.1) (λ i. (sym (new.1 ∙ (len ∙ sym made)) i, new.0 i))
-              (record {
-                caller = refl;
-                seen = (mine.seen.0, none_yet ∙ sym (begins_none v.made v.seen journal mine.seen.0 none_yet));
-                whole = λ t. absurd (true≢false (sym t));
-                made = λ zero_seat. absurd (omega arith);
-                joined = tt;
-              }))
+          subst (λ (y : ℕ × View). IsTrue journal (now ++ next ∷ []) y.0 y.1) (λ i. (sym (new.1 ∙ (len ∙ sym made)) i, new.0 i))
+          (record {
+            caller = refl;
+            seen = (mine.seen.0, none_yet ∙ sym (begins_none v.made v.seen journal mine.seen.0 none_yet));
+            whole = λ t. absurd (true≢false (sym t));
+            made = λ zero_seat. absurd (omega arith);
+            joined = tt;
+          }))
           (at_end now next u seat e);
       unborn = λ k above. j.unborn k (omega arith);
     }
@@ -189,10 +190,12 @@ module _ {O : Type 0} (journal_of : O → List Entry) (grown : O → O → Type 
         placed : (seat : ℕ) (v : View) → get_elem? (idle 0 [] 1 ∷ []) seat ≡ some v → FitsQueue 0 [] seat v.stage
         placed zero v e = subst (λ (x : View). FitsQueue 0 [] 0 x.stage) (some-injective _ _ e) tt
         placed (suc seat) v e = absurd (some-ne-none v (sym e))
+
         told : (seat : ℕ) (v : View) → get_elem? (idle 0 [] 1 ∷ []) seat ≡ some v → is_spent v.stage ≡ false → IsTrue [] (idle 0 [] 1 ∷ []) seat v
         told zero v e alive = subst (IsTrue [] (idle 0 [] 1 ∷ []) 0) (some-injective _ _ e)
             (record { caller = refl; seen = (begins_same [], refl); whole = λ t. absurd (true≢false (sym t)); made = λ _. refl; joined = tt })
         told (suc seat) v e alive = absurd (some-ne-none v (sym e))
+
         none_has : (seat : ℕ) (v : View) → get_elem? (idle 0 [] 1 ∷ []) seat ≡ some v → has_turn v.stage ≡ false
         none_has zero v e = subst (λ (x : View). has_turn x.stage ≡ false) (some-injective _ _ e) refl
         none_has (suc seat) v e = absurd (some-ne-none v (sym e))
@@ -251,14 +254,25 @@ module _ {O : Type 0} (journal_of : O → List Entry) (grown : O → O → Type 
       let at = final.1.1 in
       ⊎_elim
       (λ (h : AtHome journal_of grown first r.journal s).
-          let mine = r.journaled.each id (gathered (pass ∷ passes)) at refl in (
-            h.object,
-            final.4 0 (Some h.object) (ap (λ l. get_elem? l 0) h.home),
-            h.grows,
-            subst (λ (l : List Entry). AllByRecursion (IsKnownOf l) (pass ∷ passes)) (sym h.keeps) (
-              (mine.seen.0.0, mine.seen.0.1, subst (λ (c : ℕ). entries_of c r.journal ≡ entries_of c pass.seen) (sym mine.caller) mine.seen.1),
-              all_known r.journal s.views passes mine.joined,
-            ),
-          ))
+      let mine = r.journaled.each id (gathered (pass ∷ passes)) at refl in (
+        h.object,
+        final.4 0 (Some h.object) (ap (λ l. get_elem? l 0) h.home),
+        h.grows,
+        subst (λ (l : List Entry). AllByRecursion (IsKnownOf l) (pass ∷ passes)) (sym h.keeps) (
+          (mine.seen.0.0, mine.seen.0.1, subst (λ (c : ℕ). entries_of c r.journal ≡ entries_of c pass.seen) (sym mine.caller) mine.seen.1),
+          all_known r.journal s.views passes mine.joined,
+        ),
+      ))
       (λ (o : IsOut s). absurd (no_both (has_turn o.view.stage) o.turn (none_left s r id room pass passes all at o.seat o.view o.there)))
       r.shelf
+
+-- the passes are of the room
+pub are_in : (n : ℕ) (room : TableId) (passes : List Known) → AreAllFrom n room passes → AreIn room passes
+are_in n room [] all = tt
+are_in n room (pass ∷ passes) all = (all.0, are_in (n + 1) room passes all.2)
+
+-- one more was joined
+pub joined_more : (joined : List Parted) (x : Known) (before after whole : List Known) → joined ++ map parted_pass before ≡ map parted_pass whole → before ≡ x ∷ after
+    → (joined ++ parted_pass x ∷ []) ++ map parted_pass after ≡ map parted_pass whole
+joined_more joined x before after whole so_far is =
+    append_assoc joined (parted_pass x ∷ []) (map parted_pass after) ∙ (ap (λ (l : List Known). joined ++ map parted_pass l) (sym is) ∙ so_far)

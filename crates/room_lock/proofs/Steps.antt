@@ -126,20 +126,20 @@ module _ {O : Type 0} (journal_of : O → List Entry) (grown : O → O → Type 
       let again : slice_set s.words 2 (slice_index s.words 2) ≡ s.words = ap (λ (l : List ℕ). slice_set l 2 (slice_index l 2)) r.words ∙ sym r.words in
       dite (ℕ_discrete (slice_index s.words 2) (ticket % 2 ^ 64))
       (λ hit.
-          let q : FitsQueue r.serving r.queue id (Waits ticket) = subst (FitsQueue r.serving r.queue id) is (r.queued.each id v at) in
-          let held_few = all_held_few s.views in
-          let counted = r.queued.counted in
-          let all_few = r.few in
-          let served = ticket_served r.serving r.queue id ticket q.0 (omega arith) q.1 q.2 (sym (ap (λ (l : List ℕ). slice_index l 2) r.words) ∙ hit) in
-          ⊎_elim
-          (λ (h : AtHome journal_of grown first r.journal s).
-              let t = takes_home slots id me empty ticket is s r at hit served h in
-              (t.0, takes 0 (Some h.object), ap (λ l. get_elem? l 0) h.home, t.1, t.2))
-          (λ (o : IsOut s).
-              let same = only_one s r id served o.seat o.view o.there o.turn in
-              let view_is : o.view ≡ v = some-injective o.view v (sym o.there ∙ (ap (λ (n : ℕ). get_elem? s.views n) same ∙ at)) in
-              absurd (no_both (has_turn v.stage) (subst (λ (u : View). has_turn u.stage ≡ true) view_is o.turn) (ap has_turn is)))
-          r.shelf)
+      let q : FitsQueue r.serving r.queue id (Waits ticket) = subst (FitsQueue r.serving r.queue id) is (r.queued.each id v at) in
+      let held_few = all_held_few s.views in
+      let counted = r.queued.counted in
+      let all_few = r.few in
+      let served = ticket_served r.serving r.queue id ticket q.0 (omega arith) q.1 q.2 (sym (ap (λ (l : List ℕ). slice_index l 2) r.words) ∙ hit) in
+      ⊎_elim
+      (λ (h : AtHome journal_of grown first r.journal s).
+      let t = takes_home slots id me empty ticket is s r at hit served h in
+      (t.0, takes 0 (Some h.object), ap (λ l. get_elem? l 0) h.home, t.1, t.2))
+      (λ (o : IsOut s).
+      let same = only_one s r id served o.seat o.view o.there o.turn in
+      let view_is : o.view ≡ v = some-injective o.view v (sym o.there ∙ (ap (λ (n : ℕ). get_elem? s.views n) same ∙ at)) in
+      absurd (no_both (has_turn v.stage) (subst (λ (u : View). has_turn u.stage ≡ true) view_is o.turn) (ap has_turn is)))
+      r.shelf)
       (λ miss. (
         v,
         keeps,
@@ -162,8 +162,8 @@ module _ {O : Type 0} (journal_of : O → List Entry) (grown : O → O → Type 
       let by_id : entry.caller ≡ id = adds.2 ∙ mine.caller in
       let longer : after ≡ r.journal ++ entry ∷ [] = adds.1 ∙ ap (λ (l : List Entry). l ++ entry ∷ []) whole in
       let same : (k : ℕ) → k ≢ id → entries_of k after ≡ entries_of k r.journal =
-          λ k other. ap (entries_of k) longer ∙ (entries_of-append k r.journal (entry ∷ [])
-          ∙ (ap (λ (l : List Entry). entries_of k r.journal ++ l) (entries_of-other k entry (λ e. other (sym e ∙ by_id))) ∙ append-nil (entries_of k r.journal))) in
+      λ k other. ap (entries_of k) longer ∙ (entries_of-append k r.journal (entry ∷ [])
+      ∙ (ap (λ (l : List Entry). entries_of k r.journal ++ l) (entries_of-other k entry (λ e. other (sym e ∙ by_id))) ∙ append-nil (entries_of k r.journal))) in
       let served = first_in s r id v at turn in
       let grows : length after ≡ length r.journal + 1 = ap length longer ∙ length-append r.journal (entry ∷ []) in
       let next : (length r.journal + 1) % 2 ^ 64 ≡ length after = omega arith in (

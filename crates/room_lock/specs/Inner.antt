@@ -3,6 +3,7 @@ use Rattle.std.specs.Prelude.{◌≡◌, ◌≢◌, ◌⊎◌, ℕ, ◌+◌, ◌
 use Rattle.std.specs.List.{AllByRecursion}
 use mathlib.Core.Option.{some, none}
 use lib.ListN.{get_elem?}
+use Rattle.atomic_table.specs.Seated.{TableId}
 use Rattle.atomic_table.specs.declared.shared.Seat.{Seat}
 use Rattle.atomic_table.specs.Table.{State, Me, Step, rest}
 use Rattle.xi_plain.specs.declared.entry.Entry.{Entry}
@@ -188,6 +189,14 @@ parted_pass pass = record { caller = pass.caller; seen = pass.seen }
 abbrev pub gathered : List Known → View
 gathered [] = spent
 gathered (pass ∷ passes) = record { caller = pass.caller; stage = Idle; seen = pass.seen; made = pass.made; joined = map parted_pass passes }
+
+-- the view with these joined to it
+abbrev pub with_joined : List Parted → View → View
+with_joined joined v = record { caller = v.caller; stage = v.stage; seen = v.seen; made = v.made; joined = joined }
+
+-- the passes are of the room
+abbrev pub AreIn : TableId → List Known → Type 0
+AreIn room passes = AllByRecursion (λ pass. pass.room ≡ room) passes
 
 -- the pass that the seat is
 abbrev pub known_at : {S : Type 0} → Seat S View → Known

@@ -63,7 +63,9 @@ impl<O: Object> Room<O> {
         if tries < TRIES {
             thread::yield_now();
         } else {
-            self.table.shared.park(rt, word, (found % 0x1_0000_0000) as u32);
+            self.table
+                .shared
+                .park(rt, word, (found % 0x1_0000_0000) as u32);
         }
     }
 

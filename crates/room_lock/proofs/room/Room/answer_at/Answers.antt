@@ -26,7 +26,7 @@ returns-clause-answered g c =
     let me = ap (λ m. m.0) c.put.ensures.put ∙ ap (λ m. m.0) c.take-object.ensures.view in
     let counted = c.count-len.ensures.counted object (ap (λ m. m.1) c.put.ensures.put) in
     let now : c.pass_on.new.seat.me.0 ≡ at_stage Idle (with_turn (journal object) (with_turn (journal object) v)) =
-        ap (λ m. m.0) c.pass_on.ensures.passed ∙ (ap (λ m. at_stage Idle m.0) counted ∙ ap (λ x. at_stage Idle (with_turn (journal object) x)) me) in
+    ap (λ m. m.0) c.pass_on.ensures.passed ∙ (ap (λ m. at_stage Idle m.0) counted ∙ ap (λ x. at_stage Idle (with_turn (journal object) x)) me) in
     let grown = c.take-object.ensures.grown in
     let seen : journal object ≡ c.pass_on.new.seat.me.0.seen = sym (ap (λ x. x.seen) now) in
     answered_turn g.O.Object.legal first g.O.Object.answers c.args.query c.answer-answer.result _ _
@@ -38,4 +38,4 @@ returns-clause-answered g c =
     (subst (λ l. Agrees l v.caller v.seen) seen c.take-object.ensures.agrees)
     (subst (g.O.Object.legal first) seen (g.met.O.Object.legal_on first object (journal object) grown (g.met.O.Object.legal_now object)))
     (subst (λ (z : ℕ × List Entry). g.O.Object.answers first z.1 z.0 c.args.query c.answer-answer.result) (λ i. (sym c.requires.caller i, seen i))
-        (g.met.O.Object.answers_on first object _ _ _ _ grown c.answer-answer.ensures))
+    (g.met.O.Object.answers_on first object _ _ _ _ grown c.answer-answer.ensures))

@@ -1,25 +1,18 @@
-use Rattle.std.proofs.Common.{rules, ℕ, ◌≡◌, ◌∷◌, [], ◌+◌, ◌-◌, ◌*◌, ◌<◌, ◌≤◌, length, ◌/◌, ◌%◌, Bool, true, false, nat_eq, nat_lt, List, ◌++◌, slice_index_or, slice_set, bit_and, bit_or, Fits, w8, w32, w64, Bor, MutBor}
-use Rattle.std.specs.List.{AllByRecursion}
-use Rattle.room_lock.specs.Room.{AreAll, IsKnownOf}
-use Rattle.room_lock.specs.Inner.{gathered}
+use Rattle.std.proofs.Common.{rules, [], ◌∷◌, ◌++◌, map, refl, ap, ◌∙◌, subst, sym}
+use Rattle.room_lock.specs.Room.{AreAll}
+use Rattle.room_lock.specs.Inner.{AreIn, parted_pass}
+use Rattle.room_lock.proofs.Ends.{are_in}
 use Rattle.room_lock.proofs.room.Room.gather.Goals as goal
 
--- src/close.rt:24:9
 pub loop-pass-init : goal.loop-pass-init
-loop-pass-init g c = ?
-
--- src/close.rt:25:13
-pub join_seat-requires : goal.join_seat-requires
-join_seat-requires g c = ?
-
--- src/close.rt:24:9
-pub loop-pass-preserved : goal.loop-pass-preserved
-loop-pass-preserved g c = ?
-
--- src/close.rt:14:5
-pub returns-clause-seat : goal.returns-clause-seat
-returns-clause-seat g c = ?
-
--- src/close.rt:14:5
-pub returns-clause-all : goal.returns-clause-all
-returns-clause-all g c = ?
+loop-pass-init g c =
+    let room = c.args.self.now.table.shared.table_id in
+    let me = c.into_seat-seat.ensures.1 in
+    let all = subst (AreAll room) (sym c.into_iter-passes.ensures.rest ∙ c.in-Some.ensures.items) c.requires in (
+      tt,
+      tt,
+      refl,
+      ap (λ l. (c.into_seat-seat.result.me.0, l)) (ap (λ m. m.1) me),
+      ap (λ m. m.0.joined ++ map parted_pass c.into_iter-pass-iterator.result.rest.items) me,
+      subst (λ it. AreIn room it.rest.items) (sym c.into_iter-pass-iterator.ensures.into_iter_gives) (are_in 1 room _ all.0.2),
+    )

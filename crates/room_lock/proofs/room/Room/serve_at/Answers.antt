@@ -42,7 +42,7 @@ returns-clause-served g c =
     let me = ap (λ m. m.0) c.put.ensures.put ∙ ap (λ m. m.0) c.take-object.ensures.view in
     let counted = c.count-place.ensures.counted object (ap (λ m. m.1) c.put.ensures.put) in
     let now : c.pass_on.new.seat.me.0 ≡ at_stage Idle (with_turn (journal object) (with_turn (journal before) v)) =
-        ap (λ m. m.0) c.pass_on.ensures.passed ∙ (ap (λ m. at_stage Idle m.0) counted ∙ ap (λ x. at_stage Idle (with_turn (journal object) x)) me) in
+    ap (λ m. m.0) c.pass_on.ensures.passed ∙ (ap (λ m. at_stage Idle m.0) counted ∙ ap (λ x. at_stage Idle (with_turn (journal object) x)) me) in
     let served = c.serve-reply.ensures.served in
     let grown = c.take-object.ensures.grown in
     let to : (c.args.caller, journal object) ≡ (v.caller, c.pass_on.new.seat.me.0.seen) = λ i. (sym c.requires.caller i, sym (ap (λ x. x.seen) now) i) in
