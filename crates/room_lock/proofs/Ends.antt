@@ -1,10 +1,8 @@
 -- How seats come and go: the first, the next, one that is joined away, and the end.
-use Rattle.std.proofs.Common.{◌≡◌, ◌≢◌, ◌⊎◌, ℕ, zero, suc, ◌+◌, ◌%◌, ◌^◌, ◌<◌, ◌≤◌, Bool, true, false, true≢false, List, [], ◌∷◌, ◌++◌, map, length, set, Option, Some, refl, sym, ap, ◌∙◌, subst, ⊎_elim, inl, inr, arith, length-append, length-set}
+use Rattle.std.proofs.Common.{◌≡◌, ◌≢◌, ◌⊎◌, ℕ, zero, suc, ◌+◌, ◌<◌, ◌≤◌, true, false, true≢false, List, [], ◌∷◌, ◌++◌, map, length, set, Option, Some, refl, sym, ap, ◌∙◌, subst, ⊎_elim, inl, inr, arith, length-append, length-set}
 use Rattle.std.specs.List.{AllByRecursion}
 use Rattle.std.proofs.lemmas.List.{append_assoc}
-use mathlib.Core.Option.{some, none, some-injective, some-ne-none}
-use mathlib.Core.Logic.{dite}
-use native.Mathlib.Decide.{ℕ_discrete}
+use mathlib.Core.Option.{some, some-injective, some-ne-none}
 use lib.ListN.{get_elem?}
 use Rattle.atomic_table.specs.Seated.{TableId}
 use Rattle.atomic_table.specs.Table.{State, Splits, Joins, Final, Seen, opening}
@@ -15,11 +13,11 @@ use Rattle.room_lock.specs.declared.view.Stage.{Stage}
 use Rattle.room_lock.specs.declared.view.Stage.TheVariants.{Idle, Waits, Turn, Spent}
 use Rattle.room_lock.specs.declared.view.Parted.{Parted}
 use Rattle.room_lock.specs.declared.view.View.{View}
-use Rattle.room_lock.specs.Room.{Known, own, IsKnownOf, AreAllFrom, AreAll}
-use Rattle.room_lock.specs.Inner.{idle, held, has_turn, is_spent, FitsQueue, IsQueue, IsSpentAt, Agrees, IsParted, IsTrue, IsJournal, Kept, AtHome, IsOut, one_more, next_caller, parted, joined_to, spent, parted_pass, gathered, AreIn}
+use Rattle.room_lock.specs.Room.{Known, IsKnownOf, AreAllFrom, AreAll}
+use Rattle.room_lock.specs.Inner.{idle, held, has_turn, is_spent, FitsQueue, IsSpentAt, Agrees, IsParted, IsTrue, IsJournal, Kept, AtHome, IsOut, one_more, next_caller, parted, joined_to, spent, parted_pass, gathered, AreIn}
 use Rattle.room_lock.proofs.Queue.{at_short, queue_set, queue_new}
-use Rattle.room_lock.proofs.Journal.{no_both, begins_same, begins_none, all_on, all_append, spent_set, journal_same, joined_same, true_same}
-use Rattle.room_lock.proofs.Shelf.{none_set, shelf_set}
+use Rattle.room_lock.proofs.Journal.{no_both, begins_same, begins_none, all_on, all_append, spent_set, journal_same, joined_same}
+use Rattle.room_lock.proofs.Shelf.{shelf_set}
 
 -- one list with one view
 pub one_view : (views : List View) (v w : View) → views ≡ v ∷ [] → views ≡ w ∷ [] → w ≡ v

@@ -1,13 +1,12 @@
 -- Where the object is, after each step of a seat.
-use Rattle.std.proofs.Common.{◌≡◌, ◌≢◌, ◌⊎◌, ℕ, Bool, true, false, List, [], ◌∷◌, set, Option, Some, refl, sym, ap, ◌∙◌, subst, ⊎_elim, inl, inr, arith}
-use mathlib.Core.Option.{some, none, some-injective}
+use Rattle.std.proofs.Common.{◌≡◌, ◌≢◌, ◌⊎◌, ℕ, true, false, List, set, Option, sym, ap, ◌∙◌, subst, ⊎_elim, inl, inr}
+use mathlib.Core.Option.{some, some-injective}
 use lib.ListN.{get_elem?}
 use Rattle.atomic_table.specs.Table.{State}
-use Rattle.atomic_table.proofs.Lists.{at_set, set_here, set_else}
+use Rattle.atomic_table.proofs.Lists.{at_set, set_else}
 use Rattle.xi_plain.specs.declared.entry.Entry.{Entry}
 use Rattle.room_lock.specs.declared.view.View.{View}
 use Rattle.room_lock.specs.Inner.{has_turn, AtHome, IsOut}
-use Rattle.room_lock.proofs.Queue.{at_short}
 use Rattle.room_lock.proofs.Journal.{no_both}
 
 abbrev pub with_view : {O : Type 0} → State (Option O) View → List ℕ → ℕ → View → State (Option O) View

@@ -1,6 +1,5 @@
 -- Each step of a turn keeps the rule.
-use Rattle.std.proofs.Common.{◌≡◌, ◌≢◌, ◌⊎◌, ℕ, zero, suc, ◌+◌, ◌%◌, ◌^◌, ◌<◌, ◌≤◌, Bool, true, false, true≢false, List, [], ◌∷◌, ◌++◌, length, drop, set, Option, Some, None, slice_index, slice_set, refl, sym, ap, ◌∙◌, subst, ⊎_elim, inl, inr, arith, length-append, length-set, append-nil}
-use Rattle.std.specs.List.{AllByRecursion}
+use Rattle.std.proofs.Common.{◌≡◌, ◌≢◌, ℕ, ◌+◌, ◌%◌, ◌^◌, ◌<◌, ◌≤◌, Bool, true, false, true≢false, List, [], ◌∷◌, ◌++◌, length, drop, set, Option, Some, None, slice_index, slice_set, refl, sym, ap, ◌∙◌, subst, ⊎_elim, inl, inr, arith, length-append, length-set, append-nil}
 use mathlib.Core.Option.{some, none, some-injective}
 use mathlib.Core.Logic.{dite}
 use native.Mathlib.Decide.{ℕ_discrete}
@@ -9,11 +8,11 @@ use Rattle.atomic_table.specs.Table.{State, Me, step, keeps, takes, gives, put_b
 use Rattle.atomic_table.proofs.Lists.{set_again, set_here}
 use Rattle.xi_plain.specs.declared.entry.Entry.{Entry}
 use Rattle.xi_plain.specs.Journal.{entries_of}
-use Rattle.xi_plain.specs.Room.{Begins, AddsEntry}
+use Rattle.xi_plain.specs.Room.{AddsEntry}
 use Rattle.room_lock.specs.declared.view.Stage.{Stage}
 use Rattle.room_lock.specs.declared.view.Stage.TheVariants.{Idle, Waits, Turn, Spent}
 use Rattle.room_lock.specs.declared.view.View.{View}
-use Rattle.room_lock.specs.Inner.{held, has_turn, is_spent, at_stage, with_turn, FitsQueue, Agrees, IsParted, IsTrue, Kept, AtHome, IsOut, Looked, Counted, Drew, Measured, Passed, FindsUnborn}
+use Rattle.room_lock.specs.Inner.{held, has_turn, is_spent, at_stage, with_turn, FitsQueue, Agrees, Kept, AtHome, IsOut, Looked, Counted, Drew, Measured, Passed, FindsUnborn}
 use Rattle.room_lock.proofs.Queue.{at_short, all_held_few, turn_first, queue_set, queue_draw, queue_pass, ticket_served}
 use Rattle.room_lock.proofs.Journal.{no_both, entries_of-append, entries_of-other, begins_none, agrees_same, joined_on, journal_set, journal_same, true_same}
 use Rattle.room_lock.proofs.Shelf.{none_set, shelf_set}

@@ -1,5 +1,5 @@
 -- What a turn comes to for its caller.
-use Rattle.std.proofs.Common.{◌≡◌, ℕ, ◌+◌, Bool, true, false, List, [], ◌∷◌, ◌++◌, length, take, Option, Some, None, refl, sym, ap, ◌∙◌, subst, arith, length-append, append-nil}
+use Rattle.std.proofs.Common.{◌≡◌, ℕ, ◌+◌, Bool, true, false, List, [], ◌∷◌, ◌++◌, length, take, Option, Some, refl, sym, ap, ◌∙◌, subst, arith, length-append, append-nil}
 use Rattle.atomic_table.specs.Table.{Me}
 use Rattle.xi_plain.specs.declared.entry.Entry.{Entry}
 use Rattle.xi_plain.specs.declared.ask.Ask.{Ask}
@@ -9,11 +9,11 @@ use Rattle.xi_plain.specs.declared.reply.Reply.{Reply}
 use Rattle.xi_plain.specs.declared.reply.Receipt.{Receipt}
 use Rattle.xi_plain.specs.Journal.{entries_of}
 use Rattle.xi_plain.specs.Reply.{has_entry}
-use Rattle.xi_plain.specs.Room.{Begins, AddsEntry, AddsEntryIf}
+use Rattle.xi_plain.specs.Room.{Begins, AddsEntryIf}
 use Rattle.room_lock.specs.declared.view.Stage.TheVariants.{Turn}
 use Rattle.room_lock.specs.declared.view.View.{View}
 use Rattle.room_lock.specs.Room.{Known, IsSamePass, Tells, before_call, own}
-use Rattle.room_lock.specs.Inner.{Agrees, with_turn, IsOnward, IsServed, IsAnswered}
+use Rattle.room_lock.specs.Inner.{Agrees, with_turn, IsServed, IsAnswered}
 use Rattle.room_lock.proofs.Journal.{entries_of-append, entries_of-mine, begins_on}
 use Rattle.room_lock.proofs.Steps.{object_in}
 

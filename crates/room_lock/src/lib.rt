@@ -7,6 +7,7 @@
 
 mod close;
 mod enter;
+pub mod laws;
 mod lock;
 mod pass;
 mod room;

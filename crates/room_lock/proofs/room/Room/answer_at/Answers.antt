@@ -1,4 +1,4 @@
-use Rattle.std.proofs.Common.{rules, ◌≡◌, ℕ, List, [], ◌∷◌, Some, length, refl, ap, sym, ◌∙◌, subst}
+use Rattle.std.proofs.Common.{◌≡◌, ℕ, List, ap, sym, ◌∙◌, subst}
 use Rattle.xi_plain.specs.declared.entry.Entry.{Entry}
 use Rattle.room_lock.specs.declared.view.Stage.TheVariants.{Idle}
 use Rattle.room_lock.specs.Inner.{Agrees, at_stage, with_turn}

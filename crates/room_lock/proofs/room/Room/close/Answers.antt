@@ -1,4 +1,4 @@
-use Rattle.std.proofs.Common.{rules, ◌≡◌, [], ◌∷◌, Some, refl, ap, ◌∙◌, subst, sym}
+use Rattle.std.proofs.Common.{[], ◌∷◌, refl, ap, ◌∙◌, subst, sym}
 use Rattle.std.specs.Option.{IsSome}
 use Rattle.std.specs.List.{AllByRecursion}
 use mathlib.Core.Option.{some-injective}

@@ -1,7 +1,6 @@
-use Rattle.std.proofs.Common.{rules, ◌∙◌, subst}
+use Rattle.std.proofs.Common.{rules, subst}
 use Rattle.xi_plain.specs.Room.{AddsEntryIf}
 use Rattle.room_lock.proofs.Steps.{counts, measures}
-use Rattle.room_lock.proofs.Turns.{same_turn}
 use Rattle.room_lock.proofs.room.Room.count.Goals as goal
 
 pub fetch_add-requires : goal.fetch_add-requires

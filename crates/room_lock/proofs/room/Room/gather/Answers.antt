@@ -1,4 +1,4 @@
-use Rattle.std.proofs.Common.{rules, [], ◌∷◌, ◌++◌, map, refl, ap, ◌∙◌, subst, sym}
+use Rattle.std.proofs.Common.{◌++◌, map, refl, ap, ◌∙◌, subst, sym}
 use Rattle.room_lock.specs.Room.{AreAll}
 use Rattle.room_lock.specs.Inner.{AreIn, parted_pass}
 use Rattle.room_lock.proofs.Ends.{are_in}

@@ -1,4 +1,4 @@
-use Rattle.std.proofs.Common.{rules, [], ◌∷◌, ◌++◌, Some, ap, ◌∙◌, subst, sym}
+use Rattle.std.proofs.Common.{[], ◌∷◌, ◌++◌, Some, ap, ◌∙◌, subst, sym}
 use Rattle.atomic_table.specs.Table.{opening}
 use Rattle.room_lock.specs.Inner.{Kept, idle}
 use Rattle.room_lock.proofs.Ends.{begins}

@@ -1,4 +1,4 @@
-use Rattle.std.proofs.Common.{rules, ◌≡◌, ℕ, Bool, List, [], ◌∷◌, Some, length, ◌<◌, ◌^◌, refl, ap, sym, ◌∙◌, subst}
+use Rattle.std.proofs.Common.{◌≡◌, ℕ, Bool, List, length, ◌<◌, ◌^◌, ap, sym, ◌∙◌, subst}
 use Rattle.xi_plain.specs.declared.entry.Entry.{Entry}
 use Rattle.xi_plain.specs.Reply.{has_entry}
 use Rattle.xi_plain.specs.Room.{AddsEntryIf}

@@ -1,5 +1,4 @@
 use Rattle.std.proofs.Common.{rules, ◌≡◌, ◌<◌, ap, sym, ◌∙◌, subst}
-use Rattle.room_lock.specs.Inner.{idle, seen_in}
 use Rattle.room_lock.proofs.Steps.{numbers}
 use Rattle.room_lock.proofs.Ends.{one_view, splits}
 use Rattle.room_lock.proofs.room.Room.split.Goals as goal
