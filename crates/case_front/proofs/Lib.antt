@@ -1,0 +1,2 @@
+-- Laws about the table.
+pub mod Past

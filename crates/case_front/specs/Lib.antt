@@ -1,0 +1,3 @@
+-- What methods there are.
+pub mod Members
+pub mod Table
