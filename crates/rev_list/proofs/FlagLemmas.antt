@@ -1,14 +1,15 @@
 -- What is dead before and after edits, as flags.
-use Rattle.std.proofs.Common.{◌≡◌, ℕ, ◌+◌, ◌<◌, ◌≤◌, Bool, true, false, not, ◌||◌, ◌&&◌, List, [], ◌∷◌, ◌++◌, length, take, drop, get_or, refl, ap, sym, ◌∙◌, arith, suc-add}
+use Rattle.std.proofs.Common.{◌≡◌, ℕ, ◌+◌, ◌<◌, ◌≤◌, Bool, true, false, not, ◌||◌, ◌&&◌, List, [], ◌∷◌, ◌++◌, length, take, drop, get_or, refl, ap, sym, ◌∙◌, arith}
 use Rattle.std.specs.Prelude.{suc, zero, replicate}
 use Rattle.std.specs.List.{fold}
-use Rattle.std.proofs.lemmas.List.{length-replicate}
+use Rattle.std.proofs.lemmas.List.{drop_more, get_or-map, length-map, length-replicate}
 use Rattle.std.proofs.lemmas.List.Sums.{fold_more}
 use Rattle.subset_runs.specs.Subset.{count, union, minus, expand, shrink}
 use Rattle.subset_runs.proofs.ForCallers.{length-at_each, items_outside-expand_as}
 use Rattle.subset_runs.proofs.ForCallers.{length-expand_as}
 use Rattle.rev_list.specs.declared.edit.RevEdit.{RevEdit}
-use Rattle.rev_list.specs.Kept.{AreInTurn, dead_after, hidden_by, hidden_by_each, HoldsEdits}
+use Rattle.rev_list.specs.declared.records.RevRecord.{RevRecord}
+use Rattle.rev_list.specs.Kept.{AreInTurn, dead_after, edits_of, hidden_by, hidden_by_each, HoldsEdits}
 
 pub length-dead_after : (dead : List Bool) (e : RevEdit) → length e.deleted ≡ length e.inserted → length (dead_after dead e) ≡ length e.inserted
 length-dead_after dead e h =
@@ -91,34 +92,36 @@ IsBack-turn before e turn =
       back = dead_before before e turn.grown turn.same_length;
     }
 
-pub back_at : (len : ℕ) (edits : List RevEdit) (hid : List (List Bool)) (gone dead : List Bool) (at i : ℕ) (e : RevEdit) (h : List Bool) → HoldsEdits len edits hid gone → dead ≡ fold dead_after (replicate len false) (take at edits) → at ≡ i + 1 → i < length edits → e ≡ get_or edits i e → h ≡ get_or hid i h → IsBack dead e h (fold dead_after (replicate len false) (take i edits))
-back_at len edits hid gone dead at i e h stored is at_is lt e_is h_is =
+pub length-edits_of : (records : List RevRecord) → length (edits_of records) ≡ length records
+length-edits_of records = length-map records (λ r. r.edit)
+
+-- the edit of a record that is read
+pub edits_of-at : (records : List RevRecord) (i : ℕ) (r : RevRecord) → i < length records → r ≡ get_or records i r → r.edit ≡ get_or (edits_of records) i r.edit
+edits_of-at records i r lt is = ap (λ x. x.edit) is ∙ sym (get_or-map (λ x. x.edit) records i r r.edit lt)
+
+pub edits_of-drop : (records : List RevRecord) (i : ℕ) (r : RevRecord) → i < length records → r ≡ get_or records i r → drop i (edits_of records) ≡ r.edit ∷ drop (i + 1) (edits_of records)
+edits_of-drop records i r lt is =
+    drop_more (edits_of records) i r.edit (omega (arith, length-edits_of records))
+    ∙ ap (λ e. e ∷ drop (i + 1) (edits_of records)) (sym (edits_of-at records i r lt is))
+
+pub back_at : (len : ℕ) (records : List RevRecord) (gone dead : List Bool) (at i : ℕ) (r : RevRecord) → HoldsEdits len records gone → dead ≡ fold dead_after (replicate len false) (take at (edits_of records)) → at ≡ i + 1 → i < length records → r ≡ get_or records i r → IsBack dead r.edit r.hidden (fold dead_after (replicate len false) (take i (edits_of records)))
+back_at len records gone dead at i r stored is at_is lt r_is =
+    let edits : List RevEdit = edits_of records in
     let before : List Bool = fold dead_after (replicate len false) (take i edits) in
+    let within : i < length edits = omega (arith, length-edits_of records) in
+    let e_is : get_or edits i r.edit ≡ r.edit = sym (edits_of-at records i r lt r_is) in
     let turns : AreInTurn (length (replicate len false)) edits = rw (length-replicate len false) stored.in_turn in
-    let turn : IsTurn before e = rw e_is (turn_at (replicate len false) edits i e turns lt) in
-    let dead_is : dead ≡ dead_after before e =
+    let turn : IsTurn before r.edit = rw e_is at (turn_at (replicate len false) edits i r.edit turns within) in
+    let dead_is : dead ≡ dead_after before r.edit =
     is ∙ (ap (λ n. fold dead_after (replicate len false) (take n edits)) at_is
-    ∙ (fold_more dead_after (replicate len false) edits i e lt ∙ ap (λ x. dead_after before x) (sym e_is))) in
-    let hid_is : h ≡ hidden_by before e =
-    h_is ∙ (ap (λ xs. get_or xs i h) stored.hidden
-    ∙ (hidden_at_index (replicate len false) edits i e h lt ∙ ap (λ x. hidden_by before x) (sym e_is))) in
-    rw (dead_is, hid_is) (IsBack-turn before e turn)
-
-pub record IsFront (n : ℕ) (e : RevEdit) (edits : List RevEdit) : Type 0 where
-  pub grown : n + count e.inserted ≡ length e.inserted
-  pub turns : AreInTurn (length e.inserted) edits
-
-pub turn_front : (n : ℕ) (edits : List RevEdit) (i : ℕ) (e : RevEdit) → AreInTurn n (drop i edits) → i < length edits → e ≡ get_or edits i e → IsFront n e (drop (i + 1) edits)
-turn_front n [] i e turns lt is = absurd (omega arith)
-turn_front n (f ∷ edits) zero e turns lt is =
-    let same : f ≡ e = sym is in
-    rw (← same) (record { grown = sym turns.0; turns = turns.2 })
-turn_front n (f ∷ edits) (suc i) e turns lt is = rw (suc-add i 1) (turn_front n edits i e turns (omega arith) is)
+    ∙ (fold_more dead_after (replicate len false) edits i r.edit within ∙ ap (λ x. dead_after before x) e_is)) in
+    let hid_is : r.hidden ≡ hidden_by before r.edit =
+    ap (λ x. x.hidden) r_is ∙ (sym (get_or-map (λ x. x.hidden) records i r r.hidden lt)
+    ∙ (ap (λ xs. get_or xs i r.hidden) stored.hidden
+    ∙ (hidden_at_index (replicate len false) edits i r.edit r.hidden within ∙ ap (λ x. hidden_by before x) e_is))) in
+    rw (dead_is, hid_is) (IsBack-turn before r.edit turn)
 
 -- ---- the same from a loaded text
 
 pub turns_loaded_from : (len : ℕ) (edits : List RevEdit) (i : ℕ) → AreInTurn len edits → i ≤ length edits → AreInTurn (length (fold dead_after (replicate len false) (take i edits))) (drop i edits)
 turns_loaded_from len edits i turns le = turns_from (replicate len false) edits i (rw (length-replicate len false) turns) le
-
-pub length-hidden : (len : ℕ) (edits : List RevEdit) (hid : List (List Bool)) (gone : List Bool) → HoldsEdits len edits hid gone → length hid ≡ length edits
-length-hidden len edits hid gone stored = ap length stored.hidden ∙ length-hidden_by_each (replicate len false) edits

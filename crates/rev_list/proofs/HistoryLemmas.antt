@@ -2,7 +2,7 @@
 use Rattle.std.proofs.Common.{◌≡◌, ℕ, ◌+◌, ◌<◌, ◌≤◌, Bool, true, false, not, List, [], ◌∷◌, ◌++◌, length, take, drop, map, Some, refl, ap, sym, ◌∙◌, subst, arith, length-append, suc-add}
 use Rattle.std.specs.Prelude.{suc, zero, replicate, ◌==◌, slice_get}
 use Rattle.std.specs.List.{fold, AllByRecursion}
-use Rattle.std.proofs.lemmas.List.{length-map, length-drop, length-replicate, take_all}
+use Rattle.std.proofs.lemmas.List.{map-append, length-map, length-drop, length-replicate, take_all}
 use Rattle.std.proofs.lemmas.List.Sums.{fold-append}
 use Rattle.std.proofs.lemmas.Option.{slice_get_past}
 use Rattle.subset_runs.specs.Subset.{count, union, expand, expand_in, expand_as}
@@ -10,10 +10,10 @@ use Rattle.plain_text.specs.Numbers.{has}
 use Rattle.plain_edits.specs.History.{Tagged, Revision, History, head, loaded, revision_at, undone, IsTaggedBy, IsSound}
 use Rattle.plain_edits.specs.Edits.{with_deletion}
 use Rattle.rev_list.specs.declared.edit.RevEdit.{RevEdit}
-use Rattle.rev_list.specs.declared.edit.ReadyEdit.{ReadyEdit}
+use Rattle.rev_list.specs.declared.records.RevRecord.{RevRecord}
 use Rattle.rev_list.specs.Edit.{edit_revision, new_by, with_new, with_deleted, after_edit, MayPush}
 use Rattle.rev_list.specs.Hidden.{is_hidden, hidden_at, union_at, hidden_then, insertions_of, deletions_of, IsEditAt, AreEditsAfter}
-use Rattle.rev_list.specs.Kept.{AreInTurn, dead_after, hidden_by, history_of, HoldsEdits, IsReady}
+use Rattle.rev_list.specs.Kept.{AreInTurn, dead_after, edits_of, hidden_by, hidden_by_each, history_of, HoldsEdits}
 use Rattle.rev_list.specs.Inner.{dead_later}
 use Rattle.rev_list.proofs.FlagLemmas.{AreInTurn-append, hidden_by_each-append}
 use Rattle.rev_list.proofs.TagLemmas.{undone_after-edit, is_visible-seen, seen_new_before, seen_new_now, seen_deleted_before, has_deleted_before, inserted_now}
@@ -322,42 +322,23 @@ AreEditsAfter-history_of len edits after base turns le is = record {
 
 -- ---- the next edit
 
-pub IsNext-history_of : (len : ℕ) (edits : List RevEdit) (e : RevEdit) → MayPush (history_of len edits) e → IsNext (history_of len edits) e
-IsNext-history_of len edits e may = record { grown = may.grown; same_length = may.same_length }
-
-pub IsReady-made : (len : ℕ) (edits : List RevEdit) (hid : List (List Bool)) (gone : List Bool) (e : RevEdit) (ready : ReadyEdit) → HoldsEdits len edits hid gone → MayPush (history_of len edits) e → ready.edit ≡ e → ready.hidden ≡ hidden_by gone e → ready.dead ≡ dead_after gone e → IsReady (history_of len edits) ready
-IsReady-made len edits hid gone e ready stored may e_is hid_is dead_is =
-    let h = history_of len edits in
-    let plain = IsPlain-history_of len edits in
-    let gone_is : gone ≡ hidden_at h (head h) = stored.dead ∙ sym (hidden_head-history_of len edits stored.in_turn) in
-    record {
-      may = rw e_is may;
-      hidden = hid_is ∙ (ap (λ xs. hidden_by xs e) gone_is ∙ ap (λ x. hidden_by (hidden_at h (head h)) x) (sym e_is));
-      dead =
-          dead_is ∙ (ap (λ xs. dead_after xs e) gone_is
-          ∙ (sym (hidden_at-now h e plain (IsNext-history_of len edits e may)) ∙ ap (λ x. hidden_at (after_edit h x) (head h + 1)) (sym e_is)));
-    }
-
-pub HoldsEdits-after_edit : (len : ℕ) (edits : List RevEdit) (hid : List (List Bool)) (gone : List Bool) (ready : ReadyEdit) → HoldsEdits len edits hid gone → IsReady (history_of len edits) ready → HoldsEdits len (edits ++ ready.edit ∷ []) (hid ++ ready.hidden ∷ []) ready.dead
-HoldsEdits-after_edit len edits hid gone ready stored is =
-    let h = history_of len edits in
-    let e = ready.edit in
-    let plain = IsPlain-history_of len edits in
-    let next = IsNext-history_of len edits e is.may in
+pub HoldsEdits-push : (len : ℕ) (records : List RevRecord) (gone dead : List Bool) (newest : RevRecord) → HoldsEdits len records gone → MayPush (history_of len (edits_of records)) newest.edit → newest.hidden ≡ hidden_by gone newest.edit → dead ≡ dead_after gone newest.edit → HoldsEdits len (records ++ newest ∷ []) dead
+HoldsEdits-push len records gone dead newest stored may hid_is dead_is =
+    let e = newest.edit in
+    let edits : List RevEdit = edits_of records in
     let first : List Bool = replicate len false in
     let before : List Bool = fold dead_after first edits in
-    let gone_is : hidden_at h (head h) ≡ before = hidden_head-history_of len edits stored.in_turn in
+    let more : edits_of (records ++ newest ∷ []) ≡ edits ++ e ∷ [] = map-append (λ r. r.edit) records (newest ∷ []) in
     let turns : AreInTurn (length first) edits = rw (length-replicate len false) stored.in_turn in
-    let one : AreInTurn (length before) (e ∷ []) = (next.grown ∙ ap (λ n. n + count e.inserted) (length-history_of len edits stored.in_turn), next.same_length, tt) in
+    let one : AreInTurn (length before) (e ∷ []) = (may.grown ∙ ap (λ n. n + count e.inserted) (length-history_of len edits stored.in_turn), may.same_length, tt) in
     record {
-      in_turn = rw (length-replicate len false) at (AreInTurn-append first edits turns (e ∷ []) one);
+      in_turn = rw more (rw (length-replicate len false) at (AreInTurn-append first edits turns (e ∷ []) one));
       hidden =
-          ap (λ x. hid ++ x ∷ []) (is.hidden ∙ ap (λ xs. hidden_by xs e) gone_is)
-          ∙ (ap (λ xs. xs ++ hidden_by before e ∷ []) stored.hidden ∙ sym (hidden_by_each-append first edits (e ∷ [])));
+          map-append (λ r. r.hidden) records (newest ∷ [])
+          ∙ (ap (λ xs. xs ++ newest.hidden ∷ []) stored.hidden
+          ∙ (ap (λ x. hidden_by_each first edits ++ x ∷ []) (hid_is ∙ ap (λ xs. hidden_by xs e) stored.dead)
+          ∙ (sym (hidden_by_each-append first edits (e ∷ [])) ∙ ap (hidden_by_each first) (sym more))));
       dead =
-          is.dead ∙ (hidden_at-now h e plain next
-          ∙ (ap (λ xs. dead_after xs e) gone_is ∙ sym (fold-append dead_after first edits (e ∷ []))));
+          dead_is ∙ (ap (λ xs. dead_after xs e) stored.dead
+          ∙ (sym (fold-append dead_after first edits (e ∷ [])) ∙ ap (fold dead_after first) (sym more)));
     }
-
-pub history_of-after_edit : (len : ℕ) (edits : List RevEdit) (e : RevEdit) → history_of len (edits ++ e ∷ []) ≡ after_edit (history_of len edits) e
-history_of-after_edit len edits e = fold-append after_edit (loaded (replicate len 0)) edits (e ∷ [])

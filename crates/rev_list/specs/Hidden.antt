@@ -1,8 +1,8 @@
 -- What the positions of the union are at a revision.
-use Rattle.std.specs.Prelude.{◌≡◌, ℕ, ◌+◌, ◌<◌, ◌≤◌, Bool, true, false, not, ◌==◌, List, length, map, Option, Some, None, slice_get}
+use Rattle.std.specs.Prelude.{◌≡◌, ℕ, ◌+◌, ◌<◌, ◌≤◌, Bool, not, ◌==◌, List, length, map, Some, slice_get}
 use Rattle.std.specs.List.{filter}
 use Rattle.plain_text.specs.Numbers.{has}
-use Rattle.plain_edits.specs.History.{Tagged, Revision, edit, undo, History, head, revision_at, is_there, is_visible}
+use Rattle.plain_edits.specs.History.{Tagged, History, head, revision_at, is_there, is_visible}
 pub use Rattle.plain_edits.specs.HistorySteps.{is_edit}
 use Rattle.rev_list.specs.declared.edit.RevEdit.{RevEdit}
 use Rattle.rev_list.specs.Edit.{edit_revision}

@@ -1,5 +1,5 @@
 -- What private functions say.
-use Rattle.std.specs.Prelude.{Bool, List, []}
+use Rattle.std.specs.Prelude.{Bool, List}
 use Rattle.subset_runs.specs.Subset.{expand_in}
 use Rattle.rev_list.specs.declared.edit.RevEdit.{RevEdit}
 

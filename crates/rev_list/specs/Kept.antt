@@ -1,12 +1,11 @@
 -- What a list of revisions keeps: its edits, each in the positions of its own union.
-use Rattle.std.specs.Prelude.{◌≡◌, ℕ, ◌+◌, Bool, false, List, [], ◌∷◌, length, replicate}
+use Rattle.std.specs.Prelude.{◌≡◌, ℕ, ◌+◌, Bool, false, List, [], ◌∷◌, length, map, replicate}
 use Rattle.std.specs.List.{fold}
-use Rattle.subset_runs.specs.Subset.{count, expand, expand_in, union, minus}
-use Rattle.plain_edits.specs.History.{History, head, loaded}
+use Rattle.subset_runs.specs.Subset.{count, expand, union, minus}
+use Rattle.plain_edits.specs.History.{History, loaded}
 use Rattle.rev_list.specs.declared.edit.RevEdit.{RevEdit}
-use Rattle.rev_list.specs.declared.edit.ReadyEdit.{ReadyEdit}
-use Rattle.rev_list.specs.Edit.{after_edit, MayPush}
-use Rattle.rev_list.specs.Hidden.{hidden_at}
+use Rattle.rev_list.specs.declared.records.RevRecord.{RevRecord}
+use Rattle.rev_list.specs.Edit.{after_edit}
 
 -- the history of edits over a loaded text of this length
 abbrev pub history_of : ℕ → List RevEdit → History
@@ -31,14 +30,12 @@ AreInTurn len [] = Unit {0}
 AreInTurn len (e ∷ edits) =
     (length e.inserted ≡ len + count e.inserted) × (length e.deleted ≡ length e.inserted) × AreInTurn (length e.inserted) edits
 
--- what a list keeps beside the edits: what each of them hid, and what is dead at the head
-pub record HoldsEdits (len : ℕ) (edits : List RevEdit) (hid : List (List Bool)) (gone : List Bool) : Type 0 where
-  pub in_turn : AreInTurn len edits
-  pub hidden : hid ≡ hidden_by_each (replicate len false) edits
-  pub dead : gone ≡ fold dead_after (replicate len false) edits
+-- the edits of the records
+abbrev pub edits_of : List RevRecord → List RevEdit
+edits_of records = map (λ r. r.edit) records
 
--- the edit is ready to come next
-pub record IsReady (history : History) (ready : ReadyEdit) : Type 0 where
-  pub may : MayPush history ready.edit
-  pub hidden : ready.hidden ≡ hidden_by (hidden_at history (head history)) ready.edit
-  pub dead : ready.dead ≡ hidden_at (after_edit history ready.edit) (head history + 1)
+-- what a list keeps: each edit with what it hid, and what is dead at the head
+pub record HoldsEdits (len : ℕ) (records : List RevRecord) (gone : List Bool) : Type 0 where
+  pub in_turn : AreInTurn len (edits_of records)
+  pub hidden : map (λ r. r.hidden) records ≡ hidden_by_each (replicate len false) (edits_of records)
+  pub dead : gone ≡ fold dead_after (replicate len false) (edits_of records)

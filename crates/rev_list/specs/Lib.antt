@@ -1,4 +1,3 @@
-pub mod Revisions
 pub mod Edit
 pub mod RevFault
 pub mod Hidden

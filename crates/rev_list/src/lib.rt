@@ -1,8 +1,10 @@
 //! The list of revisions: from the floor to the head, what of the union text is dead at each.
 //!
 //! The union is all characters that were ever inserted, in order. The list has positions of the union and no text. To a contract
-//! a `RevList` is a record: `history`, the history of `plain_edits` in which every character is 0, and `room`, for how many further
-//! edits there is a place already. So what `plain_edits` says of a history (visible, undone, the insertion place) is said of the list.
+//! a `RevList` is a history of `plain_edits` in which every character is 0. So what `plain_edits` says of a history (visible, undone,
+//! the insertion place) is said of the list.
+//!
+//! The revisions stand in a tree of shared records. A copy of a list is a few pointers, and a push copies one path.
 //!
 //! [`laws::edit_step`] says that a push is the edit step of a history, whatever its text.
 //!
@@ -15,7 +17,10 @@ mod edit;
 mod fault;
 pub mod laws;
 mod list;
+mod records;
+mod walk;
 
-pub use edit::{ReadyEdit, RevEdit};
+pub use edit::RevEdit;
 pub use fault::RevFault;
 pub use list::RevList;
+pub use walk::EditsAfter;

@@ -1,7 +1,8 @@
 use Rattle.std.proofs.Common.{sym, ◌∙◌}
+use Rattle.rev_list.specs.Kept.{edits_of}
 use Rattle.rev_list.proofs.HistoryLemmas.{hidden_head-history_of}
 use Rattle.rev_list.proofs.list.RevList.dead.Goals as goal
 
 pub returns : goal.returns
 returns c =
-    rw (← c.self.view_is) (c.self.invariant.dead ∙ sym (hidden_head-history_of c.self.inside.len c.self.inside.edits.items c.self.invariant.in_turn))
+    rw (← c.self.view_is) (c.deref.ensures ∙ (c.self.invariant.dead ∙ sym (hidden_head-history_of c.self.inside.len (edits_of c.self.inside.records) c.self.invariant.in_turn)))
