@@ -1,7 +1,7 @@
 -- A stale edit over the edits after its base.
-use Rattle.std.proofs.Common.{◌≡◌, ℕ, suc, ◌+◌, ◌^◌, ◌<◌, ◌≤◌, Bool, true, false, not, cond, nat_le, if◌then◌else◌, List, [], ◌∷◌, length, map, drop, get_or, filter, refl, ap, ap₂, subst, sym, ◌∙◌, arith}
+use Rattle.std.proofs.Common.{◌≡◌, ℕ, suc, ◌+◌, ◌^◌, ◌<◌, ◌≤◌, Bool, true, false, not, cond, nat_le, if◌then◌else◌, List, [], ◌∷◌, length, map, filter, refl, ap, ap₂, sym, ◌∙◌, arith}
 use Rattle.std.specs.List.{fold}
-use Rattle.std.proofs.lemmas.List.{drop_more, length-map}
+use Rattle.std.proofs.lemmas.List.{length-map}
 use Rattle.subset_runs.specs.Subset.{count, expand}
 use Rattle.plain_edits.specs.History.{History, head, edit_priority}
 use Rattle.plain_edits.specs.Place.{is_by, goes_right}
@@ -74,21 +74,3 @@ Grow-edits h own m len (e ∷ edits) after bound is =
       omega (arith, long, bound, length-union_at h (m + 1)),
       Grow-edits h own (m + 1) (length e.inserted + own) edits (other_edits h m e edits after) bound (ap (λ n. n + own) long),
     )
-
--- the next edit of a walk
-front_at : {X : Type 0} (xs : List X) (i : ℕ) (x : X) → i < length xs → x ≡ get_or xs i x → drop i xs ≡ x ∷ drop (i + 1) xs
-front_at xs i x lt is = drop_more xs i x lt ∙ ap (λ y. y ∷ drop (i + 1) xs) (sym is)
-
-pub record IsGrowth (own len : ℕ) (e : RevEdit) (edits : List RevEdit) : Type 0 where
-  pub grown : len + count e.inserted ≡ length e.inserted + own
-  pub bound : length e.inserted + own < 2 ^ 64
-  pub rest : Grow own (length e.inserted + own) edits
-
-pub growth_at : (own len : ℕ) (edits : List RevEdit) (i : ℕ) (e : RevEdit) → Grow own len (drop i edits) → i < length edits →
-    e ≡ get_or edits i e → IsGrowth own len e (drop (i + 1) edits)
-growth_at own len edits i e grow lt is =
-    let parts = subst (Grow own len) (front_at edits i e lt is) grow in record { grown = parts.0; bound = parts.1; rest = parts.2 }
-
-pub fold-front : {X Y : Type 0} (f : Y → X → Y) (out : Y) (xs : List X) (i : ℕ) (x : X) → i < length xs → x ≡ get_or xs i x →
-    fold f (f out x) (drop (i + 1) xs) ≡ fold f out (drop i xs)
-fold-front f out xs i x lt is = sym (ap (fold f out) (front_at xs i x lt is))

@@ -20,7 +20,7 @@ pub fn may_rebase(
     units: &UnitDelta,
 ) -> Result<bool, NoMemory>
     requires { IsUnitDelta units.now }
-    ensures { IfOk result (λ may. IsTrue may ↔ MayRebase revs.now.history rev units.now) }
+    ensures { IfOk result (λ may. IsTrue may ↔ MayRebase revs.now rev units.now) }
 {
     if rev < revs.floor() || revs.head() < rev {
         return Ok(false);
@@ -39,7 +39,7 @@ fn leaves(dead: &Subset, len: u64) -> bool
 
 // Whether the union with the text besides has a length of the machine.
 fn has_room(revs: &RevList, added: &Text) -> bool
-    ensures { IsTrue result ↔ (length revs.now.history.characters + length added.now < 2 ^ 64) }
+    ensures { IsTrue result ↔ (length revs.now.characters + length added.now < 2 ^ 64) }
 {
     revs.union_len().checked_add(added.char_count()).is_some()
 }

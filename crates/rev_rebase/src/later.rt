@@ -1,4 +1,4 @@
-// A set of positions of one union in those of a later one, carried over one edit after the other.
+// Sets of positions of one union in those of a later one, carried over one edit after the other.
 ghost use Rattle.std.specs.Prelude.{◌≡◌, ◌+◌, length, IfOk};
 ghost use Rattle.std.specs.List.{fold};
 ghost use Rattle.subset_runs.specs.Subset.{count};
@@ -7,40 +7,29 @@ ghost use Rattle.rev_rebase.specs.Inner.{Grow, deletions_after, insertions_after
 use crate::order::goes_right;
 use delta_core::carry_ins;
 use plain_text::NoMemory;
-use rev_list::RevEdit;
+use rev_list::EditsAfter;
 use std::alloc::Global;
 use subset_runs::Subset;
 
-// Insertions with a priority, in the union that has those of the edits too.
-pub(crate) fn insertions_over(
+// Insertions with a priority, and deletions, in the union that has the insertions of the edits too.
+pub(crate) fn over_edits(
     alloc: Global,
     ins: Subset,
-    edits: &[RevEdit],
+    del: Subset,
+    edits: EditsAfter<'_>,
     priority: u32,
-) -> Result<Subset, NoMemory>
-    requires { Grow (count ins) (length ins) edits.now }
-    ensures { IfOk result (λ made. made ≡ fold (insertions_after priority) ins edits.now) }
+) -> Result<(Subset, Subset), NoMemory>
+    requires insertions { Grow (count ins) (length ins) edits }
+    requires deletions { Grow 0 (length del) edits }
+    ensures insertions { IfOk result (λ sets. sets.0 ≡ fold (insertions_after priority) ins edits.entry) }
+    ensures deletions { IfOk result (λ sets. sets.1 ≡ fold deletions_after del edits.entry) }
 {
-    let mut out = ins;
+    let mut inserted = ins;
+    let mut deleted = del;
     for edit in edits {
         let after = goes_right(edit.priority, priority);
-        out = carry_ins(alloc, &out, &edit.inserted, after)?;
+        inserted = carry_ins(alloc, &inserted, &edit.inserted, after)?;
+        deleted = deleted.expand(alloc, &edit.inserted)?;
     }
-    Ok(out)
-}
-
-// Deletions, in the union that has the insertions of the edits too.
-pub(crate) fn deletions_over(
-    alloc: Global,
-    del: Subset,
-    edits: &[RevEdit],
-) -> Result<Subset, NoMemory>
-    requires { Grow 0 (length del) edits.now }
-    ensures { IfOk result (λ made. made ≡ fold deletions_after del edits.now) }
-{
-    let mut out = del;
-    for edit in edits {
-        out = out.expand(alloc, &edit.inserted)?;
-    }
-    Ok(out)
+    Ok((inserted, deleted))
 }

@@ -8,11 +8,11 @@ ghost use Rattle.rev_list.specs.WithoutText.{deletion_flags, insertion_flags, wi
 ghost use Rattle.rev_rebase.specs.Rebase.{added_text, characters_of, put_in, unit_edit};
 ghost use Rattle.rev_rebase.specs.Inner.{GoTogether, deletions_over_all, insertions_over_all};
 
-use crate::later::{deletions_over, insertions_over};
+use crate::later::over_edits;
 use delta_core::{carry_ins, factor};
 use plain_edits::UnitDelta;
 use plain_text::{NoMemory, Text};
-use rev_list::{RevEdit, RevList};
+use rev_list::{EditsAfter, RevList};
 use std::alloc::Global;
 use subset_runs::Subset;
 
@@ -39,17 +39,17 @@ pub fn rebase(
     units: &UnitDelta,
     priority: u32,
 ) -> Result<Rebased, NoMemory>
-    requires base_kept { revs.now.history.floor ≤ rev }
-    requires base_known { rev ≤ head revs.now.history }
+    requires base_kept { revs.now.floor ≤ rev }
+    requires base_known { rev ≤ head revs.now }
     requires well_formed { IsUnitDelta units.now }
-    requires alive { units.now.base ≡ length (visible_at revs.now.history rev) }
-    requires bound { length revs.now.history.characters + length (added_text units.now) < 2 ^ 64 }
+    requires alive { units.now.base ≡ length (visible_at revs.now rev) }
+    requires bound { length revs.now.characters + length (added_text units.now) < 2 ^ 64 }
     ensures inserted { IfOk result (λ made. made.inserted
-        ≡ insertion_flags revs.now.history (unit_edit rev units.now priority)) }
+        ≡ insertion_flags revs.now (unit_edit rev units.now priority)) }
     ensures deleted { IfOk result (λ made. made.deleted
-        ≡ deletion_flags revs.now.history (unit_edit rev units.now priority)) }
+        ≡ deletion_flags revs.now (unit_edit rev units.now priority)) }
     ensures text { IfOk result (λ made. made.text ≡ added_text units.now) }
-    ensures step { IfOk result (λ made. (history : History) → without_text history ≡ revs.now.history
+    ensures step { IfOk result (λ made. (history : History) → without_text history ≡ revs.now
         → characters_of (edited history (unit_edit rev units.now priority))
         ≡ put_in made.inserted made.text (characters_of history)) }
 {
@@ -71,28 +71,28 @@ fn carried_over(
     own: &Subset,
     dropped: &Subset,
     dead: &Subset,
-    later: &[RevEdit],
+    later: EditsAfter<'_>,
     priority: u32,
 ) -> Result<(Subset, Subset), NoMemory>
-    requires { GoTogether own.now dropped.now dead.now later.now priority }
+    requires { GoTogether own.now dropped.now dead.now later priority }
     ensures inserted { IfOk result (λ sets. sets.0
-        ≡ insertions_over_all own.now dead.now later.now priority) }
+        ≡ insertions_over_all own.now dead.now later.entry priority) }
     ensures deleted { IfOk result (λ sets. sets.1
-        ≡ expand (deletions_over_all dropped.now dead.now later.now)
-        (insertions_over_all own.now dead.now later.now priority)) }
+        ≡ expand (deletions_over_all dropped.now dead.now later.entry)
+        (insertions_over_all own.now dead.now later.entry priority)) }
 {
     let first = carry_ins(alloc, own, dead, true)?;
-    let inserted = insertions_over(alloc, first, later, priority)?;
-    let gone = deletions_over(alloc, dropped.expand(alloc, dead)?, later)?;
+    let gone = dropped.expand(alloc, dead)?;
+    let (inserted, gone) = over_edits(alloc, first, gone, later, priority)?;
     let deleted = gone.expand(alloc, &inserted)?;
     Ok((inserted, deleted))
 }
 
 // What of the union of a kept revision is dead then.
 pub(crate) fn dead_then(alloc: Global, revs: &RevList, rev: u64) -> Result<Subset, NoMemory>
-    requires kept { revs.now.history.floor ≤ rev }
-    requires known { rev ≤ head revs.now.history }
-    ensures { IfOk result (λ dead. dead ≡ hidden_then revs.now.history rev) }
+    requires kept { revs.now.floor ≤ rev }
+    requires known { rev ≤ head revs.now }
+    ensures { IfOk result (λ dead. dead ≡ hidden_then revs.now rev) }
 {
     match revs.dead_then(alloc, rev) {
         Ok(dead) => Ok(dead),

@@ -3,28 +3,28 @@ use Rattle.rev_rebase.proofs.PlacesLemmas.{inserted_flags-bound, places_over, st
 use Rattle.rev_rebase.proofs.stale.rebase.Goals as goal
 
 pub factor-requires-clause-bound : goal.factor-requires-clause-bound
-factor-requires-clause-bound c = inserted_flags-bound c.args.revs.now.history c.args.rev c.args.units.now c.requires.alive c.requires.bound
+factor-requires-clause-bound c = inserted_flags-bound c.args.revs.now c.args.rev c.args.units.now c.requires.alive c.requires.bound
 
 pub carried_over-requires : goal.carried_over-requires
 carried_over-requires c =
     rw (c.in_ok-dropped.ensures.dropped_is, c.in_ok-dropped.ensures.inserted_is, c.in_ok-dead.ensures)
-    (places_over c.args.revs.now.history c.args.rev c.args.units.now c.args.priority c.edits_after-later.result.now c.requires.base_known
+    (places_over c.args.revs.now c.args.rev c.args.units.now c.args.priority c.edits_after-later.result c.requires.base_known
     c.edits_after-later.ensures.sound c.requires.alive c.requires.bound c.edits_after-later.ensures.edits).together
 
 pub returns-clause-inserted : goal.returns-clause-inserted
 returns-clause-inserted c =
     c.in_ok-inserted.ensures.inserted ∙
     rw (c.in_ok-dropped.ensures.inserted_is, c.in_ok-dead.ensures)
-    (places_over c.args.revs.now.history c.args.rev c.args.units.now c.args.priority c.edits_after-later.result.now c.requires.base_known
+    (places_over c.args.revs.now c.args.rev c.args.units.now c.args.priority c.edits_after-later.result c.requires.base_known
     c.edits_after-later.ensures.sound c.requires.alive c.requires.bound c.edits_after-later.ensures.edits).insertions
 
 pub returns-clause-deleted : goal.returns-clause-deleted
 returns-clause-deleted c =
     c.in_ok-inserted.ensures.deleted ∙
     rw (c.in_ok-dropped.ensures.dropped_is, c.in_ok-dropped.ensures.inserted_is, c.in_ok-dead.ensures)
-    (places_over c.args.revs.now.history c.args.rev c.args.units.now c.args.priority c.edits_after-later.result.now c.requires.base_known
+    (places_over c.args.revs.now c.args.rev c.args.units.now c.args.priority c.edits_after-later.result c.requires.base_known
     c.edits_after-later.ensures.sound c.requires.alive c.requires.bound c.edits_after-later.ensures.edits).deletions
 
 pub returns-clause-step : goal.returns-clause-step
 returns-clause-step c =
-    step-text c.args.revs.now.history c.args.rev c.args.units.now c.args.priority _ _ c.requires.alive (returns-clause-inserted c) c.in_ok-text.ensures
+    step-text c.args.revs.now c.args.rev c.args.units.now c.args.priority _ _ c.requires.alive (returns-clause-inserted c) c.in_ok-text.ensures
