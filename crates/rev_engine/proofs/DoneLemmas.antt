@@ -1,115 +1,67 @@
 -- The last step of an edit: what is put in is the edit step of every history that the engine stands for.
-use Rattle.std.proofs.Common.{◌≡◌, ℕ, ◌+◌, ◌^◌, ◌<◌, Bool, List, [], ◌∷◌, length, map, length-append, refl, ap, ap₂, sym, ◌∙◌, subst, None, arith}
-use Rattle.std.specs.List.{AllByRecursion, flat_map, range_with_len}
-use Rattle.subset_runs.specs.Subset.{count, expand_in}
+use Rattle.std.proofs.Common.{◌≡◌, ℕ, ◌+◌, ◌^◌, ◌<◌, ◌≤◌, Bool, List, [], ◌∷◌, length, length-append, refl, ap, ap₂, sym, ◌∙◌, subst, None, Some, arith}
+use Rattle.std.proofs.Math.Logic.{∥∥₁_elim, ∥∥₁_map}
+use Rattle.std.proofs.Math.Nat.{ℕ_set}
+use Rattle.std.specs.Coded.{Coded-set, coded_list, coded_ℕ}
+use Rattle.std.proofs.lemmas.List.{length-map}
 use Rattle.plain_edits.specs.declared.delta.UnitDelta.{UnitDelta}
-use Rattle.plain_edits.specs.UnitDelta.{unit_adds}
-use Rattle.plain_edits.specs.History.{Tagged, History, edit as revision, head, text_at, IsTaggedBy}
-use Rattle.plain_edits.specs.Edits.{PlainEdit, edited, edit_refusal}
+use Rattle.plain_edits.specs.UnitDelta.{IsCanonical}
+use Rattle.plain_text.specs.Text.{byte_len}
+use Rattle.plain_text.specs.Numbers.{has}
+use Rattle.plain_edits.specs.History.{History, edit as revision, head, text_at}
+use Rattle.plain_edits.specs.Edits.{PlainEdit, edited, edit_refusal, spent}
 use Rattle.plain_edits.specs.Delta.{inserted_len}
-use Rattle.delta_core.specs.Units.{IsUnitsOf}
+use Rattle.plain_edits.proofs.callers.HistoryLemmas.{IsSound-edited, text_at-edited}
+use Rattle.delta_core.specs.Units.{IsUnitsOf, text_after}
 use Rattle.delta_core.specs.Synthesis.{IsBetween}
 use Rattle.rev_list.specs.declared.edit.RevEdit.{RevEdit}
 use Rattle.rev_list.specs.Edit.{after_edit}
-use Rattle.rev_list.specs.Hidden.{hidden_at}
-use Rattle.rev_list.specs.WithoutText.{without_character, without_text, insertion_flags, in_positions}
-use Rattle.rev_list.proofs.ForCallers.{grown_flags, hidden_without_text, step_without_text}
-use Rattle.rev_list.proofs.ForCallers.{IsPlain, hidden_at-later, length-after_edit}
+use Rattle.rev_list.specs.Hidden.{IsKeptAt, hidden_at}
+use Rattle.rev_list.specs.WithoutText.{insertion_flags, in_positions, without_text}
+use Rattle.rev_list.proofs.ForCallers.{hidden_without_text, step_without_text, undone_after-edit}
 use Rattle.rev_rebase.specs.Rebase.{added_text, characters_of, put_in}
-use Rattle.rev_rebase.proofs.ForCallers.{insertion_flags-textless, deletion_flags-textless}
-use Rattle.rev_rebase.proofs.ForCallers.{count-insertion_flags, step-text}
+use Rattle.rev_rebase.proofs.ForCallers.{insertion_flags-textless, deletion_flags-textless, step-text}
 use Rattle.rev_engine.specs.declared.edit.Edit.{Edit}
+use Rattle.rev_engine.specs.declared.edit.UnitEdit.{UnitEdit}
 use Rattle.rev_engine.specs.declared.edit.Change.{Change}
 use Rattle.rev_engine.specs.declared.step.Fitting.{Fitting}
-use Rattle.rev_engine.specs.declared.step.Ready.{Ready}
-use Rattle.rev_engine.specs.Given.{MayAsk, after, meant}
-use Rattle.rev_engine.specs.State.{State, IsHeld}
-use Rattle.rev_engine.specs.Inner.{IsBasedOn, IsFitting, IsMadeReady, in_characters, shown_at}
-use Rattle.rev_engine.specs.Engine.{IsChange, StandsFor, asked_by}
-use Rattle.plain_edits.proofs.callers.HistoryLemmas.{text_at-edited}
+use Rattle.rev_engine.specs.Given.{AskedEdit, MayAsk, after, meant}
+use Rattle.rev_engine.specs.State.{IsHeld, IsHistoryOf, State, shown_at}
+use Rattle.rev_engine.specs.Inner.{IsAnswered, IsBasedOn, IsFitting, IsNext, IsPutIn}
+use Rattle.rev_engine.specs.Engine.{IsChange, IsChangeBy, IsSaidBy, StandsFor, asked_by, in_characters}
+use Rattle.rev_engine.proofs.ByteLemmas.{byte_len-least, byte_len-most, byte_len-outside, byte_len-put_in}
 use Rattle.rev_engine.proofs.ChangeLemmas.{IsChange-between}
+use Rattle.rev_engine.proofs.HeadLemmas.{IsChangeBy-head}
+use Rattle.rev_engine.proofs.PlacedLemmas.{longer-flags, members-flags}
 use Rattle.rev_engine.proofs.SpentLemmas.{inserted_count-plain, length-added_text}
-use Rattle.rev_engine.proofs.ReadyLemmas.{length-put_in}
-use Rattle.rev_engine.proofs.StandLemmas.{IsFresh-given, IsGiven-after, accepted-fitting, length-shown_at, shown-stands}
+use Rattle.rev_engine.proofs.StandLemmas.{IsFresh-given, IsGiven-after, IsHistoryOf-stands, accepted-fitting, length-shown_at, refused-spent, shown-history, shown-stands}
 
 -- ---- what a fitting edit asks for
 
-pub IsBasedOn-fitting : (engine : State) (edit : Edit) (fitting : Fitting) → length engine.union ≡ length engine.revisions.characters →
-    IsFitting engine edit fitting → IsBasedOn engine.union engine.revisions edit fitting.units
-IsBasedOn-fitting engine edit fitting positions is = record {
-  base_kept = is.base_kept;
-  base_known = is.base_known;
-  alive = is.units.base ∙ length-shown_at engine.union engine.revisions edit.rev positions;
+pub IsBasedOn-of : (union : List ℕ) (revisions : History) (rev : ℕ) (units : UnitDelta) → revisions.floor ≤ rev → rev ≤ head revisions →
+    length union ≡ length revisions.characters → units.base ≡ length (shown_at union revisions rev) → IsBasedOn union revisions rev units
+IsBasedOn-of union revisions rev units kept known positions base = record {
+  base_kept = kept;
+  base_known = known;
+  alive = base ∙ length-shown_at union revisions rev positions;
   positions = positions;
 }
 
-pub length-fitting : (engine : State) (edit : Edit) (fitting : Fitting) → IsFitting engine edit fitting →
-    fitting.spent ≡ engine.spent + length (added_text fitting.units)
-length-fitting engine edit fitting is =
-    is.spent ∙ ap (λ n. engine.spent + n) (sym (length-added_text (shown_at engine.union engine.revisions edit.rev) edit.delta fitting.units is.units))
+pub based-fitting : (engine : State) (rev : ℕ) (fitting : Fitting) → length engine.union ≡ length engine.revisions.characters →
+    IsFitting engine rev fitting → IsBasedOn engine.union engine.revisions rev fitting.edit.units
+based-fitting engine rev fitting positions is =
+    IsBasedOn-of engine.union engine.revisions rev fitting.edit.units is.base_kept is.base_known positions is.base
 
-pub bound-fitting : (engine : State) (edit : Edit) (fitting : Fitting) → IsHeld engine.union engine.revisions engine.limit engine.spent →
-    IsFitting engine edit fitting → length engine.revisions.characters + length (added_text fitting.units) < 2 ^ 64
-bound-fitting engine edit fitting held is =
-    omega (arith, held.positions, held.bound, is.within, length-fitting engine edit fitting is)
+-- there is room for its characters
+module _ (engine : State) (text : List ℕ) (rev : ℕ) (fitting : Fitting) (held : IsHeld engine.union text engine.revisions engine.limit engine.spent)
+    (is : IsFitting engine rev fitting) where
+  pub fits-bytes : byte_len engine.union + byte_len (added_text fitting.edit.units) < 2 ^ 64
+  fits-bytes = omega (arith, held.bound, is.room.is, is.room.within, byte_len-most (added_text fitting.edit.units))
 
-pub accepted-stands : (engine : State) (edit : Edit) (fitting : Fitting) (h : History) → StandsFor engine h → IsFitting engine edit fitting →
-    edit_refusal h engine.limit edit.rev edit.delta ≡ None
-accepted-stands engine edit fitting h stands is =
-    accepted-fitting engine h edit.rev edit.delta stands (shown_at engine.union engine.revisions edit.rev) fitting.spent (is.base_kept, is.base_known) refl
-    is.fits is.spent is.within
+  pub fits-characters : length engine.revisions.characters + length (added_text fitting.edit.units) < 2 ^ 64
+  fits-characters = omega (arith, fits-bytes, held.positions, byte_len-least engine.union, byte_len-least (added_text fitting.edit.units))
 
--- ---- the parts after it go together
-
-module _ (engine : State) (edit : Edit) (fitting : Fitting) (ready : Ready) (held : IsHeld engine.union engine.revisions engine.limit engine.spent)
-    (is : IsFitting engine edit fitting) (made : IsMadeReady engine.union engine.revisions edit fitting ready) where
-  grown : length (insertion_flags engine.revisions (in_characters edit fitting.units)) ≡
-      length engine.union + count (insertion_flags engine.revisions (in_characters edit fitting.units))
-  grown =
-      grown_flags engine.revisions (in_characters edit fitting.units) ∙
-      ap (λ n. n + count (insertion_flags engine.revisions (in_characters edit fitting.units))) (sym held.positions)
-
-  members : count (insertion_flags engine.revisions (in_characters edit fitting.units)) ≡ length (added_text fitting.units)
-  members =
-      count-insertion_flags engine.revisions (in_characters edit fitting.units) ∙
-      ap (λ n. length (flat_map (unit_adds fitting.units) (range_with_len 0 (n + 1)))) (sym (IsBasedOn-fitting engine edit fitting held.positions is).alive)
-
-  length-union : length ready.union ≡ length (insertion_flags engine.revisions (in_characters edit fitting.units))
-  length-union =
-      ap length made.union_is ∙
-      length-put_in (insertion_flags engine.revisions (in_characters edit fitting.units)) (added_text fitting.units) engine.union grown members
-
-  pub IsHeld-after : IsHeld ready.union (after_edit engine.revisions ready.edit.edit) engine.limit fitting.spent
-  IsHeld-after = record {
-    positions =
-        length-union ∙ (ap (λ (e : RevEdit). length e.inserted) (sym made.edit_is) ∙
-        sym (length-after_edit engine.revisions ready.edit.edit (record { grown = made.edit_ready.may.grown; same_length = made.edit_ready.may.same_length })));
-    within = is.within;
-    limit_bound = held.limit_bound;
-    bound = omega (arith, length-union, grown, members, length-fitting engine edit fitting is, held.bound);
-  }
-
--- ---- the edit step
-
--- a delta and its characters say one edit
-same_edit : (h : History) (edit : Edit) (units : UnitDelta) → IsUnitsOf (text_at h edit.rev) edit.delta units →
-    meant h (asked_by edit) ≡ in_characters edit units
-same_edit h edit units is =
-    ap₂ (λ (kept : ℕ → Bool) (added : ℕ → List ℕ). record {
-      base = edit.rev;
-      kept = kept;
-      added = added;
-      group = edit.group;
-      priority = edit.priority;
-      author = edit.author;
-    }) (λ i index. sym (is.kept index) i) (λ i gap. sym (is.added gap) i)
-
-IsSound-without_text : (last : ℕ) (xs : List Tagged) → AllByRecursion (IsTaggedBy last) xs → AllByRecursion (IsTaggedBy last) (map without_character xs)
-IsSound-without_text last [] sound = tt
-IsSound-without_text last (x ∷ xs) sound = (record { inserted = sound.0.inserted; deleted = sound.0.deleted }, IsSound-without_text last xs sound.1)
-
-IsPlain-without_text : (h : History) → IsPlain h → IsPlain (without_text h)
-IsPlain-without_text h plain = record { none = plain.none; sound = IsSound-without_text (head h) h.characters plain.sound }
+-- ---- the edit step of a history
 
 -- the edit in positions does not depend on the text
 positions-textless : (h : History) (e : PlainEdit) → in_positions (without_text h) e ≡ in_positions h e
@@ -123,69 +75,258 @@ positions-textless h e =
       deleted = deleted;
     }) (insertion_flags-textless h e) (deletion_flags-textless h e)
 
-module _ (engine : State) (edit : Edit) (fitting : Fitting) (ready : Ready) (h : History) (positions : length engine.union ≡ length engine.revisions.characters)
-    (stands : StandsFor engine h) (may : MayAsk engine.revisions edit.group)
-    (is : IsFitting engine edit fitting) (made : IsMadeReady engine.union engine.revisions edit fitting ready) where
-  after_is : after h (asked_by edit) ≡ edited h (in_characters edit fitting.units)
-  after_is =
-      ap (edited h) (same_edit h edit fitting.units (subst (λ text. IsUnitsOf text edit.delta fitting.units) (shown-stands engine h edit.rev stands) is.units))
+pub head-next : (h : History) (e : RevEdit) → head (after_edit h e) ≡ head h + 1
+head-next h e = length-append h.revisions (revision e.base e.group e.priority e.author ∷ [])
 
-  revisions_is : after_edit engine.revisions ready.edit.edit ≡ without_text (edited h (in_characters edit fitting.units))
-  revisions_is =
-      ap₂ after_edit stands.revisions
-      (made.edit_is ∙ (ap (λ g. in_positions g (in_characters edit fitting.units)) stands.revisions ∙ positions-textless h (in_characters edit fitting.units))) ∙
-      step_without_text h (in_characters edit fitting.units)
+head-step : (h : History) (e : PlainEdit) → head (edited h e) ≡ head h + 1
+head-step h e = length-append h.revisions (revision e.base e.group e.priority e.author ∷ [])
 
-  union_is : ready.union ≡ characters_of (edited h (in_characters edit fitting.units))
-  union_is =
-      made.union_is ∙
-      (ap (λ xs. put_in (insertion_flags engine.revisions (in_characters edit fitting.units)) (added_text fitting.units) xs) stands.union ∙
-      sym (step-text engine.revisions edit.rev fitting.units edit.priority (insertion_flags engine.revisions (in_characters edit fitting.units)) (added_text fitting.units)
-      (IsBasedOn-fitting engine edit fitting positions is).alive refl refl h (sym stands.revisions)))
+positions-history : (union : List ℕ) (revisions h : History) → IsHistoryOf union revisions h → length union ≡ length revisions.characters
+positions-history union revisions h is =
+    ap length is.union_is ∙ (length-map h.characters _ ∙ (sym (length-map h.characters _) ∙ sym (ap (λ (g : History). length g.characters) is.revisions_is)))
 
-  asked : MayAsk (without_text h) edit.group
-  asked = subst (λ g. MayAsk g edit.group) stands.revisions may
+module _ (union : List ℕ) (revisions : History) (rev : ℕ) (edit : UnitEdit) (base : edit.units.base ≡ length (shown_at union revisions rev))
+    (union_after : List ℕ) (revisions_after : History) (put : IsPutIn union revisions rev edit union_after revisions_after) where
+  abbrev step : PlainEdit
+  step = in_characters rev edit
 
-  pub StandsFor-after : (new : State) → new.union ≡ ready.union → new.revisions ≡ after_edit engine.revisions ready.edit.edit → new.limit ≡ engine.limit →
-      new.spent ≡ fitting.spent → StandsFor new (after h (asked_by edit))
-  StandsFor-after new new_union new_revisions new_limit new_spent = record {
-    given =
-        rw new_limit (IsGiven-after engine.limit h (asked_by edit) stands.given (record {
-          may = record { group_counts = asked.group_counts; group_kept = asked.group_kept; has_number = asked.has_number };
-          accepted = accepted-stands engine edit fitting h stands is;
-        }));
-    union = new_union ∙ (union_is ∙ ap characters_of (sym after_is));
-    revisions = new_revisions ∙ (revisions_is ∙ ap without_text (sym after_is));
-    spent =
-        new_spent ∙ (is.spent ∙ (ap (λ n. n + inserted_len edit.delta.els) stands.spent ∙
-        sym (inserted_count-plain h edit.rev edit.delta edit.group edit.priority edit.author)));
+  module _ (h : History) (is : IsHistoryOf union revisions h) where
+    pub IsHistoryOf-after : IsHistoryOf union_after revisions_after (edited h step)
+    IsHistoryOf-after = record {
+      none = λ at. undone_after-edit [] h.revisions at (in_positions h step) ∙ is.none at;
+      sound = IsSound-edited h step is.sound;
+      union_is =
+          put.union_is ∙
+          (ap (λ xs. put_in (insertion_flags revisions step) (added_text edit.units) xs) is.union_is ∙
+          sym (step-text revisions rev edit.units edit.priority (insertion_flags revisions step) (added_text edit.units)
+          (base ∙ length-shown_at union revisions rev (positions-history union revisions h is)) refl refl h (sym is.revisions_is)));
+      revisions_is =
+          put.revisions_is ∙
+          (ap₂ after_edit is.revisions_is (ap (λ g. in_positions g step) is.revisions_is ∙ positions-textless h step) ∙ step_without_text h step);
+    }
+
+    hidden_after : (at : ℕ) → hidden_at revisions_after at ≡ hidden_at (edited h step) at
+    hidden_after at = ap (λ g. hidden_at g at) IsHistoryOf-after.revisions_is ∙ hidden_without_text (edited h step) at
+
+    -- what leads between the two heads is the change
+    pub IsChangeBy-stale : (units : UnitDelta) (from : ℕ) → from ≡ head revisions →
+        IsBetween union_after (hidden_at revisions_after from) (hidden_at revisions_after (head revisions_after)) units →
+        IsChangeBy h (edited h step) units
+    IsChangeBy-stale units from from_is between =
+        IsChange-between h (edited h step) (record { rev = head (edited h step); units = units }) refl
+        (text_at-edited h step (head h) is.sound (omega arith))
+        (subst (λ xs. IsBetween xs (hidden_at (edited h step) (head h)) (hidden_at (edited h step) (head (edited h step))) units) IsHistoryOf-after.union_is
+        (subst (λ before. IsBetween union_after before (hidden_at (edited h step) (head (edited h step))) units)
+        (hidden_after from ∙ ap (hidden_at (edited h step)) (from_is ∙ ap head is.revisions_is))
+        (subst (λ dead. IsBetween union_after (hidden_at revisions_after from) dead units)
+        (hidden_after (head revisions_after) ∙ ap (λ g. hidden_at (edited h step) (head g)) IsHistoryOf-after.revisions_is) between)))
+
+    -- an edit against the head is its change
+    pub IsChangeBy-short : rev ≡ head revisions → IsCanonical edit.units → IsChangeBy h (edited h step) edit.units
+    IsChangeBy-short at_head canonical =
+        IsChangeBy-head h rev edit is.sound (at_head ∙ ap head is.revisions_is) (ap (λ groups. has groups edit.group) (is.none (head h))) canonical
+        (base ∙ ap length (shown-history union revisions h rev is ∙ ap (text_at h) (at_head ∙ ap head is.revisions_is)))
+
+    -- what the change leads to
+    leads_from : (units : UnitDelta) → IsChangeBy h (edited h step) units →
+        (units.base ≡ length (shown_at union revisions (head revisions))) ×
+        (text_after units (shown_at union revisions (head revisions)) ≡ shown_at union_after revisions_after (head revisions_after))
+    leads_from units change =
+        let before : shown_at union revisions (head revisions) ≡ text_at h (head h) =
+        shown-history union revisions h (head revisions) is ∙ ap (λ g. text_at h (head g)) is.revisions_is in
+        let now : shown_at union_after revisions_after (head revisions_after) ≡ text_at (edited h step) (head (edited h step)) =
+        shown-history union_after revisions_after (edited h step) (head revisions_after) IsHistoryOf-after ∙
+        ap (λ g. text_at (edited h step) (head g)) IsHistoryOf-after.revisions_is in (
+          change.base ∙ ap length (sym before),
+          ap (text_after units) before ∙ (change.leads ∙ sym now),
+        )
+
+  -- the same, where the history is some one
+  pub leads : (units : UnitDelta) → ∥ ((h : History) × IsHistoryOf union revisions h) ∥₁ →
+      ((h : History) → IsHistoryOf union revisions h → IsChangeBy h (edited h step) units) →
+      (units.base ≡ length (shown_at union revisions (head revisions))) ×
+      (text_after units (shown_at union revisions (head revisions)) ≡ shown_at union_after revisions_after (head revisions_after))
+  leads units some change = (
+    ∥∥₁_elim some (ℕ_set _ _) (λ (s : (h : History) × IsHistoryOf union revisions h). (leads_from s.0 s.1 units (change s.0 s.1)).0),
+    ∥∥₁_elim some (Coded-set (coded_list coded_ℕ) _ _) (λ (s : (h : History) × IsHistoryOf union revisions h).
+        (leads_from s.0 s.1 units (change s.0 s.1)).1),
+  )
+
+-- ---- the parts after it go together
+
+module _ (engine : State) (text : List ℕ) (rev : ℕ) (fitting : Fitting) (held : IsHeld engine.union text engine.revisions engine.limit engine.spent)
+    (is : IsFitting engine rev fitting) (union_after : List ℕ) (revisions_after : History)
+    (put : IsPutIn engine.union engine.revisions rev fitting.edit union_after revisions_after) where
+  based : IsBasedOn engine.union engine.revisions rev fitting.edit.units
+  based = based-fitting engine rev fitting held.positions is
+
+  bytes-union : byte_len union_after ≡ byte_len (added_text fitting.edit.units) + byte_len engine.union
+  bytes-union =
+      ap byte_len put.union_is ∙
+      byte_len-put_in (insertion_flags engine.revisions (in_characters rev fitting.edit)) (added_text fitting.edit.units) engine.union
+      (longer-flags engine.union engine.revisions rev fitting.edit based) (members-flags engine.union engine.revisions rev fitting.edit based)
+
+  pub short-after : (at : ℕ) → byte_len (shown_at union_after revisions_after at) < 2 ^ 64
+  short-after at =
+      omega (arith, byte_len-outside (hidden_at revisions_after at) union_after, bytes-union, fits-bytes engine text rev fitting held is)
+
+  some-after : ∥ ((h : History) × IsHistoryOf union_after revisions_after h) ∥₁
+  some-after =
+      ∥∥₁_map held.some (λ (s : (h : History) × IsHistoryOf engine.union engine.revisions h). (
+        edited s.0 (in_characters rev fitting.edit),
+        IsHistoryOf-after engine.union engine.revisions rev fitting.edit is.base union_after revisions_after put s.0 s.1,
+      ))
+
+  pub positions-after : length union_after ≡ length revisions_after.characters
+  positions-after =
+      ∥∥₁_elim some-after (ℕ_set _ _) (λ (s : (h : History) × IsHistoryOf union_after revisions_after h).
+      positions-history union_after revisions_after s.0 s.1)
+
+  pub IsHeld-after : (text_now : List ℕ) → text_now ≡ shown_at union_after revisions_after (head revisions_after) →
+      IsHeld union_after text_now revisions_after engine.limit fitting.spent
+  IsHeld-after text_now shown = record {
+    some = some-after;
+    positions = positions-after;
+    floor =
+        omega (
+          arith,
+          held.floor,
+          ap (λ (g : History). g.floor) put.revisions_is,
+          ap head put.revisions_is,
+          head-next engine.revisions (in_positions engine.revisions (in_characters rev fitting.edit)),
+        );
+    shown = shown;
+    within = is.room.within;
+    limit_bound = held.limit_bound;
+    bound = omega (arith, held.bound, bytes-union, is.room.is, byte_len-most (added_text fitting.edit.units));
   }
 
-  hidden_after : (rev : ℕ) → hidden_at (after_edit engine.revisions ready.edit.edit) rev ≡ hidden_at (after h (asked_by edit)) rev
-  hidden_after rev =
-      ap (λ g. hidden_at g rev) revisions_is ∙ (hidden_without_text (edited h (in_characters edit fitting.units)) rev ∙ ap (λ g. hidden_at g rev) (sym after_is))
+  -- the head text is edited by the change
+  pub record GoesOn (units : UnitDelta) : Type 0 where
+    pub base : units.base ≡ length text
+    pub short : byte_len (text_after units text) < 2 ^ 64
+    pub holds : (text_now : List ℕ) → text_now ≡ text_after units text → IsHeld union_after text_now revisions_after engine.limit fitting.spent
 
-  plain : IsPlain engine.revisions
-  plain = rw stands.revisions (IsPlain-without_text h (IsFresh-given engine.limit h stands.given).plain)
+  pub goes-on : (units : UnitDelta) →
+      ((h : History) → IsHistoryOf engine.union engine.revisions h → IsChangeBy h (edited h (in_characters rev fitting.edit)) units) → GoesOn units
+  goes-on units change = record {
+    base = both.0 ∙ ap length (sym held.shown);
+    short = rw now (short-after (head revisions_after));
+    holds = λ text_now text_is. IsHeld-after text_now (text_is ∙ now);
+  }
+    where
+      both : (units.base ≡ length (shown_at engine.union engine.revisions (head engine.revisions))) ×
+          (text_after units (shown_at engine.union engine.revisions (head engine.revisions)) ≡ shown_at union_after revisions_after (head revisions_after))
+      both = leads engine.union engine.revisions rev fitting.edit is.base union_after revisions_after put units held.some change
 
-  before_is : expand_in (hidden_at engine.revisions (head engine.revisions)) (insertion_flags engine.revisions (in_characters edit fitting.units)) ≡
-      hidden_at (after h (asked_by edit)) (head h)
-  before_is =
-      ap (λ (e : RevEdit). expand_in (hidden_at engine.revisions (head engine.revisions)) e.inserted) (sym made.edit_is) ∙
-      (sym (hidden_at-later engine.revisions ready.edit.edit (head engine.revisions) plain
-      (record { grown = made.edit_ready.may.grown; same_length = made.edit_ready.may.same_length }) (omega arith)) ∙
-      (hidden_after (head engine.revisions) ∙ ap (λ g. hidden_at (after h (asked_by edit)) (head g)) stands.revisions))
+      now : text_after units text ≡ shown_at union_after revisions_after (head revisions_after)
+      now = ap (text_after units) held.shown ∙ both.1
 
-  last : head engine.revisions + 1 ≡ head (after h (asked_by edit))
-  last = omega (arith, ap head stands.revisions, length-append h.revisions (revision edit.rev edit.group edit.priority edit.author ∷ []))
+-- ---- the histories that the engine stands for
 
-  pub IsChange-after : (change : Change) → change.rev ≡ head engine.revisions + 1 → change.units ≡ ready.change.units → IsChange h (after h (asked_by edit)) change
-  IsChange-after change rev_is units_is =
-      IsChange-between h (after h (asked_by edit)) change (rev_is ∙ last)
-      (text_at-edited h (meant h (asked_by edit)) (head h) (IsFresh-given engine.limit h stands.given).plain.sound (omega arith))
-      (rw units_is
-      (subst (λ union. IsBetween union (hidden_at (after h (asked_by edit)) (head h)) (hidden_at (after h (asked_by edit)) (head (after h (asked_by edit)))) ready.change.units)
-      (union_is ∙ ap characters_of (sym after_is))
-      (subst (λ before. IsBetween ready.union before (hidden_at (after h (asked_by edit)) (head (after h (asked_by edit)))) ready.change.units) before_is
-      (subst (λ dead. IsBetween ready.union (expand_in (hidden_at engine.revisions (head engine.revisions)) (insertion_flags engine.revisions (in_characters edit fitting.units))) dead ready.change.units)
-      (made.edit_ready.dead ∙ (hidden_after (head engine.revisions + 1) ∙ ap (hidden_at (after h (asked_by edit))) last)) made.between))))
+-- a delta and its characters say one edit
+pub same_edit : (h : History) (asked : AskedEdit) (rev : ℕ) (edit : UnitEdit) → asked.base ≡ rev → IsUnitsOf (text_at h asked.base) asked.delta edit.units →
+    asked.group ≡ edit.group → asked.priority ≡ edit.priority → asked.author ≡ edit.author → meant h asked ≡ in_characters rev edit
+same_edit h asked rev edit base is group priority author = λ i. record {
+  base = base i;
+  kept = λ index. sym (is.kept index) i;
+  added = λ gap. sym (is.added gap) i;
+  group = group i;
+  priority = priority i;
+  author = author i;
+}
+
+pub StandsFor-after : (engine new : State) (h : History) (asked : AskedEdit) (rev : ℕ) (fitting : Fitting) → StandsFor engine h →
+    IsFitting engine rev fitting → MayAsk engine.revisions asked.group →
+    edit_refusal h engine.limit asked.base asked.delta ≡ None → meant h asked ≡ in_characters rev fitting.edit →
+    length (added_text fitting.edit.units) ≡ inserted_len asked.delta.els → IsNext engine rev fitting new → StandsFor new (after h asked)
+StandsFor-after engine new h asked rev fitting stands is may accepted same more next = record {
+  given =
+      rw next.limit (IsGiven-after engine.limit h asked stands.given (record {
+        may = record { group_counts = asking.group_counts; group_kept = asking.group_kept; has_number = asking.has_number };
+        accepted = accepted;
+      }));
+  union = now.union_is ∙ ap (λ e. characters_of (edited h e)) (sym same);
+  revisions = now.revisions_is ∙ ap (λ e. without_text (edited h e)) (sym same);
+  spent =
+      next.spent ∙ (is.room.is ∙ (ap₂ (λ m n. m + n) stands.spent more ∙
+      sym (inserted_count-plain h asked.base asked.delta asked.group asked.priority asked.author)));
+}
+  where
+    now : IsHistoryOf new.union new.revisions (edited h (in_characters rev fitting.edit))
+    now =
+        IsHistoryOf-after engine.union engine.revisions rev fitting.edit is.base new.union new.revisions next.put h (IsHistoryOf-stands engine h stands)
+
+    asking : MayAsk (without_text h) asked.group
+    asking = subst (λ g. MayAsk g asked.group) stands.revisions may
+
+-- an edit in bytes
+module _ (engine : State) (h : History) (edit : Edit) (fitting : Fitting) (stands : StandsFor engine h) (is : IsFitting engine edit.rev fitting)
+    (answers : IsAnswered engine edit fitting) where
+  same-asked : meant h (asked_by edit) ≡ in_characters edit.rev fitting.edit
+  same-asked =
+      same_edit h (asked_by edit) edit.rev fitting.edit refl
+      (subst (λ text. IsUnitsOf text edit.delta fitting.edit.units) (shown-stands engine h edit.rev stands) answers.units)
+      answers.group answers.priority answers.author
+
+  more-asked : length (added_text fitting.edit.units) ≡ inserted_len edit.delta.els
+  more-asked = length-added_text _ _ _ answers.units
+
+  pub accepted-asked : edit_refusal h engine.limit edit.rev edit.delta ≡ None
+  accepted-asked =
+      accepted-fitting engine h edit.rev edit.delta stands (shown_at engine.union engine.revisions edit.rev) fitting.spent (is.base_kept, is.base_known) refl
+      answers.fits (is.room.is ∙ ap (λ n. engine.spent + n) more-asked) is.room.within
+
+  pub StandsFor-asked : (new : State) → MayAsk engine.revisions edit.group → IsNext engine edit.rev fitting new → StandsFor new (after h (asked_by edit))
+  StandsFor-asked new may next = StandsFor-after engine new h (asked_by edit) edit.rev fitting stands is may accepted-asked same-asked more-asked next
+
+  pub IsChange-asked : (change : Change) → IsChange h (edited h (in_characters edit.rev fitting.edit)) change → IsChange h (after h (asked_by edit)) change
+  IsChange-asked change changes = subst (λ e. IsChange h (edited h e) change) (sym same-asked) changes
+
+-- an edit of the head text, in characters
+module _ (engine : State) (h : History) (edit : UnitEdit) (asked : AskedEdit) (stands : StandsFor engine h) (said : IsSaidBy h edit asked) where
+  head-said : asked.base ≡ head engine.revisions
+  head-said = said.base ∙ ap head (sym stands.revisions)
+
+  text-said : text_at h (head h) ≡ shown_at engine.union engine.revisions asked.base
+  text-said = ap (text_at h) (sym said.base) ∙ sym (shown-stands engine h asked.base stands)
+
+  kept-said : IsKeptAt engine.revisions asked.base
+  kept-said = (
+    omega (arith, ap (λ (g : History). g.floor) stands.revisions, (IsFresh-given engine.limit h stands.given).floor),
+    omega (arith, head-said),
+  )
+
+  more-said : length (added_text edit.units) ≡ inserted_len asked.delta.els
+  more-said = length-added_text _ _ _ said.units
+
+  pub refused-said : (total : ℕ) → total ≡ engine.spent + length (added_text edit.units) → engine.limit < total →
+      edit_refusal h engine.limit asked.base asked.delta ≡ Some (spent total)
+  refused-said total total_is past =
+      refused-spent engine h asked.base asked.delta stands (text_at h (head h)) total kept-said text-said said.fits
+      (total_is ∙ ap (λ n. engine.spent + n) more-said) past
+
+  module _ (fitting : Fitting) (same : fitting.edit ≡ edit) (is : IsFitting engine (head engine.revisions) fitting) where
+    same-said : meant h asked ≡ in_characters (head engine.revisions) fitting.edit
+    same-said =
+        same_edit h asked (head engine.revisions) edit head-said (rw said.base said.units) said.group said.priority said.author ∙
+        ap (in_characters (head engine.revisions)) (sym same)
+
+    more-fitting : length (added_text fitting.edit.units) ≡ inserted_len asked.delta.els
+    more-fitting = ap (λ (e : UnitEdit). length (added_text e.units)) same ∙ more-said
+
+    pub accepted-said : edit_refusal h engine.limit asked.base asked.delta ≡ None
+    accepted-said =
+        accepted-fitting engine h asked.base asked.delta stands (text_at h (head h)) fitting.spent kept-said text-said said.fits
+        (is.room.is ∙ ap (λ n. engine.spent + n) more-fitting) is.room.within
+
+    pub StandsFor-said : (new : State) (rev : ℕ) → rev ≡ head engine.revisions → MayAsk engine.revisions edit.group → IsNext engine rev fitting new →
+        StandsFor new (after h asked)
+    StandsFor-said new rev rev_is may next =
+        StandsFor-after engine new h asked (head engine.revisions) fitting stands is (subst (MayAsk engine.revisions) (sym said.group) may) accepted-said
+        same-said more-fitting (subst (λ r. IsNext engine r fitting new) rev_is next)
+
+    pub IsChange-said : (change : Change) (rev : ℕ) → rev ≡ head engine.revisions → IsChange h (edited h (in_characters rev fitting.edit)) change →
+        IsChange h (after h asked) change
+    IsChange-said change rev rev_is changes =
+        subst (λ e. IsChange h (edited h e) change) (ap (λ r. in_characters r fitting.edit) rev_is ∙ sym same-said) changes

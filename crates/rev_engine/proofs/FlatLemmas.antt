@@ -1,6 +1,10 @@
--- A text beside flags of its positions, stretch by stretch.
-use Rattle.std.proofs.Common.{◌≡◌, ℕ, zero, suc, ◌+◌, ◌-◌, ◌≤◌, Bool, true, false, not, List, [], ◌∷◌, ◌++◌, length, take, drop, replicate, append-nil, append_assoc, refl, ap, sym, ◌∙◌, arith}
-use Rattle.std.proofs.lemmas.List.{length-drop}
+-- A text or a rope beside flags of its positions, stretch by stretch.
+use Rattle.std.proofs.Common.{◌≡◌, ℕ, zero, suc, ◌+◌, ◌-◌, ◌≤◌, Bool, true, false, not, List, [], ◌∷◌, ◌++◌, length, take, drop, replicate, append-nil, append_assoc, length-append, length-take-le, take-append-drop, refl, ap, ap₂, sym, ◌∙◌, arith}
+use Rattle.std.proofs.lemmas.List.{length-drop, nil_from_length}
+use Rattle.std.proofs.Math.Seq.{take-append_seam, drop-append-add}
+use Rattle.plain_text.specs.Text.{byte_len}
+use Rattle.rope_node.specs.Lengths.{byte_len-append}
+use Rattle.shared_tree.specs.Replaced.{replaced}
 use Rattle.subset_runs.specs.declared.stretch.Stretch.{Stretch}
 use Rattle.subset_runs.specs.Stretch.{IsFront}
 use Rattle.subset_runs.specs.Subset.{count, items_outside}
@@ -118,3 +122,90 @@ IsPutting-old made new old all walk s is front none =
 
 pub IsPutting-end : (made new old all : List ℕ) (walk : List Bool) → IsPutting made new old walk all → walk ≡ [] → made ≡ all
 IsPutting-end made new old all walk is none = sym (append-nil made) ∙ (ap (λ by. made ++ put_in by new old) (sym none) ∙ is.so_far)
+
+-- ---- the same in place: what is made stands left of the gap, and the old characters right of it
+
+pub record IsPuttingAt (made : List ℕ) (gap : ℕ) (new : List ℕ) (walk : List Bool) (all : List ℕ) (bytes : ℕ) : Type 0 where
+  pub front : List ℕ
+  pub old : List ℕ
+  pub cut : made ≡ front ++ old
+  pub reached : gap ≡ length front
+  pub putting : IsPutting front new old walk all
+  pub counted : byte_len made + byte_len new ≡ bytes
+
+pub IsPuttingAt-start : (union text : List ℕ) (at : List Bool) → length at ≡ length union + count at → count at ≡ length text →
+    IsPuttingAt union 0 text at (put_in at text union) (byte_len union + byte_len text)
+IsPuttingAt-start union text at longer members = record {
+  front = [];
+  old = union;
+  cut = refl;
+  reached = refl;
+  putting = record { so_far = refl; longer = longer; members = members };
+  counted = refl;
+}
+
+module _ (made : List ℕ) (gap : ℕ) (new : List ℕ) (walk : List Bool) (all : List ℕ) (bytes : ℕ) (s : Stretch)
+    (at : IsPuttingAt made gap new walk all bytes) (front : IsFront walk s) where
+  pub gap-inside : gap ≤ length made
+  gap-inside = omega (arith, at.reached, ap length at.cut, length-append at.front at.old)
+
+  abbrev piece : List ℕ
+  piece = take s.len new
+
+  left_is : take gap made ≡ at.front
+  left_is = ap (take gap) at.cut ∙ ap (λ n. take n (at.front ++ at.old)) at.reached ∙ take-append_seam at.front at.old
+
+  right_is : drop gap made ≡ at.old
+  right_is =
+      let reached : gap ≡ length at.front + 0 = omega (arith, at.reached) in
+      ap (drop gap) at.cut ∙ ap (λ n. drop n (at.front ++ at.old)) reached ∙ drop-append-add at.front at.old 0
+
+  replaced_is : replaced made gap gap piece ≡ (at.front ++ piece) ++ at.old
+  replaced_is = ap₂ (λ xs ys. xs ++ (piece ++ ys)) left_is right_is ∙ sym (append_assoc at.front piece at.old)
+
+  counted_new : byte_len (replaced made gap gap piece) + byte_len (drop s.len new) ≡ bytes
+  counted_new =
+      omega (
+        arith,
+        ap byte_len replaced_is,
+        ap byte_len at.cut,
+        byte_len-append (at.front ++ piece) at.old,
+        byte_len-append at.front piece,
+        byte_len-append at.front at.old,
+        byte_len-append piece (drop s.len new),
+        ap byte_len (take-append-drop s.len new),
+        at.counted,
+      )
+
+  pub piece-fits : byte_len (replaced made gap gap piece) ≤ bytes
+  piece-fits = omega (arith, counted_new)
+
+  pub IsPuttingAt-new : s.member ≡ true → IsPuttingAt (replaced made gap gap piece) (gap + s.len) (drop s.len new) (drop s.len walk) all bytes
+  IsPuttingAt-new member =
+      let le = IsPutting-new_len at.front new at.old all walk s at.putting front member in
+      record {
+        front = at.front ++ piece;
+        old = at.old;
+        cut = replaced_is;
+        reached = omega (arith, at.reached, length-append at.front piece, length-take-le s.len new le);
+        putting = IsPutting-new at.front new at.old all walk s at.putting front member;
+        counted = counted_new;
+      }
+
+  pub IsPuttingAt-old : s.member ≡ false → IsPuttingAt made (gap + s.len) new (drop s.len walk) all bytes
+  IsPuttingAt-old none =
+      let le = IsPutting-old_len at.front new at.old all walk s at.putting front none in
+      record {
+        front = at.front ++ take s.len at.old;
+        old = drop s.len at.old;
+        cut = at.cut ∙ (ap (λ xs. at.front ++ xs) (sym (take-append-drop s.len at.old)) ∙ sym (append_assoc at.front (take s.len at.old) (drop s.len at.old)));
+        reached = omega (arith, at.reached, length-append at.front (take s.len at.old), length-take-le s.len at.old le);
+        putting = IsPutting-old at.front new at.old all walk s at.putting front none;
+        counted = at.counted;
+      }
+
+pub IsPuttingAt-end : (made : List ℕ) (gap : ℕ) (new : List ℕ) (walk : List Bool) (all : List ℕ) (bytes : ℕ) →
+    IsPuttingAt made gap new walk all bytes → walk ≡ [] → made ≡ all
+IsPuttingAt-end made gap new walk all bytes at none =
+    let over : length at.old ≡ 0 = omega (arith, at.putting.longer, ap length none) in
+    at.cut ∙ (ap (λ xs. at.front ++ xs) (nil_from_length at.old over) ∙ append-nil at.front) ∙ IsPutting-end at.front new at.old all walk at.putting none

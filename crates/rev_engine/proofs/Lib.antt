@@ -1,11 +1,13 @@
 pub mod FlatLemmas
 pub mod SpentLemmas
-pub mod ReadyLemmas
+pub mod ByteLemmas
+pub mod PlacedLemmas
 pub mod StandLemmas
 pub mod ChangeLemmas
-pub mod DoneLemmas
 pub mod BlockLemmas
 pub mod MergeLemmas
+pub mod HeadLemmas
+pub mod DoneLemmas
 pub mod StepLemmas
 pub mod OrderLemmas
 pub mod CommuteLemmas

@@ -13,7 +13,8 @@ use Rattle.plain_edits.specs.declared.delta.El.{El}
 use Rattle.plain_edits.specs.declared.delta.El.TheVariants.{Copy, Insert}
 use Rattle.plain_text.specs.Text.{gap_at, gap_of}
 use Rattle.plain_edits.specs.Delta.{adds, insertions}
-use Rattle.plain_edits.specs.UnitDelta.{unit_adds}
+use Rattle.plain_edits.specs.declared.delta.Added.{Added}
+use Rattle.plain_edits.specs.UnitDelta.{AreAdds, IsUnitDelta, unit_adds}
 use Rattle.plain_text.specs.Woven.{woven}
 use Rattle.plain_edits.specs.History.{Tagged, History, head, visible_at, text_at, inserted_count}
 use Rattle.plain_edits.specs.Edits.{PlainEdit, with_deletion, edited, inserted_at, is_deleted_by, plain_edit}
@@ -112,6 +113,16 @@ pub length-added_text : (text : List ℕ) (delta : Delta) (units : UnitDelta) �
 length-added_text text delta units is =
     ap length (flat_map_same (unit_adds units) (adds text delta) is.added (range_with_len 0 (units.base + 1))) ∙
     (ap (λ n. length (flat_map (adds text delta) (range_with_len 0 (n + 1)))) is.base ∙ length-adds text delta)
+
+-- ---- the characters of a unit delta
+
+adds-within : (base from : ℕ) (adds : List Added) → AreAdds base from adds → AllByRecursion (λ added. added.gap < base + 1) adds
+adds-within base from [] are = tt
+adds-within base from (added ∷ adds) are = (omega (arith, are.1), adds-within base (added.gap + 1) adds are.3)
+
+pub length-units : (units : UnitDelta) → IsUnitDelta units → length (added_text units) ≡ length (flat_map (λ added. added.text) units.added)
+length-units units is =
+    length-by_place (λ added. added.gap) (λ added. added.text) (units.base + 1) units.added (adds-within units.base 0 units.added is.adds)
 
 -- ---- the characters of an edit
 

@@ -1,5 +1,5 @@
 -- What an engine says of a history that it stands for.
-use Rattle.std.proofs.Common.{◌≡◌, ℕ, zero, suc, ◌+◌, ◌<◌, ◌≤◌, inl, inr, Bool, true, false, cond, if◌then◌else◌, not, nat_lt, List, [], ◌∷◌, ◌++◌, length, map, filter, replicate, Some, None, refl, ap, ap₂, sym, ◌∙◌, subst, arith}
+use Rattle.std.proofs.Common.{◌≡◌, ℕ, zero, suc, ◌+◌, ◌^◌, ◌<◌, ◌≤◌, inl, inr, Bool, true, false, cond, if◌then◌else◌, not, nat_lt, List, [], ◌∷◌, ◌++◌, length, map, filter, replicate, Some, None, refl, ap, ap₂, sym, ◌∙◌, subst, arith}
 use Rattle.std.specs.List.{AllByRecursion, list_any}
 use Rattle.std.proofs.lemmas.Bool.{cases_lt, lt-ltb, le-ltb}
 use Rattle.std.proofs.lemmas.List.{length-map}
@@ -26,8 +26,8 @@ use Rattle.rev_engine.specs.Given.{AskedEdit, AreTaken, IsGiven, IsTaken, after,
 use Rattle.plain_edits.specs.declared.fault.EditFault.{EditFault}
 use Rattle.plain_edits.specs.EditFault.{Refuses, refusal_of}
 use Rattle.rev_list.specs.RevFault.{fault_of_base}
-use Rattle.rev_engine.specs.State.{State, contents}
-use Rattle.rev_engine.specs.Inner.{shown_at}
+use Rattle.plain_text.specs.Text.{byte_len}
+use Rattle.rev_engine.specs.State.{IsHeld, IsHistoryOf, State, shown_at}
 use Rattle.rev_engine.specs.Engine.{StandsFor}
 use Rattle.rev_engine.proofs.SpentLemmas.{count_by-all}
 
@@ -121,6 +121,21 @@ outside_visible p (x ∷ xs) = both (p x) (outside_visible p xs)
 pub shown_at-text_at : (h : History) (rev : ℕ) → shown_at (characters_of h) (without_text h) rev ≡ text_at h rev
 shown_at-text_at h rev =
     ap (λ hidden. items_outside hidden (characters_of h)) (hidden_without_text h rev) ∙ outside_visible (is_visible h.revisions rev) h.characters
+
+pub shown-history : (union : List ℕ) (revisions h : History) (rev : ℕ) → IsHistoryOf union revisions h → shown_at union revisions rev ≡ text_at h rev
+shown-history union revisions h rev is =
+    ap₂ (λ xs g. shown_at xs g rev) is.union_is is.revisions_is ∙ shown_at-text_at h rev
+
+pub IsHistoryOf-stands : (engine : State) (h : History) → StandsFor engine h → IsHistoryOf engine.union engine.revisions h
+IsHistoryOf-stands engine h stands =
+    let fresh = IsFresh-given engine.limit h stands.given in
+    record { none = fresh.plain.none; sound = fresh.plain.sound; union_is = stands.union; revisions_is = stands.revisions }
+
+pub head-text : (engine : State) (h : History) (text : List ℕ) → StandsFor engine h →
+    text ≡ shown_at engine.union engine.revisions (head engine.revisions) → text ≡ text_at h (head h)
+head-text engine h text stands is =
+    is ∙ shown-history engine.union engine.revisions h (head engine.revisions) (IsHistoryOf-stands engine h stands) ∙
+    ap (λ g. text_at h (head g)) stands.revisions
 
 pub shown-stands : (engine : State) (h : History) (rev : ℕ) → StandsFor engine h → shown_at engine.union engine.revisions rev ≡ text_at h rev
 shown-stands engine h rev stands =
@@ -247,11 +262,32 @@ StandsFor-loaded engine text union_is revisions_is spent_is = record {
   spent = spent_is ∙ sym (spent-loaded text);
 }
 
--- what an engine stands for hangs on what it holds alone
-pub StandsFor-contents : (engine now : State) (h : History) → contents now ≡ contents engine → StandsFor engine h → StandsFor now h
-StandsFor-contents engine now h same stands = record {
-  given = rw (ap (λ (e : State). e.limit) same) stands.given;
-  union = ap (λ (e : State). e.union) same ∙ stands.union;
-  revisions = ap (λ (e : State). e.revisions) same ∙ stands.revisions;
-  spent = ap (λ (e : State). e.spent) same ∙ stands.spent;
-}
+text_at-loaded : (text : List ℕ) → text_at (loaded text) 0 ≡ text
+text_at-loaded [] = refl
+text_at-loaded (c ∷ text) = ap (λ cs. c ∷ cs) (text_at-loaded text)
+
+pub IsHeld-loaded : (text union head_text : List ℕ) (revisions : History) (limit : ℕ) → union ≡ text → head_text ≡ text →
+    revisions ≡ loaded (replicate (length text) 0) → limit ≤ 2 ^ 60 → byte_len text < 2 ^ 63 → IsHeld union head_text revisions limit 0
+IsHeld-loaded text union head_text revisions limit union_is head_is revisions_is bound few =
+    rw (union_is, head_is, revisions_same) record {
+      some = ∣ (loaded text, is) ∣₁;
+      positions = sym (length-map (loaded text).characters _ ∙ length-map text _);
+      floor = omega arith;
+      shown = sym (shown_at-start ∙ text_at-loaded text);
+      within = omega arith;
+      limit_bound = bound;
+      bound = omega (arith, bound, few);
+    }
+  where
+    revisions_same : revisions ≡ without_text (loaded text)
+    revisions_same =
+        revisions_is ∙
+        ap (λ (xs : List Tagged). record { characters = xs; revisions = []; floor = 0; collected = [] }) (positions-loaded text)
+
+    is : IsHistoryOf text (without_text (loaded text)) (loaded text)
+    is =
+        let fresh = IsFresh-loaded text in
+        record { none = fresh.plain.none; sound = fresh.plain.sound; union_is = characters-loaded text; revisions_is = refl }
+
+    shown_at-start : shown_at text (without_text (loaded text)) 0 ≡ text_at (loaded text) 0
+    shown_at-start = shown-history text (without_text (loaded text)) (loaded text) 0 is

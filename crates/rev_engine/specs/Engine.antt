@@ -1,12 +1,17 @@
 -- What an engine is, and the histories that it stands for.
-use Rattle.std.specs.Prelude.{◌≡◌, ℕ, length}
-use Rattle.plain_edits.specs.History.{History, head, inserted_count, text_at}
+use Rattle.std.specs.Prelude.{◌≡◌, ℕ, false, length}
+use Rattle.plain_text.specs.Numbers.{has}
+use Rattle.plain_edits.specs.History.{History, IsSound, head, inserted_count, text_at, undone}
+use Rattle.plain_edits.specs.Delta.{Fits}
+use Rattle.plain_edits.specs.Edits.{PlainEdit, edited}
 use Rattle.plain_edits.specs.Change.{change_keeps, change_adds}
+use Rattle.plain_edits.specs.declared.delta.UnitDelta.{UnitDelta}
 use Rattle.plain_edits.specs.UnitDelta.{IsCanonical, unit_keeps, unit_adds}
-use Rattle.delta_core.specs.Units.{text_after}
+use Rattle.delta_core.specs.Units.{IsUnitsOf, text_after}
 use Rattle.rev_list.specs.WithoutText.{without_text}
 use Rattle.rev_rebase.specs.Rebase.{characters_of}
 use Rattle.rev_engine.specs.declared.edit.Edit.{Edit}
+use Rattle.rev_engine.specs.declared.edit.UnitEdit.{UnitEdit}
 use Rattle.rev_engine.specs.declared.edit.Change.{Change}
 use Rattle.rev_engine.specs.Given.{AskedEdit, IsGiven}
 use Rattle.rev_engine.specs.State.{State}
@@ -22,6 +27,26 @@ pub record StandsFor (engine : State) (history : History) : Type 0 where
 abbrev pub asked_by : Edit → AskedEdit
 asked_by edit = record { base = edit.rev; delta = edit.delta; group = edit.group; priority = edit.priority; author = edit.author }
 
+-- an edit in characters, of the text of a revision
+abbrev pub in_characters : ℕ → UnitEdit → PlainEdit
+in_characters rev edit = record {
+  base = rev;
+  kept = unit_keeps edit.units;
+  added = unit_adds edit.units;
+  group = edit.group;
+  priority = edit.priority;
+  author = edit.author;
+}
+
+-- AN EDIT OF THE HEAD TEXT in characters says what this one says in bytes
+pub record IsSaidBy (history : History) (edit : UnitEdit) (asked : AskedEdit) : Type 0 where
+  pub base : asked.base ≡ head history
+  pub fits : Fits (text_at history (head history)) asked.delta
+  pub units : IsUnitsOf (text_at history (head history)) asked.delta edit.units
+  pub group : asked.group ≡ edit.group
+  pub priority : asked.priority ≡ edit.priority
+  pub author : asked.author ≡ edit.author
+
 -- THE CHANGE from the head text of one history to that of the next, as the only delta of its meaning: it keeps what stays and adds what
 -- appears, and so it leads from the one text to the other
 pub record IsChange (before after : History) (change : Change) : Type 0 where
@@ -31,3 +56,13 @@ pub record IsChange (before after : History) (change : Change) : Type 0 where
   pub kept : (index : ℕ) → unit_keeps change.units index ≡ change_keeps after (head before) (head after) index
   pub added : (gap : ℕ) → unit_adds change.units gap ≡ change_adds after (head before) (head after) gap
   pub leads : text_after change.units (text_at before (head before)) ≡ text_at after (head after)
+
+-- the unit delta is that of the change
+abbrev pub IsChangeBy : History → History → UnitDelta → Type 0
+IsChangeBy before after units = IsChange before after (record { rev = head after; units = units })
+
+-- AN EDIT AGAINST THE HEAD IS ITS CHANGE: in canonical form it is itself what it changes of the head text
+abbrev pub HeadEditIsItsChange : Type 0
+HeadEditIsItsChange = (history : History) (edit : UnitEdit) → IsSound history → has (undone history.revisions (head history)) edit.group ≡ false →
+    IsCanonical edit.units → edit.units.base ≡ length (text_at history (head history)) →
+    IsChangeBy history (edited history (in_characters (head history) edit)) edit.units

@@ -1,7 +1,6 @@
 pub mod Given
 pub mod State
 pub mod Engine
-pub mod Steps
 pub mod Commute
 pub mod Selective
 pub mod Inner

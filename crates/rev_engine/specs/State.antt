@@ -1,5 +1,10 @@
-use Rattle.std.specs.Prelude.{◌≡◌, ℕ, ◌+◌, ◌^◌, ◌<◌, ◌≤◌, List, length}
-use Rattle.plain_edits.specs.History.{History}
+use Rattle.std.specs.Prelude.{◌≡◌, ℕ, ◌+◌, ◌*◌, ◌^◌, ◌<◌, ◌≤◌, List, [], length}
+use Rattle.subset_runs.specs.Subset.{items_outside}
+use Rattle.plain_text.specs.Text.{byte_len}
+use Rattle.plain_edits.specs.History.{History, IsSound, head, undone}
+use Rattle.rev_list.specs.Hidden.{hidden_at}
+use Rattle.rev_list.specs.WithoutText.{without_text}
+use Rattle.rev_rebase.specs.Rebase.{characters_of}
 
 -- what contracts see of an engine
 pub record State : Type 0 where
@@ -10,16 +15,25 @@ pub record State : Type 0 where
   -- the most characters that may be inserted after loading, and how many were
   pub limit : ℕ
   pub spent : ℕ
-  -- for how many more revisions there is room without memory
-  pub room : ℕ
 
--- what an engine holds, whatever room it has
-abbrev pub contents : State → State
-contents engine = record engine { room = 0 }
+-- what of the characters is visible at a revision
+abbrev pub shown_at : List ℕ → History → ℕ → List ℕ
+shown_at union revisions rev = items_outside (hidden_at revisions rev) union
 
--- the parts go together, and there are numbers for all characters that may still come
-pub record IsHeld (union : List ℕ) (revisions : History) (limit spent : ℕ) : Type 0 where
+-- the characters and the revisions are those of a history, in which nothing is undone
+pub record IsHistoryOf (union : List ℕ) (revisions history : History) : Type 0 where
+  pub none : (rev : ℕ) → undone history.revisions rev ≡ []
+  pub sound : IsSound history
+  pub union_is : union ≡ characters_of history
+  pub revisions_is : revisions ≡ without_text history
+
+-- the parts go together: they are those of some history, the text is what the head shows, and there are numbers for all characters
+-- that may still come, of at most four bytes each
+pub record IsHeld (union text : List ℕ) (revisions : History) (limit spent : ℕ) : Type 0 where
+  pub some : ∥ ((history : History) × IsHistoryOf union revisions history) ∥₁
   pub positions : length union ≡ length revisions.characters
+  pub floor : revisions.floor ≤ head revisions
+  pub shown : text ≡ shown_at union revisions (head revisions)
   pub within : spent ≤ limit
   pub limit_bound : limit ≤ 2 ^ 60
-  pub bound : length union + limit < 2 ^ 64 + spent
+  pub bound : byte_len union + 4 * limit < 2 ^ 64 + 4 * spent

@@ -15,6 +15,17 @@ pub struct Edit {
     pub group: u64,
 }
 
+/// An edit in characters, of a text that is known beside it.
+#[derive(Drop)]
+pub struct UnitEdit {
+    pub units: UnitDelta,
+    /// As in [`Edit`].
+    pub priority: u32,
+    pub author: u32,
+    /// The undo group, from 1 up.
+    pub group: u64,
+}
+
 /// What an edit did to the head text.
 #[derive(Drop)]
 pub struct Change {

@@ -1,22 +1,27 @@
-ghost use Rattle.std.specs.Prelude.{◌≡◌, ◌^◌, ◌<◌, ◌≤◌, ◌↔◌, ℕ, false, None, length, IfOk, IfErr, OnErr, OnOk};
+ghost use Rattle.std.specs.List.{flat_map};
+ghost use Rattle.std.specs.Prelude.{◌≡◌, ◌≢◌, ◌+◌, ◌^◌, ◌<◌, ◌≤◌, ◌↔◌, ℕ, false, None, length, IfOk, IfErr, IsTrue, OnErr, OnOk};
 ghost use Rattle.plain_text.specs.Numbers.{has};
+ghost use Rattle.plain_text.specs.Text.{byte_len};
+ghost use Rattle.plain_edits.specs.UnitDelta.{IsCanonical, IsUnitDelta};
 ghost use Rattle.plain_edits.specs.History.{History, head, loaded, text_at};
 ghost use Rattle.plain_edits.specs.Collection.{kept};
-ghost use Rattle.plain_edits.specs.Edits.{edit_refusal};
+ghost use Rattle.plain_edits.specs.Edits.{edit_refusal, edited};
 ghost use Rattle.rev_list.specs.Hidden.{IsCollected, IsKeptAt, IsUnknown};
-ghost use Rattle.rev_engine.specs.Engine.{IsChange, StandsFor, asked_by};
+ghost use Rattle.rev_rebase.specs.Rebase.{added_text};
+ghost use Rattle.rev_engine.specs.Engine.{IsChange, IsChangeBy, IsSaidBy, StandsFor, asked_by, in_characters};
 ghost use Rattle.plain_edits.specs.EditFault.{Refuses};
-ghost use Rattle.rev_engine.specs.Given.{MayAsk, after};
-ghost use Rattle.rev_engine.specs.State.{contents};
-ghost use Rattle.rev_engine.specs.Steps.{MayPut, with_edit};
-ghost use Rattle.rev_engine.specs.Inner.{IsFitting, shown_at};
+ghost use Rattle.rev_engine.specs.Given.{AskedEdit, MayAsk, after};
+ghost use Rattle.rev_engine.specs.State.{IsHistoryOf, shown_at};
+ghost use Rattle.rev_engine.specs.Inner.{IsAnswered, IsFitting, IsNext, IsPutIn};
 
-use crate::flat::alive;
-use crate::step::{Fitting, Ready, made_ready};
-use crate::{Change, Edit, EditFault};
+use crate::flat::{alive, whole};
+use crate::step::{Fitting, PutIn, put_in, units_from};
+use crate::{Change, Edit, EditFault, UnitEdit};
 use delta_core::{fits, to_units};
-use plain_text::{NoMemory, Text, TryClone};
+use plain_edits::{Added, UnitDelta};
+use plain_text::{NoMemory, Text};
 use rev_list::{RevFault, RevList};
+use rope_tree::Rope;
 use std::alloc::Global;
 use std::marker::Model;
 
@@ -24,7 +29,9 @@ use std::marker::Model;
 #[derive(Drop)]
 pub struct Engine {
     /// All characters that were ever inserted, in order.
-    union: Text,
+    union: Rope,
+    /// Those of them that the head shows.
+    text: Rope,
     revs: RevList,
     limit: u64,
     /// How many characters were inserted after loading.
@@ -38,18 +45,16 @@ impl Model for Engine {
 
     ghost use Rattle.rev_engine.specs.State.{IsHeld};
 
-    ghost view = { λ e. record { union = e.union; revisions = e.revs.history; limit = e.limit; spent = e.spent; room = e.revs.room } };
+    ghost view = { λ e. record { union = e.union; revisions = e.revs; limit = e.limit; spent = e.spent } };
 
-    ghost invariant = { λ e. IsHeld e.union e.revs.history e.limit e.spent };
+    ghost invariant = { λ e. IsHeld e.union e.text e.revs e.limit e.spent };
 }
 
-// How many characters a text has; memory has fewer than 2^63 bytes.
-fn length_of(text: &Text) -> u64
-    ensures length { result ≡ length text.now }
-    ensures bound { result < 2 ^ 63 }
-{
-    let characters = text.as_str().chars().count();
-    characters as u64
+// The engine after an edit, and what the edit changes.
+#[derive(Drop)]
+struct Next {
+    engine: Engine,
+    change: Change,
 }
 
 impl Engine {
@@ -60,9 +65,13 @@ impl Engine {
         ensures stands { IfOk result (λ made. StandsFor made (loaded text)) }
         ensures limit { IfOk result (λ made. made.limit ≡ limit) }
     {
-        let revs = RevList::start(alloc, length_of(&text))?;
+        let _bytes = len_of(&text);
+        let revs = RevList::start(alloc, text.char_count())?;
+        let union = Rope::of_text(alloc, &text)?;
+        let head = union.copy(alloc)?;
         Ok(Engine {
-            union: text,
+            union,
+            text: head,
             revs,
             limit,
             spent: 0,
@@ -75,6 +84,14 @@ impl Engine {
         ensures revisions { result ≡ head self.now.revisions }
     {
         self.revs.head()
+    }
+
+    /// What the head shows, in O(1) and without memory.
+    pub fn head_rope(&self) -> &Rope
+        ensures text { (history : History) → StandsFor self.now history → result.now ≡ text_at history (head history) }
+        ensures shown { result.now ≡ shown_at self.now.union self.now.revisions (head self.now.revisions) }
+    {
+        &self.text
     }
 
     /// Whether the group is collected, in O(1). None is yet.
@@ -92,8 +109,8 @@ impl Engine {
         self.revs.union_len()
     }
 
-    /// What a revision shows, in the time of the union text; for an older revision that of `RevList::dead_at` besides. `Unknown` comes
-    /// above the head; `Collected` does not come yet, since nothing is collected.
+    /// What a revision shows: at the head in the time of its text, and for an older revision in that of the union text and of
+    /// `RevList::dead_at`. `Unknown` comes above the head; `Collected` does not come yet, since nothing is collected.
     pub fn text_at(&self, alloc: Global, rev: u64) -> Result<Text, RevFault>
         ensures text { (history : History) → StandsFor self.now history
             → IfOk result (λ text. text ≡ text_at history rev) }
@@ -112,14 +129,42 @@ impl Engine {
         ensures collected { (n : ℕ) → (result ≡ Err (RevFault.Collected n)) ↔ IsCollected self.now.revisions rev n }
         ensures kept { OnOk result (IsKeptAt self.now.revisions rev) }
     {
+        if self.is_head(rev) {
+            return Ok(self.shown_now(alloc)?);
+        }
+        self.shown_then(alloc, rev)
+    }
+
+    fn is_head(&self, rev: u64) -> bool
+        ensures is { IsTrue result → rev ≡ head self.now.revisions }
+        ensures kept { IsTrue result → IsKeptAt self.now.revisions rev }
+    {
+        rev == self.revs.head()
+    }
+
+    fn shown_now(&self, alloc: Global) -> Result<Text, NoMemory>
+        ensures { IfOk result (λ text. text ≡ shown_at self.now.union self.now.revisions (head self.now.revisions)) }
+    {
+        whole(alloc, &self.text)
+    }
+
+    fn shown_then(&self, alloc: Global, rev: u64) -> Result<Text, RevFault>
+        ensures text { IfOk result (λ text. text ≡ shown_at self.now.union self.now.revisions rev) }
+        ensures unknown { (n : ℕ) → (result ≡ Err (RevFault.Unknown n)) ↔ IsUnknown self.now.revisions rev n }
+        ensures collected { (n : ℕ) → (result ≡ Err (RevFault.Collected n)) ↔ IsCollected self.now.revisions rev n }
+        ensures kept { OnOk result (IsKeptAt self.now.revisions rev) }
+    {
         match self.revs.dead_at(alloc, rev) {
             Ok(dead) => Ok(alive(alloc, &self.union, &dead)?),
             Err(fault) => Err(fault),
         }
     }
 
-    /// Takes an edit as the next revision: [`Engine::ready`], and then [`Engine::put`]. A fault leaves the engine as it is; want of
-    /// memory too.
+    /// Takes an edit as the next revision. The faults are looked for in the order of [`EditFault`]: the base, then the delta, then the
+    /// limit. A fault leaves the engine as it is; want of memory too.
+    ///
+    /// A stale edit costs the text that was ever inserted and the runs of the revisions after its base; one against the head costs
+    /// what [`Engine::edit_head`] does. `after_cursor` is passed over.
     pub fn edit(&mut self, alloc: Global, edit: &Edit) -> Result<Change, EditFault>
         requires { MayAsk self.old.revisions edit.now.group }
         ensures stands { (history : History) → StandsFor self.old history
@@ -131,55 +176,46 @@ impl Engine {
         ensures refused { (history : History) → StandsFor self.old history
             → IfErr result (Refuses (edit_refusal history self.old.limit edit.now.rev edit.now.delta)) }
         ensures limit { self.new.limit ≡ self.old.limit }
-        ensures same { OnErr result (contents self.new ≡ contents self.old) }
-    {
-        let ready = self.ready(alloc, edit)?;
-        Ok(self.put(ready))
-    }
-
-    /// Takes all the memory that an edit needs and works out what it does; the engine holds what it held. The faults are looked for in
-    /// the order of [`EditFault`]: the base, then the delta, then the limit.
-    ///
-    /// Against the head this costs the edit and a constant number of walks over the text that was ever inserted, and none over the
-    /// revisions; a stale edit costs the runs of the revisions after its base besides. `after_cursor` is passed over.
-    pub fn ready(&mut self, alloc: Global, edit: &Edit) -> Result<Ready, EditFault>
-        requires { MayAsk self.old.revisions edit.now.group }
-        ensures may_put { IfOk result (MayPut self.new) }
-        ensures stands { (history : History) → StandsFor self.old history
-            → IfOk result (λ ready. StandsFor (with_edit self.new ready) (after history (asked_by edit.now))) }
-        ensures change { (history : History) → StandsFor self.old history
-            → IfOk result (λ ready. IsChange history (after history (asked_by edit.now)) ready.change) }
-        ensures accepted { (history : History) → StandsFor self.old history
-            → OnOk result (edit_refusal history self.old.limit edit.now.rev edit.now.delta ≡ None) }
-        ensures refused { (history : History) → StandsFor self.old history
-            → IfErr result (Refuses (edit_refusal history self.old.limit edit.now.rev edit.now.delta)) }
-        ensures same { contents self.new ≡ contents self.old }
+        ensures same { OnErr result (self.new ≡ self.old) }
     {
         let fitting = self.fitting(alloc, edit)?;
-        Ok(made_ready(alloc, &self.union, &mut self.revs, edit, &fitting)?)
+        let next = self.next(alloc, edit.rev, fitting)?;
+        let Next { engine, change } = next;
+        *self = engine;
+        Ok(change)
     }
 
-    /// Puts an edit in that was made ready since the last one was put in, in O(1) and without memory.
-    pub fn put(&mut self, ready: Ready) -> Change
-        requires { MayPut self.old ready }
-        ensures put { self.new ≡ with_edit self.old ready }
-        ensures change { result ≡ ready.change }
+    /// Takes an edit of the head text as the next revision, in characters: what is said of [`Engine::edit`] holds of each edit that
+    /// says the same in bytes. It can be refused as `Spent` alone.
+    ///
+    /// This costs the elements of the edit, each times the height of the ropes, its characters, and the runs of what is dead.
+    pub fn edit_head(&mut self, alloc: Global, edit: UnitEdit) -> Result<Change, EditFault>
+        requires may { MayAsk self.old.revisions edit.group }
+        requires canonical { IsCanonical edit.units }
+        requires base { edit.units.base ≡ length (shown_at self.old.union self.old.revisions (head self.old.revisions)) }
+        ensures stands { (history : History) → (asked : AskedEdit) → StandsFor self.old history → IsSaidBy history edit asked
+            → OnOk result (StandsFor self.new (after history asked)) }
+        ensures change { (history : History) → (asked : AskedEdit) → StandsFor self.old history → IsSaidBy history edit asked
+            → IfOk result (IsChange history (after history asked)) }
+        ensures accepted { (history : History) → (asked : AskedEdit) → StandsFor self.old history → IsSaidBy history edit asked
+            → OnOk result (edit_refusal history self.old.limit asked.base asked.delta ≡ None) }
+        ensures refused { (history : History) → (asked : AskedEdit) → StandsFor self.old history → IsSaidBy history edit asked
+            → IfErr result (Refuses (edit_refusal history self.old.limit asked.base asked.delta)) }
+        ensures limit { self.new.limit ≡ self.old.limit }
+        ensures same { OnErr result (self.new ≡ self.old) }
     {
-        let Ready {
-            union,
-            edit,
-            spent,
-            change,
-        } = ready;
-        self.revs.put(edit);
-        self.union = union;
-        self.spent = spent;
-        change
+        let fitting = self.fitting_head(edit)?;
+        let head = self.head();
+        let next = self.next(alloc, head, fitting)?;
+        let Next { engine, change } = next;
+        *self = engine;
+        Ok(change)
     }
 
     // The edit in characters, or why it is not taken.
     fn fitting(&self, alloc: Global, edit: &Edit) -> Result<Fitting, EditFault>
-        ensures fits { IfOk result (IsFitting self.now edit.now) }
+        ensures fits { IfOk result (IsFitting self.now edit.now.rev) }
+        ensures answers { IfOk result (IsAnswered self.now edit.now) }
         ensures refused { (history : History) → StandsFor self.now history
             → IfErr result (Refuses (edit_refusal history self.now.limit edit.now.rev edit.now.delta)) }
     {
@@ -191,21 +227,136 @@ impl Engine {
         if u128::from(self.limit) < total {
             return Err(EditFault::Spent(total));
         }
+        let units = to_units(alloc, &text, &edit.delta)?;
         Ok(Fitting {
-            units: to_units(alloc, &text, &edit.delta)?,
+            edit: UnitEdit {
+                units,
+                priority: edit.priority,
+                author: edit.author,
+                group: edit.group,
+            },
             spent: total as u64,
         })
     }
 
-    /// A second engine that stands for the same histories, in the time of the text and the runs of all revisions.
-    pub fn copy(&self, alloc: Global) -> Result<Engine, NoMemory>
-        ensures { IfOk result (λ made. contents made ≡ contents self.now) }
+    // An edit of the head text, or that there is no room for it.
+    fn fitting_head(&self, edit: UnitEdit) -> Result<Fitting, EditFault>
+        requires canonical { IsCanonical edit.units }
+        requires base { edit.units.base ≡ length (shown_at self.now.union self.now.revisions (head self.now.revisions)) }
+        ensures fits { IfOk result (IsFitting self.now (head self.now.revisions)) }
+        ensures edit { IfOk result (λ fitting. fitting.edit ≡ edit) }
+        ensures refused { (history : History) → (asked : AskedEdit) → StandsFor self.now history → IsSaidBy history edit asked
+            → IfErr result (Refuses (edit_refusal history self.now.limit asked.base asked.delta)) }
     {
+        let total = u128::from(self.spent) + added_len(&edit.units);
+        if u128::from(self.limit) < total {
+            return Err(EditFault::Spent(total));
+        }
+        Ok(Fitting {
+            edit,
+            spent: total as u64,
+        })
+    }
+
+    // The engine after an edit of the text of revision `rev`, which shares with this one what the edit leaves.
+    fn next(&self, alloc: Global, rev: u64, fitting: Fitting) -> Result<Next, NoMemory>
+        requires fits { IsFitting self.now rev fitting }
+        requires may { MayAsk self.now.revisions fitting.edit.group }
+        ensures next { IfOk result (λ next. IsNext self.now rev fitting next.engine) }
+        ensures change { (history : History) → IsHistoryOf self.now.union self.now.revisions history
+            → IfOk result (λ next. IsChange history (edited history (in_characters rev fitting.edit)) next.change) }
+    {
+        let Fitting { edit, spent } = fitting;
+        let made = put_in(alloc, &self.union, &self.revs, rev, &edit)?;
+        let units = self.units_to(alloc, rev, edit, &made)?;
+        let text = self.text.edited(alloc, &units)?;
+        let PutIn { union, revs } = made;
+        let rev = revs.head();
+        Ok(Next {
+            engine: Engine {
+                union,
+                text,
+                revs,
+                limit: self.limit,
+                spent,
+            },
+            change: Change { rev, units },
+        })
+    }
+
+    // What the edit changes of the head text: an edit against the head is its change itself.
+    fn units_to(
+        &self,
+        alloc: Global,
+        rev: u64,
+        edit: UnitEdit,
+        made: &PutIn,
+    ) -> Result<UnitDelta, NoMemory>
+        requires put { IsPutIn self.now.union self.now.revisions rev edit made.now.union made.now.revs }
+        requires kept { self.now.revisions.floor ≤ rev }
+        requires known { rev ≤ head self.now.revisions }
+        requires canonical { IsCanonical edit.units }
+        requires base { edit.units.base ≡ length (shown_at self.now.union self.now.revisions rev) }
+        requires positions { length made.now.union ≡ length made.now.revs.characters }
+        ensures canonical { IfOk result (λ units. IsCanonical units) }
+        ensures change { (history : History) → IsHistoryOf self.now.union self.now.revisions history
+            → IfOk result (λ units. IsChangeBy history (edited history (in_characters rev edit)) units) }
+    {
+        if self.is_head(rev) {
+            let UnitEdit {
+                units,
+                priority: _,
+                author: _,
+                group: _,
+            } = edit;
+            return Ok(units);
+        }
+        let head = self.head();
+        units_from(alloc, &made.union, &made.revs, head)
+    }
+
+    /// The same engine, which shares all with this one, in O(1).
+    pub fn copy(&self, alloc: Global) -> Result<Engine, NoMemory>
+        ensures { IfOk result (λ made. made ≡ self.now) }
+    {
+        let union = self.union.copy(alloc)?;
+        let text = self.text.copy(alloc)?;
+        let revs = self.revs.copy(alloc)?;
         Ok(Engine {
-            union: self.union.copy(alloc)?,
-            revs: self.revs.copy(alloc)?,
+            union,
+            text,
+            revs,
             limit: self.limit,
             spent: self.spent,
         })
     }
+}
+
+// How many bytes a text has; memory has fewer than 2^63.
+fn len_of(text: &Text) -> u64
+    ensures length { result ≡ byte_len text.now }
+    ensures bound { result < 2 ^ 63 }
+{
+    let bytes = text.as_str().len();
+    bytes as u64
+}
+
+// How many characters a unit delta adds. They need not fit 64 bits.
+fn added_len(units: &UnitDelta) -> u128
+    requires { IsUnitDelta units.now }
+    ensures total { result ≡ length (added_text units.now) }
+    ensures room { result + 2 ^ 64 ≤ 2 ^ 128 }
+{
+    added_chars(units.added.as_slice())
+}
+
+fn added_chars(added: &[Added]) -> u128
+    ensures total { result ≡ length (flat_map (λ one. one.text) added.now) }
+    ensures room { result + 2 ^ 64 ≤ 2 ^ 128 }
+{
+    let mut total: u128 = 0;
+    for one in added {
+        total += u128::from(one.text.char_count());
+    }
+    total
 }

@@ -1,20 +1,39 @@
-// A flat text beside a set of its positions: each call is one walk over both.
-ghost use Rattle.std.specs.Prelude.{◌≡◌, ◌+◌, ◌≤◌, ◌++◌, length, take, drop, IfOk, OnOk};
-ghost use Rattle.std.specs.Str.{IsUtf8, chars};
+// The characters of a union: those that a revision shows, and those that an edit puts in.
+ghost use Rattle.std.specs.Prelude.{◌≡◌, ◌+◌, ◌^◌, ◌<◌, ◌≤◌, length, IfOk};
+ghost use Rattle.std.specs.Str.{chars};
+ghost use Rattle.shared_tree.specs.Replaced.{replaced};
+ghost use Rattle.plain_text.specs.Text.{byte_len};
 ghost use Rattle.subset_runs.specs.Subset.{count, items_outside};
 ghost use Rattle.rev_rebase.specs.Rebase.{put_in};
 
 use plain_text::{NoMemory, Text, split_at_gap};
+use rope_tree::Rope;
 use std::alloc::Global;
 use subset_runs::Subset;
 
-// The characters that are not dead, in the time of the text.
-pub(crate) fn alive(alloc: Global, union: &Text, dead: &Subset) -> Result<Text, NoMemory>
+// The text of a rope, in one pass.
+pub(crate) fn whole(alloc: Global, rope: &Rope) -> Result<Text, NoMemory>
+    ensures { IfOk result (λ made. made ≡ rope.now) }
+{
+    rope.slice(alloc, 0, rope.len())
+}
+
+// The characters of a union that are not dead, in the time of its text.
+pub(crate) fn alive(alloc: Global, union: &Rope, dead: &Subset) -> Result<Text, NoMemory>
     requires { length union.now ≡ length dead.now }
     ensures { IfOk result (λ made. made ≡ items_outside dead.now union.now) }
 {
+    let text = whole(alloc, union)?;
+    outside(alloc, &text, dead)
+}
+
+// The characters of a text that are not dead: one walk over both.
+fn outside(alloc: Global, text: &Text, dead: &Subset) -> Result<Text, NoMemory>
+    requires { length text.now ≡ length dead.now }
+    ensures { IfOk result (λ made. made ≡ items_outside dead.now text.now) }
+{
     let mut made = Text::new(alloc);
-    let mut rest = union.as_str();
+    let mut rest = text.as_str();
     let mut walk = dead.walk();
     while !walk.is_empty() {
         let next = walk.front();
@@ -28,41 +47,41 @@ pub(crate) fn alive(alloc: Global, union: &Text, dead: &Subset) -> Result<Text, 
     Ok(made)
 }
 
-// The text with another put in at the positions `at`, in the time of the longer text.
+// The union with a text put in at the positions `at`: the height of the rope for each of their runs.
 pub(crate) fn with_put_in(
     alloc: Global,
-    union: &Text,
+    union: &Rope,
     at: &Subset,
     text: &Text,
-) -> Result<Text, NoMemory>
+) -> Result<Rope, NoMemory>
     requires longer { length at.now ≡ length union.now + count at.now }
     requires members { count at.now ≡ length text.now }
+    requires fits { byte_len union.now + byte_len text.now < 2 ^ 64 }
     ensures { IfOk result (λ made. made ≡ put_in at.now text.now union.now) }
 {
-    let mut made = Text::new(alloc);
-    let mut old = union.as_str();
-    let mut new = text.as_str();
+    let mut made = union.copy(alloc)?;
+    let mut rest = text.as_str();
+    let mut gap: u64 = 0;
     let mut walk = at.walk();
     while !walk.is_empty() {
         let next = walk.front();
         if next.member {
-            new = pushed(&mut made, new, next.len)?;
-        } else {
-            old = pushed(&mut made, old, next.len)?;
+            let (front, back) = split_at_gap(rest, next.len);
+            made = put_at(alloc, &made, gap, front)?;
+            rest = back;
         }
+        gap += next.len;
         walk.skip(next.len);
     }
     Ok(made)
 }
 
-// Puts the first `len` characters of a text at the end of another, and gives those that are left.
-fn pushed<'a>(made: &mut Text, text: &'a str, len: u64) -> Result<&'a str, NoMemory>
-    requires { len ≤ length (chars text.now) }
-    ensures pushed { OnOk result (made.new ≡ made.old ++ take len (chars text.now)) }
-    ensures left { IfOk result (λ rest. chars rest.now ≡ drop len (chars text.now)) }
-    ensures utf8 { IfOk result (λ rest. IsUtf8 rest.now) }
+// The rope with a text put in at a gap.
+fn put_at(alloc: Global, rope: &Rope, gap: u64, text: &str) -> Result<Rope, NoMemory>
+    requires inside { gap ≤ length rope.now }
+    requires fits { byte_len (replaced rope.now gap gap (chars text.now)) < 2 ^ 64 }
+    ensures { IfOk result (λ made. made ≡ replaced rope.now gap gap (chars text.now)) }
 {
-    let (front, back) = split_at_gap(text, len);
-    made.push_str(front)?;
-    Ok(back)
+    let text = Text::from_str(alloc, text)?;
+    rope.replaced(alloc, gap, gap, &text)
 }

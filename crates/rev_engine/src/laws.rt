@@ -1,6 +1,7 @@
 //! The laws of the histories that an engine gives. The functions do nothing: their clauses are the laws, and their proofs prove them.
 
 ghost use Rattle.rev_engine.specs.Commute.{EditsCommute};
+ghost use Rattle.rev_engine.specs.Engine.{HeadEditIsItsChange};
 ghost use Rattle.rev_engine.specs.Selective.{UndoIsSelective};
 
 /// Edits of one text may come in any order: each is taken, and the text is that of all of them merged.
@@ -12,4 +13,9 @@ pub fn edits_commute()
 /// text back.
 pub fn undo_is_selective()
     ensures { UndoIsSelective }
+{}
+
+/// An edit against the head is itself what it changes of the head text: its revision is the edit step, and nothing is carried.
+pub fn head_edit_is_its_change()
+    ensures { HeadEditIsItsChange }
 {}

@@ -1,67 +1,66 @@
-// The steps of an edit: that it fits, and then all that it takes memory for.
-ghost use Rattle.std.specs.Prelude.{◌≡◌, ◌+◌, ◌*◌, ◌^◌, ◌<◌, ◌≤◌, length, IfOk, OnOk};
+// The steps of an edit that fits: where it goes in union and revisions, and what it changes of the head text.
+ghost use Rattle.std.specs.Prelude.{◌≡◌, ◌+◌, ◌^◌, ◌<◌, ◌≤◌, length, IfOk};
+ghost use Rattle.plain_text.specs.Text.{byte_len};
+ghost use Rattle.plain_edits.specs.History.{head};
 ghost use Rattle.plain_edits.specs.UnitDelta.{IsUnitDelta};
-ghost use Rattle.plain_edits.specs.Delta.{inserted_len};
+ghost use Rattle.delta_core.specs.Synthesis.{IsBetween};
+ghost use Rattle.rev_list.specs.Hidden.{hidden_at};
 ghost use Rattle.rev_rebase.specs.Rebase.{added_text};
 ghost use Rattle.rev_engine.specs.Given.{MayAsk};
-ghost use Rattle.rev_engine.specs.Inner.{IsBasedOn, IsMadeReady};
+ghost use Rattle.rev_engine.specs.Inner.{IsBasedOn, IsPutIn};
 
-use crate::flat::with_put_in;
-use crate::{Change, Edit};
+use crate::UnitEdit;
+use crate::flat::{whole, with_put_in};
 use delta_core::synthesize;
-use plain_edits::{El, UnitDelta};
-use plain_text::{NoMemory, Text};
-use rev_list::{ReadyEdit, RevEdit, RevList};
+use plain_edits::UnitDelta;
+use plain_text::NoMemory;
+use rev_list::{RevEdit, RevList};
 use rev_rebase::{Rebased, rebase};
+use rope_tree::Rope;
 use std::alloc::Global;
+use subset_runs::Subset;
 
-/// An edit that fits, in characters, and how many characters were inserted after loading when it is taken.
+// An edit in characters, and how many characters were inserted after loading when it is taken.
 #[derive(Drop)]
 pub(crate) struct Fitting {
-    pub(crate) units: UnitDelta,
+    pub(crate) edit: UnitEdit,
     pub(crate) spent: u64,
 }
 
-/// An edit that was made ready: its memory is taken, and what is left is to put it in.
+// A union and its revisions, after an edit.
 #[derive(Drop)]
-pub struct Ready {
-    /// The characters, with those of the edit.
-    pub(crate) union: Text,
-    pub(crate) edit: ReadyEdit,
-    /// How many characters were inserted after loading, with those of the edit.
-    pub(crate) spent: u64,
-    /// What the edit does to the head text.
-    pub change: Change,
+pub(crate) struct PutIn {
+    pub(crate) union: Rope,
+    pub(crate) revs: RevList,
 }
 
-// Takes all the memory of the edit and works out what it changes; the revisions stay as they are.
-pub(crate) fn made_ready(
+// Puts an edit of the text of revision `rev` in as the next revision; what is given stays as it is.
+pub(crate) fn put_in(
     alloc: Global,
-    union: &Text,
-    revs: &mut RevList,
-    edit: &Edit,
-    fitting: &Fitting,
-) -> Result<Ready, NoMemory>
-    requires based { IsBasedOn union.now revs.old.history edit.now fitting.now.units }
-    requires may { MayAsk revs.old.history edit.now.group }
-    requires well_formed { IsUnitDelta fitting.now.units }
-    requires bound { length revs.old.history.characters + length (added_text fitting.now.units) < 2 ^ 64 }
-    ensures made { IfOk result (IsMadeReady union.now revs.old.history edit.now fitting.now) }
-    ensures room { OnOk result (0 < revs.new.room) }
-    ensures same { revs.new.history ≡ revs.old.history }
+    union: &Rope,
+    revs: &RevList,
+    rev: u64,
+    edit: &UnitEdit,
+) -> Result<PutIn, NoMemory>
+    requires based { IsBasedOn union.now revs.now rev edit.now.units }
+    requires may { MayAsk revs.now edit.now.group }
+    requires well_formed { IsUnitDelta edit.now.units }
+    requires bound { length revs.now.characters + length (added_text edit.now.units) < 2 ^ 64 }
+    requires fits { byte_len union.now + byte_len (added_text edit.now.units) < 2 ^ 64 }
+    ensures { IfOk result (λ made. IsPutIn union.now revs.now rev edit.now made.union made.revs) }
 {
-    let made = rebase(alloc, revs, edit.rev, &fitting.units, edit.priority)?;
+    let made = rebase(alloc, revs, rev, &edit.units, edit.priority)?;
     let Rebased {
         inserted,
         deleted,
         text,
     } = made;
     let union = with_put_in(alloc, union, &inserted, &text)?;
-    let before = revs.dead().expand_in(alloc, &inserted)?;
-    let edit = revs.ready_edit(
+    let mut revs = revs.copy(alloc)?;
+    revs.push_edit(
         alloc,
         RevEdit {
-            base: edit.rev,
+            base: rev,
             priority: edit.priority,
             group: edit.group,
             author: edit.author,
@@ -69,12 +68,35 @@ pub(crate) fn made_ready(
             deleted,
         },
     )?;
-    let units = synthesize(alloc, &union, &before, &edit.dead)?;
-    let rev = revs.head() + 1;
-    Ok(Ready {
-        union,
-        edit,
-        spent: fitting.spent,
-        change: Change { rev, units },
-    })
+    Ok(PutIn { union, revs })
+}
+
+// The delta from what revision `rev` shows to what the head shows, in the time of the union.
+pub(crate) fn units_from(
+    alloc: Global,
+    union: &Rope,
+    revs: &RevList,
+    rev: u64,
+) -> Result<UnitDelta, NoMemory>
+    requires kept { revs.now.floor ≤ rev }
+    requires known { rev ≤ head revs.now }
+    requires positions { length union.now ≡ length revs.now.characters }
+    ensures { IfOk result (IsBetween union.now (hidden_at revs.now rev)
+        (hidden_at revs.now (head revs.now))) }
+{
+    let before = dead_at(alloc, revs, rev)?;
+    let text = whole(alloc, union)?;
+    synthesize(alloc, &text, &before, revs.dead())
+}
+
+// What of the union is not visible at a kept revision.
+fn dead_at(alloc: Global, revs: &RevList, rev: u64) -> Result<Subset, NoMemory>
+    requires kept { revs.now.floor ≤ rev }
+    requires known { rev ≤ head revs.now }
+    ensures { IfOk result (λ dead. dead ≡ hidden_at revs.now rev) }
+{
+    match revs.dead_at(alloc, rev) {
+        Ok(dead) => Ok(dead),
+        Err(_) => Err(NoMemory),
+    }
 }

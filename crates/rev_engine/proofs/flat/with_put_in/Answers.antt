@@ -1,28 +1,46 @@
-use Rattle.rev_engine.proofs.FlatLemmas.{IsPutting-new_len, IsPutting-old_len, IsPutting-new, IsPutting-old}
+use Rattle.std.proofs.Common.{ap, arith, length}
+use Rattle.std.proofs.lemmas.List.{length-drop}
+use Rattle.subset_runs.proofs.ForCallers.{front_len}
+use Rattle.rev_engine.proofs.FlatLemmas.{IsPuttingAt-new, IsPuttingAt-old, IsPutting-new_len, piece-fits}
 use Rattle.rev_engine.proofs.flat.with_put_in.Goals as goal
-use Rattle.rev_engine.proofs.flat.with_put_in.Goals.{then-next+in_ok-new, else-next+in_ok-old}
+use Rattle.rev_engine.proofs.flat.with_put_in.Goals.{then-next+in_ok-made-2, else-next}
 
-pub pushed-requires : goal.pushed-requires
-pushed-requires c = IsPutting-new_len _ _ _ _ _ c.front-next.result c.loop-old.invariant.putting c.front-next.ensures c.if-next.true
+pub split_at_gap-requires : goal.split_at_gap-requires
+split_at_gap-requires c =
+    IsPutting-new_len _ _ _ _ _ c.front-next.result c.loop-rest.invariant.putting.putting c.front-next.ensures c.if-next.true
 
-pub pushed-requires-else-next : goal.pushed-requires-else-next
-pushed-requires-else-next c = IsPutting-old_len _ _ _ _ _ c.front-next.result c.loop-old.invariant.putting c.front-next.ensures c.if-next.false
+pub put_at-requires-clause-fits : goal.put_at-requires-clause-fits
+put_at-requires-clause-fits c =
+    rw c.split_at_gap.ensures.front
+    (omega (arith, piece-fits _ _ _ _ _ _ c.front-next.result c.loop-rest.invariant.putting c.front-next.ensures, c.requires.fits))
 
-pub loop-old-preserved : goal.loop-old-preserved
-loop-old-preserved c =
+pub loop-rest-preserved : goal.loop-rest-preserved
+loop-rest-preserved c =
     elim c.if-next.branch [
-      | then-next+in_ok-new w ↦ record {
+      | then-next+in_ok-made-2 w ↦ record {
         putting =
-            rw (w.made-is, w.old-is, w.new-is, w.in_ok-new.ensures.pushed, w.in_ok-new.ensures.left, c.skip.ensures)
-            (IsPutting-new _ _ _ _ _ c.front-next.result c.loop-old.invariant.putting c.front-next.ensures w.if-next.true);
-        old_utf8 = rw w.old-is c.loop-old.invariant.old_utf8;
-        new_utf8 = rw w.new-is w.in_ok-new.ensures.utf8;
+            rw (w.made-is, w.rest-is, w.in_ok-made-2.ensures, w.split_at_gap.ensures.front, w.split_at_gap.ensures.back, c.skip.ensures)
+            (IsPuttingAt-new _ _ _ _ _ _ c.front-next.result c.loop-rest.invariant.putting c.front-next.ensures w.if-next.true);
+        passed = omega (
+          arith,
+          c.loop-rest.invariant.passed,
+          ap length c.skip.ensures,
+          length-drop c.front-next.result.len c.loop-rest.walk,
+          front_len c.loop-rest.walk c.front-next.result c.front-next.ensures,
+        );
+        utf8 = rw w.rest-is w.split_at_gap.ensures.utf8;
       }
-      | else-next+in_ok-old w ↦ record {
+      | else-next w ↦ record {
         putting =
-            rw (w.made-is, w.old-is, w.new-is, w.in_ok-old.ensures.pushed, w.in_ok-old.ensures.left, c.skip.ensures)
-            (IsPutting-old _ _ _ _ _ c.front-next.result c.loop-old.invariant.putting c.front-next.ensures w.if-next.false);
-        old_utf8 = rw w.old-is w.in_ok-old.ensures.utf8;
-        new_utf8 = rw w.new-is c.loop-old.invariant.new_utf8;
+            rw (w.made-is, w.rest-is, c.skip.ensures)
+            (IsPuttingAt-old _ _ _ _ _ _ c.front-next.result c.loop-rest.invariant.putting c.front-next.ensures w.if-next.false);
+        passed = omega (
+          arith,
+          c.loop-rest.invariant.passed,
+          ap length c.skip.ensures,
+          length-drop c.front-next.result.len c.loop-rest.walk,
+          front_len c.loop-rest.walk c.front-next.result c.front-next.ensures,
+        );
+        utf8 = rw w.rest-is c.loop-rest.invariant.utf8;
       }
     ]

@@ -1,6 +1,7 @@
-use Rattle.std.proofs.Common.{arith, ap, Err}
+use Rattle.std.proofs.Common.{◌∙◌, arith, ap, length, Err}
 use Rattle.std.proofs.lemmas.Result.{err_from_is_err_and}
 use Rattle.rev_engine.specs.State.{State}
+use Rattle.rev_engine.proofs.SpentLemmas.{length-added_text}
 use Rattle.rev_engine.proofs.StandLemmas.{Refuses-base, refused-misfit, refused-spent}
 use Rattle.rev_engine.proofs.engine.Engine.fitting.Goals as goal
 
@@ -26,8 +27,16 @@ pub returns-clause-fits : goal.returns-clause-fits
 returns-clause-fits c = record {
   base_kept = c.in_ok-text.ensures.kept.0;
   base_known = c.in_ok-text.ensures.kept.1;
-  fits = rw (← c.in_ok-text.ensures.text) c.in_default.ensures.fits;
-  units = rw (← c.in_ok-text.ensures.text) c.in_ok-to_units.ensures;
-  spent = omega (arith, c.from.ensures, c.inserted_len.ensures.total, ap (λ (s : State). s.spent) c.self.view_is);
-  within = omega (arith, c.if-from-total.false, c.from-2.ensures, ap (λ (s : State). s.limit) c.self.view_is);
+  canonical = c.in_ok-units.ensures.canonical;
+  base = c.in_ok-units.ensures.base ∙ ap length c.in_ok-text.ensures.text;
+  room = record {
+    is = omega (
+      arith,
+      c.from.ensures,
+      c.inserted_len.ensures.total,
+      ap (λ (s : State). s.spent) c.self.view_is,
+      length-added_text _ _ _ c.in_ok-units.ensures,
+    );
+    within = omega (arith, c.if-from-total.false, c.from-2.ensures, ap (λ (s : State). s.limit) c.self.view_is);
+  };
 }

@@ -1,6 +1,6 @@
 use Rattle.rev_engine.proofs.FlatLemmas.{IsPicking-kept, IsPicking-gone}
-use Rattle.rev_engine.proofs.flat.alive.Goals as goal
-use Rattle.rev_engine.proofs.flat.alive.Goals.{then-not-next+in_ok-push_str, else-not-next}
+use Rattle.rev_engine.proofs.flat.outside.Goals as goal
+use Rattle.rev_engine.proofs.flat.outside.Goals.{then-not-next+in_ok-push_str, else-not-next}
 
 pub loop-rest-preserved : goal.loop-rest-preserved
 loop-rest-preserved c = record {

@@ -4,7 +4,7 @@ use Rattle.plain_edits.specs.History.{head}
 use Rattle.rev_list.specs.Hidden.{IsCollected, IsKeptAt, IsUnknown}
 use Rattle.rev_engine.specs.State.{State}
 use Rattle.rev_engine.proofs.StandLemmas.{IsKeptAt-answered}
-use Rattle.rev_engine.proofs.engine.Engine.shown.Goals as goal
+use Rattle.rev_engine.proofs.engine.Engine.shown_then.Goals as goal
 
 pub returns-in_err-alive-in-Ok-clause-unknown : goal.returns-in_err-alive-in-Ok-clause-unknown
 returns-in_err-alive-in-Ok-clause-unknown c = λ n.
@@ -63,10 +63,10 @@ returns-in-Err-clause-collected c = λ n. (
 pub returns-in_ok-alive-in-Ok-clause-kept : goal.returns-in_ok-alive-in-Ok-clause-kept
 returns-in_ok-alive-in-Ok-clause-kept c =
     subst (λ revisions. IsKeptAt revisions c.args.rev) (ap (λ (s : State). s.revisions) c.self.view_is)
-    (IsKeptAt-answered c.self.inside.revs.history c.args.rev
+    (IsKeptAt-answered c.self.inside.revs c.args.rev
     (λ is.
-    let same = (c.in-Ok.ensures.unknown (head c.self.inside.revs.history)).1 is in
+    let same = (c.in-Ok.ensures.unknown (head c.self.inside.revs)).1 is in
     absurd cc)
     (λ is.
-    let same = (c.in-Ok.ensures.collected c.self.inside.revs.history.floor).1 is in
+    let same = (c.in-Ok.ensures.collected c.self.inside.revs.floor).1 is in
     absurd cc))

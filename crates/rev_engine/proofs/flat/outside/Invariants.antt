@@ -4,11 +4,11 @@ use Rattle.std.proofs.Common.{length}
 use Rattle.std.specs.Str.{chars}
 use Rattle.subset_runs.specs.Subset.{items_outside}
 use Rattle.rev_engine.proofs.FlatLemmas.{IsPicking}
-use Rattle.rev_engine.proofs.flat.alive.Given as goal
+use Rattle.rev_engine.proofs.flat.outside.Given as goal
 
 abbrev pub invariant-loop-rest : goal.invariant-loop-rest
 invariant-loop-rest l = record {
-  picking : IsPicking l.made (chars l.rest) l.walk (items_outside l.dead l.union);
+  picking : IsPicking l.made (chars l.rest) l.walk (items_outside l.dead l.text);
   utf8 : shadow (Utf8 l.rest);
 }
 
