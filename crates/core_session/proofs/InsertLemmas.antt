@@ -1,5 +1,5 @@
 -- What an insertion comes to where it is refused.
-use Rattle.std.proofs.Common.{◌≡◌, ◌≢◌, ℕ, List, Option, refl, subst}
+use Rattle.std.proofs.Common.{◌≡◌, ◌≢◌, Option, refl, subst}
 use Rattle.std.proofs.Math.Logic.{∥∥₁_elim}
 use Rattle.xi_plain.specs.declared.command.EditAct.{EditAct}
 use Rattle.plain_edits.specs.Edits.{Refusal}

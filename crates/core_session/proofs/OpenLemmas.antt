@@ -10,7 +10,6 @@ use Rattle.doc_session.specs.Stands.{DocStandsFor}
 use Rattle.doc_session.specs.Step.{AreEffectsOf, event_step}
 use Rattle.doc_session.proofs.ForCallers.{head-stands}
 use Rattle.core_session.specs.declared.act.ActEffects.{ActEffects}
-use Rattle.core_session.specs.declared.act.DocumentChange.TheVariants.{Opened as Opens}
 use Rattle.core_session.specs.declared.act.Reply.TheVariants.{Opened}
 use Rattle.core_session.specs.Core.{ServesDocument, Stands}
 use Rattle.core_session.specs.Inner.{TakesEvents, IsOutcome}
@@ -25,7 +24,7 @@ stands-first doc text none stands = subst (λ t. DocStandsFor doc (loaded_docume
 
 pub IsOutcome-opened : (document : Option Doc) (path : Option (List ℕ)) (plain : Option Document) (made : Doc) (effects : Effects) (came : ActEffects) →
     is_some document ≡ false → is_some path ≡ false → Stands document plain → ServesDocument made (event_step first_document Other).document →
-    AreEffectsOf (event_step first_document Other) effects → came ≡ record { reply = Opened; change = Some (Opens made); update = effects.update; scroll = effects.scroll } →
+    AreEffectsOf (event_step first_document Other) effects → came ≡ record { reply = Opened; next = Some made; update = effects.update; scroll = effects.scroll } →
     IsOutcome document (open_outcome plain path) came
 IsOutcome-opened (Some doc) path plain made effects came here there stands kept shown is = absurd cc
 IsOutcome-opened None (Some path) plain made effects came here there stands kept shown is = absurd cc

@@ -1,6 +1,6 @@
 -- One more entry is shown, where those before it are.
 use Rattle.std.proofs.Common.{◌≡◌, ℕ, suc, ◌+◌, ◌-◌, ◌<◌, ◌≤◌, ◌||◌, length, arith, Bool, true, false, List, [], ◌∷◌, ◌++◌, map, Option, Some, None, refl, ap, sym, ◌∙◌, subst, append-nil, ◌⊎◌, inl, inr, unwrap_or}
-use Rattle.std.specs.Prelude.{if◌then◌else◌, ◌&&◌, ℤ, pos, codes, option_map, ◌^◌}
+use Rattle.std.specs.Prelude.{if◌then◌else◌, ◌&&◌, ℤ, pos, codes, ◌^◌}
 use Rattle.std.specs.List.{filter_map, cons_option, AllByRecursion}
 use Rattle.serde_json.specs.Data.{Data}
 use Rattle.json_rpc.specs.Line.{line_of, IsLineOf}
@@ -31,7 +31,7 @@ use Rattle.view_update.specs.Notes.{scroll_data, alert_data}
 use Rattle.view_update.specs.Written.{update_data}
 use Rattle.view_update.specs.Reading.{ViewUpdate, line_update}
 use Rattle.view_update.proofs.ForCallers.{others_are_no_updates}
-use Rattle.doc_session.specs.InMemory.{Doc, doc_contents}
+use Rattle.doc_session.specs.InMemory.{Doc}
 use Rattle.doc_session.specs.Document.{Document, layout_of, no_request}
 use Rattle.doc_session.specs.declared.event.Event.TheVariants.{Front}
 use Rattle.doc_session.specs.Asking.{front_edit}
@@ -42,11 +42,8 @@ use Rattle.json_rpc.specs.Refusal.{code_of, message_of}
 use Rattle.core_session.specs.Session.{view_id, Outcome, outcome, opening_outcome, first_document, edit_came, spent_total, front_outcome, is_done, refusing, is_first_view, outcome_messages, update_notes, scroll_notes, messages, step, document_after, lines_written, written, piece_of}
 use Rattle.core_session.specs.Shows.{updates_in, screen_with, rebuilt_from, rebuilt, IsShown, SendsWithin, SendWindow, Shows}
 use Rattle.doc_session.proofs.ForCallers.{head-stands}
-use Rattle.doc_session.proofs.ForCallers.{DocStandsFor-doc_contents}
-use Rattle.core_session.specs.declared.act.DocumentChange.{DocumentChange}
 use Rattle.core_session.specs.Core.{IsOfLine, IsOpen, Stands, screen_of, plain_of, IsShowing, front_entry}
-use Rattle.core_session.specs.Inner.{MayBeAsked, UpdateReadsBack, AreLinesOf, with_change}
-use Rattle.xi_plain.specs.Journal.{closes}
+use Rattle.core_session.specs.Inner.{MayBeAsked, UpdateReadsBack, AreLinesOf}
 use Rattle.core_session.proofs.RevisionLemmas.{revisions_of, revisions_few}
 use Rattle.core_session.proofs.SessionLemmas.{document_after-push, all_messages, all_messages-push, written-messages, IsOpen-push}
 
@@ -386,20 +383,6 @@ MayBeAsked-few (Some doc) (Some plain) stands few =
 pub MayBeAsked-stands : (doc : Option Doc) (journal : List Entry) → Stands doc (plain_of journal) → length journal < 2 ^ 63 - 1 → MayBeAsked doc
 MayBeAsked-stands doc journal stands few = MayBeAsked-few doc (plain_of journal) stands (omega (arith, few, revisions_few journal))
 
--- what is kept hangs on what the document holds alone
-pub Stands-contents : (doc now : Option Doc) (plain : Option Document) → option_map doc_contents now ≡ option_map doc_contents doc → Stands doc plain → Stands now plain
-Stands-contents None None plain same stands = stands
-Stands-contents None (Some now) plain same stands = absurd cc
-Stands-contents (Some doc) None plain same stands = absurd cc
-Stands-contents (Some doc) (Some now) None same stands = absurd stands
-Stands-contents (Some doc) (Some now) (Some plain) same stands =
-    let is : doc_contents now ≡ doc_contents doc = ap (λ o. unwrap_or o (doc_contents doc)) same in
-    record {
-      stands = DocStandsFor-doc_contents doc now plain is stands.stands;
-      no_plugins = ap (λ (d : Doc). d.plugins) is ∙ stands.no_plugins;
-      shown = stands.shown;
-    }
-
 screens_push : (journal : List Entry) (entry : Entry) (doc : Option Doc) → Stands doc (plain_of (journal ++ entry ∷ [])) → Shows journal (written None journal) →
     rebuilt (written None (journal ++ entry ∷ [])) ≡ Some (screen_of (plain_of (journal ++ entry ∷ []))) →
     (front back : List Entry) → SplitsPush journal entry front back → IsShown (document_after None front) (rebuilt (written None front))
@@ -456,19 +439,18 @@ shows_push journal entry doc stands showing lines reads =
       screen = screen;
     }
 
--- a command that was prepared is an entry that is served
-pub serves_push : (journal : List Entry) (command : Command) (before : Option Doc) (change : Option DocumentChange) (piece : List ℕ) →
+-- a command that was prepared is an entry that is served, with the document that it makes
+pub serves_push : (journal : List Entry) (command : Command) (next : Option Doc) (piece : List ℕ) →
     AllByRecursion IsOpen journal → IsShowing journal → IsOfLine command.act →
     AreLinesOf (messages (plain_of journal) command) piece → UpdateReadsBack (outcome (plain_of journal) command.act).update →
-    Stands (with_change change before) (step (plain_of journal) command) →
+    Stands next (step (plain_of journal) command) →
     AllByRecursion IsOpen (journal ++ front_entry command true ∷ []) × IsShowing (journal ++ front_entry command true ∷ []) ×
-    Stands (with_change change before) (plain_of (journal ++ front_entry command true ∷ []))
+    Stands next (plain_of (journal ++ front_entry command true ∷ []))
 unfolding AreLines
-serves_push journal command before change piece sent showing asks lines reads stands =
-    let At : Option Document → Type 0 = λ plain. Stands (with_change change before) plain in
-    let after : Stands (with_change change before) (plain_of (journal ++ front_entry command true ∷ [])) =
-    subst At (sym (document_after-push journal (front_entry command true))) stands in (
+serves_push journal command next piece sent showing asks lines reads stands =
+    let after : Stands next (plain_of (journal ++ front_entry command true ∷ [])) =
+    subst (Stands next) (sym (document_after-push journal (front_entry command true))) stands in (
       IsOpen-push journal command sent asks,
-      shows_push journal (front_entry command true) (with_change change before) after showing lines.each reads,
+      shows_push journal (front_entry command true) next after showing lines.each reads,
       after,
     )

@@ -57,6 +57,10 @@ HasRoom core = vec_len core.journal < vec_capacity core.journal
 abbrev pub plain_of : List Entry → Option Document
 plain_of journal = document_after None journal
 
+-- the document in memory is the one that these entries define
+abbrev pub HasDocumentAfter : {K : Type 0} → Core K → List Entry → Type 0
+HasDocumentAfter core journal = Stands core.document (plain_of journal)
+
 -- the screen that the front end has of it
 abbrev pub screen_of : Option Document → Screen
 screen_of None = []

@@ -1,5 +1,5 @@
 -- What private functions say: what an act and a command come to in memory.
-use Rattle.std.specs.Prelude.{◌≡◌, ℕ, ◌^◌, ◌-◌, ◌<◌, List, Option, Some, None, ⊤, option_map}
+use Rattle.std.specs.Prelude.{◌≡◌, ℕ, ◌^◌, ◌-◌, ◌<◌, List, Option, Some, None, Result, IfOk, IfErr, ⊤, option_map}
 use Rattle.std.specs.List.{AllByRecursion}
 use Rattle.std.specs.Str.{encode_utf8_all}
 use Rattle.serde_json.specs.Data.{Data, null}
@@ -13,10 +13,10 @@ use Rattle.doc_session.specs.Document.{Document}
 use Rattle.doc_session.specs.Stands.{DocStandsFor}
 use Rattle.core_session.specs.declared.session.Prepared.{Prepared}
 use Rattle.core_session.specs.Session.{view_id, outcome, messages, lines_written, step, Outcome}
-use Rattle.doc_session.specs.declared.ready.ReadyEvent.{ReadyEvent}
-use Rattle.doc_session.specs.Ready.{MayTake, with_event}
-use Rattle.core_session.specs.declared.act.DocumentChange.{DocumentChange}
-use Rattle.core_session.specs.declared.act.DocumentChange.TheVariants.{Opened, Changed}
+use Rattle.doc_session.specs.Fault.{DocRefuses}
+use Rattle.doc_session.specs.Step.{AreEffectsOf, event_step, refusal_at}
+use Rattle.doc_session.specs.declared.event.Effects.{Effects}
+use Rattle.doc_session.specs.declared.event.Event.{Event}
 use Rattle.json_rpc.specs.Response.{text_data}
 use Rattle.doc_session.specs.declared.fault.DocFault.{DocFault}
 use Rattle.doc_session.specs.declared.fault.DocFault.TheVariants as Fault
@@ -25,7 +25,7 @@ use Rattle.core_session.specs.declared.act.Reply.{Reply as ReplyInMemory}
 use Rattle.core_session.specs.declared.act.Reply.TheVariants.{Opened, Accepted, Refused, Spent, Silent}
 use Rattle.core_session.specs.declared.act.ActEffects.{ActEffects}
 use Rattle.core_session.specs.Answer.{Reply, accepted, refused, spent, silent}
-use Rattle.core_session.specs.Core.{Stands}
+use Rattle.core_session.specs.Core.{ServesDocument, Stands}
 
 -- the document has no plugins, and may take one more edit
 abbrev pub TakesEvents : Doc → Type 0
@@ -46,33 +46,23 @@ abbrev pub UpdateReadsBack : Option Update → Type 0
 UpdateReadsBack None = ⊤
 UpdateReadsBack (Some update) = line_update (line_of (update_data view_id update)) ≡ Some (Some (record { view = view_id; update = update }))
 
--- the document with an event, where there is a document
-abbrev pub with_event_if_any : ReadyEvent → Option Doc → Option Doc
-with_event_if_any ready None = None
-with_event_if_any ready (Some doc) = Some (with_event doc ready)
+-- the document that is in place then: the next one, where there is one
+abbrev pub document_then : Option Doc → Option Doc → Option Doc
+document_then None before = before
+document_then (Some next) before = Some next
 
--- and with a change, where there is one
-abbrev pub with_change : Option DocumentChange → Option Doc → Option Doc
-with_change None before = before
-with_change (Some (Opened doc)) before = Some doc
-with_change (Some (Changed ready)) before = with_event_if_any ready before
-
--- the event may be put in, where there is a document
-abbrev pub MayTakeIfAny : ReadyEvent → Option Doc → Type 0
-MayTakeIfAny ready None = ⊤
-MayTakeIfAny ready (Some doc) = MayTake doc ready
-
--- the change may be made
-abbrev pub MayChange : Option DocumentChange → Option Doc → Type 0
-MayChange None before = ⊤
-MayChange (Some (Opened doc)) before = ⊤
-MayChange (Some (Changed ready)) before = MayTakeIfAny ready before
+-- what an event of the front end alone comes to: the document is the one that its step gives, or the event is refused
+pub record IsApplied (old : Doc) (event : Event) (result : Result Effects DocFault) (new : Doc) : Type 0 where
+  pub served : (plain : Document) → DocStandsFor old plain → IfOk result (λ _. ServesDocument new (event_step plain event).document)
+  pub effects : (plain : Document) → DocStandsFor old plain → IfOk result (AreEffectsOf (event_step plain event))
+  pub accepted : (plain : Document) → DocStandsFor old plain → IfOk result (λ _. refusal_at plain event ≡ None)
+  pub refused : (plain : Document) → DocStandsFor old plain → IfErr result (DocRefuses (refusal_at plain event))
 
 -- what a command comes to, before it is an entry: its piece and its document
 pub record IsPrepared (before : Option Doc) (plain : Option Document) (made : Prepared) : Type 0 where
   pub lines : AreLinesOf (messages plain made.command) (encode_utf8_all made.piece)
   pub reads_back : UpdateReadsBack (outcome plain made.command.act).update
-  pub stands : Stands (with_change made.change before) (step plain made.command)
+  pub stands : Stands (document_then made.next before) (step plain made.command)
 
 -- what a reply in memory is
 abbrev pub reply_of : ReplyInMemory → Reply
@@ -87,7 +77,7 @@ pub record IsOutcome (before : Option Doc) (outcome : Outcome) (effects : ActEff
   pub reply : reply_of effects.reply ≡ outcome.reply
   pub update : effects.update ≡ outcome.update
   pub scroll : option_map position_view effects.scroll ≡ outcome.scroll
-  pub stands : Stands (with_change effects.change before) outcome.document
+  pub stands : Stands (document_then effects.next before) outcome.document
 
 -- a fault of the front end's own edit: its characters are spent, or memory is wanting
 abbrev pub IsSpentOrLack : DocFault → Type 0

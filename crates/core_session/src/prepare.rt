@@ -1,9 +1,8 @@
-ghost use Rattle.std.specs.Prelude.{◌≡◌, Option, IfOk, option_map};
+ghost use Rattle.std.specs.Prelude.{◌≡◌, Option, IfOk};
 ghost use Rattle.front_wire.specs.Front.{command_of};
 ghost use Rattle.doc_session.specs.Document.{Document};
-ghost use Rattle.doc_session.specs.InMemory.{doc_contents};
 ghost use Rattle.core_session.specs.Core.{IsOfLine, Stands};
-ghost use Rattle.core_session.specs.Inner.{MayBeAsked, IsPrepared, MayChange};
+ghost use Rattle.core_session.specs.Inner.{IsPrepared, MayBeAsked};
 
 use crate::act::act_on;
 use crate::piece::piece_of;
@@ -13,15 +12,12 @@ use front_wire::command_of;
 use plain_text::NoMemory;
 use std::alloc::Global;
 
-/// Makes ready what a line comes to; the document is as before.
-pub fn prepare(alloc: Global, document: &mut Option<Doc>, line: &[u8]) -> Result<Prepared, NoMemory>
-    requires { MayBeAsked document.old }
+/// What a line comes to, beside the present document.
+pub fn prepare(alloc: Global, document: &Option<Doc>, line: &[u8]) -> Result<Prepared, NoMemory>
+    requires { MayBeAsked document.now }
     ensures command { IfOk result (λ made. made.command ≡ command_of line.now) }
     ensures asks { IfOk result (λ made. IsOfLine made.command.act) }
-    ensures prepared { (plain : Option Document) → Stands document.old plain
-        → IfOk result (IsPrepared document.new plain) }
-    ensures may_change { IfOk result (λ made. MayChange made.change document.new) }
-    ensures same { option_map doc_contents document.new ≡ option_map doc_contents document.old }
+    ensures prepared { (plain : Option Document) → Stands document.now plain → IfOk result (IsPrepared document.now plain) }
 {
     let command = command_of(alloc, line)?;
     let effects = act_on(alloc, document, &command.act)?;
@@ -29,6 +25,6 @@ pub fn prepare(alloc: Global, document: &mut Option<Doc>, line: &[u8]) -> Result
     Ok(Prepared {
         command,
         piece,
-        change: effects.change,
+        next: effects.next,
     })
 }

@@ -6,13 +6,12 @@ ghost use Rattle.xi_plain.specs.declared.entry.ShelfNote.TheVariants.{NoCall};
 ghost use Rattle.front_wire.specs.Fair.{IsFair};
 ghost use Rattle.doc_session.specs.Document.{Document};
 ghost use Rattle.xi_plain.specs.Journal.{closing_entry};
-ghost use Rattle.core_session.specs.Inner.{MayChange, MayTakeIfAny, with_change, with_event_if_any};
+ghost use Rattle.core_session.specs.Inner.{document_then};
 ghost use Rattle.front_wire.specs.Front.{command_of};
 
-use crate::act::DocumentChange;
 use crate::prepare::prepare;
 use crate::write::write_piece;
-use doc_session::{Doc, ReadyEvent};
+use doc_session::Doc;
 use outside::Sink;
 use plain_text::Text;
 use std::alloc::Global;
@@ -34,7 +33,8 @@ pub enum Entered {
 pub struct Prepared {
     pub command: Command,
     pub piece: Text,
-    pub change: Option<DocumentChange>,
+    /// The document that takes the place of the present one, where there is another.
+    pub next: Option<Doc>,
 }
 
 /// A session with its journal, its document and the sink that it writes to. There is always room for its closing entry.
@@ -46,7 +46,7 @@ pub struct Core<K> {
 }
 
 impl<K: Sink> Core<K> {
-    ghost use Rattle.core_session.specs.Core.{IsOfLine, IsServing, AddsSentEntry, AddsUnsentEntry, ChangesNothing, HasRoom, journal_of, sink_of, plain_of};
+    ghost use Rattle.core_session.specs.Core.{IsOfLine, IsServing, AddsSentEntry, AddsUnsentEntry, ChangesNothing, HasDocumentAfter, HasRoom, journal_of, sink_of, plain_of};
     ghost use Rattle.core_session.specs.Inner.{IsPrepared};
 
     /// A session without entries. For want of memory the sink is given back.
@@ -76,8 +76,9 @@ impl<K: Sink> Core<K> {
         ensures no_memory { result ≡ Entered.NoMemory → ChangesNothing self.old self.new }
         ensures complete { (Rose (K.faults (sink_of self.old)) (K.faults (sink_of self.new)) → ⊥)
             → (result ≡ Entered.Taken) ⊎ (result ≡ Entered.NoMemory) }
+        ensures dropped { result ≢ Entered.Taken → HasDocumentAfter self.new (journal_of self.old) }
     {
-        let Ok(made) = prepare(alloc, &mut self.document, line) else {
+        let Ok(made) = prepare(alloc, &self.document, line) else {
             return Entered::NoMemory;
         };
         if self.journal.reserve(2).is_err() {
@@ -86,23 +87,23 @@ impl<K: Sink> Core<K> {
         self.put(made)
     }
 
-    /// Writes the piece, and makes the entry.
+    /// Writes the piece, makes the entry, and puts the document in its place last. A broken write drops it.
     fn put(&mut self, made: Prepared) -> Entered
         requires serving { IsServing self.old }
         requires room { vec_len self.old.journal + 2 ≤ vec_capacity self.old.journal }
         requires asks { IsOfLine made.command.act }
         requires prepared { IsPrepared self.old.document (plain_of (journal_of self.old)) made }
-        requires may_change { MayChange made.change self.old.document }
         ensures sent { result ≡ Entered.Taken
             → AddsSentEntry (sink_state K.held K.faults K.failures) self.old self.new made.command }
         ensures unsent { result ≡ Entered.SinkFault → (n : ℕ)
             × AddsUnsentEntry (sink_state K.held K.faults K.failures) self.old self.new made.command n }
         ensures made { result ≢ Entered.NoMemory }
+        ensures dropped { result ≢ Entered.Taken → self.new.document ≡ self.old.document }
     {
         let Prepared {
             command,
             piece,
-            change,
+            next,
         } = made;
         let bytes = piece.as_str().as_bytes();
         let taken = write_piece(&mut self.sink, bytes);
@@ -111,7 +112,7 @@ impl<K: Sink> Core<K> {
         if !sent {
             return Entered::SinkFault;
         }
-        make_change(&mut self.document, change);
+        put_document(&mut self.document, next);
         Entered::Taken
     }
 
@@ -138,23 +139,11 @@ impl<K: Sink> Core<K> {
     }
 }
 
-fn make_change(document: &mut Option<Doc>, change: Option<DocumentChange>)
-    requires { MayChange change document.old }
-    ensures { document.new ≡ with_change change document.old }
+fn put_document(document: &mut Option<Doc>, next: Option<Doc>)
+    ensures { document.new ≡ document_then next document.old }
 {
-    match change {
-        Some(DocumentChange::Opened(doc)) => *document = Some(doc),
-        Some(DocumentChange::Changed(ready)) => put_event(document, ready),
-        None => {}
-    }
-}
-
-fn put_event(document: &mut Option<Doc>, ready: ReadyEvent)
-    requires { MayTakeIfAny ready document.old }
-    ensures { document.new ≡ with_event_if_any ready document.old }
-{
-    if let Some(doc) = document {
-        doc.put(ready);
+    if next.is_some() {
+        *document = next;
     }
 }
 

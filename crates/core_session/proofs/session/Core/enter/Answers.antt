@@ -1,7 +1,6 @@
 use Rattle.std.proofs.Common.{refl, arith, ◌<◌, ◌-◌, length}
 use Rattle.std.specs.Prelude.{◌^◌}
-use Rattle.core_session.specs.Core.{plain_of}
-use Rattle.core_session.proofs.ShowsLemmas.{MayBeAsked-stands, Stands-contents}
+use Rattle.core_session.proofs.ShowsLemmas.{MayBeAsked-stands}
 use Rattle.core_session.proofs.session.Core.enter.Goals as goal
 
 -- a journal has fewer entries than a list can have
@@ -17,9 +16,7 @@ returns-then-is_err-clause-no_memory g c = λ _. record {
     room = omega (arith, c.reserve.ensures.len, c.reserve.ensures.capacity, c.requires.room);
     sent = rw c.reserve.ensures.items c.requires.sent;
     showing = rw c.reserve.ensures.items c.requires.showing;
-    stands =
-        rw c.reserve.ensures.items
-        (Stands-contents c.args.self.now.document c.prepare.new.document (plain_of c.args.self.now.journal.items) c.prepare.ensures.same c.requires.stands);
+    stands = rw c.reserve.ensures.items c.requires.stands;
   };
   journal = c.reserve.ensures.items;
   sink = refl;
@@ -30,7 +27,5 @@ put-requires-clause-serving g c = record {
   room = omega (arith, c.reserve.ensures.len, c.reserve.ensures.capacity, c.requires.room);
   sent = rw c.reserve.ensures.items c.requires.sent;
   showing = rw c.reserve.ensures.items c.requires.showing;
-  stands =
-      rw c.reserve.ensures.items
-      (Stands-contents c.args.self.now.document c.prepare.new.document (plain_of c.args.self.now.journal.items) c.prepare.ensures.same c.requires.stands);
+  stands = rw c.reserve.ensures.items c.requires.stands;
 }

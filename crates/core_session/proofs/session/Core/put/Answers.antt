@@ -7,7 +7,7 @@ use Rattle.core_session.proofs.session.Core.put.Goals as goal
 
 pub returns-clause-sent : goal.returns-clause-sent
 returns-clause-sent g c = λ _.
-    let parts = serves_push _ c.args.made.command _ c.args.made.change _ c.requires.serving.sent c.requires.serving.showing c.requires.asks
+    let parts = serves_push _ c.args.made.command _ _ c.requires.serving.sent c.requires.serving.showing c.requires.asks
     c.requires.prepared.lines c.requires.prepared.reads_back c.requires.prepared.stands in
     let entry : c.front_entry.result ≡ front_entry c.args.made.command true =
     c.front_entry.ensures ∙ ap (front_entry c.args.made.command) (eq-eqb _ _ c.if-not-sent.false) in
@@ -19,7 +19,7 @@ returns-clause-sent g c = λ _.
     c.as_str.ensures.utf8 ∙ c.requires.prepared.lines.joined in
     let Gained : List ℕ → Type 0 = λ gained. Gains (g.K.Sink.held c.args.self.now.sink) (g.K.Sink.held c.write_piece-taken.new.sink) gained in
     record {
-      serving = record { room = omega (arith, c.push_reserved.ensures.len, c.push_reserved.ensures.capacity, c.requires.room); sent = rw items parts.0; showing = rw items parts.1; stands = rw (items, c.make_change.ensures) parts.2 };
+      serving = record { room = omega (arith, c.push_reserved.ensures.len, c.push_reserved.ensures.capacity, c.requires.room); sent = rw items parts.0; showing = rw items parts.1; stands = rw (items, c.put_document.ensures) parts.2 };
       entry = items;
       gains = subst Gained whole c.write_piece-taken.ensures.gains;
       faults_stay = c.write_piece-taken.ensures.faults_stay;
