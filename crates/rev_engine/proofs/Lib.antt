@@ -7,6 +7,7 @@ pub mod ChangeLemmas
 pub mod BlockLemmas
 pub mod MergeLemmas
 pub mod HeadLemmas
+pub mod ShortLemmas
 pub mod DoneLemmas
 pub mod StepLemmas
 pub mod OrderLemmas

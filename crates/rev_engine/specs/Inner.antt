@@ -6,6 +6,7 @@ use Rattle.plain_edits.specs.History.{History, head, visible_at}
 use Rattle.plain_edits.specs.UnitDelta.{IsCanonical}
 use Rattle.delta_core.specs.Units.{IsUnitsOf}
 use Rattle.rev_list.specs.Edit.{after_edit}
+use Rattle.rev_list.specs.Hidden.{IsKeptAt}
 use Rattle.rev_list.specs.WithoutText.{insertion_flags, in_positions}
 use Rattle.rev_rebase.specs.Rebase.{added_text, put_in}
 use Rattle.rev_engine.specs.declared.edit.Edit.{Edit}
@@ -26,6 +27,12 @@ pub record IsFitting (engine : State) (rev : ℕ) (fitting : Fitting) : Type 0 w
   pub canonical : IsCanonical fitting.edit.units
   pub base : fitting.edit.units.base ≡ length (shown_at engine.union engine.revisions rev)
   pub room : IsRoom engine (length (added_text fitting.edit.units)) fitting.spent
+
+-- the base of the edit is kept, its delta fits the text of that, and these are its characters
+pub record IsUnitsFor (engine : State) (edit : Edit) (units : UnitDelta) : Type 0 where
+  pub kept : IsKeptAt engine.revisions edit.rev
+  pub fits : Fits (shown_at engine.union engine.revisions edit.rev) edit.delta
+  pub says : IsUnitsOf (shown_at engine.union engine.revisions edit.rev) edit.delta units
 
 -- it says in characters what the edit says in bytes, which fits the text
 pub record IsAnswered (engine : State) (edit : Edit) (fitting : Fitting) : Type 0 where

@@ -12,11 +12,11 @@ ghost use Rattle.rev_engine.specs.Engine.{IsChange, IsChangeBy, IsSaidBy, Stands
 ghost use Rattle.plain_edits.specs.EditFault.{Refuses};
 ghost use Rattle.rev_engine.specs.Given.{AskedEdit, MayAsk, after};
 ghost use Rattle.rev_engine.specs.State.{IsHistoryOf, shown_at};
-ghost use Rattle.rev_engine.specs.Inner.{IsAnswered, IsFitting, IsNext, IsPutIn};
+ghost use Rattle.rev_engine.specs.Inner.{IsAnswered, IsFitting, IsNext, IsPutIn, IsUnitsFor};
 
 use crate::flat::{alive, whole};
 use crate::step::{Fitting, PutIn, put_in, units_from};
-use crate::{Change, Edit, EditFault, UnitEdit};
+use crate::{Change, Edit, EditFault, UnitEdit, short};
 use delta_core::{fits, to_units};
 use plain_edits::{Added, UnitDelta};
 use plain_text::{NoMemory, Text};
@@ -219,15 +219,11 @@ impl Engine {
         ensures refused { (history : History) → StandsFor self.now history
             → IfErr result (Refuses (edit_refusal history self.now.limit edit.now.rev edit.now.delta)) }
     {
-        let text = self.shown(alloc, edit.rev)?;
-        if let Err(misfit) = fits(&text, &edit.delta) {
-            return Err(EditFault::Misfit(misfit));
-        }
+        let units = self.units_of(alloc, edit)?;
         let total = u128::from(self.spent) + edit.delta.inserted_len();
         if u128::from(self.limit) < total {
             return Err(EditFault::Spent(total));
         }
-        let units = to_units(alloc, &text, &edit.delta)?;
         Ok(Fitting {
             edit: UnitEdit {
                 units,
@@ -237,6 +233,46 @@ impl Engine {
             },
             spent: total as u64,
         })
+    }
+
+    // The delta of the edit in characters, or why it does not fit.
+    fn units_of(&self, alloc: Global, edit: &Edit) -> Result<UnitDelta, EditFault>
+        ensures units { IfOk result (IsUnitsFor self.now edit.now) }
+        ensures refused { (history : History) → StandsFor self.now history
+            → IfErr result (Refuses (edit_refusal history self.now.limit edit.now.rev edit.now.delta)) }
+    {
+        if self.is_head(edit.rev) {
+            return self.short_units(alloc, edit);
+        }
+        self.stale_units(alloc, edit)
+    }
+
+    // The same of an edit against the head: the height of the rope for each copy.
+    fn short_units(&self, alloc: Global, edit: &Edit) -> Result<UnitDelta, EditFault>
+        requires is { edit.now.rev ≡ head self.now.revisions }
+        requires kept { IsKeptAt self.now.revisions edit.now.rev }
+        ensures units { IfOk result (IsUnitsFor self.now edit.now) }
+        ensures refused { (history : History) → StandsFor self.now history
+            → IfErr result (Refuses (edit_refusal history self.now.limit edit.now.rev edit.now.delta)) }
+    {
+        let text = self.head_rope();
+        if let Err(misfit) = short::fits(text, &edit.delta) {
+            return Err(EditFault::Misfit(misfit));
+        }
+        Ok(short::to_units(alloc, text, &edit.delta)?)
+    }
+
+    // The same of an edit against any revision: the text of its base is found once.
+    fn stale_units(&self, alloc: Global, edit: &Edit) -> Result<UnitDelta, EditFault>
+        ensures units { IfOk result (IsUnitsFor self.now edit.now) }
+        ensures refused { (history : History) → StandsFor self.now history
+            → IfErr result (Refuses (edit_refusal history self.now.limit edit.now.rev edit.now.delta)) }
+    {
+        let text = self.shown_then(alloc, edit.rev)?;
+        if let Err(misfit) = fits(&text, &edit.delta) {
+            return Err(EditFault::Misfit(misfit));
+        }
+        Ok(to_units(alloc, &text, &edit.delta)?)
     }
 
     // An edit of the head text, or that there is no room for it.

@@ -14,6 +14,7 @@ mod edit;
 mod engine;
 mod flat;
 pub mod laws;
+mod short;
 mod step;
 
 pub use edit::{Change, Edit, UnitEdit};
