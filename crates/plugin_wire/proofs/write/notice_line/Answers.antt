@@ -1,0 +1,15 @@
+use Rattle.std.proofs.Common.{arith}
+use Rattle.std.proofs.lemmas.Result.{IfOk-weaker}
+use Rattle.plugin_wire.specs.Told.{changed}
+use Rattle.plugin_wire.proofs.Plain.{IsWritable-told_params}
+use Rattle.plugin_wire.proofs.Notices.{IsNoticeOf-params}
+use Rattle.plugin_wire.proofs.write.notice_line.Goals as goal
+
+pub note-requires-clause-no_float : goal.note-requires-clause-no_float
+note-requires-clause-no_float c = rw c.in_ok-params.ensures.value (IsWritable-told_params (changed c.args.notice.now) c.in_ok-params.ensures.fair).whole
+
+pub note-requires-clause-shallow : goal.note-requires-clause-shallow
+note-requires-clause-shallow c = rw c.in_ok-params.ensures.value (omega (arith, (IsWritable-told_params (changed c.args.notice.now) c.in_ok-params.ensures.fair).shallow))
+
+pub returns : goal.returns
+returns c = IfOk-weaker c.note.result _ _ (λ text is. IsNoticeOf-params (changed c.args.notice.now) _ _ c.in_ok-params.ensures.value c.in_ok-params.ensures.fair is) c.note.ensures
