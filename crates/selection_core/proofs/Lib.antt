@@ -1,4 +1,5 @@
 pub mod MergeLemmas
+pub mod OrderLemmas
 pub mod GapLemmas
 pub mod ChangeLemmas
 pub mod ForCallers

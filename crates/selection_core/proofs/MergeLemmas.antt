@@ -158,7 +158,7 @@ comes_before-true first second e =
     (λ other. let same = eqb-true (lesser_end first) (lesser_end second) (and_parts _ _ other).0 in omega (arith, same))
     (or_cases (nat_lt (lesser_end first) (lesser_end second)) (lesser_end first == lesser_end second && nat_lt (greater_end first) (greater_end second)) e)
 
-comes_before-false : (first second : Region) → comes_before first second ≡ false → lesser_end second ≤ lesser_end first
+pub comes_before-false : (first second : Region) → comes_before first second ≡ false → lesser_end second ≤ lesser_end first
 comes_before-false first second e =
     ltb-false (lesser_end first) (lesser_end second)
     (or_none (nat_lt (lesser_end first) (lesser_end second)) (lesser_end first == lesser_end second && nat_lt (greater_end first) (greater_end second)) e).0

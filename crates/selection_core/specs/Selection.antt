@@ -67,6 +67,21 @@ with_in_order region [] = region ∷ []
 with_in_order region (first ∷ regions) =
     if comes_before first region then first ∷ with_in_order region regions else region ∷ first ∷ regions
 
+-- the regions in order
+abbrev pub sorted_regions : List Region → List Region
+sorted_regions [] = []
+sorted_regions (region ∷ regions) = with_in_order region (sorted_regions regions)
+
+-- THE SELECTION of regions that come in any order: they are put in order, and merged from the left
+abbrev pub selection_of : List Region → List Region
+selection_of regions = merged_regions (sorted_regions regions)
+
+-- no region comes before the one that stands left of it
+abbrev pub AreSorted : List Region → Type 0
+AreSorted [] = Unit {0}
+AreSorted (region ∷ []) = Unit {0}
+AreSorted (region ∷ next ∷ regions) = (comes_before next region ≡ false) × AreSorted (next ∷ regions)
+
 -- the regions of a selection after one is added
 abbrev pub with_region : Region → List Region → List Region
 with_region region regions = merged_regions (with_in_order region regions)

@@ -2,10 +2,10 @@ ghost use Rattle.std.specs.Prelude.{◌≡◌, ◌≢◌, ◌^◌, ◌<◌, List
 ghost use Rattle.plain_text.specs.declared.selection.Region.{Region as region_value};
 ghost use Rattle.plain_edits.specs.UnitDelta.{IsUnitDelta};
 ghost use Rattle.selection_core.specs.Mapped.{AreWithin, length_after, mapped_regions};
-ghost use Rattle.selection_core.specs.Selection.{IsSelection, caret_of, last_caret, with_region};
+ghost use Rattle.selection_core.specs.Selection.{IsSelection, caret_of, last_caret, selection_of, with_region};
 
 use crate::mapping::mapped;
-use crate::merging::{in_order, merged};
+use crate::merging::{in_order, merged, sorted};
 use plain_edits::UnitDelta;
 use plain_text::{NoMemory, Region, Regions, Sel};
 use std::alloc::Global;
@@ -24,6 +24,13 @@ pub trait Selection: Sized {
     fn add(&self, alloc: Global, region: Region) -> Result<Self, NoMemory>
         requires { IsSelection (regions_of self.now) }
         ensures regions { IfOk result (λ sel. regions_of sel ≡ with_region region (regions_of self.now)) }
+        ensures sound { IfOk result (λ sel. IsSelection (regions_of sel)) };
+
+    /// The selection of regions in any order: they are sorted by their lesser and then by their greater ends, and those that meet
+    /// are merged from the left. This costs what the sort of so many regions costs. In what order they come does not matter, by
+    /// [`laws::order_does_not_matter`](crate::laws::order_does_not_matter).
+    fn of_regions(alloc: Global, regions: Regions) -> Result<Self, NoMemory>
+        ensures regions { IfOk result (λ sel. regions_of sel ≡ selection_of regions) }
         ensures sound { IfOk result (λ sel. IsSelection (regions_of sel)) };
 
     /// The selection of one caret, at that of the last region.
@@ -61,6 +68,13 @@ impl Selection for Sel {
         let regions = in_order(alloc, self.regions.as_slice(), region)?;
         Ok(Sel {
             regions: merged(alloc, regions.as_slice())?,
+        })
+    }
+
+    fn of_regions(alloc: Global, regions: Regions) -> Result<Sel, NoMemory> {
+        let sorted = sorted(regions)?;
+        Ok(Sel {
+            regions: merged(alloc, sorted.as_slice())?,
         })
     }
 
