@@ -16,15 +16,16 @@ use Rattle.plain_text.proofs.callers.TextLemmas.{gap_from-place}
 use Rattle.delta_core.proofs.ForCallers.{is_place-end, gap_of-end, place_within}
 use Rattle.delta_core.proofs.ForCallers.{CopyFits-to, applied-shown}
 use Rattle.rev_engine.specs.State.{State, contents}
-use Rattle.rev_engine.specs.Steps.{with_edit}
 use Rattle.rev_engine.specs.Given.{AskedEdit, after, meant}
 use Rattle.rev_engine.proofs.ForCallers.{IsFresh-given, StandsFor-contents}
-use Rattle.doc_session.specs.declared.moved.Moved.{Moved}
+use Rattle.rev_engine.specs.declared.edit.Change.{Change}
+use Rattle.rev_engine.specs.Engine.{StandsFor, IsChange}
+use Rattle.doc_session.specs.declared.taken.Taken.{Taken}
 use Rattle.doc_session.specs.Asking.{insertion_delta, insertion_at}
-use Rattle.doc_session.specs.Inner.{IsMoved}
+use Rattle.doc_session.specs.Inner.{IsAfter}
 use Rattle.doc_session.specs.Whole.{ShowsHead, IsStateOf, IsStateOfSome}
-use Rattle.doc_session.specs.Inner.{ShowsSomeHead}
-use Rattle.doc_session.proofs.MoveLemmas.{head-after, head-stands}
+use Rattle.doc_session.specs.Inner.{IsChangeOf, ShowsSomeHead}
+use Rattle.doc_session.proofs.MoveLemmas.{head-after, head-stands, IsChangeOf-shown}
 
 -- the text with characters put in at a gap
 abbrev pub put_in : ℕ → List ℕ → List ℕ → List ℕ
@@ -91,18 +92,18 @@ text_at-inserted h engine text gap chars shows inside =
 
 -- ---- what edits leave is whole
 
-pub whole-moved : (engine now : State) (text : List ℕ) (caret gap : ℕ) (asked : AskedEdit) (moved : Moved) → contents now ≡ contents engine →
-    IsStateOfSome engine text caret → ((h : History) → ShowsHead h engine text → IsMoved h now asked moved) → gap ≤ length moved.text →
-    IsStateOfSome (with_edit now moved.ready) moved.text gap
-whole-moved engine now text caret gap asked moved same whole each inside =
+pub whole-taken : (engine : State) (text : List ℕ) (caret gap : ℕ) (asked : AskedEdit) (taken : Taken) → taken.engine.limit ≡ engine.limit →
+    IsStateOfSome engine text caret → ((h : History) → ShowsHead h engine text → IsAfter h asked taken) → gap ≤ length taken.text →
+    IsStateOfSome (contents taken.engine) taken.text gap
+whole-taken engine text caret gap asked taken same whole each inside =
     ∥∥₁_map whole (λ (s : (h : History) × IsStateOf h engine text caret).
-    let is : IsMoved s.0 now asked moved = each s.0 s.1.shown in (
+    let is : IsAfter s.0 asked taken = each s.0 s.1.shown in (
       after s.0 asked,
       record {
         shown = is.shown;
         inside = inside;
         within = is.within;
-        bound = omega (arith, s.1.bound, ap (λ (e : State). e.limit) same);
+        bound = omega (arith, s.1.bound, same);
       },
     ))
 
@@ -113,10 +114,10 @@ pub inside-whole : (engine : State) (text : List ℕ) (caret : ℕ) → IsStateO
 inside-whole engine text caret whole = ∥∥₁_elim whole le_prop (λ (s : (h : History) × IsStateOf h engine text caret). s.1.inside)
 
 -- so many characters has the text after an insertion at the caret
-pub inside-inserted : (engine now : State) (text : List ℕ) (caret : ℕ) (chars : List ℕ) (asked : AskedEdit) (moved : Moved) →
+pub inside-inserted : (engine : State) (text : List ℕ) (caret : ℕ) (chars : List ℕ) (asked : AskedEdit) (taken : Taken) →
     IsStateOfSome engine text caret → asked ≡ insertion_at (head engine.revisions) text caret chars →
-    ((h : History) → ShowsHead h engine text → IsMoved h now asked moved) → length moved.text ≡ length text + length chars
-inside-inserted engine now text caret chars asked moved whole is each =
+    ((h : History) → ShowsHead h engine text → IsAfter h asked taken) → length taken.text ≡ length text + length chars
+inside-inserted engine text caret chars asked taken whole is each =
     ∥∥₁_elim whole (ℕ_set _ _) (λ (s : (h : History) × IsStateOf h engine text caret).
     let here : asked ≡ insertion_at (head s.0) text caret chars =
     is ∙ ap (λ n. insertion_at n text caret chars) (head-stands engine s.0 s.1.shown.stands) in
@@ -143,18 +144,12 @@ ShowsHead-contents h engine now text same shows = record {
   text_is = shows.text_is;
 }
 
-pub IsStateOf-contents : (h : History) (engine now : State) (text : List ℕ) (caret : ℕ) → contents now ≡ contents engine →
-    IsStateOf h engine text caret → IsStateOf h now text caret
-IsStateOf-contents h engine now text caret same is =
-    let limit = ap (λ (e : State). e.limit) same in
-    record {
-      shown = ShowsHead-contents h engine now text same is.shown;
-      inside = is.inside;
-      within = omega (arith, is.within, limit);
-      bound = omega (arith, is.bound, limit);
-    }
+pub ShowsSomeHead-contents : (engine now : State) (text : List ℕ) → contents now ≡ contents engine → ShowsSomeHead engine text → ShowsSomeHead now text
+ShowsSomeHead-contents engine now text same some =
+    ∥∥₁_map some (λ (s : (h : History) × ShowsHead h engine text). (s.0, ShowsHead-contents s.0 engine now text same s.1))
 
-pub IsStateOfSome-contents : (engine now : State) (text : List ℕ) (caret : ℕ) → contents now ≡ contents engine →
-    IsStateOfSome engine text caret → IsStateOfSome now text caret
-IsStateOfSome-contents engine now text caret same whole =
-    ∥∥₁_map whole (λ (s : (h : History) × IsStateOf h engine text caret). (s.0, IsStateOf-contents s.0 engine now text caret same s.1))
+-- the change of an edit that an engine with the same contents took is one of the text
+pub IsChangeOf-copied : (engine now : State) (text : List ℕ) (asked : AskedEdit) (change : Change) → contents now ≡ contents engine →
+    ShowsSomeHead engine text → ((h : History) → StandsFor now h → IsChange h (after h asked) change) → IsChangeOf text change.units
+IsChangeOf-copied engine now text asked change same some each =
+    IsChangeOf-shown now text asked change (ShowsSomeHead-contents engine now text same some) each

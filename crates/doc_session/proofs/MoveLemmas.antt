@@ -1,5 +1,5 @@
 -- What an edit that was taken leaves: the texts on both sides of its change, where it takes gaps, and its notice.
-use Rattle.std.proofs.Common.{◌≡◌, ℕ, zero, suc, ◌+◌, ◌<◌, ◌≤◌, Bool, true, false, cond, List, [], ◌∷◌, length, take, filter, Option, Some, None, ap, ap₂, sym, ◌∙◌, arith, inl, inr}
+use Rattle.std.proofs.Common.{◌≡◌, ℕ, zero, suc, ◌+◌, ◌<◌, ◌≤◌, Bool, true, false, cond, List, [], ◌∷◌, length, take, filter, Option, Some, None, refl, ap, ap₂, sym, ◌∙◌, arith, inl, inr}
 use Rattle.std.proofs.Math.Nat.{ℕ_set}
 use Rattle.std.proofs.Math.Path.{fun_ext}
 use Rattle.std.proofs.Math.Logic.{∥∥₁_elim}
@@ -28,14 +28,14 @@ use Rattle.plain_edits.proofs.callers.HistoryLemmas.{text_at-edited}
 use Rattle.delta_core.specs.Units.{text_after}
 use Rattle.delta_core.specs.Wire.{wire_from, wire_of}
 use Rattle.rev_engine.specs.declared.edit.Change.{Change}
-use Rattle.rev_engine.specs.State.{State}
+use Rattle.rev_engine.specs.State.{State, contents}
 use Rattle.rev_engine.specs.Engine.{StandsFor, IsChange}
 use Rattle.rev_engine.specs.Given.{AskedEdit, after, meant}
-use Rattle.rev_engine.proofs.ForCallers.{IsFresh-given, inserted_count-plain}
+use Rattle.rev_engine.proofs.ForCallers.{IsFresh-given, StandsFor-contents, inserted_count-plain}
 use Rattle.selection_core.specs.Mapped.{new_gap}
 use Rattle.selection_core.proofs.ForCallers.{new_gap-after_step}
-use Rattle.doc_session.specs.declared.moved.Moved.{Moved}
-use Rattle.doc_session.specs.Inner.{IsMoved, IsTakenBy}
+use Rattle.doc_session.specs.declared.taken.Taken.{Taken}
+use Rattle.doc_session.specs.Inner.{IsAfter}
 use Rattle.doc_session.specs.Effects.{notice_of, change_delta}
 use Rattle.doc_session.specs.Whole.{ShowsHead}
 use Rattle.doc_session.specs.Inner.{ShowsSomeHead, IsChangeOf, LeadsTo}
@@ -174,17 +174,18 @@ pub length-byte_len : (text : List ℕ) → length text ≤ byte_len text
 length-byte_len [] = omega arith
 length-byte_len (c ∷ text) = omega (arith, length-byte_len text, len_utf8_bounds c)
 
--- what the edit leaves
-pub IsMoved-taken : (h : History) (engine now : State) (text : List ℕ) (asked : AskedEdit) (moved : Moved) → ShowsHead h engine text →
-    IsTakenBy h now asked moved.ready → moved.text ≡ text_after moved.ready.change.units text →
-    moved.notice.view ≡ [] → moved.notice.author ≡ asked.author → moved.notice.rev ≡ moved.ready.change.rev → moved.notice.new_len ≡ byte_len moved.text →
-    moved.notice.delta ≡ wire_of text moved.ready.change.units → IsMoved h now asked moved
-IsMoved-taken h engine now text asked moved shown is text_is view author rev len delta =
-    let change = moved.ready.change in
-    let made = text_is ∙ text_after-taken h engine text shown asked change.rev change.units is.changes in
+-- what the edit makes
+pub IsAfter-taken : (h : History) (engine : State) (text : List ℕ) (asked : AskedEdit) (taken : Taken) → ShowsHead h engine text →
+    StandsFor taken.engine (after h asked) → inserted_count (after h asked) ≤ taken.engine.limit → IsChange h (after h asked) taken.change →
+    taken.text ≡ text_after taken.change.units text → taken.notice.view ≡ [] → taken.notice.author ≡ asked.author →
+    taken.notice.rev ≡ taken.change.rev → taken.notice.new_len ≡ byte_len taken.text → taken.notice.delta ≡ wire_of text taken.change.units →
+    IsAfter h asked taken
+IsAfter-taken h engine text asked taken shown stands within changes text_is view author rev len delta =
+    let change = taken.change in
+    let made = text_is ∙ text_after-taken h engine text shown asked change.rev change.units changes in
     record {
-      shown = record { stands = is.stands; text_is = made };
-      within = is.within;
-      changes = is.changes;
-      notice = notice-taken h engine text shown asked change.rev change.units is.changes moved.notice moved.text made view author rev len delta;
+      shown = record { stands = StandsFor-contents taken.engine (contents taken.engine) (after h asked) refl stands; text_is = made };
+      within = within;
+      changes = changes;
+      notice = notice-taken h engine text shown asked change.rev change.units changes taken.notice taken.text made view author rev len delta;
     }

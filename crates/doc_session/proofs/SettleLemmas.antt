@@ -16,15 +16,14 @@ use Rattle.plain_screen.specs.Screen.{Screen, screen_after}
 use Rattle.plain_screen.specs.Plan.{is_within, update_plan}
 use Rattle.plain_screen.specs.Plan.{shown_lines}
 use Rattle.plain_screen.proofs.callers.PlanLemmas.{screen_after-plan_from}
-use Rattle.rev_engine.specs.State.{State}
+use Rattle.rev_engine.specs.State.{State, contents}
 use Rattle.rev_engine.specs.Given.{AskedEdit, after}
-use Rattle.rev_engine.specs.Steps.{with_edit}
 use Rattle.doc_session.specs.InMemory.{Doc}
-use Rattle.doc_session.specs.declared.moved.Moved.{Moved}
+use Rattle.doc_session.specs.declared.taken.Taken.{Taken}
 use Rattle.doc_session.specs.Document.{Document, text_of, layout_of, is_pristine, no_request, first_window}
 use Rattle.doc_session.specs.Effects.{ops_of, update_of, updated, differ, are_valid, is_window_valid, wants_update, update_after, settled, scroll_after, is_same_point}
 use Rattle.doc_session.specs.Inner.{is_lacking}
-use Rattle.doc_session.specs.Inner.{IsMoved}
+use Rattle.doc_session.specs.Inner.{IsAfter}
 use Rattle.doc_session.specs.Inner.{planned}
 use Rattle.doc_session.specs.Stands.{DocStandsFor}
 use Rattle.doc_session.specs.Step.{edited_document}
@@ -113,11 +112,11 @@ module _ (doc : Doc) (plain : Document) (stands : DocStandsFor doc plain) where
   screen_valid false is =
       ap₂ (λ window screen. are_valid window 0 (layout_of plain) screen) stands.window is ∙ are_valid-none (text_of plain) (plain.caret ∷ [])
 
-  pub wants_update-same : wants_update plain plain ≡ not doc.valid
+  pub wants_update-same : wants_update plain plain ≡ not doc.view.valid
   wants_update-same =
       ap (λ same. (not same || differ (is_pristine plain) (is_pristine plain)) || not (is_window_valid plain))
       ((is_same_layout-Decides (layout_of plain) (layout_of plain)).1 refl) ∙
-      ap₂ (λ pristine valid. pristine || not valid) (differ-same (is_pristine plain)) (screen_valid doc.valid stands.screen)
+      ap₂ (λ pristine valid. pristine || not valid) (differ-same (is_pristine plain)) (screen_valid doc.view.valid stands.screen)
 
   module _ (asked : AskedEdit) (gap : ℕ) where
     abbrev next : Document
@@ -141,11 +140,12 @@ module _ (doc : Doc) (plain : Document) (stands : DocStandsFor doc plain) where
 
     pristine_next : is_pristine next ≡ false
     pristine_next =
-        ap₂ (λ now saved. now == saved) (head-after plain.history asked) stands.saved ∙ ne_eqb (head plain.history + 1) 0 (λ is. omega (arith, is))
+        ap (λ now. now == plain.saved) (head-after plain.history asked) ∙
+        ne_eqb (head plain.history + 1) plain.saved (λ is. omega (arith, is, stands.saved_before))
 
-    pristine_plain : is_pristine plain ≡ (head doc.engine.revisions == 0)
+    pristine_plain : is_pristine plain ≡ (head doc.engine.revisions == doc.saved)
     pristine_plain =
-        ap₂ (λ now saved. now == saved) (sym (head-stands doc.engine plain.history stands.parts.shown.stands)) stands.saved
+        ap₂ (λ now saved. now == saved) (sym (head-stands doc.engine plain.history stands.parts.shown.stands)) (sym stands.saved)
 
     -- the layouts are the same exactly where the texts and the carets are
     layout_by : gap ≤ length (text_of next) →
@@ -163,12 +163,12 @@ module _ (doc : Doc) (plain : Document) (stands : DocStandsFor doc plain) where
 
     -- THE OCCASION, by what is in memory
     pub wants_update-edited : (text : List ℕ) → text ≡ text_of next → gap ≤ length text →
-        is_lacking doc.valid (head doc.engine.revisions) doc.text doc.caret text gap ≡ wants_update plain next
+        is_lacking doc.view.valid (head doc.engine.revisions == doc.saved) doc.text doc.caret text gap ≡ wants_update plain next
     wants_update-edited text text_is inside =
-        ap₂ (λ t c. is_lacking doc.valid (head doc.engine.revisions) t c text gap) stands.parts.shown.text_is stands.caret ∙
-        ap (λ t. is_lacking doc.valid (head doc.engine.revisions) (text_of plain) plain.caret t gap) text_is ∙
-        by_flags (bytes_eq (text_of plain) (text_of next)) (plain.caret == gap) (head doc.engine.revisions == 0) doc.valid (is_window_valid next)
-        (window_lacks doc.valid stands.screen) (window_has doc.valid stands.screen) ∙
+        ap₂ (λ t c. is_lacking doc.view.valid (head doc.engine.revisions == doc.saved) t c text gap) stands.parts.shown.text_is stands.caret ∙
+        ap (λ t. is_lacking doc.view.valid (head doc.engine.revisions == doc.saved) (text_of plain) plain.caret t gap) text_is ∙
+        by_flags (bytes_eq (text_of plain) (text_of next)) (plain.caret == gap) (head doc.engine.revisions == doc.saved) doc.view.valid (is_window_valid next)
+        (window_lacks doc.view.valid stands.screen) (window_has doc.view.valid stands.screen) ∙
         ap₂ (λ was is. (not (bytes_eq (text_of plain) (text_of next) && (plain.caret == gap)) || differ was is) || not (is_window_valid next))
         (sym pristine_plain) (sym pristine_next) ∙
         ap (λ same. (not same || differ (is_pristine plain) (is_pristine next)) || not (is_window_valid next))
@@ -195,7 +195,7 @@ module _ (doc : Doc) (plain : Document) (stands : DocStandsFor doc plain) where
         by true is = screen-updated next
         by false is =
             let flags = none_wanted (is_same_layout (layout_of plain) (layout_of next)) (differ (is_pristine plain) (is_pristine next)) (is_window_valid next) is in
-            stands.screen ∙ valid_by doc.valid stands.screen flags.1 ∙
+            stands.screen ∙ valid_by doc.view.valid stands.screen flags.1 ∙
             ap (shown_lines plain.window no_request) ((is_same_layout-Decides (layout_of plain) (layout_of next)).0 flags.0)
 
 -- two texts are alike where their bytes are
@@ -214,55 +214,62 @@ bytes_texts xs ys a b a_is b_is xs_is ys_is = by (bytes_eq a b) (bytes_eq xs ys)
 
 -- ---- a document in memory after an edit
 
-pub DocStandsFor-settled : (doc made : Doc) (plain : Document) (asked : AskedEdit) (moved : Moved) → DocStandsFor doc plain →
-    IsMoved plain.history doc.engine asked moved → IsStateOfSome (with_edit doc.engine moved.ready) moved.text made.caret →
-    made.engine ≡ with_edit doc.engine moved.ready → made.text ≡ moved.text → made.lines ≡ layout moved.text (made.caret ∷ []) → made.plugins ≡ doc.plugins → made.valid ≡ true →
+pub DocStandsFor-settled : (doc made : Doc) (plain : Document) (asked : AskedEdit) (taken : Taken) → DocStandsFor doc plain →
+    IsAfter plain.history asked taken → taken.engine.limit ≡ doc.engine.limit → IsStateOfSome (contents taken.engine) taken.text made.caret →
+    made.engine ≡ contents taken.engine → made.text ≡ taken.text → made.view.lines ≡ layout taken.text (made.caret ∷ []) →
+    made.plugins ≡ doc.plugins → made.saved ≡ doc.saved → made.view.valid ≡ true →
     DocStandsFor made (settled plain (edited_document plain asked made.caret))
-DocStandsFor-settled doc made plain asked moved stands is whole engine_is text_is lines_is plugins_is valid_is = by (wants_update plain next) refl
+DocStandsFor-settled doc made plain asked taken stands is limit_is whole engine_is text_is lines_is plugins_is saved_is valid_is =
+    by (wants_update plain next) refl
   where
     next : Document
     next = edited_document plain asked made.caret
 
     parts : IsStateOf (after plain.history asked) made.engine made.text made.caret
-    parts = rw (engine_is, text_is) (IsStateOf-whole (after plain.history asked) (with_edit doc.engine moved.ready) moved.text made.caret whole is.shown)
+    parts = rw (engine_is, text_is) (IsStateOf-whole (after plain.history asked) (contents taken.engine) taken.text made.caret whole is.shown)
+
+    before : plain.saved ≤ head (after plain.history asked)
+    before = omega (arith, stands.saved_before, head-after plain.history asked)
 
     shown_by : (valid : Bool) → valid ≡ true → shown_lines plain.window no_request (layout_of next) ≡ screen_by valid next
     shown_by true is = refl
     shown_by false is = absurd cc
 
-    screen_is : (settled plain next).screen ≡ screen_by made.valid next
-    screen_is = screen-settled doc plain stands asked made.caret ∙ shown_by made.valid valid_is
+    screen_is : (settled plain next).screen ≡ screen_by made.view.valid next
+    screen_is = screen-settled doc plain stands asked made.caret ∙ shown_by made.view.valid valid_is
 
     by : (b : Bool) → wants_update plain next ≡ b → DocStandsFor made (if b then updated next else next)
     by true wants = record {
       parts = parts;
-      limit = ap (λ (e : State). e.limit) engine_is ∙ stands.limit;
+      limit = ap (λ (e : State). e.limit) engine_is ∙ limit_is ∙ stands.limit;
       plugins = plugins_is ∙ stands.plugins;
       caret = refl;
+      saved = saved_is ∙ stands.saved;
+      saved_before = before;
       lines = lines_is ∙ ap (λ t. layout t (made.caret ∷ [])) is.shown.text_is;
       window = stands.window;
-      saved = stands.saved;
-      screen = screen-updated next ∙ shown_by made.valid valid_is;
+      screen = screen-updated next ∙ shown_by made.view.valid valid_is;
     }
     by false wants = record {
       parts = parts;
-      limit = ap (λ (e : State). e.limit) engine_is ∙ stands.limit;
+      limit = ap (λ (e : State). e.limit) engine_is ∙ limit_is ∙ stands.limit;
       plugins = plugins_is ∙ stands.plugins;
       caret = refl;
+      saved = saved_is ∙ stands.saved;
+      saved_before = before;
       lines = lines_is ∙ ap (λ t. layout t (made.caret ∷ [])) is.shown.text_is;
       window = stands.window;
-      saved = stands.saved;
       screen = ap (λ b. (if b then updated next else next).screen) (sym wants) ∙ screen_is;
     }
 
 -- the update of an edit
-pub update-settled : (doc : Doc) (plain : Document) (asked : AskedEdit) (moved : Moved) (gap : ℕ) (wanted : Bool) (lines : List Line) (update : Option Update) →
-    DocStandsFor doc plain → IsMoved plain.history doc.engine asked moved → gap ≤ length moved.text → lines ≡ layout moved.text (gap ∷ []) →
-    wanted ≡ is_lacking doc.valid (head doc.engine.revisions) doc.text doc.caret moved.text gap →
+pub update-settled : (doc : Doc) (plain : Document) (asked : AskedEdit) (taken : Taken) (gap : ℕ) (wanted : Bool) (lines : List Line) (update : Option Update) →
+    DocStandsFor doc plain → IsAfter plain.history asked taken → gap ≤ length taken.text → lines ≡ layout taken.text (gap ∷ []) →
+    wanted ≡ is_lacking doc.view.valid (head doc.engine.revisions == doc.saved) doc.text doc.caret taken.text gap →
     update ≡ (if wanted then Some (planned lines false) else None) → update ≡ update_after plain (edited_document plain asked gap)
-update-settled doc plain asked moved gap wanted lines update stands is inside lines_is wanted_is update_is =
+update-settled doc plain asked taken gap wanted lines update stands is inside lines_is wanted_is update_is =
     update_is ∙
-    ap₂ (λ b u. if b then Some u else None) (wanted_is ∙ wants_update-edited doc plain stands asked gap moved.text is.shown.text_is inside) planned_is
+    ap₂ (λ b u. if b then Some u else None) (wanted_is ∙ wants_update-edited doc plain stands asked gap taken.text is.shown.text_is inside) planned_is
   where
     next : Document
     next = edited_document plain asked gap
@@ -274,55 +281,51 @@ update-settled doc plain asked moved gap wanted lines update stands is inside li
         (sym (pristine_next doc plain stands asked gap))
 
 -- its scroll
-pub scroll-settled : (doc : Doc) (engine : State) (plain : Document) (asked : AskedEdit) (moved : Moved) (gap : ℕ) (was now : Position) (scroll : Option Position) →
-    DocStandsFor doc plain → IsMoved plain.history engine asked moved → was ≡ position_of doc.text doc.caret → now ≡ position_of moved.text gap →
+pub scroll-settled : (doc : Doc) (plain : Document) (asked : AskedEdit) (taken : Taken) (gap : ℕ) (was now : Position) (scroll : Option Position) →
+    DocStandsFor doc plain → IsAfter plain.history asked taken → was ≡ position_of doc.text doc.caret → now ≡ position_of taken.text gap →
     scroll ≡ (if is_same_point was now then None else Some now) → scroll ≡ scroll_after plain (edited_document plain asked gap)
-scroll-settled doc engine plain asked moved gap was now scroll stands is was_is now_is scroll_is =
+scroll-settled doc plain asked taken gap was now scroll stands is was_is now_is scroll_is =
     scroll_is ∙
     ap₂ (λ was now. if is_same_point was now then None else Some now) (was_is ∙ ap₂ position_of stands.parts.shown.text_is stands.caret)
     (now_is ∙ ap (λ t. position_of t gap) is.shown.text_is)
 
 -- ---- a document in memory where nothing changed
 
-pub DocStandsFor-still : (doc made : Doc) (plain : Document) → DocStandsFor doc plain → made.engine ≡ doc.engine → made.text ≡ doc.text → made.lines ≡ doc.lines →
-    made.caret ≡ doc.caret → made.plugins ≡ doc.plugins → made.valid ≡ true → DocStandsFor made (settled plain plain)
-DocStandsFor-still doc made plain stands engine_is text_is lines_is caret_is plugins_is valid_is = by (wants_update plain plain) refl
+pub DocStandsFor-still : (doc made : Doc) (plain : Document) → DocStandsFor doc plain → made ≡ record doc { view = record doc.view { valid = true } } →
+    DocStandsFor made (settled plain plain)
+DocStandsFor-still doc made plain stands is = subst (λ d. DocStandsFor d (settled plain plain)) (sym is) (by (wants_update plain plain) refl)
   where
-    parts : IsStateOf plain.history made.engine made.text made.caret
-    parts = rw (engine_is, text_is, caret_is) stands.parts
-
-    shown_by : (valid : Bool) → valid ≡ true → shown_lines plain.window no_request (layout_of plain) ≡ screen_by valid plain
-    shown_by true is = refl
-    shown_by false is = absurd cc
-
     valid_by : (valid : Bool) → not valid ≡ false → screen_by valid plain ≡ shown_lines plain.window no_request (layout_of plain)
     valid_by true is = refl
     valid_by false is = absurd cc
 
-    by : (b : Bool) → wants_update plain plain ≡ b → DocStandsFor made (if b then updated plain else plain)
+    by : (b : Bool) → wants_update plain plain ≡ b →
+        DocStandsFor (record doc { view = record doc.view { valid = true } }) (if b then updated plain else plain)
     by true wants = record {
-      parts = parts;
-      limit = ap (λ (e : State). e.limit) engine_is ∙ stands.limit;
-      plugins = plugins_is ∙ stands.plugins;
-      caret = caret_is ∙ stands.caret;
-      lines = lines_is ∙ stands.lines;
-      window = stands.window;
+      parts = stands.parts;
+      limit = stands.limit;
+      plugins = stands.plugins;
+      caret = stands.caret;
       saved = stands.saved;
-      screen = screen-updated plain ∙ shown_by made.valid valid_is;
+      saved_before = stands.saved_before;
+      lines = stands.lines;
+      window = stands.window;
+      screen = screen-updated plain;
     }
     by false wants = record {
-      parts = parts;
-      limit = ap (λ (e : State). e.limit) engine_is ∙ stands.limit;
-      plugins = plugins_is ∙ stands.plugins;
-      caret = caret_is ∙ stands.caret;
-      lines = lines_is ∙ stands.lines;
-      window = stands.window;
+      parts = stands.parts;
+      limit = stands.limit;
+      plugins = stands.plugins;
+      caret = stands.caret;
       saved = stands.saved;
-      screen = stands.screen ∙ valid_by doc.valid (sym (wants_update-same doc plain stands) ∙ wants) ∙ shown_by made.valid valid_is;
+      saved_before = stands.saved_before;
+      lines = stands.lines;
+      window = stands.window;
+      screen = stands.screen ∙ valid_by doc.view.valid (sym (wants_update-same doc plain stands) ∙ wants);
     }
 
 pub update-still : (doc : Doc) (plain : Document) (pristine : Bool) (update : Option Update) → DocStandsFor doc plain →
-    pristine ≡ (head doc.engine.revisions == 0) → update ≡ (if not doc.valid then Some (planned doc.lines pristine) else None) →
+    pristine ≡ (head doc.engine.revisions == doc.saved) → update ≡ (if not doc.view.valid then Some (planned doc.view.lines pristine) else None) →
     update ≡ update_after plain plain
 update-still doc plain pristine update stands pristine_is update_is =
     update_is ∙ ap₂ (λ b u. if b then Some u else None) (sym (wants_update-same doc plain stands)) planned_is
@@ -330,9 +333,9 @@ update-still doc plain pristine update stands pristine_is update_is =
     is_now : pristine ≡ is_pristine plain
     is_now =
         pristine_is ∙
-        ap₂ (λ now saved. now == saved) (head-stands doc.engine plain.history stands.parts.shown.stands) (sym stands.saved)
+        ap₂ (λ now saved. now == saved) (head-stands doc.engine plain.history stands.parts.shown.stands) stands.saved
 
-    planned_is : planned doc.lines pristine ≡ update_of plain
+    planned_is : planned doc.view.lines pristine ≡ update_of plain
     planned_is =
         ap (λ l. planned l pristine) stands.lines ∙
         ap₂ (λ window pristine. record { ops = update_plan window no_request (layout_of plain) []; pristine = pristine }) (sym stands.window) is_now

@@ -1,12 +1,9 @@
 -- After an event the front end's screen shows the layout.
-use Rattle.std.proofs.Common.{◌≡◌, ℕ, ◌+◌, Bool, true, false, List, [], ◌∷◌, length, Option, Some, None, refl, ap, sym, ◌∙◌}
+use Rattle.std.proofs.Common.{◌≡◌, ℕ, ◌+◌, Bool, true, false, List, [], ◌∷◌, length, refl, ap, sym, ◌∙◌}
 use Rattle.std.specs.Prelude.{if◌then◌else◌, not}
 use Rattle.plain_screen.specs.Plan.{shown_lines}
 use Rattle.rev_engine.specs.Given.{AskedEdit}
 use Rattle.doc_session.specs.InMemory.{Doc}
-use Rattle.doc_session.specs.declared.ready.Edited.{Edited}
-use Rattle.doc_session.specs.declared.ready.ReadyEvent.{ReadyEvent}
-use Rattle.doc_session.specs.Ready.{with_edited, with_event}
 use Rattle.doc_session.specs.declared.event.Event.{Event}
 use Rattle.doc_session.specs.declared.event.Event.TheVariants.{Front, Edit, Other}
 use Rattle.doc_session.specs.Asking.{front_edit, plugin_edit}
@@ -49,7 +46,7 @@ module _ (doc : Doc) (plain : Document) (stands : DocStandsFor doc plain) where
 
       by : (b : Bool) → wants_update plain plain ≡ b → (if b then updated plain else plain).screen ≡ shown_lines plain.window no_request (layout_of plain)
       by true is = screen-updated plain
-      by false is = stands.screen ∙ valid_by doc.valid (sym (wants_update-same doc plain stands) ∙ is)
+      by false is = stands.screen ∙ valid_by doc.view.valid (sym (wants_update-same doc plain stands) ∙ is)
 
   shown-typed : (chars : List ℕ) → IsUpToDate (typing_step plain chars).document
   shown-typed [] = shown-still
@@ -60,10 +57,3 @@ module _ (doc : Doc) (plain : Document) (stands : DocStandsFor doc plain) where
   shown-step (Edit caller edit named) =
       shown-edited (plugin_edit plain caller edit) (caret_by plain (plugin_edit plain caller edit) edit.after_cursor)
   shown-step Other = shown-still
-
-pub plugins-with_event : (doc : Doc) (ready : ReadyEvent) → (with_event doc ready).plugins ≡ doc.plugins
-plugins-with_event doc ready = by ready.edited
-  where
-    by : (edited : Option Edited) → (with_edited doc edited).plugins ≡ doc.plugins
-    by None = refl
-    by (Some edited) = refl

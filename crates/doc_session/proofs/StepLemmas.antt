@@ -1,5 +1,5 @@
 -- The steps of the document in memory are those of the plain one.
-use Rattle.std.proofs.Common.{◌≡◌, ◌≢◌, ℕ, ◌+◌, ◌-◌, ◌<◌, ◌≤◌, Bool, true, false, List, [], ◌∷◌, length, refl, ap, ap₂, sym, ◌∙◌, subst}
+use Rattle.std.proofs.Common.{◌≡◌, ◌≢◌, ℕ, ◌+◌, ◌-◌, ◌<◌, ◌≤◌, Bool, true, false, List, [], ◌∷◌, length, refl, ap, ap₂, ◌∙◌, subst}
 use Rattle.std.proofs.Math.Logic.{∥∥₁_elim}
 use Rattle.std.specs.Coded.{Coded-set, coded_bool}
 use Rattle.std.specs.Prelude.{◌^◌, IsTrue}
@@ -7,23 +7,21 @@ use Rattle.xi_plain.specs.declared.command.EditAct.TheVariants.{Insert}
 use Rattle.plain_edits.specs.History.{History, head}
 use Rattle.plain_text.specs.Numbers.{has}
 use Rattle.rev_engine.specs.declared.edit.Edit.{Edit}
-use Rattle.rev_engine.specs.State.{State, contents}
+use Rattle.rev_engine.specs.State.{State}
 use Rattle.rev_engine.specs.Engine.{asked_by}
 use Rattle.rev_engine.specs.Given.{AskedEdit, MayAsk}
 use Rattle.rev_engine.proofs.ForCallers.{IsFresh-given}
 use Rattle.selection_core.specs.Mapped.{new_gap}
-use Rattle.doc_session.specs.InMemory.{Doc, doc_contents}
+use Rattle.doc_session.specs.InMemory.{Doc}
 use Rattle.doc_session.specs.declared.event.Event.TheVariants.{Front}
-use Rattle.doc_session.specs.declared.moved.Moved.{Moved}
+use Rattle.doc_session.specs.declared.taken.Taken.{Taken}
 use Rattle.doc_session.specs.Asking.{front_edit, insertion_at, plugin_edit, asked_refusal}
 use Rattle.doc_session.specs.Document.{Document}
-use Rattle.doc_session.specs.Inner.{IsMoved}
+use Rattle.doc_session.specs.Inner.{IsAfter}
 use Rattle.doc_session.specs.Stands.{DocStandsFor}
 use Rattle.doc_session.specs.Step.{caret_by, front_step, refusal_at, event_step}
 use Rattle.doc_session.specs.Whole.{ShowsHead, IsStateOf, IsStateOfSome}
-use Rattle.doc_session.proofs.InsertLemmas.{IsStateOf-contents}
 use Rattle.doc_session.proofs.MoveLemmas.{head-stands, new_gap-moved}
-use Rattle.doc_session.proofs.SettleLemmas.{screen_by}
 
 -- an edit in the group of its own revision may be asked for
 pub MayAsk-whole : (engine : State) (text : List ℕ) (caret group : ℕ) → IsStateOfSome engine text caret → 1 ≤ group →
@@ -43,18 +41,18 @@ asked-given plain caller rev edit given is rev_is =
     ap asked_by is ∙
     ap (λ n. record { base = edit.rev; delta = edit.delta; group = n; priority = edit.priority; author = caller }) rev_is
 
-pub IsMoved-plain : (doc : Doc) (now : State) (plain : Document) (asked other : AskedEdit) (moved : Moved) → DocStandsFor doc plain → other ≡ asked →
-    ((h : History) → ShowsHead h doc.engine doc.text → IsMoved h now other moved) → IsMoved plain.history now asked moved
-IsMoved-plain doc now plain asked other moved stands same each =
-    let At : AskedEdit → Type 0 = λ a. IsMoved plain.history now a moved in
+pub IsAfter-plain : (doc : Doc) (plain : Document) (asked other : AskedEdit) (taken : Taken) → DocStandsFor doc plain → other ≡ asked →
+    ((h : History) → ShowsHead h doc.engine doc.text → IsAfter h other taken) → IsAfter plain.history asked taken
+IsAfter-plain doc plain asked other taken stands same each =
+    let At : AskedEdit → Type 0 = λ a. IsAfter plain.history a taken in
     subst At same (each plain.history stands.parts.shown)
 
 -- its caret is where the caret rule takes it
-pub caret-given : (doc : Doc) (now : State) (plain : Document) (asked : AskedEdit) (moved : Moved) (right : Bool) (gap : ℕ) → DocStandsFor doc plain →
-    IsMoved plain.history now asked moved → gap ≡ new_gap moved.ready.change.units right doc.caret → gap ≡ caret_by plain asked right
-caret-given doc now plain asked moved right gap stands is gap_is =
+pub caret-given : (doc : Doc) (plain : Document) (asked : AskedEdit) (taken : Taken) (right : Bool) (gap : ℕ) → DocStandsFor doc plain →
+    IsAfter plain.history asked taken → gap ≡ new_gap taken.change.units right doc.caret → gap ≡ caret_by plain asked right
+caret-given doc plain asked taken right gap stands is gap_is =
     gap_is ∙
-    new_gap-moved plain.history doc.engine doc.text stands.parts.shown asked moved.ready.change.rev moved.ready.change.units is.changes right doc.caret ∙
+    new_gap-moved plain.history doc.engine doc.text stands.parts.shown asked taken.change.rev taken.change.units is.changes right doc.caret ∙
     ap (λ gap. caret_by (record plain { caret = gap }) asked right) stands.caret
 
 -- the front end's edit
@@ -72,24 +70,6 @@ event_step-front plain (c ∷ chars) some = refl
 pub refusal_at-front : (plain : Document) (chars : List ℕ) → chars ≢ [] → refusal_at plain (Front (Insert chars)) ≡ asked_refusal plain (front_edit plain chars)
 refusal_at-front plain [] some = absurd (some refl)
 refusal_at-front plain (c ∷ chars) some = refl
-
--- what a document stands for hangs on what it holds alone
-pub DocStandsFor-doc_contents : (doc now : Doc) (plain : Document) → doc_contents now ≡ doc_contents doc → DocStandsFor doc plain → DocStandsFor now plain
-DocStandsFor-doc_contents doc now plain same stands =
-    let engine : contents now.engine ≡ contents doc.engine = ap (λ (d : Doc). d.engine) same in
-    let text : now.text ≡ doc.text = ap (λ (d : Doc). d.text) same in
-    let caret : now.caret ≡ doc.caret = ap (λ (d : Doc). d.caret) same in
-    let plugins : now.plugins ≡ doc.plugins = ap (λ (d : Doc). d.plugins) same in
-    record {
-      parts = rw (text, caret) (IsStateOf-contents plain.history doc.engine now.engine doc.text doc.caret engine stands.parts);
-      limit = ap (λ (e : State). e.limit) engine ∙ stands.limit;
-      plugins = plugins ∙ stands.plugins;
-      caret = caret ∙ stands.caret;
-      lines = ap (λ (d : Doc). d.lines) same ∙ stands.lines;
-      window = stands.window;
-      saved = stands.saved;
-      screen = stands.screen ∙ ap (λ (d : Doc). screen_by d.valid plain) (sym same);
-    }
 
 pub some_by : (b : Bool) (chars : List ℕ) → (chars ≡ [] → IsTrue b) → b ≡ false → chars ≢ []
 some_by true chars told off = absurd cc

@@ -1,18 +1,16 @@
 -- What contracts see of a document in memory.
-use Rattle.std.specs.Prelude.{ℕ, Bool, List}
-use Rattle.plain_screen.specs.declared.screen.Line.{Line}
-use Rattle.rev_engine.specs.State.{State, contents}
+use Rattle.std.specs.Prelude.{ℕ, List}
+use Rattle.xi_plain.specs.declared.config.Config.{Config}
+use Rattle.rev_engine.specs.State.{State}
+use Rattle.doc_session.specs.declared.view.ViewState.{ViewState}
 
--- its revisions, the head text, the layout of it, the caret as a gap of it, how many plugins there are, and whether the front end has
--- the lines of the window
+-- its revisions, the head text, the caret as a gap of it, the revision that was loaded or last saved, how texts are laid out, how many
+-- plugins there are, and its view
 pub record Doc : Type 0 where
   pub engine : State
   pub text : List ℕ
-  pub lines : List Line
   pub caret : ℕ
+  pub saved : ℕ
+  pub config : Config
   pub plugins : ℕ
-  pub valid : Bool
-
--- what it holds, whatever room it has for more revisions
-abbrev pub doc_contents : Doc → Doc
-doc_contents doc = record doc { engine = contents doc.engine }
+  pub view : ViewState

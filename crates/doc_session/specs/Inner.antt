@@ -1,13 +1,15 @@
 -- What private functions say: the steps of an event.
 use Rattle.std.specs.Prelude.{ℕ, Bool, not, ◌||◌, ◌==◌, List, ◌≡◌, ◌≤◌, [], ◌^◌, ◌<◌, length}
 use Rattle.std.specs.Str.{bytes_eq}
-use Rattle.plain_edits.specs.History.{History, inserted_count, head}
-use Rattle.rev_engine.specs.declared.step.Ready.{Ready}
-use Rattle.rev_engine.specs.State.{State}
-use Rattle.rev_engine.specs.Engine.{StandsFor, IsChange}
+use Rattle.plain_edits.specs.History.{History, inserted_count}
+use Rattle.rev_engine.specs.State.{State, contents}
+use Rattle.rev_engine.specs.Engine.{IsChange}
 use Rattle.rev_engine.specs.Given.{AskedEdit, after}
-use Rattle.rev_engine.specs.Steps.{with_edit}
-use Rattle.doc_session.specs.declared.moved.Moved.{Moved}
+use Rattle.doc_session.specs.declared.event.Effects.{Effects}
+use Rattle.doc_session.specs.declared.taken.Taken.{Taken}
+use Rattle.doc_session.specs.InMemory.{Doc}
+use Rattle.doc_session.specs.Stands.{DocStandsFor}
+use Rattle.doc_session.specs.Step.{AreEffectsOf, EventStep}
 use Rattle.doc_session.specs.Effects.{notice_of}
 use Rattle.doc_session.specs.Whole.{ShowsHead}
 use Rattle.plain_screen.specs.declared.screen.Line.{Line}
@@ -18,24 +20,24 @@ use Rattle.plain_edits.specs.declared.delta.UnitDelta.{UnitDelta}
 use Rattle.plain_edits.specs.UnitDelta.{IsUnitDelta}
 use Rattle.selection_core.specs.Mapped.{new_gap}
 
--- it has not the lines of the window, or caret or text are others than before, or the text was the loaded one
-abbrev pub is_lacking : Bool → ℕ → List ℕ → ℕ → List ℕ → ℕ → Bool
-is_lacking valid head text caret text_now caret_now =
-    not valid || (not (caret == caret_now) || (head == 0 || not (bytes_eq text text_now)))
+-- it has not the lines of the window, or caret or text are others than before, or the text was the one that was loaded or saved
+abbrev pub is_lacking : Bool → Bool → List ℕ → ℕ → List ℕ → ℕ → Bool
+is_lacking valid pristine text caret text_now caret_now =
+    not valid || (not (caret == caret_now) || (pristine || not (bytes_eq text text_now)))
 
--- the edit was made ready: the engine with it, and the change, are those of the history after it
-pub record IsTakenBy (history : History) (engine : State) (asked : AskedEdit) (ready : Ready) : Type 0 where
-  pub stands : StandsFor (with_edit engine ready) (after history asked)
-  pub within : inserted_count (after history asked) ≤ engine.limit
-  pub changes : IsChange history (after history asked) ready.change
+-- what an edit makes is that of the history after it: the engine, the head text, the change, and the notice of it
+pub record IsAfter (history : History) (asked : AskedEdit) (taken : Taken) : Type 0 where
+  pub shown : ShowsHead (after history asked) (contents taken.engine) taken.text
+  pub within : inserted_count (after history asked) ≤ taken.engine.limit
+  pub changes : IsChange history (after history asked) taken.change
+  pub notice : taken.notice ≡ notice_of history (after history asked) asked.author
 
--- the same with the head text, and the notice
-pub record IsMoved (history : History) (engine : State) (asked : AskedEdit) (moved : Moved) : Type 0 where
-  pub shown : ShowsHead (after history asked) (with_edit engine moved.ready) moved.text
-  pub within : inserted_count (after history asked) ≤ engine.limit
-  pub changes : IsChange history (after history asked) moved.ready.change
-  pub notice : moved.notice ≡ notice_of history (after history asked) asked.author
+-- what an event makes is what its step gives: the document after it, and what those outside are told
+pub record IsStepped (step : EventStep) (made : Doc × Effects) : Type 0 where
+  pub stands : DocStandsFor made.0 step.document
+  pub effects : AreEffectsOf step made.1
 
+-- the update that sends the lines of the window
 abbrev pub planned : List Line → Bool → Update
 planned lines pristine = record { ops = update_plan first_window no_request lines []; pristine = pristine }
 

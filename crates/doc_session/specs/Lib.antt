@@ -8,7 +8,6 @@ pub mod Step
 pub mod Fault
 pub mod Whole
 pub mod InMemory
-pub mod Ready
 pub mod Stands
 pub mod ScreenOf
 pub mod Laws

@@ -10,12 +10,12 @@ mod event;
 mod fault;
 pub mod laws;
 mod layout;
-mod moved;
 mod plan;
-mod ready;
 pub mod rows;
+mod taken;
+mod view;
 
 pub use doc::Doc;
 pub use event::{Body, Effects, Event};
 pub use fault::DocFault;
-pub use ready::ReadyEvent;
+pub use view::ViewState;

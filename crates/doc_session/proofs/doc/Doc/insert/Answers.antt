@@ -3,33 +3,28 @@ use Rattle.plain_edits.specs.Edits.{edit_refusal}
 use Rattle.plain_edits.specs.History.{head}
 use Rattle.rev_engine.specs.Engine.{asked_by}
 use Rattle.rev_engine.specs.Given.{AskedEdit}
-use Rattle.rev_engine.specs.State.{State}
+use Rattle.rev_engine.specs.State.{contents}
 use Rattle.doc_session.specs.declared.event.Body.TheVariants.{Null}
 use Rattle.doc_session.specs.Asking.{front_edit, insertion_at}
 use Rattle.doc_session.specs.InMemory.{Doc}
-use Rattle.doc_session.specs.Ready.{with_event}
-use Rattle.doc_session.specs.Step.{AreEffectsOf, EventStep, edit_step, front_step}
+use Rattle.doc_session.specs.Inner.{IsStepped}
+use Rattle.doc_session.specs.Step.{EventStep, edit_step, front_step}
 use Rattle.doc_session.specs.Stands.{DocStandsFor}
-use Rattle.doc_session.proofs.InsertLemmas.{IsStateOfSome-contents, whole-moved, shown-whole, inside-inserted, inside-whole}
+use Rattle.doc_session.proofs.InsertLemmas.{whole-taken, shown-whole, inside-inserted, inside-whole}
 use Rattle.doc_session.proofs.SettleLemmas.{scroll-settled}
-use Rattle.doc_session.proofs.StepLemmas.{DocStandsFor-doc_contents, some_by, MayAsk-whole, asked-front, IsMoved-plain, event_step-front, refusal_at-front}
+use Rattle.doc_session.proofs.StepLemmas.{some_by, MayAsk-whole, asked-front, IsAfter-plain, event_step-front, refusal_at-front}
 use Rattle.doc_session.proofs.doc.Doc.insert.Goals as goal
 
-pub moved_by-requires-clause-may : goal.moved_by-requires-clause-may
-moved_by-requires-clause-may c =
+pub taken_by-requires-clause-may : goal.taken_by-requires-clause-may
+taken_by-requires-clause-may c =
     let doc = c.self.inside in
-    MayAsk-whole doc.engine doc.text doc.caret c.in_ok-typed.typed.group c.self.invariant
+    MayAsk-whole (contents doc.engine) doc.text doc.caret c.in_ok-typed.typed.group c.self.invariant
     (omega (arith, ap (λ (e : AskedEdit). e.group) c.in_ok-typed.ensures)) (omega (arith, ap (λ (d : Doc). head d.engine.revisions) c.self.view_is, c.requires))
 
-pub moved_by-requires-clause-shown : goal.moved_by-requires-clause-shown
-moved_by-requires-clause-shown c =
+pub taken_by-requires-clause-shown : goal.taken_by-requires-clause-shown
+taken_by-requires-clause-shown c =
     let doc = c.self.inside in
-    shown-whole doc.engine doc.text doc.caret c.self.invariant
-
-pub invariant_of-self : goal.invariant_of-self
-invariant_of-self c =
-    let doc = c.self.inside in
-    IsStateOfSome-contents doc.engine c.moved_by.new.engine doc.text doc.caret c.moved_by.ensures.same c.self.invariant
+    shown-whole (contents doc.engine) doc.text doc.caret c.self.invariant
 
 pub overflow_add-caret : goal.overflow_add-caret
 overflow_add-caret c =
@@ -37,74 +32,43 @@ overflow_add-caret c =
     omega (
       arith,
       c.char_count.ensures,
-      inside-whole doc.engine doc.text doc.caret c.self.invariant,
-      inside-inserted doc.engine c.moved_by.new.engine doc.text doc.caret c.args.chars.now (asked_by c.in_ok-typed.typed) c.in_ok-moved.moved
-          c.self.invariant
+      inside-whole (contents doc.engine) doc.text doc.caret c.self.invariant,
+      inside-inserted (contents doc.engine) doc.text doc.caret c.args.chars.now (asked_by c.in_ok-typed.typed) c.in_ok-taken.taken c.self.invariant
           (c.in_ok-typed.ensures ∙ ap (λ (d : Doc). insertion_at (head d.engine.revisions) d.text d.caret c.args.chars.now) (sym c.self.view_is))
-          c.in_ok-moved.ensures.moved,
-      c.in_ok-moved.ensures.leads.long,
+          c.in_ok-taken.ensures.taken,
+      c.in_ok-taken.ensures.leads.long,
     )
-
-pub invariant_of-self-2 : goal.invariant_of-self-2
-invariant_of-self-2 c =
-    let doc = c.self.inside in
-    IsStateOfSome-contents doc.engine c.moved_by.new.engine doc.text doc.caret c.moved_by.ensures.same c.self.invariant
 
 pub settled-requires-clause-whole : goal.settled-requires-clause-whole
 settled-requires-clause-whole c =
     let doc = c.self.inside in
     let chars = c.args.chars.now in
     let typed = c.in_ok-typed.ensures ∙ ap (λ (d : Doc). insertion_at (head d.engine.revisions) d.text d.caret chars) (sym c.self.view_is) in
-    whole-moved doc.engine c.moved_by.new.engine doc.text doc.caret (doc.caret + c.char_count.result) (asked_by c.in_ok-typed.typed) c.in_ok-moved.moved
-    c.moved_by.ensures.same c.self.invariant c.in_ok-moved.ensures.moved
+    whole-taken (contents doc.engine) doc.text doc.caret (doc.caret + c.char_count.result) (asked_by c.in_ok-typed.typed) c.in_ok-taken.taken
+    c.in_ok-taken.ensures.limit c.self.invariant c.in_ok-taken.ensures.taken
     (omega (
       arith,
       c.char_count.ensures,
-      inside-whole doc.engine doc.text doc.caret c.self.invariant,
-      inside-inserted doc.engine c.moved_by.new.engine doc.text doc.caret chars (asked_by c.in_ok-typed.typed) c.in_ok-moved.moved
-          c.self.invariant typed c.in_ok-moved.ensures.moved,
+      inside-whole (contents doc.engine) doc.text doc.caret c.self.invariant,
+      inside-inserted (contents doc.engine) doc.text doc.caret chars (asked_by c.in_ok-typed.typed) c.in_ok-taken.taken c.self.invariant typed
+          c.in_ok-taken.ensures.taken,
     ))
 
-pub returns-clause-stands : goal.returns-clause-stands
-returns-clause-stands c = λ plain stands.
+pub returns-clause-stepped : goal.returns-clause-stepped
+returns-clause-stepped c = λ plain stands.
     let doc = c.self.inside in
-    let now : Doc =
-    record { engine = c.moved_by.new.engine; text = doc.text; lines = doc.lines; caret = doc.caret; plugins = doc.plugins; valid = doc.valid } in
     let was = subst (λ d. DocStandsFor d plain) (sym c.self.view_is) stands in
     let chars = c.args.chars.now in
     let some : chars ≢ [] = some_by c.is_empty.result chars c.is_empty.ensures.1 c.if-is_empty.false in
     let asked = front_edit plain chars in
     let same = asked-front c.args.self.now plain chars (asked_by c.in_ok-typed.typed) stands c.in_ok-typed.ensures in
-    let is = IsMoved-plain _ c.moved_by.new.engine plain asked (asked_by c.in_ok-typed.typed) c.in_ok-moved.moved was same c.in_ok-moved.ensures.moved in
-    let place : doc.caret + c.char_count.result ≡ plain.caret + length chars = ap (λ n. doc.caret + n) c.char_count.ensures ∙ ap (λ n. n + length chars) was.caret in
-    subst (λ (step : EventStep). DocStandsFor (with_event now c.in_ok-settled.field-0.0) step.document)
-    (ap (front_step plain asked) place ∙ sym (event_step-front plain chars some))
-    (c.in_ok-settled.ensures.stands plain asked
-    (DocStandsFor-doc_contents _ now plain
-    (ap (λ (e : State). record { engine = e; text = doc.text; lines = doc.lines; caret = doc.caret; plugins = doc.plugins; valid = doc.valid })
-    c.moved_by.ensures.same) was) is)
-
-pub returns-clause-effects : goal.returns-clause-effects
-returns-clause-effects c = λ plain stands.
-    let doc = c.self.inside in
-    let now : Doc =
-    record { engine = c.moved_by.new.engine; text = doc.text; lines = doc.lines; caret = doc.caret; plugins = doc.plugins; valid = doc.valid } in
-    let was = subst (λ d. DocStandsFor d plain) (sym c.self.view_is) stands in
-    let chars = c.args.chars.now in
-    let some : chars ≢ [] = some_by c.is_empty.result chars c.is_empty.ensures.1 c.if-is_empty.false in
-    let asked = front_edit plain chars in
-    let same = asked-front c.args.self.now plain chars (asked_by c.in_ok-typed.typed) stands c.in_ok-typed.ensures in
-    let is = IsMoved-plain _ c.moved_by.new.engine plain asked (asked_by c.in_ok-typed.typed) c.in_ok-moved.moved was same c.in_ok-moved.ensures.moved in
+    let is = IsAfter-plain _ plain asked (asked_by c.in_ok-typed.typed) c.in_ok-taken.taken was same c.in_ok-taken.ensures.taken in
     let place : doc.caret + c.char_count.result ≡ plain.caret + length chars = ap (λ n. doc.caret + n) c.char_count.ensures ∙ ap (λ n. n + length chars) was.caret in
     let gap = doc.caret + c.char_count.result in
-    let scroll =
-    scroll-settled _ c.moved_by.new.engine plain asked c.in_ok-moved.moved gap _ _ _ was is c.position_of.ensures c.position_of-2.ensures c.scroll_of-scroll.ensures in
-    subst (λ (step : EventStep). AreEffectsOf step c.in_ok-settled.field-0.1)
+    let scroll = scroll-settled _ plain asked c.in_ok-taken.taken gap _ _ _ was is c.position_of.ensures c.position_of-2.ensures c.scroll_of-scroll.ensures in
+    subst (λ (step : EventStep). IsStepped step c.in_ok-settled.field-0)
     (ap (edit_step plain asked gap Null) scroll ∙ ap (front_step plain asked) place ∙ sym (event_step-front plain chars some))
-    (c.in_ok-settled.ensures.effects plain asked
-    (DocStandsFor-doc_contents _ now plain
-    (ap (λ (e : State). record { engine = e; text = doc.text; lines = doc.lines; caret = doc.caret; plugins = doc.plugins; valid = doc.valid })
-    c.moved_by.ensures.same) was) is)
+    (c.in_ok-settled.ensures.stepped plain asked stands is)
 
 pub returns-clause-accepted : goal.returns-clause-accepted
 returns-clause-accepted c = λ plain stands.
@@ -113,4 +77,4 @@ returns-clause-accepted c = λ plain stands.
     let some : chars ≢ [] = some_by c.is_empty.result chars c.is_empty.ensures.1 c.if-is_empty.false in
     let same = asked-front c.args.self.now plain chars (asked_by c.in_ok-typed.typed) stands c.in_ok-typed.ensures in
     refusal_at-front plain chars some ∙ ap₂ (λ n (a : AskedEdit). edit_refusal plain.history n a.base a.delta) (sym was.limit) (sym same) ∙
-    c.in_ok-moved.ensures.accepted plain.history was.parts.shown
+    c.in_ok-taken.ensures.accepted plain.history was.parts.shown

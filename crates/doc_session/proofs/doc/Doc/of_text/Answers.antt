@@ -1,4 +1,4 @@
-use Rattle.std.proofs.Common.{refl, ap, sym, ◌∙◌, ◌∷◌, []}
+use Rattle.std.proofs.Common.{arith, refl, ap, sym, ◌∙◌, ◌∷◌, []}
 use Rattle.doc_session.specs.Layout.{layout}
 use Rattle.doc_session.proofs.LoadLemmas.{IsStateOf-loaded, text_at-loaded}
 use Rattle.doc_session.proofs.doc.Doc.of_text.Goals as goal
@@ -9,9 +9,10 @@ returns c = record {
   limit = c.in_ok-engine.ensures.limit;
   plugins = refl;
   caret = refl;
+  saved = refl;
+  saved_before = omega arith;
   lines = c.in_ok-lines.ensures ∙ ap (λ t. layout t (0 ∷ [])) (sym (text_at-loaded c.args.text));
   window = refl;
-  saved = refl;
   screen = refl;
 }
 
