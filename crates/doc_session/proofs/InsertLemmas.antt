@@ -1,5 +1,5 @@
 -- The front end's insertion: its delta fits, and what it makes of the text.
-use Rattle.std.proofs.Common.{◌≡◌, ℕ, ◌+◌, ◌-◌, ◌≤◌, true, List, [], ◌∷◌, ◌++◌, length, take, drop, Some, None, refl, ap, ap₂, sym, ◌∙◌, arith, append-nil, length-append, length-take, length-drop}
+use Rattle.std.proofs.Common.{◌≡◌, ℕ, ◌+◌, ◌-◌, ◌≤◌, true, List, [], ◌∷◌, ◌++◌, length, take, drop, Some, None, refl, ap, ap₂, sym, ◌∙◌, subst, arith, append-nil, length-append, length-take, length-drop}
 use Rattle.std.proofs.Math.Logic.{∥∥₁_elim, ∥∥₁_map}
 use Rattle.std.proofs.Math.Nat.{ℕ_set}
 use Rattle.std.specs.Coded.{le_prop}
@@ -15,9 +15,9 @@ use Rattle.plain_edits.proofs.callers.EditLemmas.{text_at-edited_at_head}
 use Rattle.plain_text.proofs.callers.TextLemmas.{gap_from-place}
 use Rattle.delta_core.proofs.ForCallers.{is_place-end, gap_of-end, place_within}
 use Rattle.delta_core.proofs.ForCallers.{CopyFits-to, applied-shown}
-use Rattle.rev_engine.specs.State.{State, contents}
+use Rattle.rev_engine.specs.State.{State}
 use Rattle.rev_engine.specs.Given.{AskedEdit, after, meant}
-use Rattle.rev_engine.proofs.ForCallers.{IsFresh-given, StandsFor-contents}
+use Rattle.rev_engine.proofs.ForCallers.{IsFresh-given}
 use Rattle.rev_engine.specs.declared.edit.Change.{Change}
 use Rattle.rev_engine.specs.Engine.{StandsFor, IsChange}
 use Rattle.doc_session.specs.declared.taken.Taken.{Taken}
@@ -94,7 +94,7 @@ text_at-inserted h engine text gap chars shows inside =
 
 pub whole-taken : (engine : State) (text : List ℕ) (caret gap : ℕ) (asked : AskedEdit) (taken : Taken) → taken.engine.limit ≡ engine.limit →
     IsStateOfSome engine text caret → ((h : History) → ShowsHead h engine text → IsAfter h asked taken) → gap ≤ length taken.text →
-    IsStateOfSome (contents taken.engine) taken.text gap
+    IsStateOfSome taken.engine taken.text gap
 whole-taken engine text caret gap asked taken same whole each inside =
     ∥∥₁_map whole (λ (s : (h : History) × IsStateOf h engine text caret).
     let is : IsAfter s.0 asked taken = each s.0 s.1.shown in (
@@ -136,20 +136,8 @@ IsStateOf-whole h engine text caret whole shows = record {
   bound = ∥∥₁_elim whole le_prop (λ (s : (h : History) × IsStateOf h engine text caret). s.1.bound);
 }
 
--- ---- the room for more revisions tells nothing
-
-pub ShowsHead-contents : (h : History) (engine now : State) (text : List ℕ) → contents now ≡ contents engine → ShowsHead h engine text → ShowsHead h now text
-ShowsHead-contents h engine now text same shows = record {
-  stands = StandsFor-contents engine now h same shows.stands;
-  text_is = shows.text_is;
-}
-
-pub ShowsSomeHead-contents : (engine now : State) (text : List ℕ) → contents now ≡ contents engine → ShowsSomeHead engine text → ShowsSomeHead now text
-ShowsSomeHead-contents engine now text same some =
-    ∥∥₁_map some (λ (s : (h : History) × ShowsHead h engine text). (s.0, ShowsHead-contents s.0 engine now text same s.1))
-
--- the change of an edit that an engine with the same contents took is one of the text
-pub IsChangeOf-copied : (engine now : State) (text : List ℕ) (asked : AskedEdit) (change : Change) → contents now ≡ contents engine →
-    ShowsSomeHead engine text → ((h : History) → StandsFor now h → IsChange h (after h asked) change) → IsChangeOf text change.units
+-- the change of an edit that a copy of the engine took is one of the text
+pub IsChangeOf-copied : (engine now : State) (text : List ℕ) (asked : AskedEdit) (change : Change) → now ≡ engine → ShowsSomeHead engine text →
+    ((h : History) → StandsFor now h → IsChange h (after h asked) change) → IsChangeOf text change.units
 IsChangeOf-copied engine now text asked change same some each =
-    IsChangeOf-shown now text asked change (ShowsSomeHead-contents engine now text same some) each
+    IsChangeOf-shown now text asked change (subst (λ (e : State). ShowsSomeHead e text) (sym same) some) each

@@ -1,5 +1,5 @@
 -- What an edit that was taken leaves: the texts on both sides of its change, where it takes gaps, and its notice.
-use Rattle.std.proofs.Common.{◌≡◌, ℕ, zero, suc, ◌+◌, ◌<◌, ◌≤◌, Bool, true, false, cond, List, [], ◌∷◌, length, take, filter, Option, Some, None, refl, ap, ap₂, sym, ◌∙◌, arith, inl, inr}
+use Rattle.std.proofs.Common.{◌≡◌, ℕ, zero, suc, ◌+◌, ◌<◌, ◌≤◌, Bool, true, false, cond, List, [], ◌∷◌, length, take, filter, Option, Some, None, ap, ap₂, sym, ◌∙◌, arith, inl, inr}
 use Rattle.std.proofs.Math.Nat.{ℕ_set}
 use Rattle.std.proofs.Math.Path.{fun_ext}
 use Rattle.std.proofs.Math.Logic.{∥∥₁_elim}
@@ -28,10 +28,10 @@ use Rattle.plain_edits.proofs.callers.HistoryLemmas.{text_at-edited}
 use Rattle.delta_core.specs.Units.{text_after}
 use Rattle.delta_core.specs.Wire.{wire_from, wire_of}
 use Rattle.rev_engine.specs.declared.edit.Change.{Change}
-use Rattle.rev_engine.specs.State.{State, contents}
+use Rattle.rev_engine.specs.State.{State}
 use Rattle.rev_engine.specs.Engine.{StandsFor, IsChange}
 use Rattle.rev_engine.specs.Given.{AskedEdit, after, meant}
-use Rattle.rev_engine.proofs.ForCallers.{IsFresh-given, StandsFor-contents, inserted_count-plain}
+use Rattle.rev_engine.proofs.ForCallers.{IsFresh-given, inserted_count-plain}
 use Rattle.selection_core.specs.Mapped.{new_gap}
 use Rattle.selection_core.proofs.ForCallers.{new_gap-after_step}
 use Rattle.doc_session.specs.declared.taken.Taken.{Taken}
@@ -184,7 +184,7 @@ IsAfter-taken h engine text asked taken shown stands within changes text_is view
     let change = taken.change in
     let made = text_is ∙ text_after-taken h engine text shown asked change.rev change.units changes in
     record {
-      shown = record { stands = StandsFor-contents taken.engine (contents taken.engine) (after h asked) refl stands; text_is = made };
+      shown = record { stands = stands; text_is = made };
       within = within;
       changes = changes;
       notice = notice-taken h engine text shown asked change.rev change.units changes taken.notice taken.text made view author rev len delta;

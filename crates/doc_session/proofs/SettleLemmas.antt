@@ -16,7 +16,7 @@ use Rattle.plain_screen.specs.Screen.{Screen, screen_after}
 use Rattle.plain_screen.specs.Plan.{is_within, update_plan}
 use Rattle.plain_screen.specs.Plan.{shown_lines}
 use Rattle.plain_screen.proofs.callers.PlanLemmas.{screen_after-plan_from}
-use Rattle.rev_engine.specs.State.{State, contents}
+use Rattle.rev_engine.specs.State.{State}
 use Rattle.rev_engine.specs.Given.{AskedEdit, after}
 use Rattle.doc_session.specs.InMemory.{Doc}
 use Rattle.doc_session.specs.declared.taken.Taken.{Taken}
@@ -215,8 +215,8 @@ bytes_texts xs ys a b a_is b_is xs_is ys_is = by (bytes_eq a b) (bytes_eq xs ys)
 -- ---- a document in memory after an edit
 
 pub DocStandsFor-settled : (doc made : Doc) (plain : Document) (asked : AskedEdit) (taken : Taken) → DocStandsFor doc plain →
-    IsAfter plain.history asked taken → taken.engine.limit ≡ doc.engine.limit → IsStateOfSome (contents taken.engine) taken.text made.caret →
-    made.engine ≡ contents taken.engine → made.text ≡ taken.text → made.view.lines ≡ layout taken.text (made.caret ∷ []) →
+    IsAfter plain.history asked taken → taken.engine.limit ≡ doc.engine.limit → IsStateOfSome taken.engine taken.text made.caret →
+    made.engine ≡ taken.engine → made.text ≡ taken.text → made.view.lines ≡ layout taken.text (made.caret ∷ []) →
     made.plugins ≡ doc.plugins → made.saved ≡ doc.saved → made.view.valid ≡ true →
     DocStandsFor made (settled plain (edited_document plain asked made.caret))
 DocStandsFor-settled doc made plain asked taken stands is limit_is whole engine_is text_is lines_is plugins_is saved_is valid_is =
@@ -226,7 +226,7 @@ DocStandsFor-settled doc made plain asked taken stands is limit_is whole engine_
     next = edited_document plain asked made.caret
 
     parts : IsStateOf (after plain.history asked) made.engine made.text made.caret
-    parts = rw (engine_is, text_is) (IsStateOf-whole (after plain.history asked) (contents taken.engine) taken.text made.caret whole is.shown)
+    parts = rw (engine_is, text_is) (IsStateOf-whole (after plain.history asked) taken.engine taken.text made.caret whole is.shown)
 
     before : plain.saved ≤ head (after plain.history asked)
     before = omega (arith, stands.saved_before, head-after plain.history asked)

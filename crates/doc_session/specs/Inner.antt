@@ -2,7 +2,7 @@
 use Rattle.std.specs.Prelude.{ℕ, Bool, not, ◌||◌, ◌==◌, List, ◌≡◌, ◌≤◌, [], ◌^◌, ◌<◌, length}
 use Rattle.std.specs.Str.{bytes_eq}
 use Rattle.plain_edits.specs.History.{History, inserted_count}
-use Rattle.rev_engine.specs.State.{State, contents}
+use Rattle.rev_engine.specs.State.{State}
 use Rattle.rev_engine.specs.Engine.{IsChange}
 use Rattle.rev_engine.specs.Given.{AskedEdit, after}
 use Rattle.doc_session.specs.declared.event.Effects.{Effects}
@@ -27,7 +27,7 @@ is_lacking valid pristine text caret text_now caret_now =
 
 -- what an edit makes is that of the history after it: the engine, the head text, the change, and the notice of it
 pub record IsAfter (history : History) (asked : AskedEdit) (taken : Taken) : Type 0 where
-  pub shown : ShowsHead (after history asked) (contents taken.engine) taken.text
+  pub shown : ShowsHead (after history asked) taken.engine taken.text
   pub within : inserted_count (after history asked) ≤ taken.engine.limit
   pub changes : IsChange history (after history asked) taken.change
   pub notice : taken.notice ≡ notice_of history (after history asked) asked.author

@@ -4,7 +4,6 @@ ghost use Rattle.plain_edits.specs.History.{head};
 ghost use Rattle.xi_plain.specs.declared.command.EditAct.TheVariants.{Insert};
 ghost use Rattle.rev_engine.specs.Engine.{asked_by};
 ghost use Rattle.rev_engine.specs.Given.{AskedEdit};
-ghost use Rattle.rev_engine.specs.State.{contents};
 ghost use Rattle.doc_session.specs.Asking.{insertion_at, plugin_edit, asked_refusal};
 ghost use Rattle.doc_session.specs.Document.{Document, layout_of, loaded_document, text_of};
 ghost use Rattle.doc_session.specs.Fault.{DocRefuses};
@@ -54,11 +53,10 @@ impl Model for Doc {
 
     ghost Value = { Doc };
 
-    ghost use Rattle.rev_engine.specs.State.{contents};
     ghost use Rattle.doc_session.specs.Whole.{IsStateOfSome};
 
     ghost view = { λ d. record {
-      engine = contents d.engine;
+      engine = d.engine;
       text = d.text;
       caret = d.caret;
       saved = d.saved;
@@ -67,7 +65,7 @@ impl Model for Doc {
       view = d.view;
     } };
 
-    ghost invariant = { λ d. IsStateOfSome (contents d.engine) d.text d.caret };
+    ghost invariant = { λ d. IsStateOfSome d.engine d.text d.caret };
 }
 
 impl Doc {
@@ -222,7 +220,7 @@ impl Doc {
         body: Body,
         scroll: Option<(u64, u64)>,
     ) -> Result<(Doc, Effects), NoMemory>
-        requires whole { IsStateOfSome (contents taken.engine) taken.text caret }
+        requires whole { IsStateOfSome taken.engine taken.text caret }
         requires limit { taken.engine.limit ≡ self.now.engine.limit }
         ensures stepped { (plain : Document) (asked : AskedEdit) → DocStandsFor self.now plain → IsAfter plain.history asked taken
             → IfOk result (IsStepped (edit_step plain asked caret body (option_map position_view scroll))) }

@@ -4,7 +4,6 @@ ghost use Rattle.plain_edits.specs.Edits.{edit_refusal};
 ghost use Rattle.plain_edits.specs.History.{History};
 ghost use Rattle.rev_engine.specs.Engine.{asked_by};
 ghost use Rattle.rev_engine.specs.Given.{MayAsk};
-ghost use Rattle.rev_engine.specs.State.{contents};
 ghost use Rattle.doc_session.specs.Fault.{DocRefuses};
 ghost use Rattle.doc_session.specs.Inner.{IsAfter, IsChangeOf, LeadsTo, ShowsSomeHead};
 ghost use Rattle.doc_session.specs.Whole.{ShowsHead};
@@ -33,13 +32,13 @@ pub(crate) fn taken_by(
     edit: &Edit,
 ) -> Result<Taken, DocFault>
     requires may { MayAsk engine.now.revisions edit.now.group }
-    requires shown { ShowsSomeHead (contents engine.now) text.now }
-    ensures taken { (history : History) → ShowsHead history (contents engine.now) text.now
+    requires shown { ShowsSomeHead engine.now text.now }
+    ensures taken { (history : History) → ShowsHead history engine.now text.now
         → IfOk result (IsAfter history (asked_by edit.now)) }
     ensures limit { IfOk result (λ made. made.engine.limit ≡ engine.now.limit) }
-    ensures accepted { (history : History) → ShowsHead history (contents engine.now) text.now
+    ensures accepted { (history : History) → ShowsHead history engine.now text.now
         → OnOk result (edit_refusal history engine.now.limit edit.now.rev edit.now.delta ≡ None) }
-    ensures refused { (history : History) → ShowsHead history (contents engine.now) text.now
+    ensures refused { (history : History) → ShowsHead history engine.now text.now
         → IfErr result (DocRefuses (edit_refusal history engine.now.limit edit.now.rev edit.now.delta)) }
     ensures change { IfOk result (λ made. IsChangeOf text.now made.change.units) }
     ensures leads { IfOk result (λ made. LeadsTo made.text made.change.units) }

@@ -3,12 +3,11 @@ use Rattle.plain_edits.specs.Edits.{edit_refusal}
 use Rattle.plain_edits.specs.History.{head}
 use Rattle.rev_engine.specs.Engine.{asked_by}
 use Rattle.rev_engine.specs.Given.{AskedEdit}
-use Rattle.rev_engine.specs.State.{contents}
 use Rattle.doc_session.specs.declared.event.Body.TheVariants.{Null}
 use Rattle.doc_session.specs.Asking.{front_edit, insertion_at}
 use Rattle.doc_session.specs.InMemory.{Doc}
 use Rattle.doc_session.specs.Inner.{IsStepped}
-use Rattle.doc_session.specs.Step.{EventStep, edit_step, front_step}
+use Rattle.doc_session.specs.Step.{EventStep, edit_step, front_step, typing_step}
 use Rattle.doc_session.specs.Stands.{DocStandsFor}
 use Rattle.doc_session.proofs.InsertLemmas.{whole-taken, shown-whole, inside-inserted, inside-whole}
 use Rattle.doc_session.proofs.SettleLemmas.{scroll-settled}
@@ -18,13 +17,13 @@ use Rattle.doc_session.proofs.doc.Doc.insert.Goals as goal
 pub taken_by-requires-clause-may : goal.taken_by-requires-clause-may
 taken_by-requires-clause-may c =
     let doc = c.self.inside in
-    MayAsk-whole (contents doc.engine) doc.text doc.caret c.in_ok-typed.typed.group c.self.invariant
+    MayAsk-whole doc.engine doc.text doc.caret c.in_ok-typed.typed.group c.self.invariant
     (omega (arith, ap (λ (e : AskedEdit). e.group) c.in_ok-typed.ensures)) (omega (arith, ap (λ (d : Doc). head d.engine.revisions) c.self.view_is, c.requires))
 
 pub taken_by-requires-clause-shown : goal.taken_by-requires-clause-shown
 taken_by-requires-clause-shown c =
     let doc = c.self.inside in
-    shown-whole (contents doc.engine) doc.text doc.caret c.self.invariant
+    shown-whole doc.engine doc.text doc.caret c.self.invariant
 
 pub overflow_add-caret : goal.overflow_add-caret
 overflow_add-caret c =
@@ -32,8 +31,8 @@ overflow_add-caret c =
     omega (
       arith,
       c.char_count.ensures,
-      inside-whole (contents doc.engine) doc.text doc.caret c.self.invariant,
-      inside-inserted (contents doc.engine) doc.text doc.caret c.args.chars.now (asked_by c.in_ok-typed.typed) c.in_ok-taken.taken c.self.invariant
+      inside-whole doc.engine doc.text doc.caret c.self.invariant,
+      inside-inserted doc.engine doc.text doc.caret c.args.chars.now (asked_by c.in_ok-typed.typed) c.in_ok-taken.taken c.self.invariant
           (c.in_ok-typed.ensures ∙ ap (λ (d : Doc). insertion_at (head d.engine.revisions) d.text d.caret c.args.chars.now) (sym c.self.view_is))
           c.in_ok-taken.ensures.taken,
       c.in_ok-taken.ensures.leads.long,
@@ -44,13 +43,13 @@ settled-requires-clause-whole c =
     let doc = c.self.inside in
     let chars = c.args.chars.now in
     let typed = c.in_ok-typed.ensures ∙ ap (λ (d : Doc). insertion_at (head d.engine.revisions) d.text d.caret chars) (sym c.self.view_is) in
-    whole-taken (contents doc.engine) doc.text doc.caret (doc.caret + c.char_count.result) (asked_by c.in_ok-typed.typed) c.in_ok-taken.taken
+    whole-taken doc.engine doc.text doc.caret (doc.caret + c.char_count.result) (asked_by c.in_ok-typed.typed) c.in_ok-taken.taken
     c.in_ok-taken.ensures.limit c.self.invariant c.in_ok-taken.ensures.taken
     (omega (
       arith,
       c.char_count.ensures,
-      inside-whole (contents doc.engine) doc.text doc.caret c.self.invariant,
-      inside-inserted (contents doc.engine) doc.text doc.caret chars (asked_by c.in_ok-typed.typed) c.in_ok-taken.taken c.self.invariant typed
+      inside-whole doc.engine doc.text doc.caret c.self.invariant,
+      inside-inserted doc.engine doc.text doc.caret chars (asked_by c.in_ok-typed.typed) c.in_ok-taken.taken c.self.invariant typed
           c.in_ok-taken.ensures.taken,
     ))
 
@@ -78,3 +77,8 @@ returns-clause-accepted c = λ plain stands.
     let same = asked-front c.args.self.now plain chars (asked_by c.in_ok-typed.typed) stands c.in_ok-typed.ensures in
     refusal_at-front plain chars some ∙ ap₂ (λ n (a : AskedEdit). edit_refusal plain.history n a.base a.delta) (sym was.limit) (sym same) ∙
     c.in_ok-taken.ensures.accepted plain.history was.parts.shown
+
+pub returns-then-is_empty-clause-stepped : goal.returns-then-is_empty-clause-stepped
+returns-then-is_empty-clause-stepped c = λ plain stands.
+    let none : c.args.chars.now ≡ [] = c.is_empty.ensures.0 c.if-is_empty.true in
+    subst (λ chars. IsStepped (typing_step plain chars) c.in_ok-look.field-0) (sym none) (c.in_ok-look.ensures.stepped plain stands)
