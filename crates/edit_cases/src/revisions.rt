@@ -1,7 +1,7 @@
 //! The list of revisions.
 
 use rev_list::{RevEdit, RevFault, RevList};
-use std::alloc::Global;
+use std::alloc::{AllocError, Global};
 use std::test::Fail;
 use subset_runs::{Subset, SubsetFault};
 
@@ -74,6 +74,39 @@ fn each_revision_has_its_dead(rt: HostRuntime) -> Result<(), Fail> {
         assert_eq!(rt; copy.dead_then(alloc, rev)?.runs(), then, "at {rev}");
     }
     assert_eq!(rt; copy.dead_at(alloc, 4).err(), Some(RevFault::Unknown(3)));
+    Ok(())
+}
+
+// The bases of the edits after a revision.
+fn bases_after(alloc: Global, revs: &RevList, rev: u64) -> Result<Vec<u64>, AllocError> {
+    let mut bases = Vec::new(alloc);
+    if rev <= revs.head() {
+        for edit in revs.edits_after(rev) {
+            bases.push(edit.base)?;
+        }
+    }
+    Ok(bases)
+}
+
+#[test]
+fn edits_after_a_revision_come_in_order(rt: HostRuntime) -> Result<(), Fail> {
+    let alloc = rt.alloc();
+    let mut revs = RevList::start(alloc, 0)?;
+    for (base, len) in [(0, 1), (0, 2), (2, 3)] {
+        assert!(rt; push(alloc, &mut revs, base, len, &[(0, 1)], &[])?.is_some());
+    }
+    for (rev, bases) in [
+        (0, [0, 0, 2].as_slice()),
+        (1, [0, 2].as_slice()),
+        (3, [].as_slice()),
+    ] {
+        assert_eq!(rt;
+            bases_after(alloc, &revs, rev)?.as_slice(),
+            bases,
+            "after {rev}"
+        );
+    }
+    assert_eq!(rt; revs.edit(3).map(|edit| edit.base), Some(2));
     Ok(())
 }
 

@@ -23,7 +23,7 @@ pub fn follow(
     edit: &Edit,
 ) -> anyhow::Result<()>
     requires { 1 ≤ edit.now.group }
-    ensures { OnOk result (AgreeUpTo (head plain.now) plain.now list.new.history) }
+    ensures { OnOk result (AgreeUpTo (head plain.now) plain.now list.new) }
 {
     push(alloc, plain, list, edit)?;
     compare(alloc, plain, list)
@@ -74,7 +74,7 @@ fn compare_places(alloc: Global, plain: &PlainHistory, made: &Rebased) -> anyhow
 
 /// Whether the list hides at each revision what the plain history does.
 fn compare(alloc: Global, plain: &PlainHistory, list: &RevList) -> anyhow::Result<()>
-    ensures { OnOk result (AgreeUpTo (head plain.now) plain.now list.now.history) }
+    ensures { OnOk result (AgreeUpTo (head plain.now) plain.now list.now) }
 {
     let head = plain.head();
     for rev in 0..head {
@@ -84,7 +84,7 @@ fn compare(alloc: Global, plain: &PlainHistory, list: &RevList) -> anyhow::Resul
 }
 
 fn compare_at(alloc: Global, plain: &PlainHistory, list: &RevList, rev: u64) -> anyhow::Result<()>
-    ensures { OnOk result (hidden_at list.now.history rev ≡ hidden_at plain.now rev) }
+    ensures { OnOk result (hidden_at list.now rev ≡ hidden_at plain.now rev) }
 {
     let dead = list.dead_at(alloc, rev)?;
     ensure!(
