@@ -14,11 +14,13 @@ use Rattle.core_session.specs.Session.{messages, step, document_after, lines_wri
 use Rattle.core_session.specs.Core.{IsOfLine, IsOpen, front_entry}
 use Rattle.core_session.specs.Inner.{AreLinesOf}
 use Rattle.std.proofs.Math.Seq.{take-nil}
-use Rattle.std.specs.Prelude.{if◌then◌else◌, Bool, true, false, Result, Ok, Err}
-use Rattle.xi_plain.specs.declared.command.EditAct.{EditAct}
-use Rattle.xi_plain.specs.declared.command.Act.TheVariants.{NewView}
-use Rattle.json_rpc.specs.Request.{Request, LineRefusal, line_request}
-use Rattle.front_wire.specs.Front.{edit_from, not_built, edit_act, command_from, command_of}
+use Rattle.std.specs.Prelude.{true}
+use Rattle.xi_plain.specs.declared.command.Act.{Act}
+use Rattle.xi_plain.specs.declared.command.Act.TheVariants.{NewView, Save}
+use Rattle.xi_plain.specs.declared.entry.ShelfNote.TheVariants.{NoCall}
+use Rattle.xi_plain.specs.Journal.{may_have_note}
+use Rattle.front_wire.specs.Front.{command_of}
+use Rattle.front_wire.proofs.ForCallers.{closes-command_of}
 
 -- entries after entries
 pub document_after-append : (document : Option Document) (front back : List Entry) →
@@ -99,25 +101,14 @@ AreLinesOf-parts answer update scroll a u s piece more first second third two th
     (AreLinesOf-append answer (update ++ scroll) _ _ first (AreLinesOf-append update scroll _ _ second third))
 
 -- no line closes the session or asks the shelf
-of_edit : (view : Option (List ℕ)) (act : Option EditAct) → IsOfLine (edit_from view act)
-of_edit None act = (refl, refl)
-of_edit (Some view) None = (refl, refl)
-of_edit (Some view) (Some act) = (refl, refl)
-
-of_method : (opens edits file : Bool) (params : Data) →
-    IsOfLine (if opens then (if file then NewView None else not_built) else (if edits then edit_act params else not_built))
-of_method true edits true params = (refl, refl)
-of_method true edits false params = (refl, refl)
-of_method false true file params = of_edit _ _
-of_method false false file params = (refl, refl)
-
-of_read : (read : Result Request LineRefusal) → IsOfLine (command_from read).act
-of_read (Ok request) = of_method _ _ _ request.params
-of_read (Err refusal) = (refl, refl)
+asks_nothing : (act : Act) → may_have_note act NoCall ≡ true
+asks_nothing (NewView None) = refl
+asks_nothing (NewView (Some path)) = refl
+asks_nothing (Save view path) = refl
+asks_nothing act = refl
 
 pub IsOfLine-command_of : (line : List ℕ) → IsOfLine (command_of line).act
-unfolding command_of
-IsOfLine-command_of line = of_read (line_request line)
+IsOfLine-command_of line = (closes-command_of line, asks_nothing (command_of line).act)
 
 -- the first bytes, in two parts
 pub take-plus : (m n : ℕ) (xs : List ℕ) → take (m + n) xs ≡ take m xs ++ take n (drop m xs)

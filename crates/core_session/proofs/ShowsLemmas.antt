@@ -8,7 +8,7 @@ use Rattle.json_rpc.proofs.ForCallers.{lines_of-lines}
 use Rattle.xi_plain.specs.declared.command.Id.{Id}
 use Rattle.xi_plain.specs.declared.command.Id.TheVariants.{NoId, Num, Word}
 use Rattle.xi_plain.specs.declared.command.Fault.{Fault}
-use Rattle.xi_plain.specs.declared.command.Fault.TheVariants.{Parse, Invalid, NoMethod, BadParams, NotBuilt}
+use Rattle.xi_plain.specs.declared.command.Fault.TheVariants.{Parse, Invalid, NoMethod, BadParams}
 use Rattle.xi_plain.specs.declared.command.Command.{Command}
 use Rattle.xi_plain.specs.declared.entry.Entry.{Entry}
 use Rattle.plain_screen.specs.declared.screen.Update.{Update}
@@ -19,7 +19,7 @@ use Rattle.plain_screen.specs.declared.screen.Op.{Op}
 use Rattle.plain_screen.specs.declared.screen.Op.TheVariants.{Copy, Skip, Invalidate, Ins}
 use Rattle.xi_plain.specs.declared.command.EditAct.{EditAct}
 use Rattle.xi_plain.specs.declared.command.Act.{Act}
-use Rattle.xi_plain.specs.declared.command.Act.TheVariants.{NewView, Edit}
+use Rattle.xi_plain.specs.declared.command.Act.TheVariants.{NewView, CloseView, Save, Edit}
 use Rattle.plain_screen.specs.Plan.{shown_lines}
 use Rattle.plain_screen.specs.Plan.{is_within, onto_ops}
 use Rattle.plain_screen.proofs.callers.PlanLemmas.{plan_from, plan_from-line, screen_after-plan_from}
@@ -37,9 +37,9 @@ use Rattle.doc_session.specs.declared.event.Event.TheVariants.{Front}
 use Rattle.doc_session.specs.Asking.{front_edit}
 use Rattle.doc_session.specs.Effects.{ops_of, update_of, updated, wants_update}
 use Rattle.doc_session.specs.Step.{edited_document, refusal_at, typed, typing_step}
-use Rattle.core_session.specs.Answer.{Reply, accepted, refused, spent, silent, answers, refusal, refused_by, spent_refusal}
+use Rattle.core_session.specs.Answer.{Reply, accepted, refused, spent, not_built, silent, answers, refusal, refused_by, spent_refusal, not_built_refusal}
 use Rattle.json_rpc.specs.Refusal.{code_of, message_of}
-use Rattle.core_session.specs.Session.{view_id, Outcome, outcome, opening_outcome, first_document, edit_came, spent_total, front_outcome, is_done, refusing, is_first_view, outcome_messages, update_notes, scroll_notes, messages, step, document_after, lines_written, written, piece_of}
+use Rattle.core_session.specs.Session.{view_id, Outcome, outcome, opening_outcome, first_document, edit_came, spent_total, front_outcome, is_done, answer_undone, keeping, refusing, refusing_view, is_first_view, is_there, outcome_messages, update_notes, scroll_notes, messages, step, document_after, lines_written, written, piece_of}
 use Rattle.core_session.specs.Shows.{updates_in, screen_with, rebuilt_from, rebuilt, IsShown, SendsWithin, SendWindow, Shows}
 use Rattle.doc_session.proofs.ForCallers.{head-stands}
 use Rattle.core_session.specs.Core.{IsOfLine, IsOpen, Stands, screen_of, plain_of, IsShowing, front_entry}
@@ -125,7 +125,6 @@ refusal_none id Parse line = error_none NoId (code_of Parse) (message_of Parse) 
 refusal_none id Invalid line = error_none NoId (code_of Invalid) (message_of Invalid) line
 refusal_none id (NoMethod name) line = refused_none id (code_of (NoMethod name)) (message_of (NoMethod name)) line
 refusal_none id (BadParams name) line = refused_none id (code_of (BadParams name)) (message_of (BadParams name)) line
-refusal_none id NotBuilt line = refused_none id (code_of NotBuilt) (message_of NotBuilt) line
 
 updates_of-answers : (id : Id) (reply : Reply) → AllByRecursion (λ m. IsLineOf m (line_of m)) (answers id reply) → updates_of (answers id reply) ≡ []
 updates_of-answers NoId (accepted result) lines = updates_of-nil
@@ -133,6 +132,7 @@ updates_of-answers (Num n) (accepted result) lines = updates_of-none (reply_data
 updates_of-answers (Word text) (accepted result) lines = updates_of-none (reply_data (Word text) result) (reply_none (Word text) result lines.0)
 updates_of-answers id (refused fault) lines = updates_of-none (refusal id fault) (refusal_none id fault lines.0)
 updates_of-answers id spent lines = updates_of-none (spent_refusal id) (refused_none id (pos 3) (codes "spent") lines.0)
+updates_of-answers id not_built lines = updates_of-none (not_built_refusal id) (refused_none id (pos 9) (codes "not built") lines.0)
 updates_of-answers id silent lines = updates_of-nil
 
 -- the notes of an outcome
@@ -230,18 +230,24 @@ settles_came document None (c ∷ chars) =
     let next = edited_document document (front_edit document (c ∷ chars)) (document.caret + length (c ∷ chars)) in
     settles_if (wants_update document next) document next refl
 
-settles_refusing : (plain : Option Document) (fault : Fault) → Settles plain (refusing plain fault)
+settles_keeping : (plain : Option Document) (reply : Reply) → Settles plain (keeping plain reply)
 unfolding Settles note_list
-settles_refusing plain fault = refl
+settles_keeping plain reply = refl
 
 settles_opening : Settles None opening_outcome
 unfolding Settles
 settles_opening = settles_if (wants_update first_document first_document) first_document first_document refl
 
-settles_view : (taken : Bool) (document : Document) (act : EditAct) →
-    Settles (Some document) (if taken then front_outcome document act else refusing (Some document) NotBuilt)
-settles_view true document act = settles_came document (spent_total (refusal_at document (Front act))) (typed act)
-settles_view false document act = settles_refusing (Some document) NotBuilt
+settles_view : (there taken : Bool) (document : Document) (act : EditAct) →
+    Settles (Some document) (if there then (if taken then front_outcome document act else keeping (Some document) (answer_undone act)) else
+    refusing_view (Some document))
+settles_view true true document act = settles_came document (spent_total (refusal_at document (Front act))) (typed act)
+settles_view true false document act = settles_keeping (Some document) (answer_undone act)
+settles_view false taken document act = settles_keeping (Some document) (refused (BadParams (codes "view_id")))
+
+settles_undone : (there : Bool) (plain : Option Document) → Settles plain (if there then keeping plain not_built else refusing_view plain)
+settles_undone true plain = settles_keeping plain not_built
+settles_undone false plain = settles_keeping plain (refused (BadParams (codes "view_id")))
 
 pub settles : (plain : Option Document) (act : Act) → Settles plain (outcome plain act)
 unfolding Settles note_list
@@ -249,7 +255,9 @@ settles None (NewView None) = settles_opening
 settles None (NewView (Some path)) = refl
 settles (Some document) (NewView path) = refl
 settles None (Edit view act) = refl
-settles (Some document) (Edit view act) = settles_view (is_first_view view && is_done act) document act
+settles (Some document) (Edit view act) = settles_view (is_first_view view) (is_done act) document act
+settles plain (CloseView view) = settles_undone (is_there plain view) plain
+settles plain (Save view path) = settles_undone (is_there plain view) plain
 settles plain act = refl
 
 -- ---- the lines that an entry sends
@@ -322,17 +330,23 @@ sends_came document None (c ∷ chars) =
     let next = edited_document document (front_edit document (c ∷ chars)) (document.caret + length (c ∷ chars)) in
     sends_if (wants_update document next) next
 
-sends_view : (taken : Bool) (document : Document) (act : EditAct) →
-    Sends (if taken then front_outcome document act else refusing (Some document) NotBuilt)
-unfolding Sends note_list
-sends_view true document act = sends_came document (spent_total (refusal_at document (Front act))) (typed act)
-sends_view false document act = tt
-
 -- what changes nothing tells nothing
 sends_still : (plain : Option Document) (reply : Reply) → Sends (record { reply = reply; document = plain; update = None; scroll = None })
 unfolding Sends note_list
 sends_still None reply = refl
 sends_still (Some document) reply = tt
+
+sends_view : (there taken : Bool) (document : Document) (act : EditAct) →
+    Sends (if there then (if taken then front_outcome document act else keeping (Some document) (answer_undone act)) else
+    refusing_view (Some document))
+unfolding Sends note_list
+sends_view true true document act = sends_came document (spent_total (refusal_at document (Front act))) (typed act)
+sends_view true false document act = tt
+sends_view false taken document act = tt
+
+sends_undone : (there : Bool) (plain : Option Document) → Sends (if there then keeping plain not_built else refusing_view plain)
+sends_undone true plain = sends_still plain not_built
+sends_undone false plain = sends_still plain (refused (BadParams (codes "view_id")))
 
 pub sends : (plain : Option Document) (act : Act) → Sends (outcome plain act)
 unfolding Sends note_list
@@ -340,7 +354,9 @@ sends None (NewView None) = sends_if (wants_update first_document first_document
 sends None (NewView (Some path)) = refl
 sends (Some document) (NewView path) = tt
 sends None (Edit view act) = refl
-sends (Some document) (Edit view act) = sends_view (is_first_view view && is_done act) document act
+sends (Some document) (Edit view act) = sends_view (is_first_view view) (is_done act) document act
+sends plain (CloseView view) = sends_undone (is_there plain view) plain
+sends plain (Save view path) = sends_undone (is_there plain view) plain
 sends None act = refl
 sends (Some document) act = tt
 

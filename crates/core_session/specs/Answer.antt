@@ -4,16 +4,18 @@ use Rattle.serde_json.specs.Data.{Data}
 use Rattle.xi_plain.specs.declared.command.Id.{Id}
 use Rattle.xi_plain.specs.declared.command.Id.TheVariants.{NoId, Num, Word}
 use Rattle.xi_plain.specs.declared.command.Fault.{Fault}
-use Rattle.xi_plain.specs.declared.command.Fault.TheVariants.{Parse, Invalid, NoMethod, BadParams, NotBuilt}
+use Rattle.xi_plain.specs.declared.command.Fault.TheVariants.{Parse, Invalid, NoMethod, BadParams}
 use Rattle.json_rpc.specs.Response.{reply_data, error_data}
 use Rattle.view_update.specs.Notes.{alert_data}
 use Rattle.json_rpc.specs.Refusal.{code_of, message_of}
 
--- what is to be answered: a result, a refusal of a line by itself, that so many characters may not be inserted, or nothing
+-- what is to be answered: a result, a refusal of a line, that so many characters may not be inserted, that the program does not do this
+-- yet, or nothing
 pub data Reply : Type 0 where
   accepted : (result : Data) → Reply
   refused : (fault : Fault) → Reply
   spent : Reply
+  not_built : Reply
   silent : Reply
 
 -- a refusal with this number that says this, by the id of the request, or as an alert where it has none
@@ -30,13 +32,16 @@ named_refusal id fault = refused_by id (code_of fault) (message_of fault)
 abbrev pub spent_refusal : Id → Data
 spent_refusal id = refused_by id (pos 3) (codes "spent")
 
+-- the refusal of what the program does not do yet
+abbrev pub not_built_refusal : Id → Data
+not_built_refusal id = refused_by id (pos 9) (codes "not built")
+
 -- the refusal of a line: what is no request has no id to be named
 abbrev pub refusal : Id → Fault → Data
 refusal id Parse = error_data NoId (code_of Parse) (message_of Parse)
 refusal id Invalid = error_data NoId (code_of Invalid) (message_of Invalid)
 refusal id (NoMethod name) = named_refusal id (NoMethod name)
 refusal id (BadParams member) = named_refusal id (BadParams member)
-refusal id NotBuilt = named_refusal id NotBuilt
 
 -- the result of a request, where it has an id
 abbrev pub result_messages : Id → Data → List Data
@@ -49,4 +54,5 @@ abbrev pub answers : Id → Reply → List Data
 answers id (accepted result) = result_messages id result
 answers id (refused fault) = refusal id fault ∷ []
 answers id spent = spent_refusal id ∷ []
+answers id not_built = not_built_refusal id ∷ []
 answers id silent = []

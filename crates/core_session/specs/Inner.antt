@@ -22,9 +22,9 @@ use Rattle.doc_session.specs.declared.fault.DocFault.{DocFault}
 use Rattle.doc_session.specs.declared.fault.DocFault.TheVariants as Fault
 use Rattle.doc_session.specs.PositionView.{position_view}
 use Rattle.core_session.specs.declared.act.Reply.{Reply as ReplyInMemory}
-use Rattle.core_session.specs.declared.act.Reply.TheVariants.{Opened, Accepted, Refused, Spent, Silent}
+use Rattle.core_session.specs.declared.act.Reply.TheVariants.{Opened, Accepted, Refused, Spent, NotBuilt, Silent}
 use Rattle.core_session.specs.declared.act.ActEffects.{ActEffects}
-use Rattle.core_session.specs.Answer.{Reply, accepted, refused, spent, silent}
+use Rattle.core_session.specs.Answer.{Reply, accepted, refused, spent, not_built, silent}
 use Rattle.core_session.specs.Core.{ServesDocument, Stands}
 
 -- the document has no plugins, and may take one more edit
@@ -70,6 +70,7 @@ reply_of Opened = accepted (text_data view_id)
 reply_of Accepted = accepted null
 reply_of (Refused fault) = refused fault
 reply_of Spent = spent
+reply_of NotBuilt = not_built
 reply_of Silent = silent
 
 -- what came of an act in memory, beside the document before, is the outcome

@@ -5,11 +5,12 @@ use Rattle.std.specs.List.{concat}
 use Rattle.serde_json.specs.Data.{Data, null}
 use Rattle.xi_plain.specs.declared.command.Id.{Id}
 use Rattle.xi_plain.specs.declared.command.Fault.{Fault}
-use Rattle.xi_plain.specs.declared.command.Fault.TheVariants.{NotBuilt}
+use Rattle.xi_plain.specs.declared.command.Fault.TheVariants.{BadParams}
 use Rattle.xi_plain.specs.declared.command.EditAct.{EditAct}
 use Rattle.xi_plain.specs.declared.command.EditAct.TheVariants.{Insert, InsertNewline}
+use Rattle.xi_plain.specs.declared.command.EditAct.TheVariants as Edits
 use Rattle.xi_plain.specs.declared.command.Act.{Act}
-use Rattle.xi_plain.specs.declared.command.Act.TheVariants.{Bad, Nothing, NewView, Edit, Closing}
+use Rattle.xi_plain.specs.declared.command.Act.TheVariants.{Bad, Nothing, NewView, CloseView, Save, Edit, Closing}
 use Rattle.xi_plain.specs.declared.command.Command.{Command}
 use Rattle.xi_plain.specs.declared.entry.Entry.{Entry}
 use Rattle.plain_screen.specs.declared.screen.Update.{Update}
@@ -22,7 +23,7 @@ use Rattle.view_update.specs.Notes.{scroll_data}
 use Rattle.doc_session.specs.declared.event.Event.TheVariants.{Front, Other}
 use Rattle.doc_session.specs.Document.{Document, loaded_document}
 use Rattle.doc_session.specs.Step.{EventStep, event_step, refusal_at}
-use Rattle.core_session.specs.Answer.{Reply, accepted, refused, spent, silent, answers}
+use Rattle.core_session.specs.Answer.{Reply, accepted, refused, spent, not_built, silent, answers}
 
 -- the id of the first view
 abbrev pub view_id : List ℕ
@@ -45,9 +46,17 @@ abbrev pub scroll_notes : Option Position → List Data
 scroll_notes None = []
 scroll_notes (Some point) = scroll_data view_id point.line point.col ∷ []
 
+-- what changes nothing is answered so
+abbrev pub keeping : Option Document → Reply → Outcome
+keeping document reply = record { reply = reply; document = document; update = None; scroll = None }
+
 -- an act that is refused changes nothing
 abbrev pub refusing : Option Document → Fault → Outcome
-refusing document fault = record { reply = refused fault; document = document; update = None; scroll = None }
+refusing document fault = keeping document (refused fault)
+
+-- nor does one on a view that is not there
+abbrev pub refusing_view : Option Document → Outcome
+refusing_view document = refusing document (BadParams (codes "view_id"))
 
 -- the most characters that may be inserted into a document
 abbrev pub text_limit : ℕ
@@ -89,26 +98,45 @@ is_done act = false
 abbrev pub is_first_view : List ℕ → Bool
 is_first_view view = bytes_eq (encode_utf8_all view) view_id
 
--- a view is edited, where it is there, and the edit is done yet
+-- what is answered to an edit that is not done: one without effect is accepted
+abbrev pub answer_undone : EditAct → Reply
+answer_undone Edits.Nothing = accepted null
+answer_undone act = not_built
+
+-- the view that is there is edited
+abbrev pub view_outcome : Document → EditAct → Outcome
+view_outcome document act = if is_done act then front_outcome document act else keeping (Some document) (answer_undone act)
+
+-- a view is edited, where it is there
 abbrev pub edit_outcome : Option Document → List ℕ → EditAct → Outcome
-edit_outcome None view act = refusing None NotBuilt
-edit_outcome (Some document) view act =
-    if is_first_view view && is_done act then front_outcome document act else refusing (Some document) NotBuilt
+edit_outcome None id act = refusing_view None
+edit_outcome (Some document) id act = if is_first_view id then view_outcome document act else refusing_view (Some document)
+
+-- whether a view with this id is there
+abbrev pub is_there : Option Document → List ℕ → Bool
+is_there None id = false
+is_there (Some document) id = is_first_view id
+
+-- what is not done yet of a view is refused, where the view is there
+abbrev pub undone_outcome : Option Document → List ℕ → Outcome
+undone_outcome document id = if is_there document id then keeping document not_built else refusing_view document
 
 -- a view is opened, where none was, on no file
 abbrev pub open_outcome : Option Document → Option (List ℕ) → Outcome
 open_outcome None None = opening_outcome
-open_outcome None (Some path) = refusing None NotBuilt
-open_outcome (Some document) path = refusing (Some document) NotBuilt
+open_outcome None (Some path) = keeping None not_built
+open_outcome (Some document) path = keeping (Some document) not_built
 
--- THE OUTCOME of an act. What is not done yet is refused
+-- THE OUTCOME of an act. A view that is not there is refused first, and what is not done yet last
 abbrev pub outcome : Option Document → Act → Outcome
 outcome document (Bad fault) = refusing document fault
-outcome document Nothing = record { reply = accepted null; document = document; update = None; scroll = None }
+outcome document Nothing = keeping document (accepted null)
 outcome document (NewView path) = open_outcome document path
+outcome document (CloseView view) = undone_outcome document view
+outcome document (Save view path) = undone_outcome document view
 outcome document (Edit view act) = edit_outcome document view act
-outcome document Closing = record { reply = silent; document = document; update = None; scroll = None }
-outcome document act = refusing document NotBuilt
+outcome document Closing = keeping document silent
+outcome document act = keeping document not_built
 
 -- the messages of an outcome in their order
 abbrev pub outcome_messages : Id → Outcome → List Data

@@ -6,8 +6,8 @@ ghost use Rattle.doc_session.specs.Fault.{DocRefuses};
 ghost use Rattle.doc_session.specs.InMemory.{Doc};
 ghost use Rattle.doc_session.specs.Step.{EventStep, HasCaller};
 ghost use Rattle.core_session.specs.Core.{ServesDocument, Stands};
-ghost use Rattle.core_session.specs.Inner.{IsApplied, IsOutcome, IsSpentOrLack, MayBeAsked, TakesEvents};
-ghost use Rattle.core_session.specs.Session.{outcome, edit_came, edit_outcome, open_outcome, is_first_view, is_done, front_outcome, refusing, spent_total};
+ghost use Rattle.core_session.specs.Inner.{IsApplied, IsOutcome, IsSpentOrLack, MayBeAsked, TakesEvents, reply_of};
+ghost use Rattle.core_session.specs.Session.{outcome, edit_came, edit_outcome, view_outcome, undone_outcome, answer_undone, open_outcome, is_first_view, is_done, front_outcome, refusing, refusing_view, spent_total};
 
 use doc_session::{Doc, DocFault, Effects, Event};
 use plain_screen::Update;
@@ -19,6 +19,9 @@ use xi_plain::{Act, Config, EditAct, Fault};
 
 /// The id of the first view.
 pub const FIRST_VIEW: &str = "view-id-1";
+
+/// The member of a line that names its view.
+const VIEW_MEMBER: &str = "view_id";
 
 /// The most characters that may be inserted into a document.
 const TEXT_LIMIT: u64 = 1 << 40;
@@ -41,6 +44,8 @@ pub enum Reply {
     Refused(Fault),
     /// It would insert more characters than may be.
     Spent,
+    /// The program does not do it yet.
+    NotBuilt,
     /// It asks for no answer.
     Silent,
 }
@@ -65,9 +70,11 @@ pub fn act_on(alloc: Global, document: &Option<Doc>, act: &Act) -> Result<ActEff
         Act::Bad(fault) => refused(alloc, fault),
         Act::Nothing => Ok(changed_nothing(Reply::Accepted)),
         Act::NewView { path } => open(alloc, document, path),
+        Act::CloseView { view } => undone(alloc, document, view),
+        Act::Save { view, path: _ } => undone(alloc, document, view),
         Act::Edit { view, act } => edit(alloc, document, view, act),
         Act::Closing => Ok(changed_nothing(Reply::Silent)),
-        _ => refused(alloc, &Fault::NotBuilt),
+        _ => Ok(changed_nothing(Reply::NotBuilt)),
     }
 }
 
@@ -89,12 +96,32 @@ fn refused(alloc: Global, fault: &Fault) -> Result<ActEffects, NoMemory>
     Ok(changed_nothing(Reply::Refused(fault.copy(alloc)?)))
 }
 
+/// The refusal of a view that is not there.
+fn refused_view(alloc: Global) -> Result<ActEffects, NoMemory>
+    ensures { (document : Option Document) (before : Option Doc) → Stands before document
+        → IfOk result (IsOutcome before (refusing_view document)) }
+{
+    let member = Text::from_ascii(alloc, VIEW_MEMBER)?;
+    Ok(changed_nothing(Reply::Refused(Fault::BadParams(member))))
+}
+
+/// What is not done yet of a view.
+fn undone(alloc: Global, document: &Option<Doc>, view: &Text) -> Result<ActEffects, NoMemory>
+    ensures { (plain : Option Document) → Stands document.now plain
+        → IfOk result (IsOutcome document.now (undone_outcome plain view.now)) }
+{
+    match document {
+        Some(_) if is_first_view(view) => Ok(changed_nothing(Reply::NotBuilt)),
+        _ => refused_view(alloc),
+    }
+}
+
 fn open(alloc: Global, document: &Option<Doc>, path: &Option<Text>) -> Result<ActEffects, NoMemory>
     ensures { (plain : Option Document) → Stands document.now plain
         → IfOk result (IsOutcome document.now (open_outcome plain path.now)) }
 {
     if document.is_some() || path.is_some() {
-        return refused(alloc, &Fault::NotBuilt);
+        return Ok(changed_nothing(Reply::NotBuilt));
     }
     let mut doc = Doc::of_text(alloc, Text::new(alloc), 0, TEXT_LIMIT, FIRST_CONFIG)?;
     let Ok(effects) = apply_alone(alloc, &mut doc, Event::Other) else {
@@ -114,8 +141,30 @@ fn edit(
         → IfOk result (IsOutcome document.now (edit_outcome plain view.now act.now)) }
 {
     match document {
-        Some(doc) if is_first_view(view) && is_done(act) => edit_document(alloc, doc, act),
-        _ => refused(alloc, &Fault::NotBuilt),
+        Some(doc) if is_first_view(view) => edit_view(alloc, doc, act),
+        _ => refused_view(alloc),
+    }
+}
+
+/// Edits the view that is there.
+fn edit_view(alloc: Global, doc: &Doc, act: &EditAct) -> Result<ActEffects, NoMemory>
+    requires { MayBeAsked (Some doc.now) }
+    ensures { (plain : Document) → ServesDocument doc.now plain
+        → IfOk result (IsOutcome (Some doc.now) (view_outcome plain act.now)) }
+{
+    if is_done(act) {
+        edit_document(alloc, doc, act)
+    } else {
+        Ok(changed_nothing(answer_undone(act)))
+    }
+}
+
+fn answer_undone(act: &EditAct) -> Reply
+    ensures { reply_of result ≡ answer_undone act.now }
+{
+    match act {
+        EditAct::Nothing => Reply::Accepted,
+        _ => Reply::NotBuilt,
     }
 }
 

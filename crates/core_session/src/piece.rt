@@ -24,6 +24,9 @@ use xi_plain::{Fault, Id};
 /// The number of the refusal of an edit that would insert more characters than may be.
 const SPENT: i64 = 3;
 
+/// The number of the refusal of what the program does not do yet.
+const NOT_BUILT: i64 = 9;
+
 /// The lines of an entry: its answer, and then what else the front end is told.
 pub fn piece_of(alloc: Global, id: &Id, effects: &ActEffects) -> Result<Text, NoMemory>
     requires { IsWireId id.now }
@@ -47,6 +50,9 @@ fn answer(alloc: Global, id: &Id, reply: &Reply) -> Result<Text, NoMemory>
         Reply::Opened => result_line(alloc, id, view_value(alloc)?),
         Reply::Accepted => result_line(alloc, id, Value::Null),
         Reply::Spent => refused_by(alloc, id, SPENT, &Text::from_ascii(alloc, "spent")?),
+        Reply::NotBuilt => {
+            refused_by(alloc, id, NOT_BUILT, &Text::from_ascii(alloc, "not built")?)
+        }
         Reply::Silent => Ok(Text::new(alloc)),
     }
 }

@@ -1,195 +1,241 @@
-ghost use Rattle.std.specs.Prelude.{◌≡◌, ℕ, List, Option, Some, None, option_map, option_and_then, true, IsTrue, ◌↔◌, IfOk, IfSome, codes, if◌then◌else◌};
-ghost use Rattle.std.specs.Str.{chars, all_scalars};
-ghost use Rattle.std.specs.String.{string_bytes};
-ghost use Rattle.serde_json.specs.Data.{object, null};
-ghost use Rattle.serde_json.specs.Find.{get, get_member, as_str};
-ghost use Rattle.serde_json.specs.View.{view, members_view};
-ghost use Rattle.xi_plain.specs.declared.command.EditAct.TheVariants.{Insert};
-ghost use Rattle.front_wire.specs.Front.{act_of, edit_act, edit_from, edit_method, asked_of_view, is_named, names_no_file, is_absent, as_text, not_built};
-ghost use Rattle.front_wire.specs.Fair.{IsText, IsTextIfAny, HasChars, HasTexts};
+ghost use Rattle.std.specs.Prelude.{◌≡◌, ◌<◌, Option, Some, None, IfOk, IfSome, slice_get, option_map, option_and_then, unwrap_or};
+ghost use Rattle.std.specs.Str.{chars, encode_utf8_all};
+ghost use Rattle.serde_json.specs.Data.{null};
+ghost use Rattle.serde_json.specs.Find.{as_str};
+ghost use Rattle.serde_json.specs.View.{view};
+ghost use Rattle.case_front.specs.Table.{front_names, front_table};
+ghost use Rattle.front_wire.specs.Members.{given, first_bad, members_of_row, text};
+ghost use Rattle.front_wire.specs.Method.{members};
+ghost use Rattle.front_wire.specs.Front.{act_of, act_of_none, row_of, line_act, line_acts, acts_of_lines, bad, close_act, save_act, open_act, configure_act, change_in, configured, edit_act, edit_with, known_edit, edit_by, edit_of};
+ghost use Rattle.front_wire.specs.Edits.{edit_in_row};
+ghost use Rattle.front_wire.specs.Fair.{IsText, IsMethod, IsFairAct, AreFairChanges};
 
-use plain_text::{NoMemory, Text};
-use serde_json::{Map, Value};
+use crate::config::{changes_of, is_general, no_changes};
+use crate::edit::{EditMethod, edit_in_row, edit_method, is_free, owned};
+use crate::method::{Method, Table};
+use case_front::front_cases;
+use case_table::arms;
+use plain_text::{NoMemory, Text, TryClone};
+use serde_json::Value;
 use std::alloc::Global;
-use xi_plain::{Act, EditAct, Fault};
-
-/// The methods of `edit` that are done.
-#[derive(Clone, Copy)]
-pub enum EditMethod {
-    /// Puts the characters in that its parameters give.
-    Inserts,
-    /// Puts in a line feed.
-    BeginsLine,
-    Other,
-}
+use xi_plain::{Act, Changes, EditAct, Fault};
 
 /// What a method asks with its parameters.
 pub fn act_of(alloc: Global, method: &Text, params: Value) -> Result<Act, NoMemory>
     ensures act { IfOk result (λ act. act ≡ act_of method.now (view params)) }
-    ensures texts { IfOk result HasTexts }
+    ensures fair { IfOk result IsFairAct }
 {
-    if is_named(method, "new_view") {
-        return Ok(new_view(&params));
+    match line_row(method.as_str()) {
+        Some(row) => line_act(alloc, row, params),
+        None => no_row(alloc, method),
     }
-    if is_named(method, "edit") {
-        return edit(alloc, params);
-    }
-    Ok(Act::Bad(Fault::NotBuilt))
 }
 
-fn is_named(method: &Text, name: &str) -> bool
-    ensures { result ≡ is_named method.now name.now }
+fn line_row(name: &str) -> Option<usize>
+    ensures row { result ≡ row_of front_names name.now }
+    ensures within { IfSome result (λ row. row < 11) }
 {
-    method.as_str() == name
+    front_cases().find(name)
 }
 
-fn new_view(params: &Value) -> Act
-    ensures act { result ≡ (if names_no_file (view params.now) then Act.NewView None else not_built) }
-    ensures texts { HasTexts result }
+fn no_row(alloc: Global, method: &Text) -> Result<Act, NoMemory>
+    ensures act { IfOk result (λ act. act ≡ act_of_none method.now) }
+    ensures fair { IfOk result IsFairAct }
 {
-    if names_no_file(params) {
-        Act::NewView { path: None }
+    let name = method.as_str();
+    if is_free(name) {
+        return Ok(Act::Nothing);
+    }
+    Ok(Act::Bad(Fault::NoMethod(method.copy(alloc)?)))
+}
+
+#[tactic(auto, unfolding(crate::specs::Front::line_act))]
+fn line_act(alloc: Global, row: usize, params: Value) -> Result<Act, NoMemory>
+    requires { row < 11 }
+    ensures act { IfOk result (λ act. act ≡ line_act row (view params)) }
+    ensures fair { IfOk result IsFairAct }
+{
+    let mut params = params;
+    let method = Method {
+        table: Table::Line,
+        row,
+    };
+    made(alloc, row, method, &mut params)
+}
+
+#[tactic(auto, unfolding(crate::specs::Members::members_of_row))]
+fn made(alloc: Global, row: usize, method: Method, params: &mut Value) -> Result<Act, NoMemory>
+    requires row { row < 11 }
+    requires method { members method ≡ members_of_row front_table row }
+    ensures act { IfOk result (λ act. slice_get (acts_of_lines (line_acts (view params.old))) row ≡ Some act) }
+    ensures fair { IfOk result IsFairAct }
+{
+    arms!(row => Ok(Act::Nothing), close(alloc, method, params), edit(alloc, method, params),
+        configure(alloc, method, params), open(alloc, method, params), Ok(Act::Nothing),
+        Ok(Act::Nothing), save(alloc, method, params), Ok(Act::Nothing), Ok(Act::Nothing),
+        Ok(Act::Nothing); else unreachable!())
+}
+
+fn bad(alloc: Global, member: &str) -> Result<Act, NoMemory>
+    ensures act { IfOk result (λ act. act ≡ bad member.now) }
+    ensures fair { IfOk result IsFairAct }
+{
+    Ok(Act::Bad(Fault::BadParams(owned(alloc, member)?)))
+}
+
+fn open(alloc: Global, method: Method, params: &mut Value) -> Result<Act, NoMemory>
+    ensures act { IfOk result (λ act. act ≡ open_act (members method) (view params.old)) }
+    ensures fair { IfOk result IsFairAct }
+{
+    match method.first_bad(params) {
+        Some(member) => bad(alloc, member),
+        None => Ok(Act::NewView {
+            path: method.text_if_any(params, 0),
+        }),
+    }
+}
+
+fn close(alloc: Global, method: Method, params: &mut Value) -> Result<Act, NoMemory>
+    ensures act { IfOk result (λ act. act ≡ close_act (members method) (view params.old)) }
+    ensures fair { IfOk result IsFairAct }
+{
+    match method.first_bad(params) {
+        Some(member) => bad(alloc, member),
+        None => Ok(Act::CloseView {
+            view: method.text(alloc, params, 0),
+        }),
+    }
+}
+
+fn save(alloc: Global, method: Method, params: &mut Value) -> Result<Act, NoMemory>
+    ensures act { IfOk result (λ act. act ≡ save_act (members method) (view params.old)) }
+    ensures fair { IfOk result IsFairAct }
+{
+    match method.first_bad(params) {
+        Some(member) => bad(alloc, member),
+        None => {
+            let view = method.copied(alloc, params, 0)?;
+            Ok(Act::Save {
+                view,
+                path: method.text(alloc, params, 1),
+            })
+        }
+    }
+}
+
+fn configure(alloc: Global, method: Method, params: &Value) -> Result<Act, NoMemory>
+    ensures act { IfOk result (λ act. act ≡ configure_act (members method) (view params.now)) }
+    ensures fair { IfOk result IsFairAct }
+{
+    match method.first_bad(params) {
+        Some(member) => bad(alloc, member),
+        None => change_in(alloc, method.given(params, 0), method.given(params, 1)),
+    }
+}
+
+fn change_in(
+    alloc: Global,
+    domain: Option<&Value>,
+    changes: Option<&Value>,
+) -> Result<Act, NoMemory>
+    ensures act { IfOk result (λ act. act ≡ change_in (option_map (λ v. view v.now) domain.entry)
+        (option_map (λ v. view v.now) changes.entry)) }
+    ensures fair { IfOk result IsFairAct }
+{
+    if is_general(domain) {
+        configured(alloc, changes_of(changes))
     } else {
-        Act::Bad(Fault::NotBuilt)
+        Ok(Act::Configure(no_changes()))
     }
 }
 
-fn names_no_file(params: &Value) -> bool
-    ensures { result ≡ names_no_file (view params.now) }
+fn configured(alloc: Global, changes: Option<Changes>) -> Result<Act, NoMemory>
+    requires { IfSome changes AreFairChanges }
+    ensures act { IfOk result (λ act. act ≡ configured changes) }
+    ensures fair { IfOk result IsFairAct }
 {
-    match params {
-        Value::Null => true,
-        Value::Object(_) => is_absent(params.get("file_path")),
-        _ => false,
+    match changes {
+        Some(changes) => Ok(Act::Configure(changes)),
+        None => bad(alloc, "changes"),
     }
 }
 
-fn is_absent(member: Option<&Value>) -> bool
-    ensures { result ≡ is_absent (option_map (λ v. view v.now) member.entry) }
+#[tactic(auto, unfolding(crate::specs::Front::edit_act))]
+fn edit(alloc: Global, method: Method, params: &mut Value) -> Result<Act, NoMemory>
+    ensures act { IfOk result (λ act. act ≡ edit_act (members method) (view params.old)) }
+    ensures fair { IfOk result IsFairAct }
 {
-    matches!(member, None | Some(Value::Null))
+    let named = edit_method(alloc, name_in(method, params))?;
+    edit_with(alloc, method, named, params)
 }
 
-fn edit(alloc: Global, params: Value) -> Result<Act, NoMemory>
-    ensures act { IfOk result (λ act. act ≡ edit_act (view params)) }
-    ensures texts { IfOk result HasTexts }
+fn name_in(method: Method, params: &Value) -> Option<&str>
+    ensures { option_map (λ text. text.now) result
+        ≡ option_and_then as_str (given (members method) (view params.now) 1) }
 {
-    let view = view_of(alloc, &params)?;
-    let method = edit_method(text_in(&params, "method"));
-    let chars = chars_of(params);
-    Ok(edit_from(view, asked_of_view(method, chars)))
+    method.given(params, 1).and_then(Value::as_str)
 }
 
-fn edit_from(view: Option<Text>, act: Option<EditAct>) -> Act
-    requires view { IsTextIfAny view }
-    requires chars { IfSome act HasChars }
-    ensures act { result ≡ edit_from view act }
-    ensures texts { HasTexts result }
+fn edit_with(
+    alloc: Global,
+    method: Method,
+    named: EditMethod,
+    params: &mut Value,
+) -> Result<Act, NoMemory>
+    requires { IsMethod named }
+    ensures act { IfOk result (λ act. act ≡ edit_with (members method) named (view params.old)) }
+    ensures fair { IfOk result IsFairAct }
 {
-    match (view, act) {
-        (Some(view), Some(act)) => Act::Edit { view, act },
-        _ => Act::Bad(Fault::NotBuilt),
+    match named {
+        EditMethod::Unknown(name) => Ok(Act::Bad(Fault::NoMethod(name))),
+        named => known_edit(alloc, method, named, params),
     }
 }
 
-fn asked_of_view(method: EditMethod, chars: Option<Text>) -> Option<EditAct>
-    requires { IsTextIfAny chars }
-    ensures act { result ≡ asked_of_view (method) chars }
-    ensures chars { IfSome result HasChars }
+fn known_edit(
+    alloc: Global,
+    method: Method,
+    named: EditMethod,
+    params: &mut Value,
+) -> Result<Act, NoMemory>
+    requires { IsMethod named }
+    ensures act { IfOk result (λ act. act ≡ known_edit (members method) named (view params.old)) }
+    ensures fair { IfOk result IsFairAct }
 {
-    match method {
-        EditMethod::Inserts => insertion(chars),
-        EditMethod::BeginsLine => Some(EditAct::InsertNewline),
-        EditMethod::Other => None,
+    if let Some(member) = method.first_bad(params) {
+        return bad(alloc, member);
+    }
+    let id = method.copied(alloc, params, 0)?;
+    let inner = method.taken(params, 2).unwrap_or(Value::Null);
+    edit_by(alloc, named, id, inner)
+}
+
+fn edit_by(alloc: Global, named: EditMethod, id: Text, params: Value) -> Result<Act, NoMemory>
+    requires named { IsMethod named }
+    requires id { IsText id }
+    ensures act { IfOk result (λ act. act ≡ edit_by named id (view params)) }
+    ensures fair { IfOk result IsFairAct }
+{
+    match named {
+        EditMethod::Row(row) => row_edit(alloc, row, id, params),
+        EditMethod::Free => Ok(Act::Edit {
+            view: id,
+            act: EditAct::Nothing,
+        }),
+        EditMethod::Unknown(name) => Ok(Act::Bad(Fault::NoMethod(name))),
+        EditMethod::Unnamed => bad(alloc, "method"),
     }
 }
 
-fn insertion(chars: Option<Text>) -> Option<EditAct>
-    requires { IsTextIfAny chars }
-    ensures act { result ≡ option_map Insert chars }
-    ensures chars { IfSome result HasChars }
+fn row_edit(alloc: Global, row: usize, id: Text, params: Value) -> Result<Act, NoMemory>
+    requires row { row < 45 }
+    requires id { IsText id }
+    ensures act { IfOk result (λ act. act ≡ edit_of id (edit_in_row row (view params))) }
+    ensures fair { IfOk result IsFairAct }
 {
-    match chars {
-        Some(chars) => Some(EditAct::Insert { chars }),
-        None => None,
+    let mut params = params;
+    match edit_in_row(alloc, row, &mut params) {
+        Ok(act) => Ok(Act::Edit { view: id, act }),
+        Err(member) => bad(alloc, member),
     }
-}
-
-fn edit_method(name: Option<&str>) -> EditMethod
-    ensures { result ≡ edit_method (option_map (λ text. text.now) name.entry) }
-{
-    match name {
-        Some("insert") => EditMethod::Inserts,
-        Some("insert_newline") => EditMethod::BeginsLine,
-        _ => EditMethod::Other,
-    }
-}
-
-fn view_of(alloc: Global, params: &Value) -> Result<Option<Text>, NoMemory>
-    ensures view { IfOk result (λ id. id ≡ as_text (get (codes "view_id") (view params.now))) }
-    ensures text { IfOk result IsTextIfAny }
-{
-    match text_in(params, "view_id") {
-        Some(id) => Ok(Some(owned(alloc, id)?)),
-        None => Ok(None),
-    }
-}
-
-fn text_in<'a>(params: &'a Value, name: &str) -> Option<&'a str>
-    ensures { option_map (λ text. text.now) result ≡ option_and_then as_str (get name.now (view params.now)) }
-{
-    params.get(name).and_then(Value::as_str)
-}
-
-fn owned(alloc: Global, text: &str) -> Result<Text, NoMemory>
-    ensures text { IfOk result (λ owned. owned ≡ chars text.now) }
-    ensures scalars { IfOk result IsText }
-{
-    let owned = Text::from_str(alloc, text)?;
-    let _scalars = owned.as_str();
-    Ok(owned)
-}
-
-fn chars_of(params: Value) -> Option<Text>
-    ensures chars { result ≡ as_text (option_and_then (get (codes "chars")) (get (codes "params") (view params))) }
-    ensures text { IsTextIfAny result }
-{
-    match taken(params, "params") {
-        Some(inner) => text_of(taken(inner, "chars")),
-        None => None,
-    }
-}
-
-fn taken(value: Value, name: &str) -> Option<Value>
-    ensures { option_map view result ≡ get name.now (view value) }
-{
-    match value {
-        Value::Object(members) => member_taken(members, name),
-        _ => None,
-    }
-}
-
-fn member_taken(mut members: Map<String, Value>, name: &str) -> Option<Value>
-    ensures { option_map view result ≡ get_member name.now (members_view members.entries) }
-{
-    members.remove(name)
-}
-
-fn text_of(member: Option<Value>) -> Option<Text>
-    ensures text { result ≡ as_text (option_map view member) }
-    ensures scalars { IsTextIfAny result }
-{
-    match member {
-        Some(Value::String(text)) => Some(moved(text)),
-        _ => None,
-    }
-}
-
-fn moved(text: String) -> Text
-    ensures value { result ≡ chars (string_bytes text) }
-    ensures scalars { IsText result }
-{
-    let text = Text::from_string(text);
-    let _scalars = text.as_str();
-    text
 }

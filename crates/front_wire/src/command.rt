@@ -11,8 +11,8 @@ use plain_text::NoMemory;
 use std::alloc::Global;
 use xi_plain::{Act, Command, Fault, Id};
 
-/// What a line of the front end asks, with or without its LF. A line that asks for nothing that is done is `Act::Bad` with its
-/// fault, and keeps its id where it has one. The cost is linear in the line.
+/// What a line of the front end asks, with or without its LF. A line that is refused by itself is `Act::Bad` with its fault, and keeps
+/// its id where it is a request. The cost is linear in the line; the characters of an insertion are moved.
 #[tactic(auto, unfolding(crate::specs::Front::command_of))]
 pub fn command_of(alloc: Global, line: &[u8]) -> Result<Command, NoMemory>
     ensures command { IfOk result (λ command. command ≡ command_of line.now) }

@@ -6,7 +6,7 @@ use plain_text::{NoMemory, Text};
 use std::alloc::Global;
 use xi_plain::Fault;
 
-/// The number of a fault: as JSON-RPC 2.0 has it, and as this core counts its own from 1 on.
+/// The number of a fault, as JSON-RPC 2.0 has it.
 pub fn code_of(fault: &Fault) -> i64
     ensures { result ≡ code_of fault.now }
 {
@@ -15,7 +15,6 @@ pub fn code_of(fault: &Fault) -> i64
         Fault::Invalid => -32600,
         Fault::NoMethod(_) => -32601,
         Fault::BadParams(_) => -32602,
-        Fault::NotBuilt => 9,
     }
 }
 
@@ -28,7 +27,6 @@ pub fn message_of(alloc: Global, fault: &Fault) -> Result<Text, NoMemory>
         Fault::Invalid => Text::from_ascii(alloc, "invalid request"),
         Fault::NoMethod(name) => joined(alloc, "method not found: ", name),
         Fault::BadParams(member) => joined(alloc, "invalid params: ", member),
-        Fault::NotBuilt => Text::from_ascii(alloc, "not built"),
     }
 }
 

@@ -1,5 +1,6 @@
 //! Tables of names, and the dispatch by them.
 
+use case_front::{Kind, Member, edit_cases, edit_member, front_cases, front_member};
 use case_table::{BadCase, Cases, arms};
 
 #[derive(Clone, Copy, Debug, PartialEq, Eq)]
@@ -50,4 +51,19 @@ fn dispatch_goes_by_the_row(rt: HostRuntime) {
     ] {
         assert_eq!(rt; command_of(name), wanted, "at {name}");
     }
+}
+
+#[test]
+fn methods_and_members_are_found_by_the_table(rt: HostRuntime) {
+    let undo = edit_cases().find("undo");
+    assert_eq!(rt; undo, Some(44));
+    assert_eq!(rt; edit_cases().find("no_such"), None);
+    assert_eq!(rt; front_cases().find("edit"), Some(2));
+    let params = Member {
+        name: "params",
+        kind: Kind::Any,
+        optional: true,
+    };
+    assert_eq!(rt; front_member(2, 2), Some(params));
+    assert_eq!(rt; edit_member(44, 0), None);
 }

@@ -32,8 +32,9 @@ closes act = false
 abbrev pub is_closing : Entry → Bool
 is_closing entry = closes entry.command.act
 
--- whether the shelf may have answered the opening of a file so
+-- whether the shelf may have answered the opening of a file so; it is not asked where files are not opened yet
 abbrev pub may_open : ShelfNote → Bool
+may_open NoCall = true
 may_open (Held bytes) = true
 may_open Absent = true
 may_open Failed = true

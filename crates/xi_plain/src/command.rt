@@ -29,8 +29,6 @@ pub enum Fault {
     NoMethod(Text),
     /// This member of the parameters is missing or has another shape.
     BadParams(Text),
-    /// The program does not do this yet.
-    NotBuilt,
 }
 
 /// What a line of `edit` asks of a view.
@@ -205,7 +203,6 @@ impl TryClone for Fault {
             Fault::Invalid => Ok(Fault::Invalid),
             Fault::NoMethod(name) => Ok(Fault::NoMethod(name.copy(alloc)?)),
             Fault::BadParams(member) => Ok(Fault::BadParams(member.copy(alloc)?)),
-            Fault::NotBuilt => Ok(Fault::NotBuilt),
         }
     }
 }

@@ -1,0 +1,5 @@
+-- Laws about the commands of lines.
+pub mod RowLemmas
+pub mod BadLemmas
+pub mod CloseLemmas
+pub mod ForCallers
