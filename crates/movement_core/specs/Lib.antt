@@ -1,0 +1,6 @@
+pub mod Places
+pub mod Lines
+pub mod Words
+pub mod Motions
+pub mod Laws
+pub mod Rows
