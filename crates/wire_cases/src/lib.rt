@@ -11,4 +11,6 @@ mod names;
 #[cfg(test)]
 mod notes;
 #[cfg(test)]
+mod plugins;
+#[cfg(test)]
 mod words;

@@ -1,0 +1,388 @@
+//! Lines of plugins: what they ask, why they are refused, and what plugins are told.
+
+use json_rpc::message_of;
+use plain_text::{List, NoMemory, Text};
+use plugin_wire::{ask_of, buffer_line, close_line, notice_line, start_line, stop_line};
+use std::alloc::Global;
+use std::test::Fail;
+use xi_plain::{Act, Command, Delta, El, Fault, Id, Notice, Style, WireSpan};
+
+// Each method with every member.
+const EDIT: &str =
+    r#"{"id":1,"method":"edit","params":{"after_cursor":true,"author":"a","delta":{"base_len":9,"els":[{"insert":"\"\u0001"},{"copy":[3,3]},{"insert":""},{"copy":[3,9]},{"insert":"aé\u2028😀"}]},"priority":4294967295,"rev":5,"undo_group":4,"view_id":"v"}}"#;
+
+const GET_DATA: &str =
+    r#"{"id":"b","method":"get_data","params":{"max_size":0,"rev":9223372036854775807,"start":3,"view_id":"v"}}"#;
+
+const UPDATE_SPANS: &str =
+    r#"{"method":"update_spans","params":{"len":5,"rev":2,"spans":[{"end":5,"start":5,"style":{"bg_color":4294967295,"fg_color":0,"italic":true,"underline":false,"weight":1000}},{"end":4,"start":1,"style":{"bg_color":null,"italic":null}}],"start":7,"view_id":"v"}}"#;
+
+const LINE_COUNT: &str = r#"{"method":"line_count","params":{"view_id":"v"}}"#;
+
+const ALERT: &str = r#"{"method":"alert","params":{"msg":"m"}}"#;
+
+const ACK: &str = r#"{"method":"ack","params":{"rev":1,"view_id":"v"}}"#;
+
+// Nothing in each list, and each number the least or the greatest.
+const EMPTY_EDIT: &str =
+    r#"{"id":-9223372036854775808,"method":"edit","params":{"after_cursor":false,"author":"","delta":{"base_len":0,"els":[]},"priority":0,"rev":0,"undo_group":0,"view_id":""}}"#;
+
+const NO_SPANS: &str =
+    r#"{"id":18446744073709551615,"method":"update_spans","params":{"len":0,"rev":0,"spans":[],"start":0,"view_id":"v"}}"#;
+
+fn text(alloc: Global, characters: &str) -> Result<Text, NoMemory> {
+    Text::from_str(alloc, characters)
+}
+
+/// The delta of [`EDIT`], with these texts before, between and after its copies.
+fn delta(alloc: Global, texts: [&str; 3]) -> Result<Delta, NoMemory> {
+    let [first, second, third] = texts;
+    let mut els = List::new(alloc);
+    els.push(El::Insert {
+        text: text(alloc, first)?,
+    })?;
+    els.push(El::Copy { a: 3, b: 3 })?;
+    els.push(El::Insert {
+        text: text(alloc, second)?,
+    })?;
+    els.push(El::Copy { a: 3, b: 9 })?;
+    els.push(El::Insert {
+        text: text(alloc, third)?,
+    })?;
+    Ok(Delta { els, base_len: 9 })
+}
+
+fn edit(alloc: Global, named: Option<u64>) -> Result<Act, NoMemory> {
+    Ok(Act::PluginEdit {
+        view: text(alloc, "v")?,
+        rev: 5,
+        delta: delta(alloc, ["\"\u{1}", "", "a\u{e9}\u{2028}\u{1f600}"])?,
+        priority: 4294967295,
+        after_cursor: true,
+        author: text(alloc, "a")?,
+        named,
+    })
+}
+
+fn update_spans(alloc: Global) -> Result<Act, NoMemory> {
+    let mut spans = List::new(alloc);
+    spans.push(WireSpan {
+        start: 5,
+        end: 5,
+        style: Style {
+            fg_color: Some(0),
+            bg_color: Some(4294967295),
+            weight: Some(1000),
+            italic: Some(true),
+            underline: Some(false),
+        },
+    })?;
+    spans.push(WireSpan {
+        start: 1,
+        end: 4,
+        style: Style {
+            fg_color: None,
+            bg_color: None,
+            weight: None,
+            italic: None,
+            underline: None,
+        },
+    })?;
+    Ok(Act::UpdateSpans {
+        view: text(alloc, "v")?,
+        rev: 2,
+        start: 7,
+        len: 5,
+        spans,
+    })
+}
+
+fn get_data(alloc: Global) -> Result<Act, NoMemory> {
+    Ok(Act::GetData {
+        view: text(alloc, "v")?,
+        rev: 9223372036854775807,
+        start: 3,
+        max: 0,
+    })
+}
+
+fn line_count(alloc: Global) -> Result<Act, NoMemory> {
+    Ok(Act::LineCount {
+        view: text(alloc, "v")?,
+    })
+}
+
+fn alert(alloc: Global) -> Result<Act, NoMemory> {
+    Ok(Act::Alert {
+        msg: text(alloc, "m")?,
+    })
+}
+
+fn ack(alloc: Global) -> Result<Act, NoMemory> {
+    Ok(Act::Ack {
+        view: text(alloc, "v")?,
+        rev: 1,
+    })
+}
+
+/// The line with a part of it changed.
+fn changed(alloc: Global, line: &str, part: &str, new: &str) -> Result<String, NoMemory> {
+    let (before, after) = line.split_once(part).unwrap_or((line, part));
+    Ok(format!(in alloc; "{before}{new}{after}")?)
+}
+
+/// Whether the line asks this.
+fn asks(alloc: Global, line: &str, id: &Id, act: Act) -> Result<bool, NoMemory> {
+    let command = ask_of(alloc, line.as_bytes())?;
+    Ok(command.id == *id && command.act == act)
+}
+
+#[test]
+fn lines_of_plugins_ask(rt: HostRuntime) -> Result<(), Fail> {
+    let alloc = rt.alloc();
+    let word = Id::Word(text(alloc, "b")?);
+    assert!(rt; asks(alloc, EDIT, &Id::Num(1), edit(alloc, Some(4))?)?);
+    assert!(rt; asks(alloc, GET_DATA, &word, get_data(alloc)?)?);
+    for (line, act) in [
+        (UPDATE_SPANS, update_spans(alloc)),
+        (LINE_COUNT, line_count(alloc)),
+        (ALERT, alert(alloc)),
+        (ACK, ack(alloc)),
+    ] {
+        assert!(rt; asks(alloc, line, &Id::NoId, act?)?, "{line}");
+    }
+    for group in ["", "\"undo_group\":null,", "\"more\":[],"] {
+        let line = changed(alloc, EDIT, "\"undo_group\":4,", group)?;
+        assert!(rt;
+            asks(alloc, line.as_str(), &Id::Num(1), edit(alloc, None)?)?,
+            "{group}"
+        );
+    }
+    let more = changed(alloc, EDIT, "[3,3]", "[3,3],\"to\":null")?;
+    assert!(rt; asks(alloc, more.as_str(), &Id::Num(1), edit(alloc, Some(4))?)?);
+    Ok(())
+}
+
+#[test]
+fn what_is_empty_is_asked(rt: HostRuntime) -> Result<(), Fail> {
+    let alloc = rt.alloc();
+    let nothing = Act::PluginEdit {
+        view: Text::new(alloc),
+        rev: 0,
+        delta: Delta {
+            els: List::new(alloc),
+            base_len: 0,
+        },
+        priority: 0,
+        after_cursor: false,
+        author: Text::new(alloc),
+        named: Some(0),
+    };
+    assert!(rt; asks(alloc, EMPTY_EDIT, &Id::Num(-9223372036854775808), nothing)?);
+    let no_spans = Act::UpdateSpans {
+        view: text(alloc, "v")?,
+        rev: 0,
+        start: 0,
+        len: 0,
+        spans: List::new(alloc),
+    };
+    assert!(rt; asks(alloc, NO_SPANS, &Id::Num(18446744073709551615), no_spans)?);
+    Ok(())
+}
+
+/// Why a line is refused; nothing where it is not.
+fn refusal(alloc: Global, line: &str) -> Result<Text, NoMemory> {
+    let Command { id: _, act } = ask_of(alloc, line.as_bytes())?;
+    match act {
+        Act::Bad(fault) => message_of(alloc, &fault),
+        _ => Ok(Text::new(alloc)),
+    }
+}
+
+#[test]
+fn the_first_wrong_member_is_named(rt: HostRuntime) -> Result<(), Fail> {
+    let alloc = rt.alloc();
+    for (line, part, new, member) in [
+        (EDIT, "view_id", "view", "view_id"),
+        (EDIT, "\"v\"", "7", "view_id"),
+        (EDIT, "\"rev\"", "\"r\"", "rev"),
+        (EDIT, "\"rev\":5", "\"rev\":-1", "rev"),
+        (EDIT, "\"rev\":5", "\"rev\":9223372036854775808", "rev"),
+        (EDIT, "\"rev\":5", "\"rev\":null", "rev"),
+        (EDIT, "delta", "d", "delta"),
+        (EDIT, "base_len", "base", "delta"),
+        (EDIT, "\"els\":[", "\"els\":null,\"e\":[", "delta"),
+        (EDIT, "base_len\":9", "base_len\":-9", "delta"),
+        (EDIT, "[3,3]", "[3]", "delta"),
+        (EDIT, "[3,3]", "[3,3,3]", "delta"),
+        (EDIT, "[3,3]", "[3,3.0]", "delta"),
+        (EDIT, "[3,3]", "[3,3],\"insert\":null", "delta"),
+        (EDIT, "{\"copy\":[3,3]}", "{}", "delta"),
+        (
+            EDIT,
+            "{\"copy\":[3,3]}",
+            "{\"copy\":null,\"insert\":\"\"}",
+            "delta",
+        ),
+        (EDIT, "{\"insert\":\"\"}", "{\"insert\":7}", "delta"),
+        (EDIT, "priority", "p", "priority"),
+        (EDIT, "4294967295", "4294967296", "priority"),
+        (EDIT, "4294967295", "1.5", "priority"),
+        (EDIT, "after_cursor", "after", "after_cursor"),
+        (EDIT, "true", "0", "after_cursor"),
+        (EDIT, "true", "null", "after_cursor"),
+        (EDIT, "author", "by", "author"),
+        (EDIT, "\"a\"", "null", "author"),
+        (EDIT, "\"undo_group\":4", "\"undo_group\":-4", "undo_group"),
+        (
+            EDIT,
+            "\"priority\":4294967295,\"rev\":5",
+            "\"priority\":-1,\"rev\":-1",
+            "rev",
+        ),
+        (GET_DATA, "view_id", "view", "view_id"),
+        (GET_DATA, "\"v\"", "null", "view_id"),
+        (GET_DATA, "rev", "r", "rev"),
+        (
+            GET_DATA,
+            "9223372036854775807",
+            "9223372036854775808",
+            "rev",
+        ),
+        (GET_DATA, "start", "s", "start"),
+        (GET_DATA, "max_size", "m", "max_size"),
+        (GET_DATA, "\"max_size\":0", "\"max_size\":0e0", "max_size"),
+        (
+            GET_DATA,
+            "\"start\":3",
+            "\"start\":\"3\",\"max_size\":-1",
+            "start",
+        ),
+        (UPDATE_SPANS, "view_id", "view", "view_id"),
+        (UPDATE_SPANS, "\"v\"", "[]", "view_id"),
+        (UPDATE_SPANS, "rev", "r", "rev"),
+        (UPDATE_SPANS, "\"rev\":2", "\"rev\":true", "rev"),
+        (UPDATE_SPANS, "\"start\":7,", "", "start"),
+        (UPDATE_SPANS, "\"start\":7", "\"start\":7.0", "start"),
+        (UPDATE_SPANS, "\"len\":5,", "", "len"),
+        (UPDATE_SPANS, "\"len\":5", "\"len\":\"5\"", "len"),
+        (UPDATE_SPANS, "\"len\":5", "\"len\":4", "spans"),
+        (UPDATE_SPANS, "\"spans\"", "\"s\"", "spans"),
+        (UPDATE_SPANS, "\"spans\":", "\"spans\":{},\"s\":", "spans"),
+        (UPDATE_SPANS, "style", "s", "spans"),
+        (
+            UPDATE_SPANS,
+            "\"end\":4,\"start\":1",
+            "\"end\":1,\"start\":4",
+            "spans",
+        ),
+        (UPDATE_SPANS, "1000", "1001", "spans"),
+        (UPDATE_SPANS, "4294967295", "4294967296", "spans"),
+        (UPDATE_SPANS, "false", "0", "spans"),
+        (
+            UPDATE_SPANS,
+            "{\"bg_color\":null,\"italic\":null}",
+            "null",
+            "spans",
+        ),
+        (LINE_COUNT, "view_id", "view", "view_id"),
+        (LINE_COUNT, "{\"view_id\":\"v\"}", "[\"v\"]", "view_id"),
+        (ALERT, "msg", "m", "msg"),
+        (ALERT, "\"m\"", "[]", "msg"),
+        (ALERT, ",\"params\":{\"msg\":\"m\"}", "", "msg"),
+        (ACK, "view_id", "view", "view_id"),
+        (ACK, "\"v\"", "{}", "view_id"),
+        (ACK, "\"rev\":1,", "", "rev"),
+        (ACK, "\"rev\":1", "\"rev\":-0", "rev"),
+    ] {
+        let line = changed(alloc, line, part, new)?;
+        let wanted = message_of(alloc, &Fault::BadParams(text(alloc, member)?))?;
+        assert!(rt; refusal(alloc, line.as_str())? == wanted, "{line}");
+    }
+    Ok(())
+}
+
+#[test]
+fn other_lines_of_plugins_are_refused(rt: HostRuntime) -> Result<(), Fail> {
+    let alloc = rt.alloc();
+    for (line, message) in [
+        ("{nope", "parse error"),
+        ("[]", "invalid request"),
+        (
+            r#"{"method":"insert","params":{}}"#,
+            "method not found: insert",
+        ),
+        (r#"{"method":"new_view"}"#, "method not found: new_view"),
+        (r#"{"method":""}"#, "method not found: "),
+        (r#"{"method":"edi"}"#, "method not found: edi"),
+        (
+            r#"{"method":"edit","params":{}}"#,
+            "invalid params: view_id",
+        ),
+    ] {
+        assert_eq!(rt; refusal(alloc, line)?.as_str(), message);
+    }
+    Ok(())
+}
+
+/// The line that tells of a revision with these texts before, between and after its copies.
+fn told(alloc: Global, texts: [&str; 3]) -> Result<Text, NoMemory> {
+    let notice = Notice {
+        view: text(alloc, "v")?,
+        author: 4294967295,
+        rev: 18446744073709551615,
+        new_len: 7,
+        delta: delta(alloc, texts)?,
+    };
+    notice_line(alloc, &notice)
+}
+
+#[test]
+fn plugins_are_told_in_exact_bytes(rt: HostRuntime) -> Result<(), Fail> {
+    let alloc = rt.alloc();
+    let view = text(alloc, "view-id-1")?;
+    for (line, expected) in [
+        (
+            start_line(alloc, 1),
+            "{\"method\":\"initialize\",\"params\":{\"plugin_id\":1}}\n",
+        ),
+        (
+            buffer_line(alloc, &view, 0),
+            "{\"method\":\"new_buffer\",\"params\":{\"len\":0,\"rev\":0,\"view_id\":\"view-id-1\"}}\n",
+        ),
+        (
+            close_line(alloc, &view),
+            "{\"method\":\"did_close\",\"params\":{\"view_id\":\"view-id-1\"}}\n",
+        ),
+        (
+            stop_line(alloc),
+            "{\"method\":\"shutdown\",\"params\":{}}\n",
+        ),
+        (
+            told(alloc, ["\"\n", "\u{e9}\u{2028}", "\u{1f600}"]),
+            "{\"method\":\"update\",\"params\":{\"author\":4294967295,\"delta\":{\"base_len\":9,\"els\":[{\"insert\":\"\\\"\\n\"},{\"copy\":[3,3]},{\"insert\":\"\u{e9}\u{2028}\"},{\"copy\":[3,9]},{\"insert\":\"\u{1f600}\"}]},\"new_len\":7,\"rev\":18446744073709551615,\"view_id\":\"v\"}}\n",
+        ),
+    ] {
+        assert!(rt; line.is_ok_and(|text| text.as_str() == expected));
+    }
+    Ok(())
+}
+
+/// The delta that a notice tells, asked for in the place of that of [`EDIT`].
+fn echoed(alloc: Global, notice: &str) -> Result<String, NoMemory> {
+    let (_, later) = notice.split_once("\"delta\":").unwrap_or(("", ""));
+    let (delta, _) = later.split_once(",\"new_len\"").unwrap_or(("", ""));
+    let (before, rest) = EDIT.split_once("{\"base_len\":9").unwrap_or(("", ""));
+    let (_, after) = rest.split_once(",\"priority\"").unwrap_or(("", ""));
+    Ok(format!(in alloc; "{before}{delta},\"priority\"{after}")?)
+}
+
+#[test]
+fn a_delta_that_is_told_is_asked_as_the_same(rt: HostRuntime) -> Result<(), Fail> {
+    let alloc = rt.alloc();
+    let texts = ["\"\u{1}", "", "a\u{e9}\u{2028}\u{1f600}"];
+    let notice = told(alloc, texts)?;
+    let line = echoed(alloc, notice.as_str())?;
+    assert!(rt; asks(alloc, line.as_str(), &Id::Num(1), edit(alloc, Some(4))?)?);
+    Ok(())
+}
