@@ -1,0 +1,6 @@
+pub mod Breaks
+pub mod Test
+pub mod Pieces
+pub mod Laws
+pub mod Rows
+pub mod Inner
