@@ -5,3 +5,5 @@
 mod clusters;
 #[cfg(test)]
 mod pieces;
+#[cfg(test)]
+mod wrapping;
