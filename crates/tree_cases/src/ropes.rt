@@ -140,6 +140,57 @@ fn edited(alloc: Global, rope: &Rope, delta: &Delta) -> Result<Option<(Rope, Tex
     }
 }
 
+// A delta that keeps the letters of `abcdef` that stand in `kept`, one copy each, and adds a text before the copy of this index.
+fn delta_of(alloc: Global, kept: &str, before: u64, added: &str) -> Result<Delta, NoMemory> {
+    let mut els = Els::new(alloc);
+    for (i, c) in (0u64..).zip("abcdef".chars()) {
+        if i == before {
+            els.push(insert(alloc, added)?)?;
+        }
+        if kept.contains(c) {
+            els.push(El::Copy {
+                a: i,
+                b: i.wrapping_add(1),
+            })?;
+        }
+    }
+    Ok(Delta { els, base_len: 6 })
+}
+
+fn insert(alloc: Global, text: &str) -> Result<El, NoMemory> {
+    Ok(El::Insert {
+        text: Text::from_str(alloc, text)?,
+    })
+}
+
+// Whether the delta makes this of `abcdef`, in a rope and in a plain text.
+fn makes(
+    alloc: Global,
+    kept: &str,
+    before: u64,
+    added: &str,
+    left: &str,
+) -> Result<bool, NoMemory> {
+    let rope = Rope::of_text(alloc, &Text::from_str(alloc, "abcdef")?)?;
+    let delta = delta_of(alloc, kept, before, added)?;
+    let Some((made, plain)) = edited(alloc, &rope, &delta)? else {
+        return Ok(false);
+    };
+    Ok(plain.as_str() == left && whole(alloc, &made)?.as_str() == left)
+}
+
+#[test]
+fn edits_keep_drop_and_add(rt: HostRuntime) -> Result<(), Fail> {
+    let alloc = rt.alloc();
+    assert!(rt; makes(alloc, "acdef", 1, "X", "aXcdef")?);
+    assert!(rt; makes(alloc, "", 9, "", "")?);
+    assert!(rt; makes(alloc, "abcdef", 9, "", "abcdef")?);
+    assert!(rt; makes(alloc, "ace", 9, "", "ace")?);
+    assert!(rt; makes(alloc, "abcdef", 2, "é", "abécdef")?);
+    assert!(rt; makes(alloc, "", 0, "𝄞", "𝄞")?);
+    Ok(())
+}
+
 // A delta over a text that keeps most characters, one copy each, and adds some texts.
 fn drawn_delta(alloc: Global, words: &mut Lcg64Xsh32, text: &Text) -> Result<Delta, NoMemory> {
     let mut els = Els::new(alloc);
