@@ -6,4 +6,6 @@ mod clusters;
 #[cfg(test)]
 mod pieces;
 #[cfg(test)]
+mod views;
+#[cfg(test)]
 mod wrapping;
