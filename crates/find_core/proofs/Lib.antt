@@ -1,0 +1,4 @@
+mod MatchLemmas
+mod ByteLemmas
+mod FoldLemmas
+pub mod ForCallers

@@ -1,0 +1,3 @@
+pub mod Matches
+pub mod Laws
+pub mod Rows
