@@ -1,0 +1,6 @@
+pub mod Replacements
+pub mod Points
+pub mod Regions
+pub mod Commands
+pub mod Laws
+pub mod Rows
