@@ -1,7 +1,8 @@
-pub mod TailLemmas
-pub mod ColumnLemmas
-pub mod EndLemmas
-pub mod ClusterLemmas
-pub mod TestLemmas
-pub mod PieceLemmas
-pub mod LookLemmas
+mod TailLemmas
+mod ColumnLemmas
+mod EndLemmas
+mod ClusterLemmas
+mod TestLemmas
+mod PieceLemmas
+mod LookLemmas
+pub mod ForCallers

@@ -92,8 +92,11 @@ impl<'a> Line<'a> {
         requires tail { IsTail (chars cluster.cluster.now) tail }
         requires reached { 0 < tail.shown → look.column ≤ self.now.width }
         requires tab { walk_tab rest.now ≡ self.now.tab }
-        ensures { (start : ℕ) → Looked self.now.width self.now.tab (chars self.now.text.now) start look.entry (placed_view cluster.entry ∷ walk_left rest.now)
-            → Looked self.now.width self.now.tab (chars self.now.text.now) start result (walk_left rest.now) }
+        ensures { (start : ℕ) →
+            Looked self.now.width self.now.tab (chars self.now.text.now) start look.entry
+            (placed_view cluster.entry ∷ walk_left rest.now) →
+            Looked self.now.width self.now.tab (chars self.now.text.now) start result
+            (walk_left rest.now) }
     {
         let width = self.width as u128;
         let columns = shown_columns(look.column, look.solid, cluster, tail);
