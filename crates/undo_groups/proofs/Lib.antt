@@ -1,1 +1,4 @@
-pub mod LiveLemmas
+pub mod SetLemmas
+pub mod StackLemmas
+pub mod LawLemmas
+pub mod SearchLemmas

@@ -1,6 +1,7 @@
 -- The undo groups of a document: what a new group, an undo, a redo and a forgotten group make of them.
-use Rattle.std.specs.Prelude.{ℕ, ◌+◌, ◌-◌, ◌≤◌, ◌==◌, if◌then◌else◌, Bool, ◌||◌, List, [], ◌∷◌, ◌++◌, length, take, drop, slice_index}
+use Rattle.std.specs.Prelude.{◌≡◌, ℕ, ◌+◌, ◌-◌, ◌^◌, ◌<◌, ◌≤◌, ◌==◌, if◌then◌else◌, Bool, true, false, ◌||◌, Some, None, List, [], ◌∷◌, ◌++◌, length, take, drop, slice_index}
 use Rattle.std.specs.List.{fold}
+use Rattle.std.specs.declared.option.Option.{Option}
 use Rattle.plain_text.specs.Numbers.{has, with_number, without_number, IsRising}
 
 -- the undo groups, as the stack of them stands
@@ -41,6 +42,10 @@ after_opening s = record {
   given = s.given + 1;
 }
 
+-- the group that an undo takes, if there is one
+abbrev pub next_undo : Groups → Option ℕ
+next_undo s = if s.index == 0 then None else Some (slice_index s.live (s.index - 1))
+
 -- after an undo, which does nothing where no live group is left to undo
 abbrev pub undone_one : Groups → Groups
 undone_one s = if s.index == 0 then s else record {
@@ -50,6 +55,10 @@ undone_one s = if s.index == 0 then s else record {
   undone = with_number s.undone (slice_index s.live (s.index - 1));
   given = s.given;
 }
+
+-- the group that a redo takes, if there is one
+abbrev pub next_redo : Groups → Option ℕ
+next_redo s = if s.index == length s.live then None else Some (slice_index s.live s.index)
 
 -- after a redo, which does nothing where no live group is undone
 abbrev pub redone_one : Groups → Groups
@@ -75,8 +84,33 @@ forgotten s group = record {
 abbrev pub is_known : Groups → ℕ → Bool
 is_known s group = has s.live group || has s.retired group
 
--- what is true of the groups of every stack
-pub record IsStack (live : List ℕ) (index : ℕ) (retired : List ℕ) : Type 0 where
-  pub few : length live ≤ 20
-  pub reached : index ≤ length live
-  pub rising : IsRising retired
+-- each of these groups was given out
+abbrev pub AreGiven : ℕ → List ℕ → Type 0
+AreGiven given groups = (group : ℕ) → has groups group ≡ true → (1 ≤ group) × (group ≤ given)
+
+-- what holds of the groups of every stack
+pub record IsStack (s : Groups) : Type 0 where
+  pub few : length s.live ≤ 20
+  pub small : s.given < 2 ^ 63
+  pub reached : s.index ≤ length s.live
+  pub live_rise : IsRising s.live
+  pub retired_rise : IsRising s.retired
+  pub undone_rise : IsRising s.undone
+  -- the live groups before the index are not undone, and those from it on are
+  pub done : (group : ℕ) → has (take s.index s.live) group ≡ true → has s.undone group ≡ false
+  pub taken_back : (group : ℕ) → has (drop s.index s.live) group ≡ true → has s.undone group ≡ true
+  -- no live group is retired
+  pub reachable : (group : ℕ) → has s.live group ≡ true → has s.retired group ≡ false
+  pub live_given : AreGiven s.given s.live
+  pub retired_given : AreGiven s.given s.retired
+  pub undone_given : AreGiven s.given s.undone
+
+-- these five together
+abbrev pub groups_of : List ℕ → ℕ → List ℕ → List ℕ → ℕ → Groups
+groups_of live index retired undone given = record {
+  live = live;
+  index = index;
+  retired = retired;
+  undone = undone;
+  given = given;
+}

@@ -5,7 +5,9 @@
 //! order; and `given`, how many groups were given out. Groups count from 1, and at most twenty are live.
 #![tactic(auto)]
 
-mod rising;
+mod laws;
+mod numbers;
 mod stack;
 
+pub use laws::{opening_ends_redo, redo_takes_undo_back, undo_takes_redo_back};
 pub use stack::Stack;
