@@ -28,7 +28,7 @@ applied_from_same kept kept' added added' index (c ∷ text) keeps adds =
     (ap₂ (λ b back. (if b then c ∷ [] else []) ++ back) (keeps index (omega arith))
     (applied_from_same kept kept' added added' (index + 1) text (λ i below. keeps i (omega arith)) adds))
 
-pub text_with-edit : (text : List ℕ) (replacements : List Replacement) (units : UnitDelta) → IsEditOf text replacements units →
+pub text_with-edit : (text : List ℕ) (replacements : List Replacement) (units : UnitDelta) → IsEditOf (length text) replacements units →
     applied (unit_keeps units) (unit_adds units) text ≡ text_with replacements text
 text_with-edit text replacements units is =
     applied_from_same (unit_keeps units) (kept_by replacements) (unit_adds units) (added_by replacements) 0 text (λ i below. is.kept i (omega arith)) is.added
@@ -42,7 +42,7 @@ whole-applied_from kept added index (c ∷ text) keeps adds =
     rw (adds index, keeps index) (ap (λ rest. c ∷ rest) (whole-applied_from kept added (index + 1) text keeps adds))
 
 -- an empty range has no character
-outside-empty : (start end index : ℕ) → end ≤ start → (nat_le start index && nat_lt index end) ≡ false
+pub outside-empty : (start end index : ℕ) → end ≤ start → (nat_le start index && nat_lt index end) ≡ false
 outside-empty start end index none =
     ⊎_elim
     (λ (left : index < start). rw (lt-leb start index left) refl)
@@ -55,7 +55,7 @@ kept_by-empty [] index all = refl
 kept_by-empty (r ∷ replacements) index all =
     rw (outside-empty r.range.start r.range.end index all.0.0) (kept_by-empty replacements index all.1)
 
-no_text : (b : Bool) (text : List ℕ) → text ≡ [] → (if b then text else []) ≡ []
+pub no_text : (b : Bool) (text : List ℕ) → text ≡ [] → (if b then text else []) ≡ []
 no_text true text none = none
 no_text false text none = refl
 

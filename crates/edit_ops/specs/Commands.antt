@@ -79,7 +79,7 @@ IsDoneOnText act = ⊤
 
 -- an edit and regions are those of an effect: the regions are sorted, no two meet, and they lie in the text after
 pub record IsEffect (text : List ℕ) (effect : Effect) (units : UnitDelta) (after : List Region) : Type 0 where
-  pub edit : IsEditOf text effect.replacements units
+  pub edit : IsEditOf (length text) effect.replacements units
   pub regions : after ≡ effect.regions
   pub sound : IsSelection after
   pub inside : AreWithin (length (text_with effect.replacements text)) after

@@ -27,5 +27,5 @@ EmptyReplacementsLeaveTheText = (text : List ℕ) (replacements : List Replaceme
 
 -- the edit of replacements gives their text
 abbrev pub EditsGiveTheText : Type 0
-EditsGiveTheText = (text : List ℕ) (replacements : List Replacement) (units : UnitDelta) → IsEditOf text replacements units →
+EditsGiveTheText = (text : List ℕ) (replacements : List Replacement) (units : UnitDelta) → IsEditOf (length text) replacements units →
     applied (unit_keeps units) (unit_adds units) text ≡ text_with replacements text

@@ -3,4 +3,5 @@ pub mod Points
 pub mod Regions
 pub mod Commands
 pub mod Laws
+pub mod Inner
 pub mod Rows

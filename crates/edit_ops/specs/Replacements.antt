@@ -1,5 +1,5 @@
 -- All that edits: for each region a range and a text.
-use Rattle.std.specs.Prelude.{◌≡◌, ℕ, ◌<◌, min, max, Bool, false, not, ◌==◌, if◌then◌else◌, List, [], length, map}
+use Rattle.std.specs.Prelude.{◌≡◌, ℕ, ◌+◌, ◌<◌, ◌≤◌, ◌⊎◌, min, max, Bool, false, not, ◌==◌, if◌then◌else◌, List, [], ◌∷◌, map}
 use Rattle.std.specs.List.{flat_map}
 use Rattle.plain_text.specs.declared.selection.Region.{Region}
 use Rattle.plain_edits.specs.declared.delta.UnitDelta.{UnitDelta}
@@ -29,11 +29,11 @@ gap_with replacements gap = mapped_gap (kept_by replacements) (added_by replacem
 abbrev pub carets_with : List Replacement → List Region
 carets_with replacements = selection_of (map (λ r. caret_of (gap_with replacements r.range.start)) replacements)
 
--- THE EDIT OF REPLACEMENTS, in characters: the only one of their meaning over a text
-pub record IsEditOf (text : List ℕ) (replacements : List Replacement) (units : UnitDelta) : Type 0 where
+-- THE EDIT OF REPLACEMENTS, in characters: the only one of their meaning over a base of this length
+pub record IsEditOf (base : ℕ) (replacements : List Replacement) (units : UnitDelta) : Type 0 where
   pub canonical : IsCanonical units
-  pub base : units.base ≡ length text
-  pub kept : (index : ℕ) → index < length text → unit_keeps units index ≡ kept_by replacements index
+  pub of : units.base ≡ base
+  pub kept : (index : ℕ) → index < base → unit_keeps units index ≡ kept_by replacements index
   pub added : (gap : ℕ) → unit_adds units gap ≡ added_by replacements gap
 
 -- a region is replaced by a text
@@ -45,3 +45,11 @@ abbrev pub deleted_to : ℕ → Region → Replacement
 deleted_to gap region =
     if is_caret region then record { range = record { start = min region.caret gap; end = max region.caret gap }; text = [] }
     else replaced_by [] region
+
+-- REPLACEMENTS IN ORDER over a base: their ranges lie in it, each starts right of `low`, or one left of it where it adds no text, and the
+-- others start no further left. So each text is added right of where every earlier range starts
+abbrev pub AreInOrder : ℕ → ℕ → List Replacement → Type 0
+AreInOrder base low [] = Unit {0}
+AreInOrder base low (r ∷ replacements) =
+    (low ≤ r.range.start + 1) × (r.range.start ≤ r.range.end) × (r.range.end ≤ base) × ((r.text ≡ []) ⊎ (low ≤ r.range.start)) ×
+    AreInOrder base (r.range.start + 1) replacements
