@@ -5,6 +5,8 @@
 #[cfg(test)]
 mod deltas;
 #[cfg(test)]
+mod finds;
+#[cfg(test)]
 mod streams;
 #[cfg(test)]
 mod subsets;
