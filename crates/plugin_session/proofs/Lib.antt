@@ -1,0 +1,9 @@
+mod AloneLemmas
+mod AskingLemmas
+mod CallLemmas
+mod DoorLemmas
+mod PortLemmas
+mod SessionLemmas
+mod StartLemmas
+mod VisitLemmas
+mod WholeLemmas

@@ -1,0 +1,24 @@
+//! The turns of a plugin at a door.
+//!
+//! A plugin is given lines and gives lines. A door serves asks and answers queries by a journal. A port goes between the two: one call of it
+//! is a look at the journal, a turn of the plugin, and the asks of what the plugin gave. To a contract a port is its caller, the length of
+//! the journal at its last look, the answers to the last turn, and whether its session has begun and ended.
+#![tactic(auto)]
+
+mod after;
+mod alone;
+mod asking;
+mod door;
+pub mod laws;
+mod noted;
+mod plugin;
+mod port;
+mod start;
+
+pub use after::After;
+pub use alone::AloneDoor;
+pub use door::Door;
+pub use noted::{Noted, NotedDoor};
+pub use plugin::{Plugin, Turn};
+pub use port::Port;
+pub use xi_plain::{Answer, Ask, NoMemory, Object, Query, Reply, Text, Texts};
