@@ -1,18 +1,19 @@
 -- Boundaries of a line as gaps, and as offsets of bytes.
-use Rattle.std.proofs.Common.{◌≡◌, ⊎_elim, ℕ, zero, suc, ◌+◌, ◌-◌, ◌<◌, ◌≤◌, true, List, [], ◌∷◌, ◌++◌, map, length, take, refl, sym, ap, ap₂, subst, ◌∙◌, arith, length-append}
-use Rattle.std.specs.Prelude.{encode_utf8_all}
+use Rattle.std.proofs.Common.{◌≡◌, ⊎_elim, ℕ, zero, suc, ◌+◌, ◌-◌, ◌<◌, ◌≤◌, true, List, [], ◌∷◌, ◌++◌, map, length, take, Some, refl, sym, ap, ap₂, subst, ◌∙◌, arith, length-append}
+use Rattle.std.specs.Prelude.{encode_utf8_all, is_some, unwrap_or}
 use Rattle.std.specs.List.{Contains, concat}
 use Rattle.std.specs.Str.{chars, all_scalars, IsUtf8}
 use Rattle.std.proofs.lemmas.Bool.{cases_lt}
 use Rattle.std.proofs.lemmas.Str.{encodes-append, encodes_same, chars-encodes}
-use Rattle.plain_text.specs.Text.{byte_len, place_of}
-use Rattle.plain_text.proofs.callers.TextLemmas.{length-encodes, place_of-rises}
+use Rattle.plain_text.specs.Text.{byte_len, gap_at, place_of}
+use Rattle.plain_text.proofs.callers.TextLemmas.{gap_from-place, length-encodes, place_of-rises}
 use Rattle.plain_text.proofs.callers.PlaceLemmas.{place_of-rises_strictly}
 use Rattle.unicode_segmentation.specs.Grapheme.{is_grapheme_break}
 use Rattle.unicode_segmentation.specs.Segments.{cut, segments}
 use Rattle.unicode_segmentation.proofs.SegmentsLemmas.{concat-segments}
-use Rattle.cluster_core.specs.Boundaries.{clusters_of, clusters_in, ends_from, IsBoundary, IsLeastAbove, IsGreatestBelow}
-use Rattle.movement_core.proofs.PlaceLemmas.{first, later, none_in, first_or_later, low-le, ends_from-rises, all_scalars-parts}
+use Rattle.cluster_core.specs.Boundaries.{clusters_of, clusters_in, ends_from, IsBoundary, IsLeastAbove, IsGreatestBelow, HasNoneAbove, HasNoneBelow}
+use Rattle.movement_core.specs.Inner.{IsGapOf, IsNextGap, IsGapUpTo}
+use Rattle.movement_core.proofs.PlaceLemmas.{clusters-whole, ends_from-last, first, later, none_in, first_or_later, low-le, ends_from-rises, all_scalars-parts}
 
 byte_len-append : (front back : List ℕ) → byte_len (front ++ back) ≡ byte_len front + byte_len back
 byte_len-append [] back = omega arith
@@ -108,10 +109,7 @@ AreClusters-line line scalars =
       whole = whole;
     }
 
--- A BOUNDARY OF A LINE, as a gap
-abbrev pub IsGapOf : List ℕ → ℕ → Type 0
-IsGapOf line n = Contains (0 ∷ ends_from 0 (clusters_in line)) n
-
+-- A BOUNDARY OF A LINE, as a gap and as an offset
 pub boundary-to_bytes : (line : List ℕ) (n : ℕ) → all_scalars line ≡ true → IsGapOf line n → IsBoundary (encode_utf8_all line) (place_of line n)
 boundary-to_bytes line n scalars found =
     let are = AreClusters-line line scalars in
@@ -150,12 +148,6 @@ place-lt line a b inside less =
     ⊎_elim (λ (fine : a < b). fine) (λ (ge : b ≤ a). absurd (let le = place_of-rises line b a ge in omega arith)) (cases_lt a b)
 
 -- the least boundary above a gap, and the greatest one not above it
-pub record IsNextGap (line : List ℕ) (at n : ℕ) : Type 0 where
-  pub gap : IsGapOf line n
-  pub inside : n ≤ length line
-  pub above : at < n
-  pub least : (other : ℕ) → IsGapOf line other → at < other → other ≤ length line → n ≤ other
-
 pub next-gap : (line : List ℕ) (at b : ℕ) → all_scalars line ≡ true → at ≤ length line → IsLeastAbove (encode_utf8_all line) (place_of line at) b →
     (n : ℕ) × (b ≡ place_of line n) × IsNextGap line at n
 next-gap line at b scalars inside is =
@@ -174,12 +166,6 @@ next-gap line at b scalars inside is =
             ⊎_elim (λ (less : other < n). absurd (let lt = place_of-rises_strictly line other n less found.3 in omega arith)) (λ (fine : n ≤ other). fine) (cases_lt other n);
       },
     )
-
-pub record IsGapUpTo (line : List ℕ) (at n : ℕ) : Type 0 where
-  pub gap : IsGapOf line n
-  pub inside : n ≤ length line
-  pub by_then : n ≤ at
-  pub greatest : (other : ℕ) → IsGapOf line other → other ≤ at → n ≤ length line → other ≤ n
 
 pub gap-up_to : (line : List ℕ) (at b : ℕ) → all_scalars line ≡ true → at ≤ length line → IsGreatestBelow (encode_utf8_all line) (place_of line at + 1) b →
     (n : ℕ) × (b ≡ place_of line n) × IsGapUpTo line at n
@@ -200,3 +186,78 @@ gap-up_to line at b scalars inside is =
             ⊎_elim (λ (past : n < other). absurd (let lt = place_of-rises_strictly line n other past (omega arith) in omega arith)) (λ (fine : other ≤ n). fine) (cases_lt n other);
       },
     )
+
+-- ---- what a look at the bytes of a line finds
+
+zero-plus : (n : ℕ) → 0 + n ≡ n
+zero-plus n = omega arith
+
+place-gap : (line : List ℕ) (n b : ℕ) → n ≤ length line → b ≡ place_of line n → gap_at line b ≡ Some n
+place-gap line n b inside is = ap (gap_at line) is ∙ gap_from-place 0 line n inside ∙ ap Some (zero-plus n)
+
+the_found : (n found : ℕ) → Some n ≡ Some found → n ≡ found
+the_found n found same = ap (λ o. unwrap_or o n) same
+
+module _ (line bytes : List ℕ) (at : ℕ) (utf8 : bytes ≡ encode_utf8_all line) (scalars : all_scalars line ≡ true) (inside : at ≤ length line) where
+  pub next-place : (b : ℕ) → IsLeastAbove bytes (place_of line at) b → is_some (gap_at line b) ≡ true
+  next-place b is =
+      let next = next-gap line at b scalars inside (subst (λ bs. IsLeastAbove bs (place_of line at) b) utf8 is) in
+      ap is_some (place-gap line next.0 b next.2.inside next.1)
+
+  pub next-found : (b found : ℕ) → IsLeastAbove bytes (place_of line at) b → gap_at line b ≡ Some found → IsNextGap line at found
+  next-found b found is gap =
+      let next = next-gap line at b scalars inside (subst (λ bs. IsLeastAbove bs (place_of line at) b) utf8 is) in
+      subst (IsNextGap line at) (the_found next.0 found (sym (place-gap line next.0 b next.2.inside next.1) ∙ gap)) next.2
+
+  pub up_to-place : (b : ℕ) → IsGreatestBelow bytes (place_of line at + 1) b → is_some (gap_at line b) ≡ true
+  up_to-place b is =
+      let up_to = gap-up_to line at b scalars inside (subst (λ bs. IsGreatestBelow bs (place_of line at + 1) b) utf8 is) in
+      ap is_some (place-gap line up_to.0 b up_to.2.inside up_to.1)
+
+  pub up_to-found : (b found : ℕ) → IsGreatestBelow bytes (place_of line at + 1) b → gap_at line b ≡ Some found → IsGapUpTo line at found
+  up_to-found b found is gap =
+      let up_to = gap-up_to line at b scalars inside (subst (λ bs. IsGreatestBelow bs (place_of line at + 1) b) utf8 is) in
+      subst (IsGapUpTo line at) (the_found up_to.0 found (sym (place-gap line up_to.0 b up_to.2.inside up_to.1) ∙ gap)) up_to.2
+
+  pub up_to-end : at ≡ length line → IsGapUpTo line at at
+  up_to-end all = record {
+    gap = subst (IsGapOf line) (sym all) end-is_gap;
+    inside = inside;
+    by_then = omega arith;
+    greatest = λ other gap le fits. le;
+  }
+    where
+      end-is_gap : IsGapOf line (length line)
+      end-is_gap =
+          let long : 0 + length (concat (clusters_in line)) ≡ length line = omega (arith, ap length (clusters-whole line scalars)) in
+          subst (Contains (0 ∷ ends_from 0 (clusters_in line))) long (ends_from-last 0 (clusters_in line))
+
+  -- below the next character's place is not past this one's
+  pub below-next : (b : ℕ) → at < length line → IsGreatestBelow bytes (place_of line (at + 1)) b → IsGreatestBelow bytes (place_of line at + 1) b
+  below-next b less is =
+      let found = boundary-from_bytes line b scalars (subst (λ bs. IsBoundary bs b) utf8 is.boundary) in
+      let n = found.0 in
+      let place = found.2 in
+      let below = is.below in
+      let fits = found.3 in
+      let lt = place-lt line n (at + 1) fits (omega arith) in
+      let le = place_of-rises line n at (omega arith) in
+      let more = place_of-rises_strictly line at (at + 1) (omega arith) (omega arith) in record {
+        boundary = is.boundary;
+        below = omega arith;
+        greatest = λ other boundary lower. is.greatest other boundary (omega arith);
+      }
+
+  pub next-some : at < length line → HasNoneAbove bytes (place_of line at) → ⊥
+  next-some less none =
+      let whole = clusters-whole line scalars in
+      let long : 0 + length (concat (clusters_in line)) ≡ length line = omega (arith, ap length whole) in
+      let end : IsGapOf line (length line) = subst (Contains (0 ∷ ends_from 0 (clusters_in line))) long (ends_from-last 0 (clusters_in line)) in
+      let boundary = subst (λ bs. IsBoundary bs (place_of line (length line))) (sym utf8) (boundary-to_bytes line (length line) scalars end) in
+      let le = none (place_of line (length line)) boundary in
+      let lt = place_of-rises_strictly line at (length line) less (omega arith) in omega arith
+
+  pub none-next : at < length line → HasNoneBelow bytes (place_of line (at + 1)) → ⊥
+  none-next less none =
+      let more = place_of-rises_strictly line at (at + 1) (omega arith) (omega arith) in
+      let le = none 0 (first 0 _) in omega arith

@@ -26,10 +26,10 @@ use Rattle.movement_core.proofs.PlaceLemmas.{IsRisingFrom, first, first_or_later
 
 -- ---- what is found is a boundary
 
-start-is_place : (text : List ℕ) → IsPlace text 0
+pub start-is_place : (text : List ℕ) → IsPlace text 0
 start-is_place text = first 0 _
 
-end-is_place : (text : List ℕ) → all_scalars text ≡ true → IsPlace text (length text)
+pub end-is_place : (text : List ℕ) → all_scalars text ≡ true → IsPlace text (length text)
 end-is_place text scalars =
     let lines = logical_lines text in
     let whole = concat-logical_lines text in
@@ -38,10 +38,10 @@ end-is_place text scalars =
     subst (IsPlace text) long (ends_from-last 0 (flat_map clusters_in lines))
 
 -- the first that passes, if there is one
-FindsLeast : (ℕ → Bool) → List ℕ → Type 0
+pub FindsLeast : (ℕ → Bool) → List ℕ → Type 0
 FindsLeast p xs = (x : ℕ) × (find p xs ≡ Some x) × Contains xs x × (p x ≡ true) × ((other : ℕ) → Contains xs other → p other ≡ true → x ≤ other)
 
-find-cases : (p : ℕ → Bool) (low : ℕ) (xs : List ℕ) → IsRisingFrom low xs → FindsLeast p xs ⊎ ((find p xs ≡ None) × ((other : ℕ) → Contains xs other → p other ≡ false))
+pub find-cases : (p : ℕ → Bool) (low : ℕ) (xs : List ℕ) → IsRisingFrom low xs → FindsLeast p xs ⊎ ((find p xs ≡ None) × ((other : ℕ) → Contains xs other → p other ≡ false))
 unfolding FindsLeast
 find-cases p low [] rising = inr (refl, λ other found. absurd (none_in other found))
 find-cases p low (x ∷ xs) rising =
@@ -79,7 +79,7 @@ find-contains p (x ∷ xs) d =
     (λ fails. ⊎_elim (λ none. inl (rw fails none)) (λ found. inr (rw fails (later x xs _ found))) (find-contains p xs d))
     (cases_Bool (p x))
 
-Contains-reversed : (xs : List ℕ) (y : ℕ) → Contains (reverse xs) y → Contains xs y
+pub Contains-reversed : (xs : List ℕ) (y : ℕ) → Contains (reverse xs) y → Contains xs y
 Contains-reversed [] y found = found
 Contains-reversed (x ∷ xs) y found =
     ⊎_elim
@@ -87,14 +87,14 @@ Contains-reversed (x ∷ xs) y found =
     (λ last. ⊎_elim (λ here. subst (Contains (x ∷ xs)) here (first x xs)) (λ none. absurd (none_in y none)) (first_or_later x [] y last))
     (Contains-append_cases (reverse xs) (x ∷ []) y (subst (λ ys. Contains ys y) (reverse-append (x ∷ []) xs) found))
 
-least_place-is_place : (p : ℕ → Bool) (text : List ℕ) → all_scalars text ≡ true → IsPlace text (least_place p text)
+pub least_place-is_place : (p : ℕ → Bool) (text : List ℕ) → all_scalars text ≡ true → IsPlace text (least_place p text)
 least_place-is_place p text scalars =
     ⊎_elim
     (λ none. let is : length text ≡ least_place p text = sym (ap (λ o. unwrap_or o (length text)) none) in subst (IsPlace text) is (end-is_place text scalars))
     (λ found. found)
     (find-contains p (text_boundaries text) (length text))
 
-greatest_place-is_place : (p : ℕ → Bool) (text : List ℕ) → IsPlace text (greatest_place p text)
+pub greatest_place-is_place : (p : ℕ → Bool) (text : List ℕ) → IsPlace text (greatest_place p text)
 greatest_place-is_place p text =
     ⊎_elim
     (λ none. let is : 0 ≡ greatest_place p text = sym (ap (λ o. unwrap_or o 0) none) in subst (IsPlace text) is (start-is_place text))
@@ -169,11 +169,11 @@ StandsAtPlaces-moved tab text pieces motion extend region scalars stands =
 -- ---- where layout lines start
 
 -- each piece starts after the one before, and the first not before `low`
-abbrev StartsFrom : ℕ → List Piece → Type 0
+abbrev pub StartsFrom : ℕ → List Piece → Type 0
 StartsFrom low [] = Unit {0}
 StartsFrom low (piece ∷ pieces) = (low ≤ piece.start) × StartsFrom (piece.start + 1) pieces
 
-StartsFrom-lower : (low from : ℕ) (pieces : List Piece) → low ≤ from → StartsFrom from pieces → StartsFrom low pieces
+pub StartsFrom-lower : (low from : ℕ) (pieces : List Piece) → low ≤ from → StartsFrom from pieces → StartsFrom low pieces
 StartsFrom-lower low from [] lower starts = tt
 StartsFrom-lower low from (piece ∷ pieces) lower starts = (let le = starts.0 in omega arith, starts.1)
 
@@ -183,16 +183,16 @@ StartsFrom-line low start len ln from [] rest le rise starts = StartsFrom-lower 
 StartsFrom-line low start len ln from (end ∷ ends) rest le rise starts =
     let lt = rise.0 in (le, StartsFrom-line (start + from + 1) start len None end ends rest (omega arith) rise.1 starts)
 
-abbrev lines_of : List (List ℕ × List ℕ) → List (List ℕ)
+abbrev pub lines_of : List (List ℕ × List ℕ) → List (List ℕ)
 lines_of cuts = map (λ (line, ends). line) cuts
 
 -- no line but the last is empty
-abbrev AreEnded : List (List ℕ) → Type 0
+abbrev pub AreEnded : List (List ℕ) → Type 0
 AreEnded [] = Unit {0}
 AreEnded (line ∷ []) = Unit {0}
 AreEnded (line ∷ next ∷ lines) = (0 < length line) × AreEnded (next ∷ lines)
 
-AreEnded-logical_lines : (text : List ℕ) → AreEnded (logical_lines text)
+pub AreEnded-logical_lines : (text : List ℕ) → AreEnded (logical_lines text)
 AreEnded-logical_lines [] = tt
 AreEnded-logical_lines (c ∷ text) = by (c == 10) (logical_lines text) (AreEnded-logical_lines text)
   where
@@ -203,7 +203,7 @@ AreEnded-logical_lines (c ∷ text) = by (c == 10) (logical_lines text) (AreEnde
     by false (line ∷ []) ended = tt
     by false (line ∷ next ∷ lines) ended = (omega arith, ended.1)
 
-StartsFrom-cuts : (number start : ℕ) (cuts : List (List ℕ × List ℕ)) → AreEnded (lines_of cuts) →
+pub StartsFrom-cuts : (number start : ℕ) (cuts : List (List ℕ × List ℕ)) → AreEnded (lines_of cuts) →
     AllByRecursion (λ (line, ends). AreEnds (length line) ends) cuts → StartsFrom start (pieces_from number start cuts)
 StartsFrom-cuts number start [] ended are = tt
 StartsFrom-cuts number start (([], ends) ∷ []) ended are =
@@ -216,20 +216,20 @@ StartsFrom-cuts number start ((c ∷ line, ends) ∷ next ∷ cuts) ended are =
     StartsFrom-line start start (length (c ∷ line)) (Some number) 0 ends (pieces_from (number + 1) (start + length (c ∷ line)) (next ∷ cuts))
     (omega arith) are.0 (StartsFrom-cuts (number + 1) (start + length (c ∷ line)) (next ∷ cuts) ended.1 are.1)
 
-StartsFrom-pieces : (text : List ℕ) (pieces : List Piece) → ArePieces text pieces → StartsFrom 0 pieces
+pub StartsFrom-pieces : (text : List ℕ) (pieces : List Piece) → ArePieces text pieces → StartsFrom 0 pieces
 StartsFrom-pieces text pieces are =
     let ended : AreEnded (lines_of are.cuts) = subst AreEnded (sym are.lines) (AreEnded-logical_lines text) in
     subst (StartsFrom 0) (sym are.is) (StartsFrom-cuts 1 0 are.cuts ended are.ends)
 
 -- a later piece starts after an earlier one
-starts_after : (low i : ℕ) (pieces : List Piece) (piece : Piece) → StartsFrom low pieces → slice_get pieces i ≡ Some piece → low ≤ piece.start
+pub starts_after : (low i : ℕ) (pieces : List Piece) (piece : Piece) → StartsFrom low pieces → slice_get pieces i ≡ Some piece → low ≤ piece.start
 starts_after low i [] piece starts is = absurd cc
 starts_after low zero (first ∷ pieces) piece starts is =
     let same : first ≡ piece = ap (λ o. unwrap_or o first) is in subst (λ (p : Piece). low ≤ p.start) same starts.0
 starts_after low (suc i) (first ∷ pieces) piece starts is =
     let le = starts.0 in let more = starts_after (first.start + 1) i pieces piece starts.1 is in omega arith
 
-starts-rise : (low i j : ℕ) (pieces : List Piece) (piece other : Piece) → StartsFrom low pieces → i < j → slice_get pieces i ≡ Some piece →
+pub starts-rise : (low i j : ℕ) (pieces : List Piece) (piece other : Piece) → StartsFrom low pieces → i < j → slice_get pieces i ≡ Some piece →
     slice_get pieces j ≡ Some other → piece.start < other.start
 starts-rise low i j [] piece other starts lt is too = absurd cc
 starts-rise low zero zero (first ∷ pieces) piece other starts lt is too = absurd (omega arith)
@@ -241,13 +241,13 @@ starts-rise low (suc i) zero (first ∷ pieces) piece other starts lt is too = a
 starts-rise low (suc i) (suc j) (first ∷ pieces) piece other starts lt is too =
     starts-rise (first.start + 1) i j pieces piece other starts.1 (omega arith) is too
 
-start_of-get : (pieces : List Piece) (i : ℕ) (piece : Piece) → slice_get pieces i ≡ Some piece → start_of pieces i ≡ piece.start
+pub start_of-get : (pieces : List Piece) (i : ℕ) (piece : Piece) → slice_get pieces i ≡ Some piece → start_of pieces i ≡ piece.start
 start_of-get [] i piece is = absurd cc
 start_of-get (first ∷ pieces) zero piece is = ap (λ o. (unwrap_or o first).start) is
 start_of-get (first ∷ pieces) (suc i) piece is = start_of-get pieces i piece is
 
 -- THE START OF A LAYOUT LINE belongs to it
-layout_line_of-start : (text : List ℕ) (pieces : List Piece) (line : ℕ) → ArePieces text pieces → line < length pieces →
+pub layout_line_of-start : (text : List ℕ) (pieces : List Piece) (line : ℕ) → ArePieces text pieces → line < length pieces →
     layout_line_of pieces (start_of pieces line) ≡ line
 layout_line_of-start text pieces line are inside = elim (slice_get_cases pieces line).1 [
   | inl found ↦
@@ -261,13 +261,13 @@ layout_line_of-start text pieces line are inside = elim (slice_get_cases pieces 
   | inr outside ↦ absurd (let past = outside.0 in omega arith)
 ]
 
-start-is_place_too : (text : List ℕ) (pieces : List Piece) (line : ℕ) → StartAtPlaces text pieces → IsPlace text (start_of pieces line)
+pub start-is_place_too : (text : List ℕ) (pieces : List Piece) (line : ℕ) → StartAtPlaces text pieces → IsPlace text (start_of pieces line)
 start-is_place_too text [] line starts = start-is_place text
 start-is_place_too text (piece ∷ pieces) zero starts = starts.0
 start-is_place_too text (piece ∷ pieces) (suc line) starts = start-is_place_too text pieces line starts.1
 
 -- nothing stands between a gap and itself
-columns_between-none : (tab : ℕ) (line : List ℕ) (gap : ℕ) → columns_between tab line gap gap ≡ 0
+pub columns_between-none : (tab : ℕ) (line : List ℕ) (gap : ℕ) → columns_between tab line gap gap ≡ 0
 columns_between-none tab line gap = none 0 (clusters_in line)
   where
     part : (gap at : ℕ) (cluster : List ℕ) → slice_range cluster (gap - at) (gap - at) ≡ []
@@ -315,7 +315,7 @@ greatest_place-passes p text one place passes =
         Contains-to_reverse : (xs : List ℕ) (y : ℕ) → Contains xs y → Contains (reverse xs) y
         Contains-to_reverse xs y found = Contains-reversed (reverse xs) y (subst (λ ys. Contains ys y) (sym (reverse-reverse xs)) found)
 
-IsInLine-place : (tab column line : ℕ) (text : List ℕ) (pieces : List Piece) → ArePieces text pieces → StartAtPlaces text pieces → line < length pieces →
+pub IsInLine-place : (tab column line : ℕ) (text : List ℕ) (pieces : List Piece) → ArePieces text pieces → StartAtPlaces text pieces → line < length pieces →
     IsInLine tab text pieces column line (place_at_column tab text pieces line column)
 IsInLine-place tab column line text pieces are starts inside =
     let passes : ℕ → Bool = λ place. belongs_to pieces line place && nat_le (column_of tab text pieces place) column in

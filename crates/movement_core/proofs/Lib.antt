@@ -1,3 +1,11 @@
 pub mod PlaceLemmas
 pub mod ByteLemmas
 pub mod LawLemmas
+pub mod LineLemmas
+pub mod ExtentLemmas
+pub mod BoundaryLemmas
+pub mod FitLemmas
+pub mod WordLemmas
+pub mod MoveLemmas
+pub mod WholeLemmas
+pub mod ForCallers

@@ -111,7 +111,7 @@ pub greatest_place-is : (p : ℕ → Bool) (text : List ℕ) (gap : ℕ) → IsG
 greatest_place-is p text gap is =
     ap (λ found. unwrap_or found 0) (find-greatest p 0 (text_boundaries text) (text_boundaries-rises text) gap is.place is.passed is.greatest)
 
-find-none : (p : ℕ → Bool) (xs : List ℕ) → ((other : ℕ) → Contains xs other → p other ≡ false) → find p xs ≡ None
+pub find-none : (p : ℕ → Bool) (xs : List ℕ) → ((other : ℕ) → Contains xs other → p other ≡ false) → find p xs ≡ None
 find-none p [] each = refl
 find-none p (x ∷ xs) each = rw (each x (first x xs)) (find-none p xs (λ other is. each other (later x xs other is)))
 
@@ -148,7 +148,11 @@ AreParts-line text gap line is = record {
   start = is.start;
 }
 
-ends_from-append : (at : ℕ) (xs ys : List (List ℕ)) → ends_from at (xs ++ ys) ≡ ends_from at xs ++ ends_from (at + length (concat xs)) ys
+-- a text is a line between the lines before it and those after it
+pub text-is : (text : List ℕ) (line : LogicalLine) (are : AreParts text line) → text ≡ concat are.front ++ (line.text ++ concat are.back)
+text-is text line are = sym (concat-logical_lines text) ∙ ap concat are.parts ∙ concat-append are.front (line.text ∷ are.back)
+
+pub ends_from-append : (at : ℕ) (xs ys : List (List ℕ)) → ends_from at (xs ++ ys) ≡ ends_from at xs ++ ends_from (at + length (concat xs)) ys
 ends_from-append at [] ys = let same : at ≡ at + 0 = omega arith in ap (λ n. ends_from n ys) same
 ends_from-append at (x ∷ xs) ys =
     let sum : at + length x + length (concat xs) ≡ at + length (concat (x ∷ xs)) = omega (arith, length-append x (concat xs)) in
@@ -174,7 +178,7 @@ ends_from-back at by (piece ∷ pieces) n found =
     (first_or_later _ _ _ found)
 
 -- no end is past the whole, and the whole is the last end, or there is nothing
-ends_from-le : (at : ℕ) (pieces : List (List ℕ)) (n : ℕ) → Contains (ends_from at pieces) n → n ≤ at + length (concat pieces)
+pub ends_from-le : (at : ℕ) (pieces : List (List ℕ)) (n : ℕ) → Contains (ends_from at pieces) n → n ≤ at + length (concat pieces)
 ends_from-le at [] n found = absurd (none_in n found)
 ends_from-le at (piece ∷ pieces) n found =
     let long = length-append piece (concat pieces) in
@@ -238,7 +242,7 @@ cuts-from front own back n found =
     (first_or_later 0 _ n found))
 
 -- the clusters of lines are the lines
-clusters-whole : (line : List ℕ) → all_scalars line ≡ true → concat (clusters_in line) ≡ line
+pub clusters-whole : (line : List ℕ) → all_scalars line ≡ true → concat (clusters_in line) ≡ line
 clusters-whole line scalars = concat-clusters (encode_utf8_all line) (line, (scalars, refl)) ∙ chars-encodes line scalars
 
 pub lines-whole : (lines : List (List ℕ)) → all_scalars (concat lines) ≡ true → concat (flat_map clusters_in lines) ≡ concat lines
@@ -249,7 +253,7 @@ lines-whole (line ∷ lines) scalars =
 
 module _ (text : List ℕ) (line : LogicalLine) (are : AreParts text line) (scalars : all_scalars text ≡ true) where
   text-parts : text ≡ concat are.front ++ (line.text ++ concat are.back)
-  text-parts = sym (concat-logical_lines text) ∙ ap concat are.parts ∙ concat-append are.front (line.text ∷ are.back)
+  text-parts = text-is text line are
 
   -- the characters of the line are characters, and it ends within the text
   pub scalars-line : all_scalars line.text ≡ true

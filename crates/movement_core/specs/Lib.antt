@@ -3,4 +3,5 @@ pub mod Lines
 pub mod Words
 pub mod Motions
 pub mod Laws
+pub mod Inner
 pub mod Rows

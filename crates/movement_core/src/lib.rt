@@ -1,8 +1,19 @@
-//! Motions: where the carets of a selection go, so far as definitions with their laws and worked rows.
+//! Motions: where the carets of a selection go, in any view of a text.
 //!
-//! A target is the least or the greatest boundary of the whole text that passes a test; [`laws`] says what that comes to, and [`rows`]
-//! gives it in small cases. No call computes a motion yet.
+//! A contract sees a view as its text and the list of its pieces, and a selection as the list of its regions. A target is the least or
+//! the greatest boundary of the whole text that passes a test: [`laws`] says what that comes to, and [`rows`] gives it in small cases.
+//! [`moved`] gives exactly the selection of the definition, and [`moved_region`] the region.
+//!
+//! For each region a motion searches the pieces, and reads the logical lines in which the caret stands and to which it goes. A motion by
+//! words reads at most twice the characters that it passes over, and one logical line. Nothing asks a view for its whole text.
 #![tactic(auto)]
 
+mod columns;
 pub mod laws;
+mod lines;
+mod moves;
+mod places;
 pub mod rows;
+mod words;
+
+pub use moves::{moved, moved_region};
