@@ -1,5 +1,5 @@
 -- What replacements come to, in plain lists.
-use Rattle.std.proofs.Common.{◌≡◌, ⊎_elim, ℕ, zero, suc, ◌+◌, ◌-◌, ◌<◌, ◌≤◌, Bool, true, false, List, [], ◌∷◌, ◌++◌, map, cond, length, take, drop, get_or, append-nil, refl, sym, ap, ap₂, ◌∙◌, arith}
+use Rattle.std.proofs.Common.{◌≡◌, ⊎_elim, ℕ, zero, suc, ◌+◌, ◌-◌, ◌<◌, ◌≤◌, Bool, true, false, List, [], ◌∷◌, ◌++◌, map, cond, length, take, drop, get_or, append-nil, length-append, refl, sym, ap, ap₂, ◌∙◌, arith}
 use Rattle.std.specs.Prelude.{nat_lt, nat_le, ◌==◌, ◌&&◌, if◌then◌else◌}
 use Rattle.std.specs.List.{AllByRecursion, count_by, filter, range_with_len, sum_by}
 use Rattle.std.proofs.lemmas.Bool.{cases_Bool, cases_lt, eq-eqb, le-leb, le-ltb, lt-leb, lt-ltb, ne_eqb}
@@ -194,3 +194,34 @@ typing text chars region inside =
           ap₂ (λ s e. take s text ++ (chars ++ drop e text)) low high,
       ap (λ gap. caret_of gap ∷ []) (caret-typed (lesser_end region) (greater_end region) chars (omega arith)),
     )
+
+-- ---- the length of the text after
+
+length-if : (b : Bool) (c : ℕ) → length (if b then c ∷ [] else []) ≡ cond b 1 0
+length-if true c = refl
+length-if false c = refl
+
+length-applied_from : (kept : ℕ → Bool) (added : ℕ → List ℕ) (index : ℕ) (text : List ℕ) →
+    length (applied_from kept added index text) ≡
+    count_by kept (range_with_len index (length text)) + sum_by (λ gap. length (added gap)) (range_with_len index (length text + 1))
+length-applied_from kept added index [] =
+    let one : 0 + 1 ≡ suc zero = omega arith in
+    omega
+    (arith, sum_by-cons (λ gap. length (added gap)) index [], ap (λ n. sum_by (λ gap. length (added gap)) (range_with_len index n)) one)
+length-applied_from kept added index (c ∷ text) =
+    let more : suc (length text) + 1 ≡ suc (length text + 1) = omega arith in
+    let here = (if kept index then c ∷ [] else []) in
+    let rest = applied_from kept added (index + 1) text in
+    omega (
+      arith,
+      length-append (added index) (here ++ rest),
+      length-append here rest,
+      length-if (kept index) c,
+      sum_by-cons (λ i. cond (kept i) 1 0) index (range_with_len (index + 1) (length text)),
+      sum_by-cons (λ gap. length (added gap)) index (range_with_len (index + 1) (length text + 1)),
+      ap (λ n. sum_by (λ gap. length (added gap)) (range_with_len index n)) more,
+      length-applied_from kept added (index + 1) text,
+    )
+
+pub length-text_with : (text : List ℕ) (replacements : List Replacement) → length (text_with replacements text) ≡ gap_with replacements (length text)
+length-text_with text replacements = length-applied_from (kept_by replacements) (added_by replacements) 0 text

@@ -1,3 +1,5 @@
 pub mod LawLemmas
 pub mod OrderLemmas
 pub mod SelectionLemmas
+pub mod RegionLemmas
+pub mod DeletionLemmas

@@ -84,7 +84,7 @@ zeros_to p n m le each =
     sym (ap (λ k. count_by p (range_with_len 0 k)) whole) ∙
     sum_zeros (λ i. cond (p i) 1 0) n (m - n) (λ i from below. ap (λ b. cond b 1 0) (each i from (omega arith)))
 
-none_to : (texts : ℕ → List ℕ) (n m : ℕ) → n ≤ m → ((gap : ℕ) → n ≤ gap → gap < m → texts gap ≡ []) →
+pub none_to : (texts : ℕ → List ℕ) (n m : ℕ) → n ≤ m → ((gap : ℕ) → n ≤ gap → gap < m → texts gap ≡ []) →
     sum_by (λ gap. length (texts gap)) (range_with_len 0 m) ≡ sum_by (λ gap. length (texts gap)) (range_with_len 0 n)
 none_to texts n m le each =
     let whole : n + (m - n) ≡ m = omega arith in

@@ -7,7 +7,7 @@ use Rattle.plain_edits.specs.Delta.{applied}
 use Rattle.plain_edits.specs.UnitDelta.{unit_adds, unit_keeps}
 use Rattle.selection_core.specs.Selection.{caret_of, greater_end, lesser_end}
 use Rattle.edit_ops.specs.declared.replacement.Replacement.{Replacement}
-use Rattle.edit_ops.specs.Replacements.{IsEditOf, carets_with, kept_by, replaced_by, text_with}
+use Rattle.edit_ops.specs.Replacements.{IsEditOf, carets_with, gap_with, kept_by, replaced_by, text_with}
 
 -- typing over one region gives what stood left of it, the characters, and what stood right of it; and the caret after them
 abbrev pub TypingReplaces : Type 0
@@ -29,3 +29,7 @@ EmptyReplacementsLeaveTheText = (text : List ℕ) (replacements : List Replaceme
 abbrev pub EditsGiveTheText : Type 0
 EditsGiveTheText = (text : List ℕ) (replacements : List Replacement) (units : UnitDelta) → IsEditOf (length text) replacements units →
     applied (unit_keeps units) (unit_adds units) text ≡ text_with replacements text
+
+-- the end of a text goes where the text after it ends
+abbrev pub EndsStayEnds : Type 0
+EndsStayEnds = (text : List ℕ) (replacements : List Replacement) → length (text_with replacements text) ≡ gap_with replacements (length text)

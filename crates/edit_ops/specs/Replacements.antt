@@ -1,6 +1,7 @@
 -- All that edits: for each region a range and a text.
 use Rattle.std.specs.Prelude.{◌≡◌, ℕ, ◌+◌, ◌<◌, ◌≤◌, ◌⊎◌, min, max, Bool, false, not, ◌==◌, if◌then◌else◌, List, [], ◌∷◌, map}
 use Rattle.std.specs.List.{flat_map}
+use Rattle.plain_text.specs.declared.run.Run.{Run}
 use Rattle.plain_text.specs.declared.selection.Region.{Region}
 use Rattle.plain_edits.specs.declared.delta.UnitDelta.{UnitDelta}
 use Rattle.plain_edits.specs.Caret.{mapped_gap}
@@ -36,15 +37,22 @@ pub record IsEditOf (base : ℕ) (replacements : List Replacement) (units : Unit
   pub kept : (index : ℕ) → index < base → unit_keeps units index ≡ kept_by replacements index
   pub added : (gap : ℕ) → unit_adds units gap ≡ added_by replacements gap
 
+-- what stands between the ends of a region
+abbrev pub range_of : Region → Run
+range_of region = record { start = lesser_end region; end = greater_end region }
+
 -- a region is replaced by a text
 abbrev pub replaced_by : List ℕ → Region → Replacement
-replaced_by text region = record { range = record { start = lesser_end region; end = greater_end region }; text = text }
+replaced_by text region = record { range = range_of region; text = text }
+
+-- a range is deleted
+abbrev pub deletion_of : Run → Replacement
+deletion_of range = record { range = range; text = [] }
 
 -- a region is deleted, or from a caret alone what stands between it and a gap
 abbrev pub deleted_to : ℕ → Region → Replacement
 deleted_to gap region =
-    if is_caret region then record { range = record { start = min region.caret gap; end = max region.caret gap }; text = [] }
-    else replaced_by [] region
+    deletion_of (if is_caret region then record { start = min region.caret gap; end = max region.caret gap } else range_of region)
 
 -- REPLACEMENTS IN ORDER over a base: their ranges lie in it, each starts right of `low`, or one left of it where it adds no text, and the
 -- others start no further left. So each text is added right of where every earlier range starts
