@@ -3,3 +3,4 @@ pub mod OrderLemmas
 pub mod SelectionLemmas
 pub mod RegionLemmas
 pub mod DeletionLemmas
+pub mod GestureLemmas
