@@ -1,7 +1,7 @@
 -- The laws of subsets, over their definitions. The crates above cite these.
-use Rattle.std.proofs.Common.{◌≡◌, ℕ, ◌+◌, ◌<◌, ◌≤◌, Bool, true, false, not, ◌&&◌, ◌||◌, List, [], ◌∷◌, ◌++◌, length, map, refl, ap, sym, ◌∙◌, arith}
+use Rattle.std.proofs.Common.{◌≡◌, ℕ, ◌+◌, ◌<◌, ◌≤◌, Bool, true, false, not, ◌&&◌, ◌||◌, List, [], ◌∷◌, ◌++◌, length, map, refl, ap, ap₂, sym, ◌∙◌, arith}
 use Rattle.std.specs.Prelude.{suc, zero}
-use Rattle.subset_runs.specs.Subset.{count, members, members_from, at_each, union, minus, complement, items_outside, expand_as, expand, expand_in, shrink}
+use Rattle.subset_runs.specs.Subset.{count, members, members_from, at_each, union, minus, symmetric_difference, complement, items_outside, expand_as, expand, expand_in, shrink}
 use Rattle.subset_runs.proofs.FlagLemmas.{count_le_length}
 
 -- ---- union, minus, complement
@@ -35,6 +35,39 @@ union_assoc (x ∷ xs) [] zs = refl
 union_assoc (x ∷ xs) (y ∷ ys) [] = refl
 union_assoc (true ∷ xs) (y ∷ ys) (z ∷ zs) = ap (λ rest. true ∷ rest) (union_assoc xs ys zs)
 union_assoc (false ∷ xs) (y ∷ ys) (z ∷ zs) = ap (λ rest. (y || z) ∷ rest) (union_assoc xs ys zs)
+
+same_flag : (x y : Bool) → (x && not (x && not y || y && not x) || (x && not y || y && not x) && not x) ≡ y
+same_flag true true = refl
+same_flag true false = refl
+same_flag false true = refl
+same_flag false false = refl
+
+-- what is in exactly one of two takes each of them to the other
+pub symmetric_difference-back : (xs ys : List Bool) → length xs ≡ length ys → symmetric_difference xs (symmetric_difference xs ys) ≡ ys
+symmetric_difference-back [] [] same = refl
+symmetric_difference-back [] (y ∷ ys) same = absurd (omega arith)
+symmetric_difference-back (x ∷ xs) [] same = absurd (omega arith)
+symmetric_difference-back (x ∷ xs) (y ∷ ys) same = ap₂ (λ flag rest. flag ∷ rest) (same_flag x y) (symmetric_difference-back xs ys (omega arith))
+
+pub symmetric_difference_comm : (xs ys : List Bool) → symmetric_difference xs ys ≡ symmetric_difference ys xs
+symmetric_difference_comm [] [] = refl
+symmetric_difference_comm [] (y ∷ ys) = refl
+symmetric_difference_comm (x ∷ xs) [] = refl
+symmetric_difference_comm (true ∷ xs) (true ∷ ys) = ap (λ rest. false ∷ rest) (symmetric_difference_comm xs ys)
+symmetric_difference_comm (true ∷ xs) (false ∷ ys) = ap (λ rest. true ∷ rest) (symmetric_difference_comm xs ys)
+symmetric_difference_comm (false ∷ xs) (true ∷ ys) = ap (λ rest. true ∷ rest) (symmetric_difference_comm xs ys)
+symmetric_difference_comm (false ∷ xs) (false ∷ ys) = ap (λ rest. false ∷ rest) (symmetric_difference_comm xs ys)
+
+pub symmetric_difference_by_minus : (xs ys : List Bool) → symmetric_difference xs ys ≡ union (minus xs ys) (minus ys xs)
+symmetric_difference_by_minus [] [] = refl
+symmetric_difference_by_minus [] (y ∷ ys) = refl
+symmetric_difference_by_minus (x ∷ xs) [] = refl
+symmetric_difference_by_minus (x ∷ xs) (y ∷ ys) = ap (λ rest. (x && not y || y && not x) ∷ rest) (symmetric_difference_by_minus xs ys)
+
+pub symmetric_difference-self : (xs : List Bool) → count (symmetric_difference xs xs) ≡ 0
+symmetric_difference-self [] = refl
+symmetric_difference-self (true ∷ xs) = omega (arith, symmetric_difference-self xs)
+symmetric_difference-self (false ∷ xs) = omega (arith, symmetric_difference-self xs)
 
 pub complement-complement : (xs : List Bool) → complement (complement xs) ≡ xs
 complement-complement [] = refl

@@ -1,13 +1,14 @@
 -- What private functions say.
 use Rattle.std.specs.Prelude.{Bool, not, ◌&&◌, ◌||◌, ◌≡◌, ℕ, ◌+◌, ◌-◌, ◌≤◌, List, []}
 use Rattle.subset_runs.specs.declared.steps.Keep.{Keep}
-use Rattle.subset_runs.specs.declared.steps.Keep.TheVariants.{Either, FirstAlone}
+use Rattle.subset_runs.specs.declared.steps.Keep.TheVariants.{Either, FirstAlone, OneAlone}
 use Rattle.subset_runs.specs.Runs.{AreSeparate, is_in, is_in_some, next_start}
 
 -- whether the result has a position, by whether the first subset has it and whether the second has
 abbrev pub is_kept : Keep → Bool → Bool → Bool
 is_kept Either first second = first || second
 is_kept FirstAlone first second = first && not second
+is_kept OneAlone first second = first && not second || second && not first
 
 -- the new runs have the positions from start to end beside those of the old ones
 pub record AddsRun (low : ℕ) (old new : List (ℕ × ℕ)) (start end : ℕ) : Type 0 where

@@ -34,6 +34,10 @@ union xs ys = at_each (λ x y. x || y) xs ys
 abbrev pub minus : List Bool → List Bool → List Bool
 minus xs ys = at_each (λ x y. x && not y) xs ys
 
+-- the positions that are members of exactly one of the two
+abbrev pub symmetric_difference : List Bool → List Bool → List Bool
+symmetric_difference xs ys = at_each (λ x y. x && not y || y && not x) xs ys
+
 -- the positions that are no members
 abbrev pub complement : List Bool → List Bool
 complement flags = map not flags

@@ -2,7 +2,7 @@
 //! the laws, and its proof proves them.
 ghost use Rattle.std.specs.Prelude.{◌≡◌, ℕ, ◌+◌, ◌<◌, ◌↔◌, Bool, List, length, IsTrue, Contains, slice_index};
 ghost use Rattle.std.specs.List.Sorted.{IsStrictlyIncreasing};
-ghost use Rattle.subset_runs.specs.Subset.{complement, contains, count, expand, expand_as, expand_in, members, minus, shrink, union};
+ghost use Rattle.subset_runs.specs.Subset.{complement, contains, count, expand, expand_as, expand_in, members, minus, shrink, symmetric_difference, union};
 ghost use Rattle.subset_runs.specs.Renumbering.{Renumbers};
 
 /// Flags are no more than their length and their members, which rise and are positions below the length.
@@ -66,6 +66,16 @@ pub fn complements()
     ensures minus { (xs ys : List Bool) → minus xs ys ≡ complement (union (complement xs) ys) }
     ensures expand { (xs by : List Bool) → length xs + count by ≡ length by
         → complement (expand xs by) ≡ expand_in (complement xs) by }
+{}
+
+/// What is in exactly one of two subsets: it takes each of the two to the other, and it is what one of them has alone.
+pub fn symmetric_differences()
+    ensures back { (xs ys : List Bool) → length xs ≡ length ys
+        → symmetric_difference xs (symmetric_difference xs ys) ≡ ys }
+    ensures either { (xs ys : List Bool) → symmetric_difference xs ys ≡ symmetric_difference ys xs }
+    ensures alone { (xs ys : List Bool) → symmetric_difference xs ys
+        ≡ union (minus xs ys) (minus ys xs) }
+    ensures none { (xs : List Bool) → count (symmetric_difference xs xs) ≡ 0 }
 {}
 
 /// `expand` and `shrink` go through `union` and `minus`.

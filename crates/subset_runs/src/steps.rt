@@ -10,6 +10,7 @@ use crate::{Stretch, Walk};
 pub(crate) enum Keep {
     Either,
     FirstAlone,
+    OneAlone,
 }
 
 impl Keep {
@@ -19,6 +20,7 @@ impl Keep {
         match self {
             Keep::Either => first || second,
             Keep::FirstAlone => first && !second,
+            Keep::OneAlone => first != second,
         }
     }
 }

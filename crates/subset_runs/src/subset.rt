@@ -1,5 +1,5 @@
 ghost use Rattle.std.specs.Prelude.{◌≡◌, ℕ, ◌+◌, ◌^◌, ◌<◌, ◌≤◌, ◌↔◌, List, [], ◌++◌, Bool, true, false, length, replicate, IsTrue, IfOk, OnOk, OnErr, Contains};
-ghost use Rattle.subset_runs.specs.Subset.{at_each, count, contains, members, union, minus, complement, expand_as, expand, expand_in, shrink};
+ghost use Rattle.subset_runs.specs.Subset.{at_each, count, contains, members, union, minus, symmetric_difference, complement, expand_as, expand, expand_in, shrink};
 ghost use Rattle.subset_runs.specs.Inner.{is_kept};
 ghost use Rattle.subset_runs.specs.Renumbering.{Expands, Shrinks};
 ghost use Rattle.subset_runs.specs.Ranges.{IsFirstFault, AreGood, HasRanges};
@@ -128,6 +128,14 @@ impl Subset {
         ensures { IfOk result (λ s. s ≡ minus self.now other.now) }
     {
         combined(alloc, self, other, Keep::FirstAlone)
+    }
+
+    /// The positions that are members of exactly one of the two, in the time of the runs of both.
+    pub fn symmetric_difference(&self, alloc: Global, other: &Subset) -> Result<Subset, AllocError>
+        requires { length self.now ≡ length other.now }
+        ensures { IfOk result (λ s. s ≡ symmetric_difference self.now other.now) }
+    {
+        combined(alloc, self, other, Keep::OneAlone)
     }
 
     /// The positions that are no members, in the time of the runs.

@@ -31,6 +31,16 @@ fn the_row_of_sets(rt: HostRuntime) -> Result<(), Fail> {
     for (made, len, runs) in [
         (subset.union(alloc, &first)?, 5, [(0, 3)].as_slice()),
         (subset.minus(alloc, &second)?, 5, [(2, 3)].as_slice()),
+        (
+            subset.symmetric_difference(alloc, &first)?,
+            5,
+            [(0, 3)].as_slice(),
+        ),
+        (
+            subset.symmetric_difference(alloc, &second)?,
+            5,
+            [(2, 3)].as_slice(),
+        ),
         (subset.complement(alloc)?, 5, [(0, 1), (3, 5)].as_slice()),
         (subset.shrink(alloc, &second)?, 4, [(1, 2)].as_slice()),
         (subset.copy(alloc)?, 5, [(1, 3)].as_slice()),
