@@ -1,6 +1,6 @@
 //! The list of revisions.
 
-use rev_list::{RevEdit, RevFault, RevList};
+use rev_list::{RevEdit, RevFault, RevList, RevStep};
 use std::alloc::{AllocError, Global};
 use std::test::Fail;
 use subset_runs::{Subset, SubsetFault};
@@ -81,15 +81,17 @@ fn each_revision_has_its_dead(rt: HostRuntime) -> Result<(), Fail> {
 fn bases_after(alloc: Global, revs: &RevList, rev: u64) -> Result<Vec<u64>, AllocError> {
     let mut bases = Vec::new(alloc);
     if rev <= revs.head() {
-        for edit in revs.edits_after(rev) {
-            bases.push(edit.base)?;
+        for revision in revs.revisions_after(rev) {
+            if let RevStep::Edit(edit) = revision {
+                bases.push(edit.base)?;
+            }
         }
     }
     Ok(bases)
 }
 
 #[test]
-fn edits_after_a_revision_come_in_order(rt: HostRuntime) -> Result<(), Fail> {
+fn revisions_after_a_revision_come_in_order(rt: HostRuntime) -> Result<(), Fail> {
     let alloc = rt.alloc();
     let mut revs = RevList::start(alloc, 0)?;
     for (base, len) in [(0, 1), (0, 2), (2, 3)] {

@@ -1,5 +1,5 @@
 -- What one more edit does to the characters, item by item.
-use Rattle.std.proofs.Common.{◌≡◌, ℕ, ◌+◌, ◌<◌, ◌≤◌, Bool, true, false, not, cond, ◌||◌, List, [], ◌∷◌, ◌++◌, length, map, refl, ap, sym, ◌∙◌, arith}
+use Rattle.std.proofs.Common.{◌≡◌, ℕ, ◌+◌, ◌<◌, ◌≤◌, Bool, true, false, cond, ◌||◌, List, [], ◌∷◌, ◌++◌, length, map, refl, ap, ap₂, sym, ◌∙◌, arith}
 use Rattle.std.specs.Prelude.{suc, zero, replicate, ◌==◌}
 use Rattle.std.specs.List.{filter, AllByRecursion}
 use Rattle.subset_runs.specs.Subset.{count, union, expand_as}
@@ -9,7 +9,7 @@ use Rattle.plain_edits.specs.History.{Tagged, IsTaggedBy}
 use Rattle.plain_edits.specs.Edits.{with_deletion}
 use Rattle.rev_list.specs.Edit.{new_by, with_new, with_deleted}
 use Rattle.plain_edits.specs.History.{is_there}
-use Rattle.rev_list.proofs.TagLemmas.{is_seen, there_new_before, there_by, seen_deleted_now, seen_next, not_inserted_later, has_deleted_now, has_no_later}
+use Rattle.rev_list.proofs.TagLemmas.{there_new_before, there_by, not_inserted_later, has_deleted_now, has_no_later}
 
 pub length-with_new : {X : Type 0} (new : X) (xs : List X) (by : List Bool) → length by ≡ length xs + count by → length (with_new new xs by) ≡ length by
 length-with_new new [] [] h = refl
@@ -96,9 +96,6 @@ tagged-with_deleted rev (x ∷ xs) (false ∷ at) all = (all.0, tagged-with_dele
 
 -- ---- what is hidden
 
-abbrev pub is_unseen : ℕ → Tagged → Bool
-is_unseen rev t = not (is_seen rev t)
-
 or_true : (b : Bool) → (b || true) ≡ true
 or_true true = refl
 or_true false = refl
@@ -107,25 +104,15 @@ or_false : (b : Bool) → (b || false) ≡ b
 or_false true = refl
 or_false false = refl
 
-pub unseen-with_deleted : (rev : ℕ) (xs : List Tagged) (at : List Bool) → length at ≡ length xs → map (is_unseen rev) (with_deleted rev xs at) ≡ union (map (is_unseen rev) xs) at
-unseen-with_deleted rev [] [] h = refl
-unseen-with_deleted rev [] (flag ∷ at) h = refl
-unseen-with_deleted rev (x ∷ xs) [] h = absurd (omega arith)
-unseen-with_deleted rev (x ∷ xs) (true ∷ at) h =
-    let first : is_unseen rev (with_deletion rev x) ≡ (is_unseen rev x || true) = ap not (seen_deleted_now rev x) ∙ sym (or_true (is_unseen rev x)) in
-    let rest = unseen-with_deleted rev xs at (omega arith) in
-    cc
-unseen-with_deleted rev (x ∷ xs) (false ∷ at) h =
-    let first = or_false (is_unseen rev x) in
-    let rest = unseen-with_deleted rev xs at (omega arith) in
-    cc
-
-pub unseen_next : (rev next : ℕ) (xs : List Tagged) → rev < next → AllByRecursion (IsTaggedBy rev) xs → map (is_unseen next) xs ≡ map (is_unseen rev) xs
-unseen_next rev next [] h by = refl
-unseen_next rev next (x ∷ xs) h by =
-    let first = seen_next rev next x h by.0 in
-    let rest = unseen_next rev next xs h by.1 in
-    cc
+-- a flag that each deletion sets
+pub map-with_deleted_set : (f : Tagged → Bool) (rev : ℕ) → ((t : Tagged) → f (with_deletion rev t) ≡ true) → (xs : List Tagged) (at : List Bool) → length at ≡ length xs → map f (with_deleted rev xs at) ≡ union (map f xs) at
+map-with_deleted_set f rev set [] [] h = refl
+map-with_deleted_set f rev set [] (flag ∷ at) h = refl
+map-with_deleted_set f rev set (x ∷ xs) [] h = absurd (omega arith)
+map-with_deleted_set f rev set (x ∷ xs) (true ∷ at) h =
+    ap₂ (λ b rest. b ∷ rest) (set x ∙ sym (or_true (f x))) (map-with_deleted_set f rev set xs at (omega arith))
+map-with_deleted_set f rev set (x ∷ xs) (false ∷ at) h =
+    ap₂ (λ b rest. b ∷ rest) (sym (or_false (f x))) (map-with_deleted_set f rev set xs at (omega arith))
 
 -- ---- which are the insertions and deletions
 
@@ -135,6 +122,12 @@ none_inserted_later rev next (x ∷ xs) h by =
     let first = not_inserted_later rev next x h by.0 in
     let rest = none_inserted_later rev next xs h by.1 in
     cc
+
+-- and of the characters that are there a later revision deletes none
+pub none_deleted_later : (rev next : ℕ) (xs : List Tagged) → rev < next → AllByRecursion (IsTaggedBy rev) xs → map (λ t. has t.deleted next) xs ≡ replicate (length xs) false
+none_deleted_later rev next [] h by = refl
+none_deleted_later rev next (x ∷ xs) h by =
+    ap₂ (λ b rest. b ∷ rest) (has_no_later rev next x.deleted h by.0.deleted) (none_deleted_later rev next xs h by.1)
 
 pub expand_in_none : (n : ℕ) (by : List Bool) → length by ≡ n + count by → expand_as true (replicate n false) by ≡ by
 expand_in_none zero [] h = refl

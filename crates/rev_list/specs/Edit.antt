@@ -1,10 +1,15 @@
--- What an edit adds to a history, where it says positions of the union.
+-- What an edit and an undo add to a history, where they say positions of the union.
 use Rattle.std.specs.Prelude.{◌≡◌, ℕ, ◌+◌, ◌-◌, ◌^◌, ◌<◌, ◌≤◌, Bool, true, false, if◌then◌else◌, List, [], ◌∷◌, ◌++◌, length}
 use Rattle.subset_runs.specs.Subset.{count}
-use Rattle.plain_text.specs.Numbers.{has}
+use Rattle.plain_text.specs.Numbers.{has, flipped}
 use Rattle.plain_edits.specs.History.{inserted_by, Tagged, Revision, edit, History, head}
-use Rattle.plain_edits.specs.Edits.{with_deletion}
+use Rattle.plain_edits.specs.Edits.{with_deletion, undid}
+use Rattle.plain_edits.specs.HistorySteps.{MayUndoSet}
+use Rattle.plain_edits.specs.Undo.{undone_now}
+use Rattle.undo_laws.specs.Under.{hidden_under}
 use Rattle.rev_list.specs.declared.edit.RevEdit.{RevEdit}
+use Rattle.rev_list.specs.declared.step.RevStep.{RevStep}
+use Rattle.rev_list.specs.declared.step.RevStep.TheVariants.{Edit, Undo}
 
 -- the revision of an edit
 abbrev pub edit_revision : RevEdit → Revision
@@ -35,6 +40,15 @@ after_edit history e = record history {
   revisions = history.revisions ++ edit_revision e ∷ [];
 }
 
+-- the undone groups of an undo, by those in which they differ from the groups that are undone at the head
+abbrev pub undone_by : History → List ℕ → List ℕ
+undone_by history groups = flipped (undone_now history) groups
+
+-- the step of a revision: THE EDIT STEP, or THE UNDO STEP with the groups in which its set differs
+abbrev pub after_revision : History → RevStep → History
+after_revision history (Edit e) = after_edit history e
+after_revision history (Undo groups) = undid history (undone_by history groups)
+
 -- the edit may come next
 pub record MayPush (history : History) (e : RevEdit) : Type 0 where
   -- its subsets speak of the union after it
@@ -45,4 +59,10 @@ pub record MayPush (history : History) (e : RevEdit) : Type 0 where
   pub base_known : e.base ≤ head history
   pub group_counts : 1 ≤ e.group
   pub group_kept : has history.collected e.group ≡ false
+  pub has_number : head history < 2 ^ 63 - 1
+
+-- the undo may come next: its set may be undone, and `dead` is what of the union it hides
+pub record MayPushUndo (history : History) (groups : List ℕ) (dead : List Bool) : Type 0 where
+  pub allowed : MayUndoSet history groups
+  pub hidden : dead ≡ hidden_under history groups (head history)
   pub has_number : head history < 2 ^ 63 - 1

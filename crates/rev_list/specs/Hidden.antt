@@ -1,10 +1,13 @@
 -- What the positions of the union are at a revision.
-use Rattle.std.specs.Prelude.{◌≡◌, ℕ, ◌+◌, ◌<◌, ◌≤◌, Bool, not, ◌==◌, List, length, map, Some, slice_get}
+use Rattle.std.specs.Prelude.{◌≡◌, ℕ, ◌+◌, ◌-◌, ◌<◌, ◌≤◌, Bool, not, ◌==◌, List, length, map, Some, slice_get}
 use Rattle.std.specs.List.{filter}
-use Rattle.plain_text.specs.Numbers.{has}
-use Rattle.plain_edits.specs.History.{Tagged, History, head, revision_at, is_there, is_visible}
+use Rattle.plain_text.specs.Numbers.{has, flipped}
+use Rattle.subset_runs.specs.Subset.{count}
+use Rattle.plain_edits.specs.History.{Tagged, History, undo, undone, head, revision_at, is_there, is_visible}
 pub use Rattle.plain_edits.specs.HistorySteps.{is_edit}
 use Rattle.rev_list.specs.declared.edit.RevEdit.{RevEdit}
+use Rattle.rev_list.specs.declared.step.RevStep.{RevStep}
+use Rattle.rev_list.specs.declared.step.RevStep.TheVariants.{Edit, Undo}
 use Rattle.rev_list.specs.Edit.{edit_revision}
 
 -- whether the character is not visible at the revision
@@ -36,10 +39,22 @@ pub record IsEditAt (history : History) (rev : ℕ) (e : RevEdit) : Type 0 where
   pub inserted : e.inserted ≡ insertions_of history rev
   pub deleted : e.deleted ≡ deletions_of history rev
 
--- the edits are those of the revisions after the base, the oldest first
-pub record AreEditsAfter (history : History) (base : ℕ) (edits : List RevEdit) : Type 0 where
-  pub len : length edits + base ≡ head history
-  pub each : (k : ℕ) (e : RevEdit) → slice_get edits k ≡ Some e → IsEditAt history (base + 1 + k) e
+-- the revision is an undo, whose set differs in these groups from the one before it; it inserts and deletes nothing
+pub record IsUndoAt (history : History) (rev : ℕ) (groups : List ℕ) : Type 0 where
+  pub said : revision_at history.revisions rev ≡ Some (undo (undone history.revisions rev))
+  pub differs : undone history.revisions rev ≡ flipped (undone history.revisions (rev - 1)) groups
+  pub inserts_none : count (insertions_of history rev) ≡ 0
+  pub deletes_none : count (deletions_of history rev) ≡ 0
+
+-- the revision is this edit, or this undo
+abbrev pub IsRevisionAt : History → ℕ → RevStep → Type 0
+IsRevisionAt history rev (Edit e) = IsEditAt history rev e
+IsRevisionAt history rev (Undo groups) = IsUndoAt history rev groups
+
+-- the revisions are those after the base, the oldest first
+pub record AreRevisionsAfter (history : History) (base : ℕ) (revisions : List RevStep) : Type 0 where
+  pub len : length revisions + base ≡ head history
+  pub each : (k : ℕ) (revision : RevStep) → slice_get revisions k ≡ Some revision → IsRevisionAt history (base + 1 + k) revision
 
 -- the revision is from the floor to the head
 abbrev pub IsKeptAt : History → ℕ → Type 0

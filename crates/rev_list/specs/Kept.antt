@@ -1,41 +1,81 @@
--- What a list of revisions keeps: its edits, each in the positions of its own union.
-use Rattle.std.specs.Prelude.{◌≡◌, ℕ, ◌+◌, Bool, false, List, [], ◌∷◌, length, map, replicate}
+-- What a list of revisions keeps: its edits, each in the positions of its own union, and its undos.
+use Rattle.std.specs.Prelude.{◌≡◌, ℕ, ◌+◌, Bool, true, false, List, [], ◌∷◌, length, map, replicate}
 use Rattle.std.specs.List.{fold}
-use Rattle.subset_runs.specs.Subset.{count, expand, union, minus}
-use Rattle.plain_edits.specs.History.{History, loaded}
+use Rattle.subset_runs.specs.Subset.{count, expand, expand_in, shrink, union, symmetric_difference}
+use Rattle.plain_text.specs.Numbers.{IsRising}
+use Rattle.plain_edits.specs.History.{History, head, loaded}
+use Rattle.plain_edits.specs.Undo.{undone_now}
 use Rattle.rev_list.specs.declared.edit.RevEdit.{RevEdit}
+use Rattle.rev_list.specs.declared.step.RevStep.{RevStep}
+use Rattle.rev_list.specs.declared.step.RevStep.TheVariants.{Edit, Undo}
 use Rattle.rev_list.specs.declared.records.RevRecord.{RevRecord}
-use Rattle.rev_list.specs.Edit.{after_edit}
+use Rattle.rev_list.specs.Edit.{after_revision}
+use Rattle.rev_list.specs.Hidden.{hidden_at}
 
--- the history of edits over a loaded text of this length
-abbrev pub history_of : ℕ → List RevEdit → History
-history_of len edits = fold after_edit (loaded (replicate len 0)) edits
+-- the history of revisions over a loaded text of this length
+abbrev pub history_of : ℕ → List RevStep → History
+history_of len revisions = fold after_revision (loaded (replicate len 0)) revisions
 
--- what is dead after an edit, where `dead` was before it
-abbrev pub dead_after : List Bool → RevEdit → List Bool
-dead_after dead e = union (expand dead e.inserted) e.deleted
+-- the revisions of the records
+abbrev pub steps_of : List RevRecord → List RevStep
+steps_of records = map (λ r. r.step) records
 
--- which positions an edit hides: those that it deletes, where they were not dead before it
-abbrev pub hidden_by : List Bool → RevEdit → List Bool
-hidden_by dead e = minus e.deleted (expand dead e.inserted)
+-- what is dead at the head
+abbrev pub dead_now : History → List Bool
+dead_now history = hidden_at history (head history)
 
--- the same for each of the edits
-abbrev pub hidden_by_each : List Bool → List RevEdit → List (List Bool)
-hidden_by_each dead [] = []
-hidden_by_each dead (e ∷ edits) = hidden_by dead e ∷ hidden_by_each (dead_after dead e) edits
+-- what is dead after an edit, where `dead` was before it, by whether its group is undone: what it inserts, or what it deletes
+abbrev pub dead_after : Bool → List Bool → RevEdit → List Bool
+dead_after true dead e = expand_in dead e.inserted
+dead_after false dead e = union (expand dead e.inserted) e.deleted
 
--- each edit speaks of the union before it with its insertions; `len` is the length of the first union
-abbrev pub AreInTurn : ℕ → List RevEdit → Type 0
-AreInTurn len [] = Unit {0}
-AreInTurn len (e ∷ edits) =
-    (length e.inserted ≡ len + count e.inserted) × (length e.deleted ≡ length e.inserted) × AreInTurn (length e.inserted) edits
+-- what was dead before a revision, in the positions of the union after it, where what is new counts as alive
+abbrev pub grown_by : List Bool → RevStep → List Bool
+grown_by dead (Edit e) = expand dead e.inserted
+grown_by dead (Undo groups) = dead
 
--- the edits of the records
-abbrev pub edits_of : List RevRecord → List RevEdit
-edits_of records = map (λ r. r.edit) records
+-- the same set without the new positions
+abbrev pub ungrown_by : List Bool → RevStep → List Bool
+ungrown_by dead (Edit e) = shrink dead e.inserted
+ungrown_by dead (Undo groups) = dead
 
--- what a list keeps: each edit with what it hid, and what is dead at the head
-pub record HoldsEdits (len : ℕ) (records : List RevRecord) (gone : List Bool) : Type 0 where
-  pub in_turn : AreInTurn len (edits_of records)
-  pub hidden : map (λ r. r.hidden) records ≡ hidden_by_each (replicate len false) (edits_of records)
-  pub dead : gone ≡ fold dead_after (replicate len false) (edits_of records)
+-- the positions that a revision turns from dead to alive or back
+abbrev pub turned_by : History → RevStep → List Bool
+turned_by history revision = symmetric_difference (grown_by (dead_now history) revision) (dead_now (after_revision history revision))
+
+-- what was dead before a revision, in the positions of the union before it, where `dead` is after it
+abbrev pub dead_before : List Bool → RevRecord → List Bool
+dead_before dead r = ungrown_by (symmetric_difference dead r.turned) r.step
+
+-- an edit speaks of the union before it with its insertions
+pub record IsNext (history : History) (e : RevEdit) : Type 0 where
+  pub grown : length e.inserted ≡ length history.characters + count e.inserted
+  pub same_length : length e.deleted ≡ length e.inserted
+
+abbrev pub Follows : History → RevStep → Type 0
+Follows history (Edit e) = IsNext history e
+Follows history (Undo groups) = Unit {0}
+
+-- a set of positions of the union after a revision has this length
+abbrev pub HasLength : ℕ → RevStep → Type 0
+HasLength len (Edit e) = len ≡ length e.inserted
+HasLength len (Undo groups) = Unit {0}
+
+-- each edit grows the union before it, which has this length at first
+abbrev pub GrowFrom : ℕ → List RevStep → Type 0
+GrowFrom len [] = Unit {0}
+GrowFrom len (Edit e ∷ revisions) = (length e.inserted ≡ len + count e.inserted) × GrowFrom (length e.inserted) revisions
+GrowFrom len (Undo groups ∷ revisions) = GrowFrom len revisions
+
+-- each record has a revision that may follow the history, and the positions that it turned
+abbrev pub AreKept : History → List RevRecord → Type 0
+AreKept history [] = Unit {0}
+AreKept history (r ∷ records) =
+    Follows history r.step × (r.turned ≡ turned_by history r.step) × AreKept (after_revision history r.step) records
+
+-- what a list keeps: each revision with what it turned, what is dead at the head, and which groups are undone there
+pub record HoldsRevisions (len : ℕ) (records : List RevRecord) (gone : List Bool) (groups : List ℕ) : Type 0 where
+  pub kept : AreKept (loaded (replicate len 0)) records
+  pub dead : gone ≡ dead_now (history_of len (steps_of records))
+  pub undone : groups ≡ undone_now (history_of len (steps_of records))
+  pub rising : IsRising groups

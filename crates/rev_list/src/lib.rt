@@ -6,21 +6,28 @@
 //!
 //! The revisions stand in a tree of shared records. A copy of a list is a few pointers, and a push copies one path.
 //!
-//! [`laws::edit_step`] says that a push is the edit step of a history, whatever its text.
+//! [`laws::edit_step`] says that the push of an edit is the edit step of a history, whatever its text; the push of an undo is the
+//! undo step.
 //!
-//! Each edit keeps its subsets in the positions of its own union, the one after it. A later edit touches none of them; they are
-//! carried forward when they are asked for.
+//! Each revision keeps its subsets in the positions of its own union, the one after it. A later one touches none of them; they are
+//! carried forward when they are asked for. Beside the edit a revision keeps the positions that it turned from dead to alive or
+//! back, so that the way back over an edit, an edit of an undone group and an undo is the same. An undo keeps the groups in which
+//! its set differs from the one before it.
 #![tactic(auto)]
 
 mod carry;
 mod edit;
 mod fault;
+mod groups;
 pub mod laws;
 mod list;
 mod records;
+mod step;
 mod walk;
 
 pub use edit::RevEdit;
 pub use fault::RevFault;
+pub use groups::Groups;
 pub use list::RevList;
-pub use walk::EditsAfter;
+pub use step::RevStep;
+pub use walk::RevisionsAfter;

@@ -1,14 +1,17 @@
 ghost use Rattle.std.specs.Prelude.{◌≡◌, ◌≢◌, ℕ, ◌+◌, ◌-◌, ◌<◌, ◌≤◌, ◌↔◌, false, length, replicate, IfOk, IfSome, IfNone, OnOk, OnErr};
-ghost use Rattle.plain_text.specs.Numbers.{has};
+ghost use Rattle.plain_text.specs.Numbers.{has, IsRising};
 ghost use Rattle.plain_edits.specs.History.{IsSound, head, loaded, revision_at};
-ghost use Rattle.rev_list.specs.Edit.{after_edit, MayPush};
-ghost use Rattle.rev_list.specs.Hidden.{AreEditsAfter, IsCollected, IsEditAt, IsKeptAt, IsUnknown, hidden_at, hidden_then, is_edit};
+ghost use Rattle.plain_edits.specs.Edits.{undid};
+ghost use Rattle.plain_edits.specs.Undo.{undone_now};
+ghost use Rattle.rev_list.specs.Edit.{after_edit, undone_by, MayPush, MayPushUndo};
+ghost use Rattle.rev_list.specs.Hidden.{AreRevisionsAfter, IsCollected, IsEditAt, IsKeptAt, IsUnknown, hidden_at, hidden_then, is_edit};
 
-use crate::carry::{carried, recorded};
+use crate::carry::{before, carried, recorded_edit, recorded_undo};
 use crate::records::Records;
-use crate::{EditsAfter, RevEdit, RevFault};
+use crate::{Groups, RevEdit, RevFault, RevStep, RevisionsAfter};
 use plain_text::NoMemory;
 use std::alloc::{AllocError, Global};
+use std::collections::BTreeSet;
 use std::marker::Model;
 use std::sync::Arc;
 use subset_runs::Subset;
@@ -22,6 +25,8 @@ pub struct RevList {
     records: Records,
     /// What is dead at the head.
     dead: Arc<Subset, Global>,
+    /// The groups that are undone at the head.
+    undone: Arc<Groups, Global>,
 }
 
 impl Model for RevList {
@@ -30,15 +35,16 @@ impl Model for RevList {
 
     ghost Value = { History };
 
-    ghost use Rattle.rev_list.specs.Kept.{HoldsEdits, edits_of, history_of};
+    ghost use Rattle.rev_list.specs.Kept.{HoldsRevisions, history_of, steps_of};
 
-    ghost view = { λ s. history_of s.len (edits_of s.records) };
+    ghost view = { λ s. history_of s.len (steps_of s.records) };
 
-    ghost invariant = { λ s. HoldsEdits s.len s.records (arc_value s.dead) };
+    ghost invariant = { λ s. HoldsRevisions s.len s.records (arc_value s.dead) (arc_value s.undone) };
 }
 
 impl RevList {
     /// The list of a text that was just loaded, with this many characters.
+    #[tactic(auto, using(crate::proofs::RecordLemmas::holds_loaded))]
     pub fn start(alloc: Global, len: u64) -> Result<RevList, NoMemory>
         ensures { IfOk result (λ made. made ≡ loaded (replicate len 0)) }
     {
@@ -46,6 +52,7 @@ impl RevList {
             len,
             records: Records::new(alloc),
             dead: Arc::new(alloc, Subset::none(alloc, len))?,
+            undone: Arc::new(alloc, Groups::none(alloc))?,
         })
     }
 
@@ -104,8 +111,16 @@ impl RevList {
         Ok(rev - floor)
     }
 
-    /// The edit of a revision, in O(height); none for the loaded text and above the head. Its subsets are in the positions of the union
-    /// after it.
+    /// The groups that are undone at the head, in O(1).
+    pub fn undone(&self) -> &Groups
+        ensures groups { result.now ≡ undone_now self.now }
+        ensures rising { IsRising result.now }
+    {
+        &self.undone
+    }
+
+    /// The edit of a revision, in O(height); none for the loaded text, for an undo and above the head. Its subsets are in the
+    /// positions of the union after it.
     pub fn edit(&self, rev: u64) -> Option<&RevEdit>
         ensures some { IfSome result (λ edit. IsEditAt self.now rev edit.now) }
         ensures none { IfNone result (is_edit (revision_at self.now.revisions rev) ≡ false) }
@@ -113,18 +128,21 @@ impl RevList {
         if rev == 0 || self.head() < rev {
             return None;
         }
-        Some(&self.records.get(rev - 1).edit)
+        match &self.records.get(rev - 1).step {
+            RevStep::Edit(edit) => Some(edit),
+            RevStep::Undo(_) => None,
+        }
     }
 
-    /// A walk over the edits after a revision, the oldest first, in O(1). Each one's subsets are in the positions of the union after it, so that
-    /// a set of positions is carried over one edit after the other, and ends in the present union: each character of that is of a
-    /// revision which is there.
-    pub fn edits_after(&self, base: u64) -> EditsAfter<'_>
+    /// A walk over the revisions after a revision, edits and undos, the oldest first, in O(1). Each edit's subsets are in the
+    /// positions of the union after it, so that a set of positions is carried over one revision after the other, passes an undo by,
+    /// and ends in the present union: each character of that is of a revision which is there.
+    pub fn revisions_after(&self, base: u64) -> RevisionsAfter<'_>
         requires { base ≤ head self.now }
-        ensures edits { AreEditsAfter self.now base result }
+        ensures revisions { AreRevisionsAfter self.now base result }
         ensures sound { IsSound self.now }
     {
-        EditsAfter::new(&self.records, base)
+        RevisionsAfter::new(&self.records, base)
     }
 
     /// What of the present union is not visible at the revision. With d revisions after it and r runs in what is dead, O(d · r): at
@@ -158,10 +176,10 @@ impl RevList {
         ensures { IfOk result (λ s. s ≡ hidden_at self.now rev) }
     {
         let dead = self.dead_back(alloc, rev)?;
-        carried(alloc, dead, EditsAfter::new(&self.records, rev))
+        carried(alloc, dead, RevisionsAfter::new(&self.records, rev))
     }
 
-    // From the head back to the revision: each edit's insertions go, and what it hid is alive again.
+    // From the head back to the revision: what each revision turned is turned back, and its insertions go.
     fn dead_back(&self, alloc: Global, rev: u64) -> Result<Subset, AllocError>
         requires { rev ≤ head self.now }
         ensures { IfOk result (λ s. s ≡ hidden_then self.now rev) }
@@ -170,25 +188,67 @@ impl RevList {
         let mut at = self.records.len();
         while rev < at {
             at -= 1;
-            let revision = self.records.get(at);
-            let kept = dead.minus(alloc, &revision.hidden)?;
-            dead = kept.shrink(alloc, &revision.edit.inserted)?;
+            dead = before(alloc, &dead, self.records.get(at))?;
         }
         Ok(dead)
     }
 
     /// Makes the edit the next revision and gives its number. It costs the runs of what is dead at the head and those of the edit,
-    /// and the height of the list. After want of memory the revisions are as before.
+    /// the height of the list, and the logarithm of the number of undone groups. An edit whose group is undone is hidden on arrival,
+    /// and hides nothing. After want of memory the revisions are as before.
     pub fn push_edit(&mut self, alloc: Global, edit: RevEdit) -> Result<u64, NoMemory>
         requires { MayPush self.old edit }
         ensures ok { OnOk result (self.new ≡ after_edit self.old edit) }
         ensures err { OnErr result (self.new ≡ self.old) }
         ensures number { IfOk result (λ rev. rev ≡ head self.old + 1) }
     {
-        let (newest, dead) = recorded(alloc, &self.dead, edit)?;
+        let undone = self.undone.has(edit.group);
+        let (newest, dead) = recorded_edit(alloc, &self.dead, undone, edit)?;
         let dead = Arc::new(alloc, dead)?;
         self.records.push(alloc, newest)?;
         self.dead = dead;
+        Ok(self.records.len())
+    }
+
+    /// Makes an undo the next revision and gives its number: from it on exactly these groups are undone. `dead` is what of the union
+    /// is not visible under them. It costs the runs of what is dead before and after, and one pass over the groups that are undone
+    /// before and after. After want of memory the revisions are as before.
+    pub fn push_undo(
+        &mut self,
+        alloc: Global,
+        groups: &BTreeSet<u64>,
+        dead: Subset,
+    ) -> Result<u64, NoMemory>
+        requires { MayPushUndo self.old groups.now.keys dead }
+        ensures ok { OnOk result (self.new ≡ undid self.old groups.now.keys) }
+        ensures err { OnErr result (self.new ≡ self.old) }
+        ensures number { IfOk result (λ rev. rev ≡ head self.old + 1) }
+    {
+        let differ = self.undone().flipped_by_set(alloc, groups)?;
+        self.push_undo_by(alloc, differ.as_slice(), dead)
+    }
+
+    /// The same, of the groups in which the new set differs from the groups that are undone at the head, in rising order.
+    pub fn push_undo_by(
+        &mut self,
+        alloc: Global,
+        groups: &[u64],
+        dead: Subset,
+    ) -> Result<u64, NoMemory>
+        requires rising { IsRising groups.now }
+        requires may { MayPushUndo self.old (undone_by self.old groups.now) dead }
+        ensures ok { OnOk result (self.new ≡ undid self.old (undone_by self.old groups.now)) }
+        ensures err { OnErr result (self.new ≡ self.old) }
+        ensures number { IfOk result (λ rev. rev ≡ head self.old + 1) }
+    {
+        let differ = Groups::of_slice(alloc, groups)?;
+        let newest = recorded_undo(alloc, &self.dead, &dead, differ)?;
+        let flipped = self.undone.flipped(alloc, groups)?;
+        let undone = Arc::new(alloc, flipped)?;
+        let dead = Arc::new(alloc, dead)?;
+        self.records.push(alloc, newest)?;
+        self.dead = dead;
+        self.undone = undone;
         Ok(self.records.len())
     }
 
@@ -200,6 +260,7 @@ impl RevList {
             len: self.len,
             records: self.records.copy(alloc)?,
             dead: Arc::try_clone(&self.dead)?,
+            undone: Arc::try_clone(&self.undone)?,
         })
     }
 }

@@ -1,17 +1,18 @@
 // What a list of revisions keeps of each of them, behind shared pointers.
 ghost use Rattle.std.specs.Prelude.{◌≡◌, ◌+◌, ◌^◌, ◌<◌, [], ◌∷◌, ◌++◌, length, slice_index_or, IfOk, OnOk, OnErr};
 
-use crate::RevEdit;
+use crate::RevStep;
 use shared_tree::{Batch, Tree};
 use std::alloc::{AllocError, Global};
 use std::marker::Model;
 use subset_runs::Subset;
 
-/// A revision: its edit, and what it hid, in the positions of its own union.
+/// A revision, and the positions of its own union that it turned from dead to alive or back. What is new there counts as alive
+/// before it.
 #[derive(Drop)]
 pub(crate) struct RevRecord {
-    pub(crate) edit: RevEdit,
-    pub(crate) hidden: Subset,
+    pub(crate) step: RevStep,
+    pub(crate) turned: Subset,
 }
 
 /// The records of the revisions after the loaded text, the oldest first.

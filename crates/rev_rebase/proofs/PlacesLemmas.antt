@@ -13,8 +13,8 @@ use Rattle.subset_runs.proofs.ForCallers.{count-replicate_true}
 use Rattle.delta_core.proofs.ForCallers.{IsCarried-carried}
 use Rattle.delta_core.specs.Carry.{carried}
 use Rattle.delta_core.specs.Factor.{dropped_flags, inserted_flags}
-use Rattle.rev_list.specs.declared.edit.RevEdit.{RevEdit}
-use Rattle.rev_list.specs.Hidden.{is_hidden, union_at, hidden_then, AreEditsAfter}
+use Rattle.rev_list.specs.declared.step.RevStep.{RevStep}
+use Rattle.rev_list.specs.Hidden.{is_hidden, union_at, hidden_then, AreRevisionsAfter}
 use Rattle.rev_list.specs.WithoutText.{insertion_flags, deletion_flags, without_text}
 use Rattle.rev_list.proofs.ForCallers.{grown_flags}
 use Rattle.rev_rebase.specs.Until.{until}
@@ -24,7 +24,7 @@ use Rattle.rev_rebase.proofs.BlockLemmas.{count-blocks, count-put_between, lengt
 use Rattle.rev_rebase.proofs.FlagLemmas.{left_part, right_part, put_in_block, insertion_flags-blocks, insertion_flags-base, insertion_flags-textless, visible_at-textless, dropped_then, dropped_then-base, deletion_flags-until, length-dropped_then}
 use Rattle.rev_rebase.proofs.UntilLemmas.{alive_then, length-union_at, until-head}
 use Rattle.rev_rebase.proofs.TextLemmas.{edited-put_in}
-use Rattle.rev_rebase.proofs.LaterLemmas.{insertions_fold, deletions_fold, count-others, Grow-edits}
+use Rattle.rev_rebase.proofs.LaterLemmas.{insertions_fold, deletions_fold, count-others, Grow-revisions}
 
 -- an edit inserts at its places as many characters as its text has
 pub count-insertion_flags : (h : History) (e : PlainEdit) → count (insertion_flags h e) ≡ length (text_of_edit h e)
@@ -66,14 +66,14 @@ inserted_flags-bound h base units alive bound =
     )
 
 -- carried over the edits after its base they come to its places
-pub record ArePlacesOver (h : History) (base : ℕ) (units : UnitDelta) (priority : ℕ) (edits : List RevEdit) : Type 0 where
+pub record ArePlacesOver (h : History) (base : ℕ) (units : UnitDelta) (priority : ℕ) (edits : List RevStep) : Type 0 where
   pub together : GoTogether (inserted_flags units) (dropped_flags units) (hidden_then h base) edits priority
   pub insertions : insertions_over_all (inserted_flags units) (hidden_then h base) edits priority ≡ insertion_flags h (unit_edit base units priority)
   pub deletions : expand (deletions_over_all (dropped_flags units) (hidden_then h base) edits)
       (insertions_over_all (inserted_flags units) (hidden_then h base) edits priority) ≡ deletion_flags h (unit_edit base units priority)
 
-pub places_over : (h : History) (base : ℕ) (units : UnitDelta) (priority : ℕ) (edits : List RevEdit) → base ≤ head h → IsSound h →
-    units.base ≡ length (visible_at h base) → length h.characters + length (added_text units) < 2 ^ 64 → AreEditsAfter h base edits →
+pub places_over : (h : History) (base : ℕ) (units : UnitDelta) (priority : ℕ) (edits : List RevStep) → base ≤ head h → IsSound h →
+    units.base ≡ length (visible_at h base) → length h.characters + length (added_text units) < 2 ^ 64 → AreRevisionsAfter h base edits →
     ArePlacesOver h base units priority edits
 places_over h base units priority edits known sound alive bound after = record {
   together = record {
@@ -82,11 +82,11 @@ places_over h base units priority edits known sound alive bound after = record {
     dropped_beside =
         omega (arith, length-map (range_with_len 0 units.base) (λ i. not (unit_keeps units i)), length-range_with_len 0 units.base, dead, alive);
     insertions_grow =
-        Grow-edits h (count first) base (length first) edits after
+        Grow-revisions h (count first) base (length first) edits after
         (omega (arith, own, (IsCarried-carried true (inserted_flags units) (hidden_then h base) beside).members, bound))
         (ap length first_is ∙ grown_flags (until h base) e ∙ ap (λ flags. length (union_at h base) + count flags) (sym first_is));
     deletions_grow =
-        Grow-edits h 0 base (length (expand (dropped_flags units) (hidden_then h base))) edits after (omega (arith, bound))
+        Grow-revisions h 0 base (length (expand (dropped_flags units) (hidden_then h base))) edits after (omega (arith, bound))
         (ap length (dropped_then-base h base units alive) ∙ length-dropped_then h base (unit_keeps units) base (omega arith) ∙ omega arith);
     same_length =
         omega (

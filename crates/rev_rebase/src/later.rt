@@ -1,5 +1,5 @@
-// Sets of positions of one union in those of a later one, carried over one edit after the other.
-ghost use Rattle.std.specs.Prelude.{◌≡◌, ◌+◌, length, IfOk};
+// Sets of positions of one union in those of a later one, carried over one revision after the other.
+ghost use Rattle.std.specs.Prelude.{◌≡◌, [], ◌∷◌, length, IfOk};
 ghost use Rattle.std.specs.List.{fold};
 ghost use Rattle.subset_runs.specs.Subset.{count};
 ghost use Rattle.rev_rebase.specs.Inner.{Grow, deletions_after, insertions_after};
@@ -7,29 +7,60 @@ ghost use Rattle.rev_rebase.specs.Inner.{Grow, deletions_after, insertions_after
 use crate::order::goes_right;
 use delta_core::carry_ins;
 use plain_text::NoMemory;
-use rev_list::EditsAfter;
+use rev_list::{RevStep, RevisionsAfter};
 use std::alloc::Global;
 use subset_runs::Subset;
 
-// Insertions with a priority, and deletions, in the union that has the insertions of the edits too.
-pub(crate) fn over_edits(
+// Insertions with a priority, and deletions, in the union that has the insertions of the revisions too.
+#[tactic(auto, using(crate::proofs::LaterLemmas::insertions_next, crate::proofs::LaterLemmas::deletions_next))]
+pub(crate) fn over_revisions(
     alloc: Global,
     ins: Subset,
     del: Subset,
-    edits: EditsAfter<'_>,
+    revisions: RevisionsAfter<'_>,
     priority: u32,
 ) -> Result<(Subset, Subset), NoMemory>
-    requires insertions { Grow (count ins) (length ins) edits }
-    requires deletions { Grow 0 (length del) edits }
-    ensures insertions { IfOk result (λ sets. sets.0 ≡ fold (insertions_after priority) ins edits.entry) }
-    ensures deletions { IfOk result (λ sets. sets.1 ≡ fold deletions_after del edits.entry) }
+    requires insertions { Grow (count ins) (length ins) revisions }
+    requires deletions { Grow 0 (length del) revisions }
+    ensures insertions { IfOk result (λ sets. sets.0
+        ≡ fold (insertions_after priority) ins revisions.entry) }
+    ensures deletions { IfOk result (λ sets. sets.1 ≡ fold deletions_after del revisions.entry) }
 {
     let mut inserted = ins;
     let mut deleted = del;
-    for edit in edits {
-        let after = goes_right(edit.priority, priority);
-        inserted = carry_ins(alloc, &inserted, &edit.inserted, after)?;
-        deleted = deleted.expand(alloc, &edit.inserted)?;
+    for revision in revisions {
+        inserted = insertions_over(alloc, inserted, revision, priority)?;
+        deleted = deletions_over(alloc, deleted, revision)?;
     }
     Ok((inserted, deleted))
+}
+
+// An undo moves no insertion.
+fn insertions_over(
+    alloc: Global,
+    ins: Subset,
+    revision: &RevStep,
+    priority: u32,
+) -> Result<Subset, NoMemory>
+    requires { Grow (count ins) (length ins) (revision.now ∷ []) }
+    ensures { IfOk result (λ s. s ≡ insertions_after priority ins revision.now) }
+{
+    match revision {
+        RevStep::Edit(edit) => {
+            let after = goes_right(edit.priority, priority);
+            carry_ins(alloc, &ins, &edit.inserted, after)
+        }
+        RevStep::Undo(_) => Ok(ins),
+    }
+}
+
+// And it moves no deletion.
+fn deletions_over(alloc: Global, del: Subset, revision: &RevStep) -> Result<Subset, NoMemory>
+    requires { Grow 0 (length del) (revision.now ∷ []) }
+    ensures { IfOk result (λ s. s ≡ deletions_after del revision.now) }
+{
+    match revision {
+        RevStep::Edit(edit) => Ok(del.expand(alloc, &edit.inserted)?),
+        RevStep::Undo(_) => Ok(del),
+    }
 }

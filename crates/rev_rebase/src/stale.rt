@@ -8,11 +8,11 @@ ghost use Rattle.rev_list.specs.WithoutText.{deletion_flags, insertion_flags, wi
 ghost use Rattle.rev_rebase.specs.Rebase.{added_text, characters_of, put_in, unit_edit};
 ghost use Rattle.rev_rebase.specs.Inner.{GoTogether, deletions_over_all, insertions_over_all};
 
-use crate::later::over_edits;
+use crate::later::over_revisions;
 use delta_core::{carry_ins, factor};
 use plain_edits::UnitDelta;
 use plain_text::{NoMemory, Text};
-use rev_list::{EditsAfter, RevList};
+use rev_list::{RevList, RevisionsAfter};
 use std::alloc::Global;
 use subset_runs::Subset;
 
@@ -25,7 +25,8 @@ pub struct Rebased {
 }
 
 /// Where an edit goes that was made for the text of revision `rev`, with this priority: its insertions stand after the dead
-/// characters at their gap, and beside those of later edits by the rule of order, and its deletions drop nothing that came later.
+/// characters at their gap, and beside those of later edits by the rule of order, and its deletions drop nothing that came later. A
+/// later undo moves nothing.
 /// Pushed with these subsets, the edit is the edit step of the history. `priority` has no unit: of two edits at one gap that of the
 /// higher one stands right, and of equal ones the later.
 ///
@@ -55,7 +56,7 @@ pub fn rebase(
 {
     let (dropped, own) = factor(alloc, units)?;
     let dead = dead_then(alloc, revs, rev)?;
-    let later = revs.edits_after(rev);
+    let later = revs.revisions_after(rev);
     let (inserted, deleted) = carried_over(alloc, &own, &dropped, &dead, later, priority)?;
     let text = joined(alloc, units)?;
     Ok(Rebased {
@@ -65,13 +66,13 @@ pub fn rebase(
     })
 }
 
-// What an edit inserts and drops in a text, over what is dead there, and then over the later edits.
+// What an edit inserts and drops in a text, over what is dead there, and then over the later revisions.
 fn carried_over(
     alloc: Global,
     own: &Subset,
     dropped: &Subset,
     dead: &Subset,
-    later: EditsAfter<'_>,
+    later: RevisionsAfter<'_>,
     priority: u32,
 ) -> Result<(Subset, Subset), NoMemory>
     requires { GoTogether own.now dropped.now dead.now later priority }
@@ -83,7 +84,7 @@ fn carried_over(
 {
     let first = carry_ins(alloc, own, dead, true)?;
     let gone = dropped.expand(alloc, dead)?;
-    let (inserted, gone) = over_edits(alloc, first, gone, later, priority)?;
+    let (inserted, gone) = over_revisions(alloc, first, gone, later, priority)?;
     let deleted = gone.expand(alloc, &inserted)?;
     Ok((inserted, deleted))
 }

@@ -1,35 +1,30 @@
-use Rattle.std.proofs.Common.{◌≡◌, [], ◌∷◌, ◌++◌, length, length-append, arith, ap, sym, ◌∙◌}
+use Rattle.std.proofs.Common.{◌≡◌, [], ◌∷◌, ◌++◌, length, length-append, arith, ap, ap₂, ◌∙◌}
 use Rattle.std.specs.Arc.{arc_value}
-use Rattle.rev_list.specs.Kept.{dead_after, edits_of, hidden_by}
-use Rattle.rev_list.proofs.FlagLemmas.{length-edits_of}
-use Rattle.rev_list.proofs.HistoryLemmas.{head-history_of, length-history_of, HoldsEdits-push}
+use Rattle.subset_runs.specs.Subset.{expand, symmetric_difference}
+use Rattle.plain_text.specs.Numbers.{has}
+use Rattle.rev_list.specs.Kept.{dead_after}
+use Rattle.rev_list.proofs.RecordLemmas.{head-history_of, push_edit}
 use Rattle.rev_list.proofs.list.RevList.push_edit.Goals as goal
-
-pub recorded-requires-clause-grown : goal.recorded-requires-clause-grown
-recorded-requires-clause-grown c =
-    let grown = rw (← c.self.view_is) at c.requires.grown in
-    omega (arith, grown, length-history_of c.self.inside.len (edits_of c.self.inside.records) c.self.invariant.in_turn, ap length c.self.invariant.dead, ap length c.deref.ensures)
 
 pub push-requires : goal.push-requires
 push-requires c =
     let last = rw (← c.self.view_is) at c.requires.has_number in
-    omega (arith, last, head-history_of c.self.inside.len (edits_of c.self.inside.records), length-edits_of c.self.inside.records)
+    omega (arith, last, head-history_of c.self.inside.len c.self.inside.records)
 
 pub invariant_of-self-2 : goal.invariant_of-self-2
 invariant_of-self-2 c =
     let s = c.self.inside in
+    let e = c.args.edit in
     let made = c.in_ok-newest.ensures in
-    let newest = c.in_ok-newest.newest in
-    let gone = arc_value s.dead in
     let may = rw (← c.self.view_is) at c.requires in
-    let hid : newest.hidden ≡ hidden_by gone newest.edit =
-    made.hidden ∙ (ap (λ xs. hidden_by xs c.args.edit) c.deref.ensures ∙ ap (λ e. hidden_by gone e) (sym made.edit)) in
-    let dead : arc_value c.in_ok-dead.dead ≡ dead_after gone newest.edit =
-    c.in_ok-dead.ensures.ok ∙ (made.dead ∙ (ap (λ xs. dead_after xs c.args.edit) c.deref.ensures ∙ ap (λ e. dead_after gone e) (sym made.edit))) in
-    rw c.in_ok-push.ensures.pushed (HoldsEdits-push s.len s.records gone (arc_value c.in_ok-dead.dead) newest c.self.invariant (rw made.edit may) hid dead)
+    let undone : c.has-undone.result ≡ has (arc_value s.undone) e.group = c.has-undone.ensures ∙ ap (λ xs. has xs e.group) c.deref.ensures in
+    rw c.in_ok-push.ensures.pushed
+    (push_edit s.len s.records c.in_ok-newest.newest e (arc_value s.dead) (arc_value c.in_ok-dead.dead) (arc_value s.undone) c.self.invariant may made.step
+    (made.turned ∙ ap₂ (λ flags b. symmetric_difference (expand flags e.inserted) (dead_after b flags e)) c.deref-2.ensures undone)
+    (c.in_ok-dead.ensures.ok ∙ (made.dead ∙ ap₂ (λ flags b. dead_after b flags e) c.deref-2.ensures undone))).holds
 
 pub returns-clause-number : goal.returns-clause-number
 returns-clause-number c =
     let s = c.self.inside in
     let more : length c.push.new.self ≡ length (s.records ++ c.in_ok-newest.newest ∷ []) = ap length c.in_ok-push.ensures.pushed in
-    rw (← c.self.view_is) (omega (arith, c.len.ensures, more, length-append s.records (c.in_ok-newest.newest ∷ []), head-history_of s.len (edits_of s.records), length-edits_of s.records))
+    rw (← c.self.view_is) (omega (arith, c.len.ensures, more, length-append s.records (c.in_ok-newest.newest ∷ []), head-history_of s.len s.records))
