@@ -52,6 +52,7 @@ pub record IsNext (history : History) (e : RevEdit) : Type 0 where
   pub grown : length e.inserted ≡ length history.characters + count e.inserted
   pub same_length : length e.deleted ≡ length e.inserted
 
+-- the revision may follow the history: an edit speaks of its union, and an undo of no positions
 abbrev pub Follows : History → RevStep → Type 0
 Follows history (Edit e) = IsNext history e
 Follows history (Undo groups) = Unit {0}

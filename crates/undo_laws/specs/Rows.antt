@@ -20,7 +20,7 @@ abbrev pub two_groups : History
 two_groups = edited (edited (loaded (codes "ab")) (first_for (codes "1") 1)) (first_for (codes "2") 2)
 
 -- `a` is shown where both groups are undone, and the characters of a group are hidden where it is undone
-pub record UndoOfAnySet : Type 0 where
+pub record WhatEachSetHides : Type 0 where
   pub none : hidden_under two_groups [] 2 ≡ true ∷ false ∷ false ∷ false ∷ []
   pub first : hidden_under two_groups (1 ∷ []) 2 ≡ true ∷ false ∷ true ∷ false ∷ []
   pub second : hidden_under two_groups (2 ∷ []) 2 ≡ true ∷ false ∷ false ∷ true ∷ []
