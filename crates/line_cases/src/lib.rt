@@ -4,6 +4,8 @@
 #[cfg(test)]
 mod clusters;
 #[cfg(test)]
+mod motions;
+#[cfg(test)]
 mod pieces;
 #[cfg(test)]
 mod views;

@@ -1,0 +1,116 @@
+//! Motions over views of texts in memory.
+
+ghost use Rattle.std.specs.Prelude.{◌≡◌, true, IfOk};
+ghost use Rattle.std.specs.Str.{all_scalars};
+ghost use Rattle.movement_core.specs.Lines.{StartAtPlaces};
+
+use movement_core::moved_region;
+use plain_text::{NoMemory, Region, Text};
+use plain_view::PlainView;
+use std::alloc::Global;
+use std::test::Fail;
+use xi_plain::Motion;
+
+/// The text in one piece a logical line.
+fn view_of(alloc: Global, text: &Text) -> Result<PlainView, NoMemory>
+    ensures characters { IfOk result (λ view. all_scalars view.text ≡ true) }
+    ensures starts { IfOk result (λ view. StartAtPlaces view.text view.pieces) }
+    ensures text { IfOk result (λ view. view.text ≡ text.now) }
+{
+    let characters = text.as_str();
+    let copy = Text::from_str(alloc, characters)?;
+    PlainView::of_text(alloc, copy)
+}
+
+/// The caret and the goal of a caret after a motion.
+fn after(
+    alloc: Global,
+    characters: &str,
+    caret: u64,
+    goal: Option<u128>,
+    motion: Motion,
+) -> Result<(u64, Option<u128>), NoMemory> {
+    let text = Text::from_str(alloc, characters)?;
+    let caret = caret.min(text.char_count());
+    let view = view_of(alloc, &text)?;
+    let region = Region {
+        anchor: caret,
+        caret,
+        goal,
+    };
+    let moved = moved_region(alloc, &view, region, motion, false, 4)?;
+    Ok((moved.caret, moved.goal))
+}
+
+const LINES: &str = "abcdef\nx\nabcdef";
+
+#[test]
+fn a_short_line_keeps_the_goal(rt: HostRuntime) -> Result<(), Fail> {
+    let alloc = rt.alloc();
+    let goal = Some(4);
+    assert_eq!(rt; after(alloc, LINES, 4, None, Motion::Down)?, (8, goal));
+    assert_eq!(rt; after(alloc, LINES, 8, goal, Motion::Down)?, (13, goal));
+    assert_eq!(rt; after(alloc, LINES, 13, goal, Motion::Down)?, (15, goal));
+    assert_eq!(rt; after(alloc, LINES, 15, goal, Motion::Up)?, (8, goal));
+    assert_eq!(rt; after(alloc, LINES, 8, goal, Motion::Up)?, (4, goal));
+    assert_eq!(rt; after(alloc, LINES, 4, goal, Motion::Up)?, (0, goal));
+    Ok(())
+}
+
+const WORDS: &str = "foo  bar-baz\n\n  qux";
+
+#[test]
+fn words_are_found_across_classes_and_lines(rt: HostRuntime) -> Result<(), Fail> {
+    let alloc = rt.alloc();
+    assert_eq!(rt; after(alloc, WORDS, 0, None, Motion::WordRight)?, (3, None));
+    assert_eq!(rt; after(alloc, WORDS, 3, None, Motion::WordRight)?, (8, None));
+    assert_eq!(rt; after(alloc, WORDS, 8, None, Motion::WordRight)?, (9, None));
+    assert_eq!(rt;
+        after(alloc, WORDS, 9, None, Motion::WordRight)?,
+        (12, None)
+    );
+    assert_eq!(rt;
+        after(alloc, WORDS, 12, None, Motion::WordRight)?,
+        (19, None)
+    );
+    assert_eq!(rt;
+        after(alloc, WORDS, 19, None, Motion::WordRight)?,
+        (19, None)
+    );
+    assert_eq!(rt;
+        after(alloc, WORDS, 19, None, Motion::WordLeft)?,
+        (16, None)
+    );
+    assert_eq!(rt; after(alloc, WORDS, 16, None, Motion::WordLeft)?, (9, None));
+    assert_eq!(rt; after(alloc, WORDS, 9, None, Motion::WordLeft)?, (8, None));
+    assert_eq!(rt; after(alloc, WORDS, 8, None, Motion::WordLeft)?, (5, None));
+    Ok(())
+}
+
+const CR_LF: &str = "ab cd\r\nxy";
+
+#[test]
+fn clusters_and_line_ends(rt: HostRuntime) -> Result<(), Fail> {
+    let alloc = rt.alloc();
+    assert_eq!(rt; after(alloc, CR_LF, 1, None, Motion::LineEnd)?, (5, None));
+    assert_eq!(rt; after(alloc, CR_LF, 5, None, Motion::Down)?, (9, Some(5)));
+    assert_eq!(rt; after(alloc, CR_LF, 7, None, Motion::Left)?, (5, None));
+    assert_eq!(rt; after(alloc, CR_LF, 8, None, Motion::LineStart)?, (7, None));
+    assert_eq!(rt; after(alloc, CR_LF, 8, None, Motion::TextStart)?, (0, None));
+    assert_eq!(rt; after(alloc, CR_LF, 0, None, Motion::TextEnd)?, (9, None));
+    assert_eq!(rt;
+        after(
+            alloc,
+            "\u{1F468}\u{200D}\u{1F469}\u{1F1E9}\u{1F1EA}",
+            0,
+            None,
+            Motion::Right
+        )?,
+        (3, None)
+    );
+    assert_eq!(rt;
+        after(alloc, "ae\u{301}b", 2, None, Motion::Right)?,
+        (3, None)
+    );
+    Ok(())
+}
