@@ -4,3 +4,4 @@ pub mod SelectionLemmas
 pub mod RegionLemmas
 pub mod DeletionLemmas
 pub mod GestureLemmas
+pub mod MotionLemmas

@@ -49,10 +49,13 @@ replaced_by text region = record { range = range_of region; text = text }
 abbrev pub deletion_of : Run → Replacement
 deletion_of range = record { range = range; text = [] }
 
--- a region is deleted, or from a caret alone what stands between it and a gap
+-- what is deleted at a region: its range, or from a caret alone what stands between it and a gap
+abbrev pub deleted_range : ℕ → Region → Run
+deleted_range gap region = if is_caret region then record { start = min region.caret gap; end = max region.caret gap } else range_of region
+
+-- a region is deleted so
 abbrev pub deleted_to : ℕ → Region → Replacement
-deleted_to gap region =
-    deletion_of (if is_caret region then record { start = min region.caret gap; end = max region.caret gap } else range_of region)
+deleted_to gap region = deletion_of (deleted_range gap region)
 
 -- REPLACEMENTS IN ORDER over a base: their ranges lie in it, each starts right of `low`, or one left of it where it adds no text, and the
 -- others start no further left. So each text is added right of where every earlier range starts
