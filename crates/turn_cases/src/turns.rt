@@ -1,0 +1,144 @@
+//! Rows of turns: events at a small object, the turns that a plugin plays, what it was given, and what went through its door.
+
+ghost use Rattle.std.specs.Prelude.{◌≡◌};
+ghost use Rattle.plugin_session.specs.Visit.{goes_on};
+
+use crate::board::Board;
+use crate::player::Player;
+use plugin_session::{After, AloneDoor, Ask, Door, Noted, NotedDoor, Plugin, Port, Query, Reply};
+use std::alloc::Global;
+use std::test::Fail;
+use xi_plain::{List, NoMemory, Text};
+
+// One letter for what came of a visit.
+fn letter(after: After) -> char {
+    match after {
+        After::Turned => 'T',
+        After::Idle => 'I',
+        After::Over => 'O',
+        After::NoMemory => 'M',
+    }
+}
+
+// From where a look was.
+fn digit(from: u64) -> char {
+    match from {
+        0 => '0',
+        1 => '1',
+        2 => '2',
+        _ => '9',
+    }
+}
+
+// One sign for what went through the door.
+fn sign(noted: &Noted) -> char {
+    match noted {
+        Noted::Looked(Query::Notices { from }, _) => digit(*from),
+        Noted::Asked(Ask::PluginEnd, _) => '.',
+        Noted::Asked(_, Reply::Taken(_)) => '+',
+        Noted::Asked(_, Reply::Refused(_)) => '-',
+        Noted::Asked(_, Reply::SinkFault) => '!',
+        Noted::Asked(_, Reply::Closed) => '#',
+        Noted::Asked(_, Reply::NoMemory) => '?',
+    }
+}
+
+fn signs(told: &mut Text, noted: Option<List<Noted>>) -> Result<(), NoMemory> {
+    let Some(noted) = noted else {
+        return told.push('?');
+    };
+    for one in noted.as_slice() {
+        told.push(sign(one))?;
+    }
+    Ok(())
+}
+
+// Whether the session goes on.
+fn goes(after: After) -> bool
+    ensures { result ≡ goes_on after }
+{
+    matches!(after, After::Turned | After::Idle)
+}
+
+// What came of so many visits, or of those up to the last.
+fn visits<D: Door, P: Plugin>(
+    alloc: Global,
+    door: &mut D,
+    plugin: &mut P,
+    most: usize,
+) -> Result<Text, NoMemory>
+    requires ready { D.ready door.old }
+    requires caller { D.caller door.old ≡ 1 }
+{
+    let mut port = Port::start(alloc, 1);
+    let mut told = Text::new(alloc);
+    for _ in 0..most {
+        let after = port.turn_once(alloc, door, plugin);
+        told.push(letter(after))?;
+        if !goes(after) {
+            break;
+        }
+    }
+    Ok(told)
+}
+
+// What came of the visits, and what went through the door.
+fn played<P: Plugin>(
+    alloc: Global,
+    looks: &str,
+    most: usize,
+    plugin: &mut P,
+) -> Result<Text, NoMemory> {
+    let mut board = Board::new(alloc, looks)?;
+    let mut door = NotedDoor::new(alloc, AloneDoor::new(&mut board, 1));
+    let told = visits(alloc, &mut door, plugin, most);
+    let (_alone, noted) = door.into_door();
+    let mut told = told?;
+    signs(&mut told, noted)?;
+    Ok(told)
+}
+
+// Whether a plugin that plays these turns is given this, and this comes of it, also where it stands behind a box.
+fn shows(
+    alloc: Global,
+    looks: &str,
+    script: &str,
+    given: &str,
+    told: &str,
+) -> Result<bool, NoMemory> {
+    let most = looks.len() + 1;
+    let mut player = Player::new(alloc, script)?;
+    let mut boxed: Box<dyn Plugin + Send> = Box::new(alloc, Player::new(alloc, script)?)?;
+    let open = played(alloc, looks, most, &mut player)?;
+    let hidden = played(alloc, looks, most, &mut boxed)?;
+    Ok(player.given() == given && open.as_str() == told && hidden == open)
+}
+
+#[test]
+fn a_plugin_is_given_answers_and_what_was_found(rt: HostRuntime) -> Result<(), Fail> {
+    let alloc = rt.alloc();
+    assert!(rt; shows(alloc, "", "", "(start )", "T")?);
+    assert!(rt; shows(alloc, "-", "hi no", "(start )(hi no )", "TT+-0")?);
+    assert!(rt; shows(alloc, "f-f", "", "(start )(front )(front )", "TTIT000")?);
+    assert!(rt;
+        shows(
+            alloc,
+            "f-",
+            "hi/yes",
+            "(start )(hi front )(yes )",
+            "TTT+0+1"
+        )?
+    );
+    assert!(rt; shows(alloc, "-", "unsent hi", "(start )(hi )", "TT!+0")?);
+    Ok(())
+}
+
+#[test]
+fn a_session_ends_once(rt: HostRuntime) -> Result<(), Fail> {
+    let alloc = rt.alloc();
+    assert!(rt; shows(alloc, "-", ".", "(start )", "O.")?);
+    assert!(rt; shows(alloc, "-", "no .", "(start )", "O-.")?);
+    assert!(rt; shows(alloc, "-", "hi close more .", "(start )", "O+#")?);
+    assert!(rt; shows(alloc, "x-", "/hi", "(start )(shutdown )", "TO0")?);
+    Ok(())
+}
