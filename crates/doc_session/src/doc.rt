@@ -97,9 +97,31 @@ impl Doc {
         })
     }
 
-    /// Takes an event: makes the document after it beside this one, and puts that in its place last. So after an `Err` the document is
-    /// as before, for want of memory too. It costs the text and the layout, and an edit against an old revision the runs of the later
-    /// ones besides. `named` is passed over, and no step is counted yet.
+    /// The document after an event, beside this one, and what those outside are told of it. It costs the text and the layout, and an
+    /// edit against an old revision the runs of the later ones besides. `named` is passed over, and no step is counted yet.
+    pub fn after<L: Ledger>(
+        &self,
+        alloc: Global,
+        event: Event,
+        steps: &mut Steps<L>,
+    ) -> Result<(Doc, Effects), DocFault>
+        requires caller { HasCaller self.now.plugins event }
+        requires has_number { head self.now.engine.revisions < 2 ^ 63 - 1 }
+        ensures stands { (plain : Document) → DocStandsFor self.now plain
+            → IfOk result (λ made. DocStandsFor made.0 (event_step plain event).document) }
+        ensures effects { (plain : Document) → DocStandsFor self.now plain
+            → IfOk result (λ made. AreEffectsOf (event_step plain event) made.1) }
+        ensures accepted { (plain : Document) → DocStandsFor self.now plain → OnOk result (refusal_at plain event ≡ None) }
+        ensures refused { (plain : Document) → DocStandsFor self.now plain → IfErr result (DocRefuses (refusal_at plain event)) }
+        ensures shown { (plain : Document) → DocStandsFor self.now plain → IsUpToDate (event_step plain event).document }
+        ensures plugins { IfOk result (λ made. made.0.plugins ≡ self.now.plugins) }
+        ensures steps { steps.new ≡ steps.old }
+    {
+        let _steps = steps;
+        self.next(alloc, event)
+    }
+
+    /// The same, in place of this document: it is put there last, so after an `Err` the document is as before, for want of memory too.
     pub fn apply<L: Ledger>(
         &mut self,
         alloc: Global,
@@ -118,7 +140,7 @@ impl Doc {
         ensures plugins { self.new.plugins ≡ self.old.plugins }
         ensures steps { steps.new ≡ steps.old }
     {
-        let (next, effects) = self.next(alloc, event)?;
+        let (next, effects) = self.after(alloc, event, steps)?;
         *self = next;
         Ok(effects)
     }
