@@ -51,10 +51,10 @@ abbrev pub document_then : Option Doc → Option Doc → Option Doc
 document_then None before = before
 document_then (Some next) before = Some next
 
--- what an event of the front end alone comes to: the document is the one that its step gives, or the event is refused
-pub record IsApplied (old : Doc) (event : Event) (result : Result Effects DocFault) (new : Doc) : Type 0 where
-  pub served : (plain : Document) → DocStandsFor old plain → IfOk result (λ _. ServesDocument new (event_step plain event).document)
-  pub effects : (plain : Document) → DocStandsFor old plain → IfOk result (AreEffectsOf (event_step plain event))
+-- what an event of the front end alone makes of a document: the one that its step gives and what is told of it, or the event is refused
+pub record IsMade (old : Doc) (event : Event) (result : Result (Doc × Effects) DocFault) : Type 0 where
+  pub served : (plain : Document) → DocStandsFor old plain → IfOk result (λ made. ServesDocument made.0 (event_step plain event).document)
+  pub effects : (plain : Document) → DocStandsFor old plain → IfOk result (λ made. AreEffectsOf (event_step plain event) made.1)
   pub accepted : (plain : Document) → DocStandsFor old plain → IfOk result (λ _. refusal_at plain event ≡ None)
   pub refused : (plain : Document) → DocStandsFor old plain → IfErr result (DocRefuses (refusal_at plain event))
 

@@ -6,7 +6,7 @@ ghost use Rattle.doc_session.specs.Fault.{DocRefuses};
 ghost use Rattle.doc_session.specs.InMemory.{Doc};
 ghost use Rattle.doc_session.specs.Step.{EventStep, HasCaller};
 ghost use Rattle.core_session.specs.Core.{ServesDocument, Stands};
-ghost use Rattle.core_session.specs.Inner.{IsApplied, IsOutcome, IsSpentOrLack, MayBeAsked, TakesEvents, reply_of};
+ghost use Rattle.core_session.specs.Inner.{IsMade, IsOutcome, IsSpentOrLack, MayBeAsked, TakesEvents, reply_of};
 ghost use Rattle.core_session.specs.Session.{outcome, edit_came, edit_outcome, view_outcome, undone_outcome, answer_undone, open_outcome, is_first_view, is_done, front_outcome, refusing, refusing_view, spent_total};
 
 use doc_session::{Doc, DocFault, Effects, Event};
@@ -60,7 +60,7 @@ pub struct ActEffects {
     pub scroll: Option<(u64, u64)>,
 }
 
-/// Does what a command asks on a copy of the document, where it changes it.
+/// Does what a command asks, beside the present document.
 pub fn act_on(alloc: Global, document: &Option<Doc>, act: &Act) -> Result<ActEffects, NoMemory>
     requires { MayBeAsked document.now }
     ensures { (plain : Option Document) → Stands document.now plain
@@ -123,11 +123,11 @@ fn open(alloc: Global, document: &Option<Doc>, path: &Option<Text>) -> Result<Ac
     if document.is_some() || path.is_some() {
         return Ok(changed_nothing(Reply::NotBuilt));
     }
-    let mut doc = Doc::of_text(alloc, Text::new(alloc), 0, TEXT_LIMIT, FIRST_CONFIG)?;
-    let Ok(effects) = apply_alone(alloc, &mut doc, Event::Other) else {
-        return Err(NoMemory);
-    };
-    Ok(taken(Reply::Opened, doc, effects))
+    let doc = Doc::of_text(alloc, Text::new(alloc), 0, TEXT_LIMIT, FIRST_CONFIG)?;
+    match after_alone(alloc, &doc, Event::Other) {
+        Ok((next, effects)) => Ok(taken(Reply::Opened, next, effects)),
+        Err(_) => Err(NoMemory),
+    }
 }
 
 fn edit(
@@ -186,9 +186,8 @@ fn edit_document(alloc: Global, doc: &Doc, act: &EditAct) -> Result<ActEffects, 
     ensures { (plain : Document) → ServesDocument doc.now plain
         → IfOk result (IsOutcome (Some doc.now) (front_outcome plain act.now)) }
 {
-    let mut next = doc.copy(alloc)?;
-    match apply_alone(alloc, &mut next, Event::Front(act.copy(alloc)?)) {
-        Ok(effects) => Ok(taken(Reply::Accepted, next, effects)),
+    match after_alone(alloc, doc, Event::Front(act.copy(alloc)?)) {
+        Ok((next, effects)) => Ok(taken(Reply::Accepted, next, effects)),
         Err(fault) => not_inserted(fault),
     }
 }
@@ -224,26 +223,26 @@ fn taken(reply: Reply, next: Doc, effects: Effects) -> ActEffects
     }
 }
 
-/// Applies an event of the front end, whose steps nobody counts.
-fn apply_alone(alloc: Global, doc: &mut Doc, event: Event) -> Result<Effects, DocFault>
-    requires alone { TakesEvents doc.old }
+/// The document after an event of the front end, whose steps nobody counts.
+fn after_alone(alloc: Global, doc: &Doc, event: Event) -> Result<(Doc, Effects), DocFault>
+    requires alone { TakesEvents doc.now }
     requires caller { HasCaller 0 event }
-    ensures { IsApplied doc.old event result doc.new }
+    ensures { IsMade doc.now event result }
 {
     counted::<Brand>(alloc, doc, event, Blank::new(1))
 }
 
 fn counted<L: Ledger>(
     alloc: Global,
-    doc: &mut Doc,
+    doc: &Doc,
     event: Event,
     blank: Blank,
-) -> Result<Effects, DocFault>
+) -> Result<(Doc, Effects), DocFault>
     requires blank { (blank.name ≡ L.name) × ((blank.parts ≡ L.parts) × (0 < blank.parts)) }
-    requires alone { TakesEvents doc.old }
+    requires alone { TakesEvents doc.now }
     requires caller { HasCaller 0 event }
-    ensures { IsApplied doc.old event result doc.new }
+    ensures { IsMade doc.now event result }
 {
     let mut steps = Steps::<L>::new(blank);
-    doc.apply(alloc, event, &mut steps)
+    doc.after(alloc, event, &mut steps)
 }

@@ -1,9 +1,5 @@
-use Rattle.std.proofs.Common.{sym, subst}
-use Rattle.doc_session.specs.Stands.{DocStandsFor}
 use Rattle.core_session.proofs.InsertLemmas.{IsSpentOrLack-inserted}
 use Rattle.core_session.proofs.act.edit_document.Goals as goal
 
 pub not_inserted-requires : goal.not_inserted-requires
-not_inserted-requires c =
-    IsSpentOrLack-inserted c.args.doc.now c.in_ok-copy.field-0 c.in-Err.fault c.requires.1
-    (λ plain stands. c.in-Err.ensures.refused plain (subst (λ doc. DocStandsFor doc plain) (sym c.in_ok-next.ensures) stands))
+not_inserted-requires c = IsSpentOrLack-inserted c.args.doc.now c.in_ok-copy.field-0 c.in-Err.fault c.requires.1 c.in-Err.ensures.refused

@@ -3,12 +3,12 @@ use Rattle.core_session.specs.Session.{first_document}
 use Rattle.core_session.proofs.OpenLemmas.{TakesEvents-loaded, stands-first, IsOutcome-opened}
 use Rattle.core_session.proofs.act.open.Goals as goal
 
-pub apply_alone-requires-clause-alone : goal.apply_alone-requires-clause-alone
-apply_alone-requires-clause-alone c = TakesEvents-loaded c.in_ok-doc.doc _ c.in_ok-doc.ensures
+pub after_alone-requires-clause-alone : goal.after_alone-requires-clause-alone
+after_alone-requires-clause-alone c = TakesEvents-loaded c.in_ok-doc.doc _ c.in_ok-doc.ensures
 
-pub returns : goal.returns
-returns c = λ plain stands.
+pub returns-in-Ok : goal.returns-in-Ok
+returns-in-Ok c = λ plain stands.
     let first = stands-first c.in_ok-doc.doc c.new.result c.new.ensures c.in_ok-doc.ensures in
-    IsOutcome-opened c.args.document.now c.args.path.now plain c.apply_alone.new.doc c.in-Ok.effects c.taken.result (sym c.is_some.ensures ∙ c.if-is_some.false)
+    IsOutcome-opened c.args.document.now c.args.path.now plain c.in-Ok.next c.in-Ok.effects c.taken.result (sym c.is_some.ensures ∙ c.if-is_some.false)
     (sym c.is_some-else-is_some.ensures ∙ c.if-is_some-2.false) stands (c.in-Ok.ensures.served first_document first)
     (c.in-Ok.ensures.effects first_document first) c.taken.ensures
