@@ -19,73 +19,98 @@ fn outcome(alloc: Global, line: &[u8]) -> Result<String, NoMemory> {
     }
 }
 
-#[test]
-fn a_line_is_a_request_or_refused(rt: HostRuntime) -> Result<(), Fail> {
-    let rows: [(&[u8], &str); 34] = [
-        (b"{nope", "Parse"),
-        (b"", "Parse"),
-        (b"\n", "Parse"),
-        (b"{\"method\":\"a\"} x", "Parse"),
-        (b"{\"method\":\"a\"}{\"method\":\"b\"}", "Parse"),
-        (b"\xef\xbb\xbf{\"method\":\"a\"}", "Parse"),
-        (b"{\"method\":\"\xff\"}", "Parse"),
-        (b"{\"method\":\"\\ud800\"}", "Parse"),
-        (b"{\"method\":\"\\udc00\\ud800\"}", "Parse"),
-        (b"{\"method\":\"a\x01\"}", "Parse"),
-        (b"{\"method\":\"a\nb\"}", "Parse"),
-        (b"{\"id\":1e400,\"method\":\"a\"}", "Parse"),
-        (b"{\"id\":01,\"method\":\"a\"}", "Parse"),
-        (b"[]", "Invalid"),
-        (b"null", "Invalid"),
-        (b"\"a\"", "Invalid"),
-        (b"{}", "Invalid"),
-        (b"{\"id\":1}", "Invalid"),
-        (b"{\"method\":7}", "Invalid"),
-        (b"{\"id\":1,\"method\":null}", "Invalid"),
-        (b"{\"id\":1.5,\"method\":\"new_view\"}", "Invalid"),
-        (b"{\"id\":null,\"method\":\"new_view\"}", "Invalid"),
-        (b"{\"id\":-0,\"method\":\"new_view\"}", "Invalid"),
-        (b"{\"id\":true,\"method\":\"new_view\"}", "Invalid"),
-        (b"{\"id\":[1],\"method\":\"new_view\"}", "Invalid"),
-        (b"{\"id\":18446744073709551616,\"method\":\"a\"}", "Invalid"),
-        (b"{\"id\":-9223372036854775809,\"method\":\"a\"}", "Invalid"),
-        (
-            b"{\"id\":18446744073709551615,\"method\":\"a\"}",
-            "a null {\"id\":18446744073709551615,\"result\":null}\n",
-        ),
-        (
-            b"{\"id\":-9223372036854775808,\"method\":\"a\"}\n",
-            "a null {\"id\":-9223372036854775808,\"result\":null}\n",
-        ),
-        (
-            b"{\"method\":\"a\",\"id\":1,\"params\":[1.5,{\"b\":2,\"a\":1}],\"id\":2,\"method\":\"b\"}",
-            "b [1.5,{\"a\":1,\"b\":2}] {\"id\":2,\"result\":null}\n",
-        ),
-        (
-            b" \t{ \"id\" : \"\\u00e9\\ud83d\\ude00\" , \"method\" : \"\" } \r\n",
-            " null {\"id\":\"\u{e9}\u{1f600}\",\"result\":null}\n",
-        ),
-        (
-            b"{\"method\":\"a\\u0000\\n\\\"\",\"params\":null}\n",
-            "a\0\n\" null {\"id\":null,\"result\":null}\n",
-        ),
-        (
-            b"{\"jsonrpc\":\"2.0\",\"method\":\"a\",\"more\":{}}\n\n",
-            "a null {\"id\":null,\"result\":null}\n",
-        ),
-        (
-            b"{\"id\":\"7\",\"method\":\"a\"}",
-            "a null {\"id\":\"7\",\"result\":null}\n",
-        ),
-    ];
-    for (line, expected) in rows {
-        let found = outcome(rt.alloc(), line).ok();
-        assert!(rt;
-            found.is_some_and(|text| text.as_str() == expected),
-            "{line:?}"
-        );
+/// Whether the line comes to this.
+fn comes_to(alloc: Global, line: &[u8], expected: &str) -> bool {
+    match outcome(alloc, line) {
+        Ok(found) => found.as_str() == expected,
+        Err(_) => false,
     }
-    Ok(())
+}
+
+#[test]
+fn a_line_is_refused(rt: HostRuntime) {
+    let alloc = rt.alloc();
+    assert!(rt; comes_to(alloc, b"{nope", "Parse"));
+    assert!(rt; comes_to(alloc, b"", "Parse"));
+    assert!(rt; comes_to(alloc, b"{\"method\":\"a\"}{\"method\":\"b\"}", "Parse"));
+    assert!(rt; comes_to(alloc, b"\xef\xbb\xbf{\"method\":\"a\"}", "Parse"));
+    assert!(rt; comes_to(alloc, b"{\"method\":\"\xff\"}", "Parse"));
+    assert!(rt; comes_to(alloc, b"{\"method\":\"\\ud800\"}", "Parse"));
+    assert!(rt; comes_to(alloc, b"{\"method\":\"a\x01\"}", "Parse"));
+    assert!(rt; comes_to(alloc, b"{\"id\":1e400,\"method\":\"a\"}", "Parse"));
+    assert!(rt; comes_to(alloc, b"{\"id\":01,\"method\":\"a\"}", "Parse"));
+    assert!(rt; comes_to(alloc, b"[]", "Invalid"));
+    assert!(rt; comes_to(alloc, b"{\"id\":1}", "Invalid"));
+    assert!(rt; comes_to(alloc, b"{\"method\":7}", "Invalid"));
+    assert!(rt; comes_to(alloc, b"{\"id\":1.5,\"method\":\"a\"}", "Invalid"));
+    assert!(rt; comes_to(alloc, b"{\"id\":null,\"method\":\"a\"}", "Invalid"));
+    assert!(rt; comes_to(alloc, b"{\"id\":-0,\"method\":\"a\"}", "Invalid"));
+    assert!(rt;
+        comes_to(
+            alloc,
+            b"{\"id\":18446744073709551616,\"method\":\"a\"}",
+            "Invalid"
+        )
+    );
+    assert!(rt;
+        comes_to(
+            alloc,
+            b"{\"id\":-9223372036854775809,\"method\":\"a\"}",
+            "Invalid"
+        )
+    );
+}
+
+// Requests, and the last member of a name counts.
+const GREATEST: &[u8] = b"{\"id\":18446744073709551615,\"method\":\"a\"}";
+
+const LEAST: &[u8] = b"{\"id\":-9223372036854775808,\"method\":\"a\"}\n";
+
+const TWICE: &[u8] =
+    b"{\"method\":\"a\",\"id\":1,\"params\":[1.5,{\"b\":2,\"a\":1}],\"id\":2,\"method\":\"b\"}";
+
+const SPACED: &[u8] = b" \t{ \"id\" : \"\\u00e9\\ud83d\\ude00\" , \"method\" : \"\" } \r\n";
+
+const ESCAPED: &[u8] = b"{\"method\":\"a\\u0000\\n\\\"\",\"params\":null}\n";
+
+#[test]
+fn a_line_is_a_request(rt: HostRuntime) {
+    let alloc = rt.alloc();
+    assert!(rt;
+        comes_to(
+            alloc,
+            GREATEST,
+            "a null {\"id\":18446744073709551615,\"result\":null}\n"
+        )
+    );
+    assert!(rt;
+        comes_to(
+            alloc,
+            LEAST,
+            "a null {\"id\":-9223372036854775808,\"result\":null}\n"
+        )
+    );
+    assert!(rt;
+        comes_to(
+            alloc,
+            TWICE,
+            "b [1.5,{\"a\":1,\"b\":2}] {\"id\":2,\"result\":null}\n"
+        )
+    );
+    assert!(rt;
+        comes_to(
+            alloc,
+            SPACED,
+            " null {\"id\":\"\u{e9}\u{1f600}\",\"result\":null}\n"
+        )
+    );
+    assert!(rt;
+        comes_to(
+            alloc,
+            ESCAPED,
+            "a\0\n\" null {\"id\":null,\"result\":null}\n"
+        )
+    );
 }
 
 /// The line that tells a fault.
@@ -93,25 +118,38 @@ fn told(alloc: Global, fault: &Fault) -> Result<Text, NoMemory> {
     write_error(alloc, &Id::NoId, code_of(fault), &message_of(alloc, fault)?)
 }
 
+/// Whether the fault is told so.
+fn tells(alloc: Global, fault: Fault, expected: &str) -> Result<bool, NoMemory> {
+    let found = told(alloc, &fault)?;
+    Ok(found.as_str() == expected)
+}
+
+const PARSE: &str = "{\"error\":{\"code\":-32700,\"message\":\"parse error\"},\"id\":null}\n";
+
+const NO_METHOD: &str =
+    "{\"error\":{\"code\":-32601,\"message\":\"method not found: é\"},\"id\":null}\n";
+
+const BAD_PARAMS: &str =
+    "{\"error\":{\"code\":-32602,\"message\":\"invalid params: chars\"},\"id\":null}\n";
+
 #[test]
 fn an_error_names_its_code(rt: HostRuntime) -> Result<(), Fail> {
     let alloc = rt.alloc();
-    for (fault, expected) in [
-        (
-            Fault::Parse,
-            "{\"error\":{\"code\":-32700,\"message\":\"parse error\"},\"id\":null}\n",
-        ),
-        (
+    assert!(rt; tells(alloc, Fault::Parse, PARSE)?);
+    assert!(rt;
+        tells(
+            alloc,
             Fault::NoMethod(Text::from_str(alloc, "é")?),
-            "{\"error\":{\"code\":-32601,\"message\":\"method not found: é\"},\"id\":null}\n",
-        ),
-        (
+            NO_METHOD
+        )?
+    );
+    assert!(rt;
+        tells(
+            alloc,
             Fault::BadParams(Text::from_str(alloc, "chars")?),
-            "{\"error\":{\"code\":-32602,\"message\":\"invalid params: chars\"},\"id\":null}\n",
-        ),
-    ] {
-        assert_eq!(rt; told(alloc, &fault)?.as_str(), expected);
-    }
+            BAD_PARAMS
+        )?
+    );
     Ok(())
 }
 
@@ -124,25 +162,26 @@ fn noted(alloc: Global, method: &str) -> Result<String, NoMemory> {
     }
 }
 
-#[test]
-fn a_written_text_reads_back(rt: HostRuntime) -> Result<(), Fail> {
-    let rows = [
-        (
-            "a\"b\\c/",
-            "{\"method\":\"a\\\"b\\\\c/\",\"params\":3}\na\"b\\c/",
-        ),
-        (
-            "\0\u{1f}\n\r\t\u{8}\u{c}\u{7f}",
-            "{\"method\":\"\\u0000\\u001f\\n\\r\\t\\b\\f\u{7f}\",\"params\":3}\n\0\u{1f}\n\r\t\u{8}\u{c}\u{7f}",
-        ),
-        (
-            "\u{2028}\u{e9}\u{ffff}\u{1f600}",
-            "{\"method\":\"\u{2028}\u{e9}\u{ffff}\u{1f600}\",\"params\":3}\n\u{2028}\u{e9}\u{ffff}\u{1f600}",
-        ),
-    ];
-    for (method, expected) in rows {
-        let found = noted(rt.alloc(), method).ok();
-        assert!(rt; found.is_some_and(|text| text.as_str() == expected));
+/// Whether a note of this method is this line and the method that it reads as.
+fn notes(alloc: Global, method: &str, expected: &str) -> bool {
+    match noted(alloc, method) {
+        Ok(found) => found.as_str() == expected,
+        Err(_) => false,
     }
-    Ok(())
+}
+
+const QUOTED: &str = "{\"method\":\"a\\\"b\\\\c/\",\"params\":3}\na\"b\\c/";
+
+const CONTROLS: &str =
+    "{\"method\":\"\\u0000\\u001f\\n\\r\\t\\b\\f\u{7f}\",\"params\":3}\n\0\u{1f}\n\r\t\u{8}\u{c}\u{7f}";
+
+const WIDE: &str =
+    "{\"method\":\"\u{2028}\u{e9}\u{ffff}\u{1f600}\",\"params\":3}\n\u{2028}\u{e9}\u{ffff}\u{1f600}";
+
+#[test]
+fn a_written_text_reads_back(rt: HostRuntime) {
+    let alloc = rt.alloc();
+    assert!(rt; notes(alloc, "a\"b\\c/", QUOTED));
+    assert!(rt; notes(alloc, "\0\u{1f}\n\r\t\u{8}\u{c}\u{7f}", CONTROLS));
+    assert!(rt; notes(alloc, "\u{2028}\u{e9}\u{ffff}\u{1f600}", WIDE));
 }

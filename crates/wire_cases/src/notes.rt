@@ -94,26 +94,34 @@ fn written(alloc: Global, view: &str, update: Result<Update, NoMemory>) -> Resul
     write_update(alloc, &Text::from_str(alloc, view)?, &update?)
 }
 
+/// Whether the text was made, and is this.
+fn is(made: Result<Text, NoMemory>, expected: &str) -> bool {
+    match made {
+        Ok(text) => text.as_str() == expected,
+        Err(_) => false,
+    }
+}
+
+const OPENING: &str =
+    "{\"method\":\"update\",\"params\":{\"update\":{\"ops\":[{\"lines\":[{\"cursor\":[0],\"ln\":1,\"styles\":[],\"text\":\"\"}],\"n\":1,\"op\":\"ins\"}],\"pristine\":true},\"view_id\":\"view-id-1\"}}\n";
+
+const EACH_OPERATION: &str =
+    "{\"method\":\"update\",\"params\":{\"update\":{\"ops\":[{\"ln\":7,\"n\":4,\"op\":\"copy\"},{\"n\":1,\"op\":\"copy\"},{\"n\":2,\"op\":\"skip\"},{\"n\":18446744073709551615,\"op\":\"invalidate\"},{\"lines\":[{\"cursor\":[1,4],\"ln\":12,\"styles\":[0,3,0,-2,1,18446744073709551615,-9223372036854775808,0,2],\"text\":\"abc\\n\"},{\"cursor\":[],\"styles\":[],\"text\":\"d\"}],\"n\":2,\"op\":\"ins\"},{\"lines\":[],\"n\":0,\"op\":\"ins\"}],\"pristine\":false},\"view_id\":\"view-id-20\"}}\n";
+
+const ODD_TEXT: &str =
+    "{\"method\":\"update\",\"params\":{\"update\":{\"ops\":[{\"lines\":[{\"cursor\":[],\"styles\":[],\"text\":\"\\\"\\\\/\\t\\u0001\\u001f\u{7f}\u{e9}\u{2028}\u{1f600}\\r\\n\"}],\"n\":1,\"op\":\"ins\"}],\"pristine\":false},\"view_id\":\"\\n\"}}\n";
+
 #[test]
 fn an_update_is_its_note(rt: HostRuntime) -> Result<(), Fail> {
     let alloc = rt.alloc();
-    let rows = [
-        (
-            written(alloc, "view-id-1", opening(alloc)),
-            "{\"method\":\"update\",\"params\":{\"update\":{\"ops\":[{\"lines\":[{\"cursor\":[0],\"ln\":1,\"styles\":[],\"text\":\"\"}],\"n\":1,\"op\":\"ins\"}],\"pristine\":true},\"view_id\":\"view-id-1\"}}\n",
-        ),
-        (
+    assert!(rt; is(written(alloc, "view-id-1", opening(alloc)), OPENING));
+    assert!(rt;
+        is(
             written(alloc, "view-id-20", each_operation(alloc)),
-            "{\"method\":\"update\",\"params\":{\"update\":{\"ops\":[{\"ln\":7,\"n\":4,\"op\":\"copy\"},{\"n\":1,\"op\":\"copy\"},{\"n\":2,\"op\":\"skip\"},{\"n\":18446744073709551615,\"op\":\"invalidate\"},{\"lines\":[{\"cursor\":[1,4],\"ln\":12,\"styles\":[0,3,0,-2,1,18446744073709551615,-9223372036854775808,0,2],\"text\":\"abc\\n\"},{\"cursor\":[],\"styles\":[],\"text\":\"d\"}],\"n\":2,\"op\":\"ins\"},{\"lines\":[],\"n\":0,\"op\":\"ins\"}],\"pristine\":false},\"view_id\":\"view-id-20\"}}\n",
-        ),
-        (
-            written(alloc, "\n", odd_text(alloc)),
-            "{\"method\":\"update\",\"params\":{\"update\":{\"ops\":[{\"lines\":[{\"cursor\":[],\"styles\":[],\"text\":\"\\\"\\\\/\\t\\u0001\\u001f\u{7f}\u{e9}\u{2028}\u{1f600}\\r\\n\"}],\"n\":1,\"op\":\"ins\"}],\"pristine\":false},\"view_id\":\"\\n\"}}\n",
-        ),
-    ];
-    for (line, expected) in rows {
-        assert!(rt; line.is_ok_and(|text| text.as_str() == expected));
-    }
+            EACH_OPERATION
+        )
+    );
+    assert!(rt; is(written(alloc, "\n", odd_text(alloc)), ODD_TEXT));
     Ok(())
 }
 
@@ -127,21 +135,16 @@ fn alerted(alloc: Global, message: &str) -> Result<Text, NoMemory> {
     write_alert(alloc, &Text::from_str(alloc, message)?)
 }
 
+const SCROLL: &str =
+    "{\"method\":\"scroll_to\",\"params\":{\"col\":4,\"line\":0,\"view_id\":\"view-id-1\"}}\n";
+
+const ALERT: &str =
+    "{\"method\":\"alert\",\"params\":{\"msg\":\"method not found: \\\"\u{e9}\\n\"}}\n";
+
 #[test]
 fn the_other_notes_are_theirs(rt: HostRuntime) -> Result<(), Fail> {
     let alloc = rt.alloc();
-    let rows = [
-        (
-            scrolled(alloc, "view-id-1", 0, 4),
-            "{\"method\":\"scroll_to\",\"params\":{\"col\":4,\"line\":0,\"view_id\":\"view-id-1\"}}\n",
-        ),
-        (
-            alerted(alloc, "method not found: \"\u{e9}\n"),
-            "{\"method\":\"alert\",\"params\":{\"msg\":\"method not found: \\\"\u{e9}\\n\"}}\n",
-        ),
-    ];
-    for (line, expected) in rows {
-        assert!(rt; line.is_ok_and(|text| text.as_str() == expected));
-    }
+    assert!(rt; is(scrolled(alloc, "view-id-1", 0, 4), SCROLL));
+    assert!(rt; is(alerted(alloc, "method not found: \"\u{e9}\n"), ALERT));
     Ok(())
 }

@@ -131,10 +131,21 @@ fn changed(alloc: Global, line: &str, part: &str, new: &str) -> Result<String, N
     Ok(format!(in alloc; "{before}{new}{after}")?)
 }
 
+fn is_same(command: &Command, id: &Id, act: &Act) -> bool {
+    command.id == *id && command.act == *act
+}
+
 /// Whether the line asks this.
 fn asks(alloc: Global, line: &str, id: &Id, act: Act) -> Result<bool, NoMemory> {
     let command = ask_of(alloc, line.as_bytes())?;
-    Ok(command.id == *id && command.act == act)
+    let same = is_same(&command, id, &act);
+    Ok(same)
+}
+
+/// Whether [`EDIT`] with a part of it changed asks an edit that names this group.
+fn asks_edit(alloc: Global, part: &str, new: &str, named: Option<u64>) -> Result<bool, NoMemory> {
+    let line = changed(alloc, EDIT, part, new)?;
+    asks(alloc, line.as_str(), &Id::Num(1), edit(alloc, named)?)
 }
 
 #[test]
@@ -143,23 +154,19 @@ fn lines_of_plugins_ask(rt: HostRuntime) -> Result<(), Fail> {
     let word = Id::Word(text(alloc, "b")?);
     assert!(rt; asks(alloc, EDIT, &Id::Num(1), edit(alloc, Some(4))?)?);
     assert!(rt; asks(alloc, GET_DATA, &word, get_data(alloc)?)?);
-    for (line, act) in [
-        (UPDATE_SPANS, update_spans(alloc)),
-        (LINE_COUNT, line_count(alloc)),
-        (ALERT, alert(alloc)),
-        (ACK, ack(alloc)),
-    ] {
-        assert!(rt; asks(alloc, line, &Id::NoId, act?)?, "{line}");
-    }
-    for group in ["", "\"undo_group\":null,", "\"more\":[],"] {
-        let line = changed(alloc, EDIT, "\"undo_group\":4,", group)?;
-        assert!(rt;
-            asks(alloc, line.as_str(), &Id::Num(1), edit(alloc, None)?)?,
-            "{group}"
-        );
-    }
-    let more = changed(alloc, EDIT, "[3,3]", "[3,3],\"to\":null")?;
-    assert!(rt; asks(alloc, more.as_str(), &Id::Num(1), edit(alloc, Some(4))?)?);
+    assert!(rt; asks(alloc, UPDATE_SPANS, &Id::NoId, update_spans(alloc)?)?);
+    assert!(rt; asks(alloc, LINE_COUNT, &Id::NoId, line_count(alloc)?)?);
+    assert!(rt; asks(alloc, ALERT, &Id::NoId, alert(alloc)?)?);
+    assert!(rt; asks(alloc, ACK, &Id::NoId, ack(alloc)?)?);
+    Ok(())
+}
+
+#[test]
+fn what_may_be_left_out_is(rt: HostRuntime) -> Result<(), Fail> {
+    let alloc = rt.alloc();
+    assert!(rt; asks_edit(alloc, "\"undo_group\":4,", "", None)?);
+    assert!(rt; asks_edit(alloc, "\"undo_group\":4", "\"undo_group\":null", None)?);
+    assert!(rt; asks_edit(alloc, "[3,3]", "[3,3],\"to\":null", Some(4))?);
     Ok(())
 }
 
@@ -199,130 +206,121 @@ fn refusal(alloc: Global, line: &str) -> Result<Text, NoMemory> {
     }
 }
 
-#[test]
-fn the_first_wrong_member_is_named(rt: HostRuntime) -> Result<(), Fail> {
-    let alloc = rt.alloc();
-    for (line, part, new, member) in [
-        (EDIT, "view_id", "view", "view_id"),
-        (EDIT, "\"v\"", "7", "view_id"),
-        (EDIT, "\"rev\"", "\"r\"", "rev"),
-        (EDIT, "\"rev\":5", "\"rev\":-1", "rev"),
-        (EDIT, "\"rev\":5", "\"rev\":9223372036854775808", "rev"),
-        (EDIT, "\"rev\":5", "\"rev\":null", "rev"),
-        (EDIT, "delta", "d", "delta"),
-        (EDIT, "base_len", "base", "delta"),
-        (EDIT, "\"els\":[", "\"els\":null,\"e\":[", "delta"),
-        (EDIT, "base_len\":9", "base_len\":-9", "delta"),
-        (EDIT, "[3,3]", "[3]", "delta"),
-        (EDIT, "[3,3]", "[3,3,3]", "delta"),
-        (EDIT, "[3,3]", "[3,3.0]", "delta"),
-        (EDIT, "[3,3]", "[3,3],\"insert\":null", "delta"),
-        (EDIT, "{\"copy\":[3,3]}", "{}", "delta"),
-        (
-            EDIT,
-            "{\"copy\":[3,3]}",
-            "{\"copy\":null,\"insert\":\"\"}",
-            "delta",
-        ),
-        (EDIT, "{\"insert\":\"\"}", "{\"insert\":7}", "delta"),
-        (EDIT, "priority", "p", "priority"),
-        (EDIT, "4294967295", "4294967296", "priority"),
-        (EDIT, "4294967295", "1.5", "priority"),
-        (EDIT, "after_cursor", "after", "after_cursor"),
-        (EDIT, "true", "0", "after_cursor"),
-        (EDIT, "true", "null", "after_cursor"),
-        (EDIT, "author", "by", "author"),
-        (EDIT, "\"a\"", "null", "author"),
-        (EDIT, "\"undo_group\":4", "\"undo_group\":-4", "undo_group"),
-        (
-            EDIT,
-            "\"priority\":4294967295,\"rev\":5",
-            "\"priority\":-1,\"rev\":-1",
-            "rev",
-        ),
-        (GET_DATA, "view_id", "view", "view_id"),
-        (GET_DATA, "\"v\"", "null", "view_id"),
-        (GET_DATA, "rev", "r", "rev"),
-        (
-            GET_DATA,
-            "9223372036854775807",
-            "9223372036854775808",
-            "rev",
-        ),
-        (GET_DATA, "start", "s", "start"),
-        (GET_DATA, "max_size", "m", "max_size"),
-        (GET_DATA, "\"max_size\":0", "\"max_size\":0e0", "max_size"),
-        (
-            GET_DATA,
-            "\"start\":3",
-            "\"start\":\"3\",\"max_size\":-1",
-            "start",
-        ),
-        (UPDATE_SPANS, "view_id", "view", "view_id"),
-        (UPDATE_SPANS, "\"v\"", "[]", "view_id"),
-        (UPDATE_SPANS, "rev", "r", "rev"),
-        (UPDATE_SPANS, "\"rev\":2", "\"rev\":true", "rev"),
-        (UPDATE_SPANS, "\"start\":7,", "", "start"),
-        (UPDATE_SPANS, "\"start\":7", "\"start\":7.0", "start"),
-        (UPDATE_SPANS, "\"len\":5,", "", "len"),
-        (UPDATE_SPANS, "\"len\":5", "\"len\":\"5\"", "len"),
-        (UPDATE_SPANS, "\"len\":5", "\"len\":4", "spans"),
-        (UPDATE_SPANS, "\"spans\"", "\"s\"", "spans"),
-        (UPDATE_SPANS, "\"spans\":", "\"spans\":{},\"s\":", "spans"),
-        (UPDATE_SPANS, "style", "s", "spans"),
-        (
-            UPDATE_SPANS,
-            "\"end\":4,\"start\":1",
-            "\"end\":1,\"start\":4",
-            "spans",
-        ),
-        (UPDATE_SPANS, "1000", "1001", "spans"),
-        (UPDATE_SPANS, "4294967295", "4294967296", "spans"),
-        (UPDATE_SPANS, "false", "0", "spans"),
-        (
-            UPDATE_SPANS,
-            "{\"bg_color\":null,\"italic\":null}",
-            "null",
-            "spans",
-        ),
-        (LINE_COUNT, "view_id", "view", "view_id"),
-        (LINE_COUNT, "{\"view_id\":\"v\"}", "[\"v\"]", "view_id"),
-        (ALERT, "msg", "m", "msg"),
-        (ALERT, "\"m\"", "[]", "msg"),
-        (ALERT, ",\"params\":{\"msg\":\"m\"}", "", "msg"),
-        (ACK, "view_id", "view", "view_id"),
-        (ACK, "\"v\"", "{}", "view_id"),
-        (ACK, "\"rev\":1,", "", "rev"),
-        (ACK, "\"rev\":1", "\"rev\":-0", "rev"),
-    ] {
-        let line = changed(alloc, line, part, new)?;
-        let wanted = message_of(alloc, &Fault::BadParams(text(alloc, member)?))?;
-        assert!(rt; refusal(alloc, line.as_str())? == wanted, "{line}");
+/// Whether the line with a part of it changed is refused by this member.
+fn names(alloc: Global, line: &str, part: &str, new: &str, member: &str) -> bool {
+    match named(alloc, line, part, new, member) {
+        Ok(is) => is,
+        Err(_) => false,
     }
-    Ok(())
+}
+
+fn named(alloc: Global, line: &str, part: &str, new: &str, member: &str) -> Result<bool, NoMemory> {
+    let line = changed(alloc, line, part, new)?;
+    let wanted = message_of(alloc, &Fault::BadParams(text(alloc, member)?))?;
+    let found = refusal(alloc, line.as_str())?;
+    Ok(found == wanted)
 }
 
 #[test]
-fn other_lines_of_plugins_are_refused(rt: HostRuntime) -> Result<(), Fail> {
+fn the_first_wrong_member_of_an_edit_is_named(rt: HostRuntime) {
     let alloc = rt.alloc();
-    for (line, message) in [
-        ("{nope", "parse error"),
-        ("[]", "invalid request"),
-        (
-            r#"{"method":"insert","params":{}}"#,
-            "method not found: insert",
-        ),
-        (r#"{"method":"new_view"}"#, "method not found: new_view"),
-        (r#"{"method":""}"#, "method not found: "),
-        (r#"{"method":"edi"}"#, "method not found: edi"),
-        (
+    assert!(rt; names(alloc, EDIT, "\"v\"", "7", "view_id"));
+    assert!(rt;
+        names(
+            alloc,
+            EDIT,
+            "\"rev\":5",
+            "\"rev\":9223372036854775808",
+            "rev"
+        )
+    );
+    assert!(rt; names(alloc, EDIT, "base_len\":9", "base_len\":-9", "delta"));
+    assert!(rt; names(alloc, EDIT, "\"els\":[", "\"els\":null,\"e\":[", "delta"));
+    assert!(rt; names(alloc, EDIT, "[3,3]", "[3,3,3]", "delta"));
+    assert!(rt; names(alloc, EDIT, "[3,3]", "[3,3],\"insert\":null", "delta"));
+    assert!(rt; names(alloc, EDIT, "{\"copy\":[3,3]}", "{}", "delta"));
+    assert!(rt; names(alloc, EDIT, "4294967295", "4294967296", "priority"));
+    assert!(rt; names(alloc, EDIT, "true", "null", "after_cursor"));
+    assert!(rt; names(alloc, EDIT, "author", "by", "author"));
+    assert!(rt;
+        names(
+            alloc,
+            EDIT,
+            "\"undo_group\":4",
+            "\"undo_group\":-4",
+            "undo_group"
+        )
+    );
+    assert!(rt; names(alloc, EDIT, "4294967295,\"rev\":5", "-1,\"rev\":-1", "rev"));
+}
+
+#[test]
+fn the_first_wrong_member_of_another_line_is_named(rt: HostRuntime) {
+    let alloc = rt.alloc();
+    assert!(rt; names(alloc, GET_DATA, "5807", "5808", "rev"));
+    assert!(rt;
+        names(
+            alloc,
+            GET_DATA,
+            "\"max_size\":0",
+            "\"max_size\":0e0",
+            "max_size"
+        )
+    );
+    assert!(rt; names(alloc, GET_DATA, "\"start\":3", "\"max_size\":-1", "start"));
+    assert!(rt; names(alloc, UPDATE_SPANS, "\"start\":7", "\"start\":7.0", "start"));
+    assert!(rt; names(alloc, UPDATE_SPANS, "\"len\":5", "\"len\":\"5\"", "len"));
+    assert!(rt; names(alloc, UPDATE_SPANS, "\"len\":5", "\"len\":4", "spans"));
+    assert!(rt;
+        names(
+            alloc,
+            UPDATE_SPANS,
+            "4,\"start\":1",
+            "1,\"start\":4",
+            "spans"
+        )
+    );
+    assert!(rt; names(alloc, UPDATE_SPANS, "1000", "1001", "spans"));
+    assert!(rt; names(alloc, UPDATE_SPANS, "4294967295", "4294967296", "spans"));
+    assert!(rt; names(alloc, UPDATE_SPANS, "false", "0", "spans"));
+    assert!(rt;
+        names(
+            alloc,
+            LINE_COUNT,
+            "{\"view_id\":\"v\"}",
+            "[\"v\"]",
+            "view_id"
+        )
+    );
+    assert!(rt; names(alloc, ALERT, ",\"params\":{\"msg\":\"m\"}", "", "msg"));
+    assert!(rt; names(alloc, ACK, "\"rev\":1", "\"rev\":-0", "rev"));
+}
+
+/// Whether the line is refused with this message.
+fn is_refused(alloc: Global, line: &str, message: &str) -> bool {
+    is(refusal(alloc, line), message)
+}
+
+#[test]
+fn other_lines_of_plugins_are_refused(rt: HostRuntime) {
+    let alloc = rt.alloc();
+    assert!(rt; is_refused(alloc, "{nope", "parse error"));
+    assert!(rt; is_refused(alloc, "[]", "invalid request"));
+    assert!(rt;
+        is_refused(
+            alloc,
+            r#"{"method":"new_view"}"#,
+            "method not found: new_view"
+        )
+    );
+    assert!(rt; is_refused(alloc, r#"{"method":"edi"}"#, "method not found: edi"));
+    assert!(rt;
+        is_refused(
+            alloc,
             r#"{"method":"edit","params":{}}"#,
-            "invalid params: view_id",
-        ),
-    ] {
-        assert_eq!(rt; refusal(alloc, line)?.as_str(), message);
-    }
-    Ok(())
+            "invalid params: view_id"
+        )
+    );
 }
 
 /// The line that tells of a revision with these texts before, between and after its copies.
@@ -337,34 +335,35 @@ fn told(alloc: Global, texts: [&str; 3]) -> Result<Text, NoMemory> {
     notice_line(alloc, &notice)
 }
 
+/// Whether the text was made, and is this.
+fn is(made: Result<Text, NoMemory>, expected: &str) -> bool {
+    match made {
+        Ok(text) => text.as_str() == expected,
+        Err(_) => false,
+    }
+}
+
+const STARTED: &str = "{\"method\":\"initialize\",\"params\":{\"plugin_id\":1}}\n";
+
+const OPENED: &str =
+    "{\"method\":\"new_buffer\",\"params\":{\"len\":0,\"rev\":0,\"view_id\":\"view-id-1\"}}\n";
+
+const CLOSED: &str = "{\"method\":\"did_close\",\"params\":{\"view_id\":\"view-id-1\"}}\n";
+
+const STOPPED: &str = "{\"method\":\"shutdown\",\"params\":{}}\n";
+
+const TOLD: &str =
+    "{\"method\":\"update\",\"params\":{\"author\":4294967295,\"delta\":{\"base_len\":9,\"els\":[{\"insert\":\"\\\"\\n\"},{\"copy\":[3,3]},{\"insert\":\"\u{e9}\u{2028}\"},{\"copy\":[3,9]},{\"insert\":\"\u{1f600}\"}]},\"new_len\":7,\"rev\":18446744073709551615,\"view_id\":\"v\"}}\n";
+
 #[test]
 fn plugins_are_told_in_exact_bytes(rt: HostRuntime) -> Result<(), Fail> {
     let alloc = rt.alloc();
     let view = text(alloc, "view-id-1")?;
-    for (line, expected) in [
-        (
-            start_line(alloc, 1),
-            "{\"method\":\"initialize\",\"params\":{\"plugin_id\":1}}\n",
-        ),
-        (
-            buffer_line(alloc, &view, 0),
-            "{\"method\":\"new_buffer\",\"params\":{\"len\":0,\"rev\":0,\"view_id\":\"view-id-1\"}}\n",
-        ),
-        (
-            close_line(alloc, &view),
-            "{\"method\":\"did_close\",\"params\":{\"view_id\":\"view-id-1\"}}\n",
-        ),
-        (
-            stop_line(alloc),
-            "{\"method\":\"shutdown\",\"params\":{}}\n",
-        ),
-        (
-            told(alloc, ["\"\n", "\u{e9}\u{2028}", "\u{1f600}"]),
-            "{\"method\":\"update\",\"params\":{\"author\":4294967295,\"delta\":{\"base_len\":9,\"els\":[{\"insert\":\"\\\"\\n\"},{\"copy\":[3,3]},{\"insert\":\"\u{e9}\u{2028}\"},{\"copy\":[3,9]},{\"insert\":\"\u{1f600}\"}]},\"new_len\":7,\"rev\":18446744073709551615,\"view_id\":\"v\"}}\n",
-        ),
-    ] {
-        assert!(rt; line.is_ok_and(|text| text.as_str() == expected));
-    }
+    assert!(rt; is(start_line(alloc, 1), STARTED));
+    assert!(rt; is(buffer_line(alloc, &view, 0), OPENED));
+    assert!(rt; is(close_line(alloc, &view), CLOSED));
+    assert!(rt; is(stop_line(alloc), STOPPED));
+    assert!(rt; is(told(alloc, ["\"\n", "\u{e9}\u{2028}", "\u{1f600}"]), TOLD));
     Ok(())
 }
 
