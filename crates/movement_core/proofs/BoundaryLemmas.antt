@@ -12,7 +12,8 @@ use Rattle.plain_screen.proofs.callers.ViewLemmas.{concat-logical_lines}
 use Rattle.cluster_core.specs.Boundaries.{clusters_in, text_boundaries}
 use Rattle.movement_core.specs.Places.{IsPlace, IsGreatestPlace, greatest_place, least_place, left_of, right_of, outward_left, outward_right}
 use Rattle.movement_core.specs.declared.lines.LineText.{LineText}
-use Rattle.movement_core.specs.Inner.{IsNextGap, IsGapUpTo, IsTextOf, line_under}
+use Rattle.movement_core.specs.Lines.{IsTextOf, line_under}
+use Rattle.movement_core.specs.Inner.{IsNextGap, IsGapUpTo}
 use Rattle.movement_core.proofs.PlaceLemmas.{AreParts, ends_from-le, find-none, first_or_later, greatest_place-is, least_place-is, least_place-none, lines-whole, place-from_line, place-in_line, end-le}
 use Rattle.movement_core.proofs.LineLemmas.{under-ahead, under-parts}
 

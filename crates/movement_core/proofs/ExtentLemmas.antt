@@ -5,7 +5,7 @@ use Rattle.std.proofs.lemmas.Bool.{both_ways, cases_lt}
 use Rattle.std.proofs.lemmas.Option.{slice_get_within}
 use Rattle.plain_screen.specs.declared.piece.Piece.{Piece}
 use Rattle.plain_screen.specs.View.{ArePieces}
-use Rattle.movement_core.specs.Inner.{line_under}
+use Rattle.movement_core.specs.Lines.{line_under}
 use Rattle.movement_core.proofs.LineLemmas.{HasOwn, HasOwn-line}
 
 -- this piece is one of the logical line that a layout line is of

@@ -1,9 +1,9 @@
 -- Caret places of a layout line, by a walk along its logical line.
-use Rattle.std.proofs.Common.{◌≡◌, ◌≢◌, ◌⊎◌, inl, inr, ⊎_elim, ℕ, ◌+◌, ◌-◌, ◌<◌, ◌≤◌, Bool, true, List, [], ◌∷◌, ◌++◌, Some, Ok, Err, Result, length, refl, sym, ap, subst, ◌∙◌, arith, length-append}
+use Rattle.std.proofs.Common.{◌≡◌, ◌≢◌, ◌⊎◌, inl, inr, ⊎_elim, ℕ, ◌+◌, ◌-◌, ◌<◌, ◌≤◌, Bool, true, false, List, [], ◌∷◌, ◌++◌, Some, Ok, Err, Result, length, refl, sym, ap, subst, ◌∙◌, arith, length-append}
 use Rattle.std.specs.Prelude.{◌&&◌, if◌then◌else◌, nat_le, slice_get, IfOk}
 use Rattle.std.specs.List.{AllByRecursion, Contains, concat}
 use Rattle.std.specs.Str.{all_scalars}
-use Rattle.std.proofs.lemmas.Bool.{and_from, and_parts, cases_lt, eq-eqb, eqb-true, le-leb, leb-true, lt-leb, le-ltb, lt-ltb, ne_eqb}
+use Rattle.std.proofs.lemmas.Bool.{and_from, and_parts, both_ways, cases_lt, eq-eqb, eqb-true, le-leb, leb-true, lt-leb, le-ltb, lt-ltb, ne_eqb}
 use Rattle.std.proofs.lemmas.List.Elements.{Contains-append_cases, Contains-append_right}
 use Rattle.plain_screen.specs.declared.piece.Piece.{Piece}
 use Rattle.plain_screen.specs.View.{ArePieces, LogicalLine, layout_line_of}
@@ -12,10 +12,10 @@ use Rattle.cluster_core.specs.Boundaries.{clusters_in, ends_from}
 use Rattle.cluster_core.specs.Columns.{column_after, columns_between}
 use Rattle.cluster_core.specs.Walk.{ClusterAt, counted_anew, placed}
 use Rattle.cluster_core.proofs.ForCallers.{counted_anew-placed, walk_tells}
-use Rattle.movement_core.specs.Places.{IsPlace, IsGreatestPlace}
-use Rattle.movement_core.specs.Lines.{StartAtPlaces, above, below, belongs_to, column_of, line_end, line_start, place_at_column, start_of}
+use Rattle.movement_core.specs.Places.{IsPlace, IsGreatestPlace, greatest_place}
+use Rattle.movement_core.specs.Lines.{StartAtPlaces, above, below, belongs_to, column_of, line_end, line_start, place_at_column, start_of, IsLastGap, IsTextOf, line_under}
 use Rattle.movement_core.specs.declared.lines.LineText.{LineText}
-use Rattle.movement_core.specs.Inner.{IsLastGap, IsTextOf, fitting, items_past, line_under}
+use Rattle.movement_core.specs.Inner.{fitting, items_past}
 use Rattle.movement_core.proofs.PlaceLemmas.{AreParts, ends_from-append, ends_from-le, ends_from-rises, first, first_or_later, greatest_place-is, later, least_place-is, low-le, none_in, place-from_line, place-in_line}
 use Rattle.movement_core.proofs.LawLemmas.{IsInLine-place, columns_between-none, greatest_place-is_place, layout_line_of-start, start-is_place_too, start_of-get}
 use Rattle.movement_core.proofs.LineLemmas.{get_piece, under-ahead, under-own, under-parts, under-same}
@@ -200,6 +200,25 @@ module _ (text : List ℕ) (pieces : List Piece) (line last : ℕ) (are : ArePie
         place = is.place;
         passed = belongs place low high;
         greatest = λ other there_too belongs_too. is.greatest other there_too (le-leb other last (range other there_too belongs_too).1);
+      }))
+
+  -- the greatest caret place that passes, where of the line's gaps those pass that are not past one of them
+  pub greatest_place-within : (passes : ℕ → Bool) (gap place : ℕ) → start ≤ gap → gap ≤ last →
+      ((other : ℕ) → start ≤ other → other ≤ gap → passes other ≡ true) → ((other : ℕ) → gap < other → other ≤ last → passes other ≡ false) →
+      IsGreatestPlace (λ other. nat_le other gap) text place → place ≡ greatest_place (λ other. belongs_to pieces line other && passes other) text
+  greatest_place-within passes gap place low high pass fail is =
+      let from = is.greatest start start-place (le-leb start gap low) in
+      let to = leb-true place gap is.passed in
+      sym (greatest_place-is (λ other. belongs_to pieces line other && passes other) text place (record {
+        place = is.place;
+        passed = and_from _ _ (belongs place from (omega arith)) (pass place from to);
+        greatest = λ other there_too passes_too.
+            let both = and_parts _ _ passes_too in
+            let within = range other there_too both.0 in
+            ⊎_elim
+            (λ (past : gap < other). absurd (both_ways (passes other) (fail other past within.1) both.1))
+            (λ (by_then : other ≤ gap). is.greatest other there_too (le-leb other gap by_then))
+            (cases_lt gap other);
       }))
 
   own-from : own.start ≤ start

@@ -3,6 +3,7 @@ pub mod ByteLemmas
 pub mod LawLemmas
 pub mod LineLemmas
 pub mod ExtentLemmas
+pub mod HeadLemmas
 pub mod BoundaryLemmas
 pub mod FitLemmas
 pub mod WordLemmas

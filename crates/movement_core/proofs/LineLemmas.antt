@@ -10,8 +10,7 @@ use Rattle.plain_text.specs.Lines.{logical_lines}
 use Rattle.plain_screen.specs.declared.piece.Piece.{Piece}
 use Rattle.plain_screen.specs.View.{RiseTo, AreEnds, ArePieces, IsLayoutLineOf, LogicalLine, layout_line_of, logical_line_from, logical_line_of, pieces_of_line, pieces_from}
 use Rattle.plain_screen.proofs.callers.ViewLemmas.{concat-logical_lines, IsLayoutLineOf-layout_line_of, IsLogicalLineOf-logical_line_of}
-use Rattle.movement_core.specs.Lines.{start_of}
-use Rattle.movement_core.specs.Inner.{IsLastGap, line_under}
+use Rattle.movement_core.specs.Lines.{start_of, IsLastGap, line_under}
 use Rattle.movement_core.proofs.PlaceLemmas.{AreParts, AreParts-line, text-is}
 use Rattle.movement_core.proofs.LawLemmas.{StartsFrom-pieces, lines_of, start_of-get, starts-rise, layout_line_of-start}
 
@@ -141,13 +140,13 @@ EndAt-le : (len from : ℕ) (ends : List ℕ) → EndAt len from ends → from �
 EndAt-le len from [] rise = omega arith
 EndAt-le len from (end ∷ ends) rise = let le = EndAt-le len end ends rise.1 in let lt = rise.0 in omega arith
 
-EndAt-ends : (len : ℕ) (ends : List ℕ) → AreEnds len ends → EndAt len 0 ends × (ends ≢ [])
+pub EndAt-ends : (len : ℕ) (ends : List ℕ) → AreEnds len ends → EndAt len 0 ends × (ends ≢ [])
 EndAt-ends zero ends are =
     let At : List ℕ → Type 0 = λ es. EndAt 0 0 es × (es ≢ []) in subst At (sym are) ((omega arith, refl), λ none. cc)
 EndAt-ends (suc len) [] are = absurd (let zero_is_long = are in omega arith)
 EndAt-ends (suc len) (end ∷ ends) are = (EndAt-rise (suc len) 0 (end ∷ ends) are, λ none. cc)
 
-the_first : (first piece : Piece) (pieces : List Piece) → slice_get (first ∷ pieces) 0 ≡ Some piece → first ≡ piece
+pub the_first : (first piece : Piece) (pieces : List Piece) → slice_get (first ∷ pieces) 0 ≡ Some piece → first ≡ piece
 the_first first piece pieces is = ap (λ o. unwrap_or o first) is
 
 own-within : (start len : ℕ) (ln : Option ℕ) (from : ℕ) (ends : List ℕ) (k : ℕ) (piece : Piece) → EndAt len from ends →
@@ -176,7 +175,7 @@ own-first start number (end ∷ ends) piece is =
     let At : Piece → Type 0 = λ p. (p.start ≡ start) × (is_some p.ln ≡ true) in
     subst At (the_first _ piece (pieces_of_line start None end ends) is) (omega arith, refl)
 
-own-rest : (start number : ℕ) (ends : List ℕ) (k : ℕ) (piece : Piece) → 0 < k → slice_get (pieces_of_line start (Some number) 0 ends) k ≡ Some piece →
+pub own-rest : (start number : ℕ) (ends : List ℕ) (k : ℕ) (piece : Piece) → 0 < k → slice_get (pieces_of_line start (Some number) 0 ends) k ≡ Some piece →
     is_some piece.ln ≡ false
 own-rest start number [] k piece past is = absurd cc
 own-rest start number (end ∷ ends) zero piece past is = absurd (omega arith)
@@ -193,13 +192,13 @@ own-last start len ln from (end ∷ next ∷ ends) zero piece rise last is = abs
 own-last start len ln from (end ∷ next ∷ ends) (suc k) piece rise last is =
     own-last start len None end (next ∷ ends) k piece rise.1 (omega arith) is
 
-slice_get-back : {X : Type 0} (xs ys : List X) (i : ℕ) → length xs ≤ i → slice_get (xs ++ ys) i ≡ slice_get ys (i - length xs)
+pub slice_get-back : {X : Type 0} (xs ys : List X) (i : ℕ) → length xs ≤ i → slice_get (xs ++ ys) i ≡ slice_get ys (i - length xs)
 slice_get-back [] ys i le = let same : i ≡ i - 0 = omega arith in ap (slice_get ys) same
 slice_get-back (x ∷ xs) ys zero le = absurd (omega arith)
 slice_get-back (x ∷ xs) ys (suc i) le =
     let same : i - length xs ≡ suc i - length (x ∷ xs) = omega arith in slice_get-back xs ys i (omega arith) ∙ ap (slice_get ys) same
 
-slice_get-front : {X : Type 0} (xs ys : List X) (i : ℕ) → i < length xs → slice_get (xs ++ ys) i ≡ slice_get xs i
+pub slice_get-front : {X : Type 0} (xs ys : List X) (i : ℕ) → i < length xs → slice_get (xs ++ ys) i ≡ slice_get xs i
 slice_get-front [] ys i lt = absurd (omega arith)
 slice_get-front (x ∷ xs) ys zero lt = refl
 slice_get-front (x ∷ xs) ys (suc i) lt = slice_get-front xs ys i (omega arith)
@@ -209,11 +208,11 @@ first_starts at [] piece starts is = absurd starts
 first_starts at (first ∷ pieces) piece starts is =
     let At : Piece → Type 0 = λ p. (p.start ≡ at) × (is_some p.ln ≡ true) in subst At (the_first first piece pieces is) starts
 
-length-some : {X : Type 0} (xs : List X) → xs ≢ [] → 0 < length xs
+pub length-some : {X : Type 0} (xs : List X) → xs ≢ [] → 0 < length xs
 length-some [] some = absurd (some refl)
 length-some (x ∷ xs) some = omega arith
 
-length-own : (start : ℕ) (ln : Option ℕ) (from : ℕ) (ends : List ℕ) → length (pieces_of_line start ln from ends) ≡ length ends
+pub length-own : (start : ℕ) (ln : Option ℕ) (from : ℕ) (ends : List ℕ) → length (pieces_of_line start ln from ends) ≡ length ends
 length-own start ln from [] = refl
 length-own start ln from (end ∷ ends) = omega (arith, length-own start None end ends)
 
@@ -243,7 +242,7 @@ logical_lines-some (c ∷ text) none = by (c == 10) (logical_lines text) none
     by false [] none = cc
     by false (line ∷ lines) none = cc
 
-no_cuts : (text : List ℕ) (cuts : List (List ℕ × List ℕ)) → lines_of cuts ≡ logical_lines text → cuts ≡ [] → ⊥
+pub no_cuts : (text : List ℕ) (cuts : List (List ℕ × List ℕ)) → lines_of cuts ≡ logical_lines text → cuts ≡ [] → ⊥
 no_cuts text cuts are none = logical_lines-some text (sym are ∙ ap lines_of none)
 
 pub get_piece : (pieces : List Piece) (i : ℕ) → i < length pieces → (piece : Piece) × (slice_get pieces i ≡ Some piece)

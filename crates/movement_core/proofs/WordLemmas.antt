@@ -1,6 +1,6 @@
 -- Words: what is passed over character by character, and in parts of a text.
 use Rattle.std.proofs.Common.{◌≡◌, ⊎_elim, ℕ, zero, suc, ◌+◌, ◌-◌, ◌<◌, ◌≤◌, Bool, true, false, cond, List, [], ◌∷◌, ◌++◌, length, reverse, take, drop, Option, Some, None, refl, sym, ap, ap₂, ◌∙◌, arith, length-drop}
-use Rattle.std.specs.Prelude.{if◌then◌else◌, ◌==◌, slice_get, slice_range}
+use Rattle.std.specs.Prelude.{if◌then◌else◌, ◌==◌, slice_get, slice_range, unwrap_or}
 use Rattle.std.specs.List.{prefix_len}
 use Rattle.std.proofs.lemmas.Bool.{cases_Bool, eqb-true}
 use Rattle.std.proofs.lemmas.List.{length-reverse, length-take-le, reverse-append, take-append-drop, take_all}
@@ -8,7 +8,7 @@ use Rattle.std.proofs.lemmas.List.Sums.{prefix_len-le-length}
 use Rattle.cluster_core.specs.Classes.{class_of}
 use Rattle.movement_core.specs.declared.words.Trail.{Trail}
 use Rattle.movement_core.specs.Words.{class_number, is_alike, is_between_words, run_len, word_len}
-use Rattle.movement_core.specs.Inner.{IsTrail, begun, goes_on, reach_from, run_with}
+use Rattle.movement_core.specs.Inner.{IsTrail, begun, goes_on, reach_from, run_from, run_with}
 
 -- ---- character by character
 
@@ -70,6 +70,24 @@ reach_from-le first (c ∷ characters) =
 pub word_len-le : (characters : List ℕ) → word_len characters ≤ length characters
 word_len-le characters = omega (arith, reach_from-start characters, reach_from-le None characters)
 
+pub run_len-le : (characters : List ℕ) → run_len characters ≤ length characters
+run_len-le [] = omega arith
+run_len-le (c ∷ characters) = omega (arith, prefix_len-le-length (is_alike c) characters)
+
+-- the first character of a run, past one character more
+pub run_from-step : (first : Option ℕ) (c : ℕ) (characters all : List ℕ) → all ≡ c ∷ characters → goes_on first c ≡ true →
+    run_from first all ≡ 1 + run_from (Some (unwrap_or first c)) characters
+run_from-step None c characters all is goes = ap (run_from None) is
+run_from-step (Some first) c characters all is goes = ap (run_from (Some first)) is ∙ ap (λ b. cond b (1 + prefix_len (is_alike first) characters) 0) goes
+
+pub run_from-stop : (first : Option ℕ) (c : ℕ) (characters all : List ℕ) → all ≡ c ∷ characters → goes_on first c ≡ false → run_from first all ≡ 0
+run_from-stop None c characters all is stops = absurd cc
+run_from-stop (Some first) c characters all is stops = ap (run_from (Some first)) is ∙ ap (λ b. cond b (1 + prefix_len (is_alike first) characters) 0) stops
+
+pub run_from-end : (first : Option ℕ) (characters : List ℕ) → characters ≡ [] → run_from first characters ≡ 0
+run_from-end None characters none = ap (run_from None) none
+run_from-end (Some first) characters none = ap (run_from (Some first)) none
+
 -- ---- a part tells where the word stops, unless it reaches to the part's end
 
 reach_from-part : (first : Option ℕ) (front back : List ℕ) → reach_from first front < length front → reach_from first (front ++ back) ≡ reach_from first front
@@ -88,6 +106,21 @@ word_len-part front back less =
     let same = reach_from-start front in
     sym (reach_from-start (front ++ back)) ∙ reach_from-part None front back (omega arith) ∙ same
 
+prefix_len-part : (p : ℕ → Bool) (front back : List ℕ) → prefix_len p front < length front → prefix_len p (front ++ back) ≡ prefix_len p front
+prefix_len-part p [] back less = absurd (omega arith)
+prefix_len-part p (c ∷ front) back less =
+    let On : List ℕ → Bool → ℕ = λ cs b. cond b (1 + prefix_len p cs) 0 in
+    ⊎_elim
+    (λ goes.
+    let one = ap (On front) goes in
+    ap (On (front ++ back)) goes ∙ ap (λ n. 1 + n) (prefix_len-part p front back (omega arith)) ∙ sym one)
+    (λ stops. ap (On (front ++ back)) stops ∙ sym (ap (On front) stops))
+    (cases_Bool (p c))
+
+run_len-part : (front back : List ℕ) → run_len front < length front → run_len (front ++ back) ≡ run_len front
+run_len-part [] back less = absurd (omega arith)
+run_len-part (c ∷ front) back less = ap (λ n. 1 + n) (prefix_len-part (is_alike c) front back (omega arith))
+
 module _ (text : List ℕ) (gap len : ℕ) (inside : gap + len ≤ length text) where
   ahead-is : slice_range text gap (gap + len) ≡ take len (drop gap text)
   ahead-is = let few : gap + len - gap ≡ len = omega arith in ap (λ n. take n (drop gap text)) few
@@ -100,6 +133,15 @@ module _ (text : List ℕ) (gap len : ℕ) (inside : gap + len ≤ length text) 
       let long = ahead-long in
       sym (ap word_len (sym (take-append-drop len (drop gap text)) ∙ ap (λ front. front ++ drop len (drop gap text)) (sym ahead-is)) ∙
       word_len-part (slice_range text gap (gap + len)) (drop len (drop gap text)) (omega arith))
+
+  pub run-ahead-part : run_len (slice_range text gap (gap + len)) < len → run_len (slice_range text gap (gap + len)) ≡ run_len (drop gap text)
+  run-ahead-part less =
+      let long = ahead-long in
+      sym (ap run_len (sym (take-append-drop len (drop gap text)) ∙ ap (λ front. front ++ drop len (drop gap text)) (sym ahead-is)) ∙
+      run_len-part (slice_range text gap (gap + len)) (drop len (drop gap text)) (omega arith))
+
+  pub run-ahead-all : gap + len ≡ length text → run_len (slice_range text gap (gap + len)) ≡ run_len (drop gap text)
+  run-ahead-all all = ap run_len (ahead-is ∙ take_all len (drop gap text) (omega (arith, length-drop gap text)))
 
   pub ahead-all : gap + len ≡ length text → word_len (slice_range text gap (gap + len)) ≡ word_len (drop gap text)
   ahead-all all = ap word_len (ahead-is ∙ take_all len (drop gap text) (omega (arith, length-drop gap text)))
@@ -136,6 +178,17 @@ module _ (text : List ℕ) (gap len : ℕ) (few : len ≤ gap) (inside : gap ≤
   behind-all all =
       let none : gap - len ≡ 0 = omega arith in
       ap (λ cs. word_len (reverse cs)) (behind-is ∙ ap₂ (λ n m. take n (drop m text)) all none)
+
+  pub run-behind-part : run_len (reverse (slice_range text (gap - len) gap)) < len →
+      run_len (reverse (slice_range text (gap - len) gap)) ≡ run_len (reverse (take gap text))
+  run-behind-part less =
+      let long = behind-long in
+      sym (ap run_len behind-cut ∙ run_len-part (reverse (slice_range text (gap - len) gap)) (reverse (take (gap - len) text)) (omega arith))
+
+  pub run-behind-all : len ≡ gap → run_len (reverse (slice_range text (gap - len) gap)) ≡ run_len (reverse (take gap text))
+  run-behind-all all =
+      let none : gap - len ≡ 0 = omega arith in
+      ap (λ cs. run_len (reverse cs)) (behind-is ∙ ap₂ (λ n m. take n (drop m text)) all none)
 
 -- ---- the end of a text
 
@@ -183,10 +236,6 @@ IsTrail-run text trail next c is run last other len =
       run = now;
       last = last ∙ sym (ap (λ cs. slice_get cs 0) push);
     }
-
-run_len-le : (characters : List ℕ) → run_len characters ≤ length characters
-run_len-le [] = omega arith
-run_len-le (c ∷ characters) = omega (arith, prefix_len-le-length (is_alike c) characters)
 
 -- a trail is not longer than its text
 pub IsTrail-le : (text : List ℕ) (trail : Trail) → IsTrail text trail → (trail.len ≤ length text) × (trail.run ≤ length text)

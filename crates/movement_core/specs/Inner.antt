@@ -1,32 +1,12 @@
--- What private functions say: logical lines of layout lines, the gaps of a layout line, and what loops compute.
+-- What private functions say: boundaries of a line, and what loops compute.
 use Rattle.std.specs.Prelude.{◌≡◌, ℕ, ◌<◌, ◌≤◌, ◌+◌, nat_le, nat_lt, Bool, true, ◌||◌, if◌then◌else◌, List, [], ◌∷◌, length, reverse, Option, Some, None, slice_get}
-use Rattle.std.specs.List.{Contains}
+use Rattle.std.specs.List.{Contains, prefix_len}
 use Rattle.cluster_core.specs.Boundaries.{clusters_in, ends_from}
 use Rattle.plain_text.specs.declared.selection.Region.{Region}
 use Rattle.selection_core.specs.Selection.{is_caret}
-use Rattle.plain_screen.specs.declared.piece.Piece.{Piece}
-use Rattle.plain_screen.specs.View.{LogicalLine, layout_line_of, logical_line_of}
 use Rattle.cluster_core.specs.Walk.{ClusterAt}
-use Rattle.movement_core.specs.Lines.{start_of}
 use Rattle.movement_core.specs.Words.{is_alike, is_between_words, run_len, word_len}
-use Rattle.movement_core.specs.declared.lines.LineText.{LineText}
 use Rattle.movement_core.specs.declared.words.Trail.{Trail}
-
--- the logical line that a layout line is of
-abbrev pub line_under : List ℕ → List Piece → ℕ → LogicalLine
-line_under text pieces line = logical_line_of text (start_of pieces line)
-
--- a line that is held is this logical line
-pub record IsTextOf (line : LogicalLine) (held : LineText) : Type 0 where
-  pub start : held.start ≡ line.start
-  pub text : held.text ≡ line.text
-
--- the gaps of a layout line are those from its start to its last gap
-pub record IsLastGap (text : List ℕ) (pieces : List Piece) (line last : ℕ) : Type 0 where
-  pub ordered : start_of pieces line ≤ last
-  pub inside : last ≤ length text
-  pub own : (gap : ℕ) → start_of pieces line ≤ gap → gap ≤ last → layout_line_of pieces gap ≡ line
-  pub only : (gap : ℕ) → gap ≤ length text → layout_line_of pieces gap ≡ line → gap ≤ last
 
 -- a boundary of a line, as a gap
 abbrev pub IsGapOf : List ℕ → ℕ → Type 0
@@ -71,6 +51,11 @@ begun (Some first) c = Some first
 abbrev pub reach_from : Option ℕ → List ℕ → ℕ
 reach_from first [] = 0
 reach_from first (c ∷ characters) = if goes_on first c then 1 + reach_from (begun first c) characters else 0
+
+-- how long the run of one class is, where it begins with this first character; `None` before it begins
+abbrev pub run_from : Option ℕ → List ℕ → ℕ
+run_from None characters = run_len characters
+run_from (Some first) characters = prefix_len (is_alike first) characters
 
 -- the run of a character's class, after a run of this last character's
 abbrev pub run_with : Option ℕ → ℕ → ℕ → ℕ

@@ -1,10 +1,11 @@
 -- Caret places of a layout line, and their columns.
-use Rattle.std.specs.Prelude.{ℕ, ◌+◌, ◌-◌, ◌==◌, ◌&&◌, Bool, nat_le, if◌then◌else◌, List, length, slice_get, unwrap_or}
+use Rattle.std.specs.Prelude.{◌≡◌, ℕ, ◌≤◌, ◌+◌, ◌-◌, ◌==◌, ◌&&◌, Bool, nat_le, if◌then◌else◌, List, length, slice_get, unwrap_or}
 use Rattle.std.specs.List.{AllByRecursion}
 use Rattle.std.specs.Option.{option_map}
 use Rattle.plain_screen.specs.declared.piece.Piece.{Piece}
-use Rattle.plain_screen.specs.View.{layout_line_of, logical_line_of}
+use Rattle.plain_screen.specs.View.{LogicalLine, layout_line_of, logical_line_of}
 use Rattle.cluster_core.specs.Columns.{columns_between}
+use Rattle.movement_core.specs.declared.lines.LineText.{LineText}
 use Rattle.movement_core.specs.Places.{IsPlace, least_place, greatest_place}
 
 -- the gap at which a layout line starts; 0 where there is no such line
@@ -18,6 +19,22 @@ StartAtPlaces text pieces = AllByRecursion (λ piece. IsPlace text piece.start) 
 -- whether a gap belongs to a layout line; the boundaries that do are its CARET PLACES
 abbrev pub belongs_to : List Piece → ℕ → ℕ → Bool
 belongs_to pieces line gap = layout_line_of pieces gap == line
+
+-- the logical line that a layout line is of
+abbrev pub line_under : List ℕ → List Piece → ℕ → LogicalLine
+line_under text pieces line = logical_line_of text (start_of pieces line)
+
+-- a line that is held is this logical line
+pub record IsTextOf (line : LogicalLine) (held : LineText) : Type 0 where
+  pub start : held.start ≡ line.start
+  pub text : held.text ≡ line.text
+
+-- the gaps of a layout line are those from its start to its last gap
+pub record IsLastGap (text : List ℕ) (pieces : List Piece) (line last : ℕ) : Type 0 where
+  pub ordered : start_of pieces line ≤ last
+  pub inside : last ≤ length text
+  pub own : (gap : ℕ) → start_of pieces line ≤ gap → gap ≤ last → layout_line_of pieces gap ≡ line
+  pub only : (gap : ℕ) → gap ≤ length text → layout_line_of pieces gap ≡ line → gap ≤ last
 
 -- THE COLUMN of a gap: the columns between the start of its layout line and the gap, in its logical line
 abbrev pub column_of : ℕ → List ℕ → List Piece → ℕ → ℕ

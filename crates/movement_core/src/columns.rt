@@ -13,13 +13,8 @@ use plain_screen::TextView;
 use plain_text::NoMemory;
 use std::alloc::Global;
 
-/// The column of a gap in its layout line.
-pub(crate) fn column_of<T: TextView>(
-    alloc: Global,
-    view: &T,
-    gap: u64,
-    tab: u32,
-) -> Result<u128, NoMemory>
+/// The column of a gap in its layout line. This reads the gap's logical line.
+pub fn column_of<T: TextView>(alloc: Global, view: &T, gap: u64, tab: u32) -> Result<u128, NoMemory>
     requires { all_scalars (T.text_of view.now) ≡ true }
     ensures { IfOk result (λ column. column ≡ column_of tab (T.text_of view.now) (T.pieces_of view.now) gap) }
 {

@@ -1,6 +1,6 @@
 ghost use Rattle.std.specs.Prelude.{◌≡◌, ◌+◌, ◌<◌, ◌≤◌, Some, length, slice_get, IfOk};
 ghost use Rattle.plain_screen.specs.View.{ArePieces, layout_line_of};
-ghost use Rattle.movement_core.specs.Inner.{IsLastGap, IsTextOf, line_under};
+ghost use Rattle.movement_core.specs.Lines.{IsLastGap, IsTextOf, line_under};
 
 use plain_screen::{Piece, TextView};
 use plain_text::{NoMemory, Text};
@@ -8,13 +8,13 @@ use std::alloc::Global;
 
 /// A logical line: the gap where it starts, and its characters.
 #[derive(Drop)]
-pub(crate) struct LineText {
+pub struct LineText {
     pub start: u64,
     pub text: Text,
 }
 
 /// The piece with this index, which is there.
-pub(crate) fn piece_at<T: TextView>(view: &T, line: u64) -> Piece
+pub fn piece_at<T: TextView>(view: &T, line: u64) -> Piece
     requires { line < length (T.pieces_of view.now) }
     ensures { slice_get (T.pieces_of view.now) line ≡ Some result }
 {
@@ -25,7 +25,7 @@ pub(crate) fn piece_at<T: TextView>(view: &T, line: u64) -> Piece
 }
 
 /// The layout line of a gap, by a search among the pieces.
-pub(crate) fn line_at<T: TextView>(view: &T, gap: u64) -> u64
+pub fn line_at<T: TextView>(view: &T, gap: u64) -> u64
     ensures line { result ≡ layout_line_of (T.pieces_of view.now) gap }
     ensures inside { result < length (T.pieces_of view.now) }
     ensures sound { ArePieces (T.text_of view.now) (T.pieces_of view.now) }
@@ -44,14 +44,14 @@ pub(crate) fn line_at<T: TextView>(view: &T, gap: u64) -> u64
 }
 
 /// How many characters the text has.
-pub(crate) fn text_end<T: TextView>(view: &T) -> u64
+pub fn text_end<T: TextView>(view: &T) -> u64
     ensures { result ≡ length (T.text_of view.now) }
 {
     piece_at(view, view.lines() - 1).end
 }
 
 /// The greatest gap of a layout line.
-pub(crate) fn last_gap<T: TextView>(view: &T, line: u64) -> u64
+pub fn last_gap<T: TextView>(view: &T, line: u64) -> u64
     requires { line < length (T.pieces_of view.now) }
     ensures { IsLastGap (T.text_of view.now) (T.pieces_of view.now) line result }
 {
@@ -99,12 +99,8 @@ fn end_under<T: TextView>(view: &T, line: u64) -> u64
     end
 }
 
-/// The logical line that a layout line is of.
-pub(crate) fn line_text<T: TextView>(
-    alloc: Global,
-    view: &T,
-    line: u64,
-) -> Result<LineText, NoMemory>
+/// The logical line that a layout line is of, with its LF. This looks at its pieces, and copies its text.
+pub fn line_text<T: TextView>(alloc: Global, view: &T, line: u64) -> Result<LineText, NoMemory>
     requires inside { line < length (T.pieces_of view.now) }
     requires sound { ArePieces (T.text_of view.now) (T.pieces_of view.now) }
     ensures { IfOk result (IsTextOf (line_under (T.text_of view.now) (T.pieces_of view.now) line)) }

@@ -51,8 +51,8 @@ fn boundary_past(line: &Text, gap: u64) -> u64
     }
 }
 
-/// The boundary at a gap, or else the one left of it.
-pub(crate) fn outward_left<T: TextView>(alloc: Global, view: &T, gap: u64) -> Result<u64, NoMemory>
+/// The boundary at a gap, or else the one left of it. This reads the gap's logical line.
+pub fn outward_left<T: TextView>(alloc: Global, view: &T, gap: u64) -> Result<u64, NoMemory>
     requires characters { all_scalars (T.text_of view.now) ≡ true }
     requires inside { gap ≤ length (T.text_of view.now) }
     ensures value { IfOk result (λ place. place ≡ outward_left (T.text_of view.now) gap) }

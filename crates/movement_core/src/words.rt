@@ -1,6 +1,6 @@
-ghost use Rattle.std.specs.Prelude.{◌≡◌, ℕ, ◌+◌, ◌^◌, ◌<◌, ◌≤◌, true, List, [], ◌∷◌, ◌++◌, length, reverse, take, drop, IfOk};
+ghost use Rattle.std.specs.Prelude.{◌≡◌, ℕ, ◌+◌, ◌^◌, ◌<◌, ◌≤◌, true, List, [], ◌∷◌, ◌++◌, length, reverse, take, drop, unwrap_or, Some, IfOk};
 ghost use Rattle.std.specs.Str.{all_scalars, chars};
-ghost use Rattle.movement_core.specs.Words.{class_number, is_alike, is_between_words, word_left, word_len, word_right};
+ghost use Rattle.movement_core.specs.Words.{class_number, is_alike, is_between_words, run_len, word_left, word_len, word_right};
 ghost use Rattle.movement_core.specs.Inner.{IsTrail, begun, goes_on, run_with};
 
 use crate::lines::text_end;
@@ -111,9 +111,9 @@ fn run_with(last: Option<char>, run: u64, c: char) -> u64
     }
 }
 
-/// How far a word reaches to the left from the end of a text.
-fn reach_back(text: &str) -> u64
-    ensures { result ≡ word_len (reverse (chars text.now)) }
+/// The trail of a text.
+fn trail_of(text: &str) -> Trail
+    ensures { IsTrail (chars text.now) result }
 {
     let mut trail = Trail {
         len: 0,
@@ -123,7 +123,48 @@ fn reach_back(text: &str) -> u64
     for c in text.chars() {
         trail = with_last(trail, c);
     }
-    trail.len
+    trail
+}
+
+/// How far a word reaches to the left from the end of a text.
+fn reach_back(text: &str) -> u64
+    ensures { result ≡ word_len (reverse (chars text.now)) }
+{
+    trail_of(text).len
+}
+
+/// How long the run of one class is at the end of a text.
+fn run_back(text: &str) -> u64
+    ensures { result ≡ run_len (reverse (chars text.now)) }
+{
+    trail_of(text).run
+}
+
+/// The first character of a run, past one character more.
+fn begin(first: Option<char>, c: char) -> Option<char>
+    ensures { result ≡ Some (unwrap_or first c) }
+{
+    match first {
+        Some(first) => Some(first),
+        None => Some(c),
+    }
+}
+
+/// How long the run of one class is at the start of a text.
+fn run_ahead(text: &str) -> u64
+    ensures { result ≡ run_len (chars text.now) }
+{
+    let mut len: u64 = 0;
+    let mut first = None;
+    for c in text.chars() {
+        if goes_on(first, c) {
+            first = begin(first, c);
+            len += 1;
+        } else {
+            return len;
+        }
+    }
+    len
 }
 
 /// Where a word ends that reaches to the right from a gap. This reads at most twice what it passes over, or the first part.
@@ -183,4 +224,44 @@ pub(crate) fn word_left<T: TextView>(alloc: Global, view: &T, gap: u64) -> Resul
 {
     let len = reach_left(alloc, view, gap)?;
     outward_left(alloc, view, gap.saturating_sub(len))
+}
+
+/// How many characters the run of one class has that begins at a gap, whatever class that is; at the text's end it has none. This
+/// reads at most twice what it gives, or the first part.
+pub fn run_right<T: TextView>(alloc: Global, view: &T, gap: u64) -> Result<u64, NoMemory>
+    requires { gap ≤ length (T.text_of view.now) }
+    ensures { IfOk result (λ len. len ≡ run_len (drop gap (T.text_of view.now))) }
+{
+    let room = text_end(view) - gap;
+    let mut len = room.min(FIRST_PART);
+    loop {
+        let part = view.text(alloc, gap, gap + len)?;
+        let found = run_ahead(part.as_str());
+        if found < len {
+            return Ok(found);
+        }
+        if len == room {
+            return Ok(found);
+        }
+        len += len.min(room - len);
+    }
+}
+
+/// How many characters the run of one class has that ends at a gap, as [`run_right`] the one that begins there.
+pub fn run_left<T: TextView>(alloc: Global, view: &T, gap: u64) -> Result<u64, NoMemory>
+    requires { gap ≤ length (T.text_of view.now) }
+    ensures { IfOk result (λ len. len ≡ run_len (reverse (take gap (T.text_of view.now)))) }
+{
+    let mut len = gap.min(FIRST_PART);
+    loop {
+        let part = view.text(alloc, gap - len, gap)?;
+        let found = run_back(part.as_str());
+        if found < len {
+            return Ok(found);
+        }
+        if len == gap {
+            return Ok(found);
+        }
+        len += len.min(gap - len);
+    }
 }

@@ -1,11 +1,11 @@
-use Rattle.std.proofs.Common.{◌≡◌, ◌++◌, ◌∷◌, [], length, ap, sym, reverse, ◌∙◌, arith, length-append, append_assoc, append-nil}
+use Rattle.std.proofs.Common.{◌≡◌, ◌++◌, ◌∷◌, [], length, ap, sym, subst, ◌∙◌, arith, length-append, append_assoc, append-nil}
 use Rattle.std.specs.Char.{encode_utf8}
 use Rattle.std.specs.Str.{chars}
 use Rattle.std.proofs.lemmas.List.{nil_from_length}
 use Rattle.std.proofs.lemmas.Str.{IsUtf8-past_char, chars_past_char, chars-nil, length-encode, len_utf8_bounds}
-use Rattle.movement_core.specs.Words.{word_len}
+use Rattle.movement_core.specs.Inner.{IsTrail}
 use Rattle.movement_core.proofs.WordLemmas.{IsTrail-le}
-use Rattle.movement_core.proofs.words.reach_back.Goals as goal
+use Rattle.movement_core.proofs.words.trail_of.Goals as goal
 
 pub with_last-trail-requires-clause-len : goal.with_last-trail-requires-clause-len
 with_last-trail-requires-clause-len c =
@@ -61,4 +61,4 @@ returns c =
     let before = c.loop-c.invariant in
     let all : c.loop-c.yielded ≡ chars c.args.text.now =
     sym (append-nil c.loop-c.yielded) ∙ ap (λ t. c.loop-c.yielded ++ t) (sym (ap chars (nil_from_length _ c.in-None.ensures.steps.0.0) ∙ chars-nil)) ∙ before.parts in
-    before.trail.len ∙ ap (λ cs. word_len (reverse cs)) all
+    subst (λ t. IsTrail t c.loop-c.trail) all before.trail

@@ -1,7 +1,7 @@
 use Rattle.std.proofs.Common.{◌≡◌, ◌+◌, ◌≤◌, ◌++◌, length}
 use Rattle.std.specs.Str.{chars, IsUtf8}
 use Rattle.movement_core.specs.Inner.{IsTrail}
-use Rattle.movement_core.proofs.words.reach_back.Given as goal
+use Rattle.movement_core.proofs.words.trail_of.Given as goal
 
 abbrev pub invariant-loop-c : goal.invariant-loop-c
 invariant-loop-c l = record {
