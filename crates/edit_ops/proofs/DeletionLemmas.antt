@@ -2,12 +2,10 @@
 use Rattle.std.proofs.Common.{◌≡◌, inl, ℕ, suc, ◌+◌, ◌<◌, ◌≤◌, false, List, [], ◌∷◌, map, length, get_or, refl, sym, ap, ap₂, subst, ◌∙◌, arith}
 use Rattle.std.proofs.Math.Path.{fun_ext}
 use Rattle.std.specs.Prelude.{not, nat_lt, nat_le, ◌&&◌}
-use Rattle.std.specs.List.{AllByRecursion, range_with_len}
+use Rattle.std.specs.List.{AllByRecursion}
 use Rattle.std.specs.List.Sorted.{IsNonDecreasingBy, IsPermutation}
-use Rattle.std.proofs.lemmas.List.FromFn.{length-range_with_len}
 use Rattle.std.proofs.lemmas.List.Elements.{All-from_recursion, recursion_from_All}
 use Rattle.std.proofs.lemmas.List.Sorted.{All-permutation, IsPermutation-map, list_any-IsPermutation}
-use Rattle.std.proofs.lemmas.List.Sums.{count_by-le-length}
 use Rattle.plain_text.specs.declared.run.Run.{Run}
 use Rattle.plain_text.specs.declared.selection.Region.{Region}
 use Rattle.plain_edits.specs.Caret.{mapped_gap}
@@ -19,7 +17,6 @@ use Rattle.selection_core.specs.Selection.{caret_of, selection_of}
 use Rattle.edit_ops.specs.declared.replacement.Replacement.{Replacement}
 use Rattle.edit_ops.specs.Replacements.{AreInOrder, IsEditOf, added_by, carets_with, deletion_of, gap_with, kept_by}
 use Rattle.edit_ops.proofs.LawLemmas.{added_by-none}
-use Rattle.edit_ops.proofs.OrderLemmas.{none_to}
 
 -- the range lies in a base of this length
 abbrev IsRangeOf : ℕ → Run → Type 0
@@ -42,17 +39,6 @@ AreInOrder-rising base low (range ∷ ranges) rises first all = (
 texts-none : (ranges : List Run) → AllByRecursion (λ r. r.text ≡ []) (map deletion_of ranges)
 texts-none [] = tt
 texts-none (range ∷ ranges) = (refl, texts-none ranges)
-
--- what deletions leave is no longer than the text
-pub gap_with-deletions : (ranges : List Run) (base : ℕ) → gap_with (map deletion_of ranges) base ≤ base
-gap_with-deletions ranges base =
-    let all = map deletion_of ranges in
-    omega (
-      arith,
-      count_by-le-length (kept_by all) (range_with_len 0 base),
-      length-range_with_len 0 base,
-      none_to (added_by all) 0 (base + 1) (omega arith) (λ gap from below. added_by-none all gap (texts-none ranges)),
-    )
 
 -- ---- in another order
 

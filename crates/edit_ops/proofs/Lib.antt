@@ -5,3 +5,8 @@ pub mod RegionLemmas
 pub mod DeletionLemmas
 pub mod GestureLemmas
 pub mod MotionLemmas
+pub mod PointLemmas
+pub mod HeadLemmas
+pub mod CommandLemmas
+pub mod SelectedLemmas
+pub mod TabLemmas

@@ -355,14 +355,10 @@ module _ (base : ℕ) (all : List Replacement) (at kept added i : ℕ) (r : Repl
   here : IsReached base all at kept added (r ∷ drop (i + 1) all)
   here = subst (IsReached base all at kept added) (drop-item all i r below item) is
 
-  pub gap_with-item : kept + (start - at) + (added + len) ≡ gap_with all r.range.start
-  gap_with-item = omega (arith, long, gap_with-reached base all at kept added r (drop (i + 1) all) here start from)
+  pub gap_with-item : (kept_on added_on gap : ℕ) → kept_on ≡ kept + (start - at) → added_on ≡ added + len → gap ≡ kept_on + added_on → gap ≡ gap_with all r.range.start
+  gap_with-item kept_on added_on gap kept_is added_is is = omega (arith, long, gap_with-reached base all at kept added r (drop (i + 1) all) here start from)
 
-  pub gap_with-item_bound : kept + (start - at) + (added + len) ≤ gap_with all base
-  gap_with-item_bound =
-      let order = here.order.1 in
-      let inside = here.order.2 in
-      omega (arith, gap_with-item, gap_with-rises all r.range.start base (omega (arith, order, inside)))
-
-  pub IsReached-item : (next : ℕ) → next ≡ max start r.range.end → IsReached base all next (kept + (start - at)) (added + len) (drop (i + 1) all)
-  IsReached-item next past = rw (past, long) (IsReached-step base all at kept added r (drop (i + 1) all) here start from)
+  pub IsReached-item : (kept_on added_on next : ℕ) → kept_on ≡ kept + (start - at) → added_on ≡ added + len → next ≡ max start r.range.end →
+      IsReached base all next kept_on added_on (drop (i + 1) all)
+  IsReached-item kept_on added_on next kept_is added_is past =
+      rw (past, kept_is, added_is, long) (IsReached-step base all at kept added r (drop (i + 1) all) here start from)

@@ -9,7 +9,7 @@ use Rattle.edit_ops.specs.declared.replacement.Replacement.{Replacement}
 use Rattle.edit_ops.specs.Replacements.{AreInOrder, carets_with, gap_with}
 use Rattle.edit_ops.proofs.OrderLemmas.{gap_with-rises}
 
-within-in_order : (len : ℕ) (region : Region) (regions : List Region) → greater_end region ≤ len → AreWithin len regions → AreWithin len (with_in_order region regions)
+pub within-in_order : (len : ℕ) (region : Region) (regions : List Region) → greater_end region ≤ len → AreWithin len regions → AreWithin len (with_in_order region regions)
 within-in_order len region [] fits all = (fits, tt)
 within-in_order len region (first ∷ regions) fits all =
     ⊎_elim
@@ -38,7 +38,7 @@ within-merged_from len last (region ∷ regions) fits all =
     (λ (apart : meets last region ≡ false). rw apart (fits, within-merged_from len region regions next all.1))
     (cases_Bool (meets last region))
 
-within-merged : (len : ℕ) (regions : List Region) → AreWithin len regions → AreWithin len (merged_regions regions)
+pub within-merged : (len : ℕ) (regions : List Region) → AreWithin len regions → AreWithin len (merged_regions regions)
 within-merged len [] all = tt
 within-merged len (region ∷ regions) all = within-merged_from len region regions all.0 all.1
 

@@ -5,7 +5,7 @@ ghost use Rattle.selection_core.specs.Mapped.{AreWithin};
 ghost use Rattle.selection_core.specs.Selection.{IsSelection, greater_end};
 ghost use Rattle.movement_core.specs.Lines.{StartAtPlaces};
 ghost use Rattle.movement_core.specs.Motions.{target};
-ghost use Rattle.edit_ops.specs.Replacements.{IsEditOf, carets_with, deleted_range, deletion_of};
+ghost use Rattle.edit_ops.specs.Replacements.{IsEditOf, carets_with, deleted_range, deletion_of, gap_with};
 
 use crate::deleting::delete;
 use movement_core::moved_region;
@@ -35,6 +35,9 @@ pub fn delete_to<T: TextView>(
     ensures regions { IfOk result (λ made. made.1.regions ≡ carets_with (map deletion_of (map (λ region.
         deleted_range (target tab (T.text_of view.now) (T.pieces_of view.now) motion false region) region) sel.now.regions))) }
     ensures sound { IfOk result (λ made. IsSelection made.1.regions) }
+    ensures inside { IfOk result (λ made. AreWithin (gap_with (map deletion_of (map (λ region.
+        deleted_range (target tab (T.text_of view.now) (T.pieces_of view.now) motion false region) region) sel.now.regions)) base)
+        made.1.regions) }
 {
     let ranges = ranges_to(alloc, view, sel, motion, tab)?;
     delete(alloc, base, ranges)

@@ -1,4 +1,4 @@
-ghost use Rattle.std.specs.Prelude.{◌≡◌, ℕ, ◌^◌, ◌<◌, List, [], ◌∷◌, ◌++◌, map, IfOk, OnOk};
+ghost use Rattle.std.specs.Prelude.{◌≡◌, ℕ, ◌+◌, List, [], ◌∷◌, ◌++◌, map, IfOk, OnOk};
 ghost use Rattle.plain_text.specs.declared.selection.Region.{Region as region_value};
 ghost use Rattle.selection_core.specs.Mapped.{AreWithin};
 ghost use Rattle.selection_core.specs.Selection.{IsSelection, caret_of};
@@ -13,14 +13,14 @@ use selection_core::Selection;
 use std::alloc::Global;
 
 /// The edit that replacements in order are, and the carets after it: one after the text of each, merged. `base` is how many characters
-/// the text has. This costs what a sort of so many regions costs, and the texts that are added.
+/// the text has. This costs what a sort of so many regions costs, and the texts that are added. A text that is longer than numbers go
+/// takes more memory than there is.
 pub fn replace(
     alloc: Global,
     base: u64,
     replacements: List<Replacement>,
 ) -> Result<(UnitDelta, Sel), NoMemory>
-    requires order { AreInOrder base 0 replacements }
-    requires bound { gap_with replacements base < 2 ^ 64 }
+    requires { AreInOrder base 0 replacements }
     ensures edit { IfOk result (λ made. IsEditOf base replacements made.0) }
     ensures regions { IfOk result (λ made. made.1.regions ≡ carets_with replacements) }
     ensures sound { IfOk result (λ made. IsSelection made.1.regions) }
@@ -97,8 +97,7 @@ fn push_addition(added: &mut Adds, replacement: Replacement) -> Result<(), NoMem
 
 // A caret at the start of each range, taken through the edit.
 fn carets_after(alloc: Global, base: u64, replacements: &[Replacement]) -> Result<Regions, NoMemory>
-    requires order { AreInOrder base 0 replacements.now }
-    requires bound { gap_with replacements.now base < 2 ^ 64 }
+    requires { AreInOrder base 0 replacements.now }
     ensures { IfOk result (λ carets. carets ≡ map (λ r. caret_of (gap_with replacements.now r.range.start)) replacements.now) }
 {
     let mut carets = Regions::new(alloc);
@@ -107,10 +106,10 @@ fn carets_after(alloc: Global, base: u64, replacements: &[Replacement]) -> Resul
     let mut added: u64 = 0;
     for replacement in replacements {
         let start = at.max(replacement.range.start);
-        kept += start - at;
-        added += replacement.text.char_count();
+        kept = sum(kept, start - at)?;
+        added = sum(added, replacement.text.char_count())?;
         at = start.max(replacement.range.end);
-        let gap = kept + added;
+        let gap = sum(kept, added)?;
         carets.push(Region {
             anchor: gap,
             caret: gap,
@@ -118,4 +117,14 @@ fn carets_after(alloc: Global, base: u64, replacements: &[Replacement]) -> Resul
         })?;
     }
     Ok(carets)
+}
+
+/// The sum of two numbers of characters.
+pub(crate) fn sum(first: u64, second: u64) -> Result<u64, NoMemory>
+    ensures { IfOk result (λ sum. sum ≡ first + second) }
+{
+    match first.checked_add(second) {
+        Some(sum) => Ok(sum),
+        None => Err(NoMemory),
+    }
 }

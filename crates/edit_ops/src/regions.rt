@@ -1,4 +1,4 @@
-ghost use Rattle.std.specs.Prelude.{◌≡◌, ◌^◌, ◌<◌, map, IfOk};
+ghost use Rattle.std.specs.Prelude.{◌≡◌, map, IfOk};
 ghost use Rattle.selection_core.specs.Mapped.{AreWithin};
 ghost use Rattle.selection_core.specs.Selection.{IsSelection};
 ghost use Rattle.edit_ops.specs.Replacements.{IsEditOf, carets_with, gap_with, replaced_by};
@@ -19,7 +19,6 @@ pub fn replace_regions(
 ) -> Result<(UnitDelta, Sel), NoMemory>
     requires sound { IsSelection sel.now.regions }
     requires inside { AreWithin base sel.now.regions }
-    requires bound { gap_with (map (replaced_by text.now) sel.now.regions) base < 2 ^ 64 }
     ensures edit { IfOk result (λ made. IsEditOf base (map (replaced_by text.now) sel.now.regions) made.0) }
     ensures regions { IfOk result (λ made. made.1.regions ≡ carets_with (map (replaced_by text.now) sel.now.regions)) }
     ensures sound { IfOk result (λ made. IsSelection made.1.regions) }

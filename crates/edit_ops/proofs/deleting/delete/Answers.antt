@@ -1,18 +1,14 @@
-use Rattle.std.proofs.Common.{arith, subst, ◌≡◌, ◌∙◌}
+use Rattle.std.proofs.Common.{subst, ◌≡◌, ◌∙◌}
 use Rattle.std.specs.Prelude.{IfOk}
 use Rattle.std.proofs.lemmas.Result.{IfOk-weaker}
 use Rattle.selection_core.specs.Mapped.{AreWithin}
 use Rattle.edit_ops.specs.Replacements.{IsEditOf, carets_with, gap_with}
-use Rattle.edit_ops.proofs.DeletionLemmas.{AreInOrder-sorted, AreWithin-moved, IsEditOf-moved, carets_with-moved, gap_with-deletions}
+use Rattle.edit_ops.proofs.DeletionLemmas.{AreInOrder-sorted, AreWithin-moved, IsEditOf-moved, carets_with-moved}
 use Rattle.edit_ops.proofs.deleting.delete.Goals as goal
 
-pub replace-requires-clause-order : goal.replace-requires-clause-order
-replace-requires-clause-order c =
+pub replace-requires : goal.replace-requires
+replace-requires c =
     rw c.in_ok-replacements.ensures (AreInOrder-sorted c.args.ranges _ c.in_ok-sorted.ensures.same c.args.base c.in_ok-sorted.ensures.order c.requires.inside)
-
-pub replace-requires-clause-bound : goal.replace-requires-clause-bound
-replace-requires-clause-bound c =
-    rw c.in_ok-replacements.ensures (let le = gap_with-deletions c.in_ok-sorted.sorted c.args.base in omega (arith, le, c.ranges.base))
 
 pub returns-clause-edit : goal.returns-clause-edit
 returns-clause-edit c =

@@ -1,9 +1,10 @@
 use Rattle.std.proofs.Common.{arith, ◌≡◌, ◌≤◌, map, sym, subst, false}
 use Rattle.std.specs.Prelude.{IfOk}
 use Rattle.std.specs.List.{AllByRecursion}
+use Rattle.selection_core.specs.Mapped.{AreWithin}
 use Rattle.movement_core.specs.Motions.{target}
 use Rattle.movement_core.proofs.ForCallers.{target-inside}
-use Rattle.edit_ops.specs.Replacements.{IsEditOf, carets_with, deletion_of}
+use Rattle.edit_ops.specs.Replacements.{IsEditOf, carets_with, deletion_of, gap_with}
 use Rattle.edit_ops.proofs.MotionLemmas.{deleted_ranges-inside}
 use Rattle.edit_ops.proofs.deletions.delete_to.Goals as goal
 
@@ -32,3 +33,7 @@ returns-clause-edit g c =
 pub returns-clause-regions : goal.returns-clause-regions
 returns-clause-regions g c =
     subst (λ ranges. IfOk c.delete.result (λ made. made.1.regions ≡ carets_with (map deletion_of ranges))) c.in_ok-ranges.ensures c.delete.ensures.regions
+
+pub returns-clause-inside : goal.returns-clause-inside
+returns-clause-inside g c =
+    subst (λ ranges. IfOk c.delete.result (λ made. AreWithin (gap_with (map deletion_of ranges) c.args.base) made.1.regions)) c.in_ok-ranges.ensures c.delete.ensures.inside

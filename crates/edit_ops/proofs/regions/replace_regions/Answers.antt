@@ -5,8 +5,8 @@ use Rattle.edit_ops.specs.Replacements.{gap_with}
 use Rattle.edit_ops.proofs.RegionLemmas.{AreInOrder-regions}
 use Rattle.edit_ops.proofs.regions.replace_regions.Goals as goal
 
-pub replace-requires-clause-order : goal.replace-requires-clause-order
-replace-requires-clause-order c =
+pub replace-requires : goal.replace-requires
+replace-requires c =
     rw c.in_ok-replacements.ensures (AreInOrder-regions c.args.base (λ region. c.args.text.now) c.args.sel.now.regions c.requires.sound c.requires.inside)
 
 pub returns-clause-inside : goal.returns-clause-inside

@@ -1,0 +1,10 @@
+use Rattle.std.proofs.Common.{length, subst}
+use Rattle.std.specs.Prelude.{◌≤◌}
+use Rattle.selection_core.specs.Selection.{greater_end}
+use Rattle.edit_ops.proofs.SelectedLemmas.{AreSelected-one}
+use Rattle.edit_ops.proofs.pointing.word_alone.Goals as goal
+
+pub returns : goal.returns
+returns g c =
+    AreSelected-one (g.T.TextView.text_of c.args.view.now) _ c.in_ok-word.word c.alone.result c.in_ok-word.ensures.value
+    (subst (λ region. greater_end region ≤ length (g.T.TextView.text_of c.args.view.now)) c.in_ok-word.ensures.value c.in_ok-word.ensures.inside) c.alone.ensures
