@@ -1,0 +1,4 @@
+pub mod SetLemmas
+pub mod SearchLemmas
+pub mod FlipLemmas
+pub mod ForCallers
