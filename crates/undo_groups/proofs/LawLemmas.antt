@@ -6,7 +6,7 @@ use Rattle.plain_text.specs.Numbers.{has, with_number, without_number}
 use Rattle.plain_text.proofs.callers.NumberLemmas.{differ}
 use Rattle.undo_groups.specs.Groups.{Groups, groups_of, after_opening, undone_one, redone_one}
 use Rattle.undo_groups.specs.Laws.{OpeningEndsRedo, RedoTakesUndoBack, UndoTakesRedoBack}
-use Rattle.undo_groups.proofs.SetLemmas.{has-append, has-own, without-with, with-without}
+use Rattle.number_set.proofs.ForCallers.{has-append, has-own, without-with, with-without}
 
 pub undone_is : (s : Groups) → 0 < s.index → undone_one s ≡ groups_of s.live (s.index - 1) s.retired (with_number s.undone (get_or s.live (s.index - 1) 0)) s.given
 undone_is s some = ap (λ t. if t then s else groups_of s.live (s.index - 1) s.retired (with_number s.undone (get_or s.live (s.index - 1) 0)) s.given) (differ s.index 0 (λ none. omega arith))

@@ -1,4 +1,2 @@
-pub mod SetLemmas
 pub mod StackLemmas
 pub mod LawLemmas
-pub mod SearchLemmas

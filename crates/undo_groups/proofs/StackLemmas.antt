@@ -1,14 +1,14 @@
 -- What holds of every stack goes on to hold after each call.
-use Rattle.std.proofs.Common.{◌≡◌, ℕ, ◌+◌, ◌-◌, ◌^◌, ◌<◌, ◌≤◌, ◌⊎◌, true, false, if◌then◌else◌, ◌==◌, List, [], ◌∷◌, ◌++◌, fold, length, take, drop, get_or, min, refl, ap, sym, ◌∙◌, inl, inr, arith}
+use Rattle.std.proofs.Common.{◌≡◌, ℕ, ◌+◌, ◌-◌, ◌^◌, ◌<◌, ◌⊎◌, true, false, if◌then◌else◌, ◌==◌, List, [], ◌∷◌, ◌++◌, fold, length, take, drop, get_or, refl, ap, sym, ◌∙◌, inl, inr, arith}
 use Rattle.std.proofs.lemmas.Bool.{cases_eq, or_cases, or_left, or_right, eqb-true, eq-eqb}
-use Rattle.std.proofs.lemmas.List.{length-drop, length-take, take_more, drop_more}
+use Rattle.std.proofs.lemmas.List.{length-drop, take_more, drop_more}
 use Rattle.std.proofs.Math.Seq.{drop-length}
 use Rattle.plain_text.specs.Numbers.{has, with_number, without_number, IsRising}
 use Rattle.plain_text.proofs.callers.NumberLemmas.{differ, has-with_number, has-with_numbers, IsRising-with, IsRising-with_numbers, IsRising-without}
 use Rattle.undo_groups.specs.Groups.{Groups, grown, excess, no_groups, groups_of, retiring, after_opening, AreGiven, IsStack}
-use Rattle.undo_groups.proofs.SetLemmas.{no, has-append, has-one, has-own, has-take, has-drop, absent, parted, IsRising-take, IsRising-drop, IsRising-end, few-rising, has-without, in-without}
+use Rattle.number_set.proofs.ForCallers.{no, has-append, has-one, has-own, has-take, has-drop, absent, parted, IsRising-take, IsRising-drop, IsRising-end, has-without, in-without}
 
--- ---- no group, and how many there are
+-- ---- no group
 
 pub none_yet : IsStack no_groups
 none_yet = record {
@@ -25,23 +25,6 @@ none_yet = record {
   retired_given = λ group there. no false there refl;
   undone_given = λ group there. no false there refl;
 }
-
-pub few_retired : (s : Groups) → IsStack s → length s.retired < 2 ^ 63
-few_retired s is = omega (arith, is.small, few-rising s.given s.retired is.retired_rise is.retired_given)
-
-pub few_undone : (s : Groups) → IsStack s → length s.undone < 2 ^ 63
-few_undone s is = omega (arith, is.small, few-rising s.given s.undone is.undone_rise is.undone_given)
-
--- a part of a list is no longer than the list
-pub part_few : (xs : List ℕ) (n i : ℕ) → length (take n (drop i xs)) ≤ length xs
-part_few xs n i = omega (arith, length-take n (drop i xs), length-drop i xs, under n (length xs) i)
-  where
-    under : (n m i : ℕ) → min n (m - i) ≤ m
-    under n m i = grind arith
-
-pub one_few : (xs : List ℕ) → length (take 1 xs) ≤ 1
-one_few [] = omega arith
-one_few (x ∷ xs) = omega arith
 
 -- ---- a new group
 

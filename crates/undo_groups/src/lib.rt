@@ -6,7 +6,6 @@
 #![tactic(auto)]
 
 mod laws;
-mod numbers;
 mod stack;
 
 pub use laws::{opening_ends_redo, redo_takes_undo_back, undo_takes_redo_back};

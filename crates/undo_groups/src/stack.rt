@@ -3,7 +3,7 @@ ghost use Rattle.std.specs.List.{fold};
 ghost use Rattle.plain_text.specs.Numbers.{has, with_number, IsRising};
 ghost use Rattle.undo_groups.specs.Groups.{no_groups, excess, retiring, after_opening, next_undo, undone_one, next_redo, redone_one, forgotten, is_known, IsStack};
 
-use crate::numbers::Numbers;
+use number_set::NumberSet;
 use plain_text::NoMemory;
 use std::alloc::Global;
 use std::collections::BTreeSet;
@@ -19,8 +19,8 @@ pub struct Stack {
     live: Vec<u64>,
     /// How many live groups, from the front, are not undone.
     index: usize,
-    retired: Numbers,
-    undone: Numbers,
+    retired: NumberSet,
+    undone: NumberSet,
     given: u64,
 }
 
@@ -43,8 +43,8 @@ impl Stack {
             alloc,
             live: Vec::new(alloc),
             index: 0,
-            retired: Numbers::new(alloc),
-            undone: Numbers::new(alloc),
+            retired: NumberSet::new(alloc),
+            undone: NumberSet::new(alloc),
             given: 0,
         }
     }
@@ -85,7 +85,7 @@ impl Stack {
     }
 
     // The retired groups after the next one is opened.
-    fn retired_then(&self) -> Result<Numbers, NoMemory>
+    fn retired_then(&self) -> Result<NumberSet, NoMemory>
         ensures { IfOk result (λ retired. retired
             ≡ fold with_number self.now.retired (retiring self.now)) }
     {

@@ -1,11 +1,6 @@
-use Rattle.std.proofs.Common.{◌<◌, ◌^◌, length, arith}
-use Rattle.undo_groups.proofs.StackLemmas.{few_undone, undone_then}
+use Rattle.std.proofs.Common.{arith}
+use Rattle.undo_groups.proofs.StackLemmas.{undone_then}
 use Rattle.undo_groups.proofs.stack.Stack.undo_group.Goals as goal
-
-pub with-requires : goal.with-requires
-with-requires c =
-    let few : length c.self.inside.undone < 2 ^ 63 = few_undone _ c.self.invariant in
-    omega (arith, few)
 
 pub invariant_of-self : goal.invariant_of-self
 invariant_of-self c =
