@@ -1,4 +1,5 @@
 -- What other crates may cite of the proofs of `rev_list`.
+pub use Rattle.rev_list.proofs.FirstLemmas.{one_group, HasFirst, first_found, any_edit, no_edit}
 pub use Rattle.rev_list.proofs.HistoryLemmas.{IsPlain, length-after_edit}
 pub use Rattle.rev_list.proofs.StepLemmas.{filter-there}
 pub use Rattle.rev_list.proofs.TagLemmas.{undone_after-edit}

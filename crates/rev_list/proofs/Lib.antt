@@ -2,7 +2,7 @@ pub mod FlagLemmas
 pub mod TagLemmas
 pub mod StepLemmas
 pub mod HistoryLemmas
-pub mod GroupLemmas
+pub mod FirstLemmas
 pub mod RecordLemmas
 pub mod TextLemmas
 pub mod ForCallers

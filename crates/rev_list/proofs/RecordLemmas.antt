@@ -1,25 +1,30 @@
 -- What the records of a list keep.
-use Rattle.std.proofs.Common.{◌≡◌, ℕ, ◌+◌, ◌<◌, ◌≤◌, Bool, false, List, [], ◌∷◌, ◌++◌, length, take, drop, Some, slice_get, get_or, refl, ap, ap₂, sym, ◌∙◌, arith, suc-add, take_all}
+use Rattle.std.proofs.Common.{◌≡◌, ℕ, ◌+◌, ◌<◌, ◌≤◌, Bool, true, false, ◌||◌, List, [], ◌∷◌, ◌++◌, length, take, drop, Some, slice_get, get_or, refl, ap, ap₂, sym, ◌∙◌, arith, suc-add, take_all}
 use Rattle.std.specs.Prelude.{suc, zero, replicate}
-use Rattle.std.specs.List.{fold, AllByRecursion}
+use Rattle.std.specs.List.{fold, list_any, AllByRecursion}
+use Rattle.std.proofs.lemmas.Bool.{ne_eqb}
 use Rattle.std.proofs.lemmas.List.{map-append, length-map, length-drop, length-take-le, take-append-drop}
 use Rattle.std.proofs.lemmas.List.Sums.{fold-append}
 use Rattle.std.proofs.lemmas.Option.{slice_get_past, slice_get_read}
 use Rattle.subset_runs.specs.Subset.{expand, symmetric_difference}
 use Rattle.plain_text.specs.Numbers.{has, flipped, IsRising}
-use Rattle.plain_edits.specs.History.{History, head, loaded, IsTaggedBy, IsSound}
-use Rattle.plain_edits.specs.Edits.{undid}
+use Rattle.plain_edits.specs.History.{Tagged, Revision, undo, History, head, loaded, IsTaggedBy, IsSound}
+use Rattle.plain_edits.specs.Edits.{is_edit_of, undid}
+use Rattle.plain_edits.specs.HistorySteps.{HasRisingSet}
 use Rattle.plain_edits.specs.Undo.{undone_now}
 use Rattle.undo_laws.specs.Under.{is_hidden_under}
 use Rattle.rev_list.specs.declared.edit.RevEdit.{RevEdit}
 use Rattle.rev_list.specs.declared.step.RevStep.{RevStep}
 use Rattle.rev_list.specs.declared.step.RevStep.TheVariants.{Edit, Undo}
 use Rattle.rev_list.specs.declared.records.RevRecord.{RevRecord}
-use Rattle.rev_list.specs.Edit.{after_edit, undone_by, after_revision, MayPush, MayPushUndo}
-use Rattle.rev_list.specs.Hidden.{hidden_at, hidden_then, IsRevisionAt, AreRevisionsAfter}
+use Rattle.rev_list.specs.Groups.{Firsts, AreFirstEdits, rev_of, first_after}
+use Rattle.rev_list.specs.Edit.{edit_revision, new_by, with_new, with_deleted, after_edit, undone_by, after_revision, MayPush, MayPushUndo}
+use Rattle.rev_list.specs.Hidden.{hidden_at, hidden_then, IsRevisionAt, AreRevisionsAfter, IsDeletedLater, AreDeletedLater}
 use Rattle.rev_list.specs.Kept.{history_of, steps_of, dead_now, dead_after, turned_by, IsNext, Follows, GrowFrom, AreKept, HoldsRevisions}
 use Rattle.rev_list.specs.Inner.{dead_later}
 use Rattle.rev_list.proofs.FlagLemmas.{IsBack, IsTurn, IsTurn-edit, IsTurn-undo, length-steps_of, steps_of-at}
+use Rattle.rev_list.proofs.FirstLemmas.{IsFirstEdit-loaded, IsFirstEdit-edit, IsFirstEdit-undid}
+use Rattle.rev_list.proofs.StepLemmas.{tagged_later, tagged-with_new}
 use Rattle.rev_list.proofs.HistoryLemmas.{head-after, sound-after, length-after_edit, hidden_at-later, hidden_then-later, hidden_then-head, length-dead_now, dead_now-edit, dead_now-undid, undone_now-edit, undone_now-undid, IsRevisionAt-now, IsRevisionAt-later}
 
 -- the history after the first so many
@@ -129,6 +134,40 @@ IsRevisionAt-fold_at h (r ∷ records) zero d rev sound kept at is =
 IsRevisionAt-fold_at h (r ∷ records) (suc i) d rev sound kept at is =
     IsRevisionAt-fold_at (after_revision h r.step) records i d rev (sound-after h r.step sound) kept.2 at (omega (arith, head-after h r.step))
 
+-- ---- no deletion before the insertion
+
+later-with_deleted : (rev : ℕ) (xs : List Tagged) (at : List Bool) → AllByRecursion (IsTaggedBy rev) xs → AllByRecursion IsDeletedLater xs →
+    AllByRecursion IsDeletedLater (with_deleted rev xs at)
+later-with_deleted rev [] at by later = tt
+later-with_deleted rev (x ∷ xs) [] by later = later
+later-with_deleted rev (x ∷ xs) (true ∷ at) by later = (one_later x.deleted later.0, later-with_deleted rev xs at by.1 later.1)
+  where
+    one_later : (deleted : List ℕ) → AllByRecursion (λ k. x.inserted ≤ k) deleted → AllByRecursion (λ k. x.inserted ≤ k) (deleted ++ rev ∷ [])
+    one_later [] all = (by.0.inserted, tt)
+    one_later (k ∷ deleted) all = (all.0, one_later deleted all.1)
+later-with_deleted rev (x ∷ xs) (false ∷ at) by later = (later.0, later-with_deleted rev xs at by.1 later.1)
+
+later-with_new : (rev : ℕ) (xs : List Tagged) (by : List Bool) → AllByRecursion IsDeletedLater xs → AllByRecursion IsDeletedLater (with_new (new_by rev) xs by)
+later-with_new rev xs [] later = tt
+later-with_new rev xs (true ∷ by) later = (tt, later-with_new rev xs by later)
+later-with_new rev [] (false ∷ by) later = tt
+later-with_new rev (x ∷ xs) (false ∷ by) later = (later.0, later-with_new rev xs by later.1)
+
+later-after : (h : History) (r : RevStep) → IsSound h → AreDeletedLater h → AreDeletedLater (after_revision h r)
+later-after h (Edit e) sound later =
+    later-with_deleted (head h + 1) (with_new (new_by (head h + 1)) h.characters e.inserted) e.deleted
+    (tagged-with_new (head h + 1) h.characters e.inserted (tagged_later (head h) (head h + 1) h.characters (omega arith) sound))
+    (later-with_new (head h + 1) h.characters e.inserted later)
+later-after h (Undo groups) sound later = later
+
+later-fold : (h : History) (steps : List RevStep) → IsSound h → AreDeletedLater h → AreDeletedLater (fold after_revision h steps)
+later-fold h [] sound later = later
+later-fold h (r ∷ steps) sound later = later-fold (after_revision h r) steps (sound-after h r sound) (later-after h r sound later)
+
+loaded_later : (len : ℕ) → AreDeletedLater (loaded (replicate len 0))
+loaded_later zero = tt
+loaded_later (suc len) = (tt, loaded_later len)
+
 -- ---- a list of revisions
 
 loaded_sound : (len : ℕ) → AllByRecursion (IsTaggedBy 0) (loaded (replicate len 0)).characters
@@ -138,12 +177,22 @@ loaded_sound (suc len) = (record { inserted = omega arith; deleted = tt }, loade
 pub sound-history_of : (len : ℕ) (steps : List RevStep) → IsSound (history_of len steps)
 sound-history_of len steps = sound-fold (loaded (replicate len 0)) steps (loaded_sound len)
 
+pub later-history_of : (len : ℕ) (steps : List RevStep) → AreDeletedLater (history_of len steps)
+later-history_of len steps = later-fold (loaded (replicate len 0)) steps (loaded_sound len) (loaded_later len)
+
 hidden-loaded : (len : ℕ) → dead_now (loaded (replicate len 0)) ≡ replicate len false
 hidden-loaded zero = refl
 hidden-loaded (suc len) = ap (λ rest. false ∷ rest) (hidden-loaded len)
 
-pub holds_loaded : (len : ℕ) → HoldsRevisions len [] (replicate len false) []
-holds_loaded len = record { kept = tt; dead = sym (hidden-loaded len); undone = refl; rising = tt }
+pub holds_loaded : (len : ℕ) → HoldsRevisions len [] (replicate len false) (record { groups = 0 ∷ []; revs = 0 ∷ [] }) []
+holds_loaded len = record {
+  kept = tt;
+  dead = sym (hidden-loaded len);
+  first_edits = IsFirstEdit-loaded;
+  undone = refl;
+  rising = tt;
+  sets = tt;
+}
 
 pub head-history_of : (len : ℕ) (records : List RevRecord) → head (history_of len (steps_of records)) ≡ length records
 head-history_of len records = omega (arith, head-fold (loaded (replicate len 0)) (steps_of records), length-steps_of records)
@@ -216,61 +265,94 @@ steps_of-push records newest len =
     ap (λ steps. history_of len steps) (map-append (λ r. r.step) records (newest ∷ [])) ∙
     fold-append after_revision (loaded (replicate len 0)) (steps_of records) (newest.step ∷ [])
 
-HoldsRevisions-push : (len : ℕ) (records : List RevRecord) (newest : RevRecord) (dead : List Bool) (groups : List ℕ) → AreKept (loaded (replicate len 0)) records →
+HoldsRevisions-push : (len : ℕ) (records : List RevRecord) (newest : RevRecord) (dead : List Bool) (first : Firsts) (groups : List ℕ) → AreKept (loaded (replicate len 0)) records →
     Follows (history_of len (steps_of records)) newest.step → newest.turned ≡ turned_by (history_of len (steps_of records)) newest.step →
     dead ≡ dead_now (after_revision (history_of len (steps_of records)) newest.step) →
+    AreFirstEdits (after_revision (history_of len (steps_of records)) newest.step).revisions first →
     groups ≡ undone_now (after_revision (history_of len (steps_of records)) newest.step) → IsRising groups →
-    HoldsRevisions len (records ++ newest ∷ []) dead groups
-HoldsRevisions-push len records newest dead groups kept next turned_is dead_is groups_are rising = record {
+    AllByRecursion HasRisingSet (after_revision (history_of len (steps_of records)) newest.step).revisions →
+    HoldsRevisions len (records ++ newest ∷ []) dead first groups
+HoldsRevisions-push len records newest dead first groups kept next turned_is dead_is first_edits groups_are rising sets = record {
   kept = AreKept-append (loaded (replicate len 0)) records (newest ∷ []) kept (next, turned_is, tt);
   dead = dead_is ∙ ap dead_now (sym (steps_of-push records newest len));
+  first_edits = rw (steps_of-push records newest len) first_edits;
   undone = groups_are ∙ ap undone_now (sym (steps_of-push records newest len));
   rising = rising;
+  sets = rw (steps_of-push records newest len) sets;
 }
 
 -- what a list is and keeps after one more record
-pub record IsPushed (len : ℕ) (records : List RevRecord) (dead : List Bool) (groups : List ℕ) (after : History) : Type 0 where
-  pub holds : HoldsRevisions len records dead groups
+pub record IsPushed (len : ℕ) (records : List RevRecord) (dead : List Bool) (first : Firsts) (groups : List ℕ) (after : History) : Type 0 where
+  pub holds : HoldsRevisions len records dead first groups
   pub history : history_of len (steps_of records) ≡ after
 
-pub push_edit : (len : ℕ) (records : List RevRecord) (newest : RevRecord) (e : RevEdit) (gone dead : List Bool) (groups : List ℕ) → HoldsRevisions len records gone groups →
-    MayPush (history_of len (steps_of records)) e → newest.step ≡ Edit e →
+-- the first edits after one more edit, where the kept ones are known group by group
+AreFirstEdits-edit : (h : History) (e : RevEdit) (first more : Firsts) → AreFirstEdits h.revisions first →
+    ((group : ℕ) → rev_of more.groups more.revs group ≡ first_after (rev_of first.groups first.revs group) e.group (head h + 1) group) →
+    AreFirstEdits (after_edit h e).revisions more
+AreFirstEdits-edit h e first more are made = λ group.
+    rw (made group) (IsFirstEdit-edit h e group (rev_of first.groups first.revs group) (are group))
+
+-- one more set that rises
+HasRisingSet-push : (revisions : List Revision) (last : Revision) → AllByRecursion HasRisingSet revisions → HasRisingSet last → AllByRecursion HasRisingSet (revisions ++ last ∷ [])
+HasRisingSet-push [] last sets rising = (rising, tt)
+HasRisingSet-push (r ∷ revisions) last sets rising = (sets.0, HasRisingSet-push revisions last sets.1 rising)
+
+-- a set that may be undone does not have group 0
+without_loaded : (h : History) (groups : List ℕ) → AllByRecursion (λ group. (0 < group) × (list_any (is_edit_of group) h.revisions ≡ true)) groups → has groups 0 ≡ false
+without_loaded h [] known = refl
+without_loaded h (group ∷ groups) known =
+    ap₂ (λ a b. a || b) (ne_eqb group 0 (λ is. omega (arith, is, known.0.0))) (without_loaded h groups known.1)
+
+pub push_edit : (len : ℕ) (records : List RevRecord) (newest : RevRecord) (e : RevEdit) (gone dead : List Bool) (first more : Firsts) (groups : List ℕ) →
+    HoldsRevisions len records gone first groups → MayPush (history_of len (steps_of records)) e → newest.step ≡ Edit e →
     newest.turned ≡ symmetric_difference (expand gone e.inserted) (dead_after (has groups e.group) gone e) → dead ≡ dead_after (has groups e.group) gone e →
-    IsPushed len (records ++ newest ∷ []) dead groups (after_edit (history_of len (steps_of records)) e)
-push_edit len records newest e gone dead groups holds may step_is turned_is dead_is =
+    ((group : ℕ) → rev_of more.groups more.revs group ≡ first_after (rev_of first.groups first.revs group) e.group (length records + 1) group) →
+    IsPushed len (records ++ newest ∷ []) dead more groups (after_edit (history_of len (steps_of records)) e)
+push_edit len records newest e gone dead first more groups holds may step_is turned_is dead_is made =
     let h : History = history_of len (steps_of records) in
     let next : IsNext h e = record { grown = may.grown; same_length = may.same_length } in
     let now : dead_after (has groups e.group) gone e ≡ dead_now (after_edit h e) =
     ap₂ (λ set flags. dead_after (has set e.group) flags e) holds.undone holds.dead ∙ sym (dead_now-edit h e (sound-history_of len (steps_of records)) next) in
     let before : symmetric_difference (expand gone e.inserted) (dead_after (has groups e.group) gone e) ≡ turned_by h (Edit e) =
     ap₂ (λ flags after. symmetric_difference (expand flags e.inserted) after) holds.dead now in
+    let firsts : AreFirstEdits (after_edit h e).revisions more =
+    AreFirstEdits-edit h e first more holds.first_edits
+    (λ group. made group ∙ ap (λ n. first_after (rev_of first.groups first.revs group) e.group (n + 1) group) (sym (head-history_of len records))) in
     record {
-      holds = HoldsRevisions-push len records newest dead groups holds.kept (rw step_is next) (turned_is ∙ before ∙ ap (turned_by h) (sym step_is))
+      holds = HoldsRevisions-push len records newest dead more groups holds.kept (rw step_is next) (turned_is ∙ before ∙ ap (turned_by h) (sym step_is))
           (dead_is ∙ now ∙ ap (λ step. dead_now (after_revision h step)) (sym step_is))
-          (holds.undone ∙ sym (undone_now-edit h e) ∙ ap (λ step. undone_now (after_revision h step)) (sym step_is)) holds.rising;
+          (rw step_is firsts)
+          (holds.undone ∙ sym (undone_now-edit h e) ∙ ap (λ step. undone_now (after_revision h step)) (sym step_is)) holds.rising
+          (rw step_is (HasRisingSet-push h.revisions (edit_revision e) holds.sets tt));
       history = steps_of-push records newest len ∙ ap (after_revision h) step_is;
     }
 
-pub push_undo : (len : ℕ) (records : List RevRecord) (newest : RevRecord) (differ : List ℕ) (gone dead : List Bool) (groups after : List ℕ) → HoldsRevisions len records gone groups →
+pub push_undo : (len : ℕ) (records : List RevRecord) (newest : RevRecord) (differ : List ℕ) (gone dead : List Bool) (first : Firsts) (groups after : List ℕ) →
+    HoldsRevisions len records gone first groups →
     MayPushUndo (history_of len (steps_of records)) (undone_by (history_of len (steps_of records)) differ) dead → newest.step ≡ Undo differ →
     newest.turned ≡ symmetric_difference gone dead → after ≡ flipped groups differ →
-    IsPushed len (records ++ newest ∷ []) dead after (undid (history_of len (steps_of records)) (undone_by (history_of len (steps_of records)) differ))
-push_undo len records newest differ gone dead groups after holds may step_is turned_is after_is =
+    IsPushed len (records ++ newest ∷ []) dead first after (undid (history_of len (steps_of records)) (undone_by (history_of len (steps_of records)) differ))
+push_undo len records newest differ gone dead first groups after holds may step_is turned_is after_is =
     let h : History = history_of len (steps_of records) in
     let set : List ℕ = undone_by h differ in
     let now : dead ≡ dead_now (undid h set) = may.hidden ∙ sym (dead_now-undid h set (sound-history_of len (steps_of records))) in
     let before : symmetric_difference gone dead ≡ turned_by h (Undo differ) = ap₂ (λ flags later. symmetric_difference flags later) holds.dead now in
     let groups_are : after ≡ set = after_is ∙ ap (λ xs. flipped xs differ) holds.undone in
+    let firsts : AreFirstEdits (undid h set).revisions first =
+    λ group. IsFirstEdit-undid h set group (rev_of first.groups first.revs group) (holds.first_edits group) in
     record {
-      holds = HoldsRevisions-push len records newest dead after holds.kept (rw step_is tt) (turned_is ∙ before ∙ ap (turned_by h) (sym step_is))
+      holds = HoldsRevisions-push len records newest dead first after holds.kept (rw step_is tt) (turned_is ∙ before ∙ ap (turned_by h) (sym step_is))
           (now ∙ ap (λ step. dead_now (after_revision h step)) (sym step_is))
-          (groups_are ∙ sym (undone_now-undid h set) ∙ ap (λ step. undone_now (after_revision h step)) (sym step_is)) (rw groups_are may.allowed.rising);
+          (rw step_is firsts)
+          (groups_are ∙ sym (undone_now-undid h set) ∙ ap (λ step. undone_now (after_revision h step)) (sym step_is)) (rw groups_are may.allowed.rising)
+          (rw step_is (HasRisingSet-push h.revisions (undo set) holds.sets (may.allowed.rising, without_loaded h set may.allowed.allowed.known)));
       history = steps_of-push records newest len ∙ ap (after_revision h) step_is;
     }
 
 -- the two sets of positions of an undo have one length
-pub undo_lengths : (len : ℕ) (records : List RevRecord) (set : List ℕ) (gone dead : List Bool) (groups : List ℕ) → HoldsRevisions len records gone groups →
+pub undo_lengths : (len : ℕ) (records : List RevRecord) (set : List ℕ) (gone dead : List Bool) (first : Firsts) (groups : List ℕ) → HoldsRevisions len records gone first groups →
     MayPushUndo (history_of len (steps_of records)) set dead → length gone ≡ length dead
-undo_lengths len records set gone dead groups holds may =
+undo_lengths len records set gone dead first groups holds may =
     let h : History = history_of len (steps_of records) in
     ap length holds.dead ∙ length-dead_now h ∙ sym (length-map h.characters (is_hidden_under h set (head h))) ∙ sym (ap length may.hidden)

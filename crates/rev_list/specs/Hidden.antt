@@ -1,6 +1,6 @@
 -- What the positions of the union are at a revision.
 use Rattle.std.specs.Prelude.{◌≡◌, ℕ, ◌+◌, ◌-◌, ◌<◌, ◌≤◌, Bool, not, ◌==◌, List, length, map, Some, slice_get}
-use Rattle.std.specs.List.{filter}
+use Rattle.std.specs.List.{filter, AllByRecursion}
 use Rattle.plain_text.specs.Numbers.{has, flipped}
 use Rattle.subset_runs.specs.Subset.{count}
 use Rattle.plain_edits.specs.History.{Tagged, History, undo, undone, head, revision_at, is_there, is_visible}
@@ -55,6 +55,14 @@ IsRevisionAt history rev (Undo groups) = IsUndoAt history rev groups
 pub record AreRevisionsAfter (history : History) (base : ℕ) (revisions : List RevStep) : Type 0 where
   pub len : length revisions + base ≡ head history
   pub each : (k : ℕ) (revision : RevStep) → slice_get revisions k ≡ Some revision → IsRevisionAt history (base + 1 + k) revision
+
+-- no revision deletes the character before the one that inserted it
+abbrev pub IsDeletedLater : Tagged → Type 0
+IsDeletedLater tagged = AllByRecursion (λ rev. tagged.inserted ≤ rev) tagged.deleted
+
+-- and so it is of all characters
+abbrev pub AreDeletedLater : History → Type 0
+AreDeletedLater history = AllByRecursion IsDeletedLater history.characters
 
 -- the revision is from the floor to the head
 abbrev pub IsKeptAt : History → ℕ → Type 0

@@ -1,15 +1,17 @@
 -- What a list of revisions keeps: its edits, each in the positions of its own union, and its undos.
 use Rattle.std.specs.Prelude.{◌≡◌, ℕ, ◌+◌, Bool, true, false, List, [], ◌∷◌, length, map, replicate}
-use Rattle.std.specs.List.{fold}
+use Rattle.std.specs.List.{fold, AllByRecursion}
 use Rattle.subset_runs.specs.Subset.{count, expand, expand_in, shrink, union, symmetric_difference}
 use Rattle.plain_text.specs.Numbers.{IsRising}
 use Rattle.plain_edits.specs.History.{History, head, loaded}
+use Rattle.plain_edits.specs.HistorySteps.{HasRisingSet}
 use Rattle.plain_edits.specs.Undo.{undone_now}
 use Rattle.rev_list.specs.declared.edit.RevEdit.{RevEdit}
 use Rattle.rev_list.specs.declared.step.RevStep.{RevStep}
 use Rattle.rev_list.specs.declared.step.RevStep.TheVariants.{Edit, Undo}
 use Rattle.rev_list.specs.declared.records.RevRecord.{RevRecord}
 use Rattle.rev_list.specs.Edit.{after_revision}
+use Rattle.rev_list.specs.Groups.{Firsts, AreFirstEdits}
 use Rattle.rev_list.specs.Hidden.{hidden_at}
 
 -- the history of revisions over a loaded text of this length
@@ -74,9 +76,12 @@ AreKept history [] = Unit {0}
 AreKept history (r ∷ records) =
     Follows history r.step × (r.turned ≡ turned_by history r.step) × AreKept (after_revision history r.step) records
 
--- what a list keeps: each revision with what it turned, what is dead at the head, and which groups are undone there
-pub record HoldsRevisions (len : ℕ) (records : List RevRecord) (gone : List Bool) (groups : List ℕ) : Type 0 where
+-- what a list keeps: each revision with what it turned, what is dead at the head, the first edit of each group, and which groups are
+-- undone at the head; each undo has a rising set
+pub record HoldsRevisions (len : ℕ) (records : List RevRecord) (gone : List Bool) (first : Firsts) (groups : List ℕ) : Type 0 where
   pub kept : AreKept (loaded (replicate len 0)) records
   pub dead : gone ≡ dead_now (history_of len (steps_of records))
+  pub first_edits : AreFirstEdits (history_of len (steps_of records)).revisions first
   pub undone : groups ≡ undone_now (history_of len (steps_of records))
   pub rising : IsRising groups
+  pub sets : AllByRecursion HasRisingSet (history_of len (steps_of records)).revisions

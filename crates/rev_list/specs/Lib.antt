@@ -1,5 +1,6 @@
 pub mod Edit
 pub mod RevFault
+pub mod Groups
 pub mod Hidden
 pub mod Kept
 pub mod WithoutText

@@ -1,8 +1,8 @@
-ghost use Rattle.std.specs.Prelude.{◌≡◌, ◌+◌, ◌<◌, [], IfOk, OnOk, vec_len, vec_capacity};
-ghost use Rattle.plain_text.specs.Numbers.{has, turned, flipped, IsRising};
+ghost use Rattle.std.specs.Prelude.{◌≡◌, IfOk};
+ghost use Rattle.plain_text.specs.Numbers.{IsRising};
 
+use number_set::NumberSet;
 use std::alloc::{AllocError, Global};
-use std::collections::BTreeSet;
 use std::marker::Model;
 
 /// Some groups, in rising order.
@@ -31,14 +31,6 @@ impl Groups {
         &self.numbers
     }
 
-    pub(crate) fn none(alloc: Global) -> Groups
-        ensures { result ≡ [] }
-    {
-        Groups {
-            numbers: Vec::new(alloc),
-        }
-    }
-
     pub(crate) fn of_slice(alloc: Global, groups: &[u64]) -> Result<Groups, AllocError>
         requires { IsRising groups.now }
         ensures { IfOk result (λ made. made ≡ groups.now) }
@@ -48,61 +40,24 @@ impl Groups {
         })
     }
 
-    // Whether the group is among them, in the logarithm of their number.
-    pub(crate) fn has(&self, group: u64) -> bool
-        ensures { result ≡ has self.now group }
+    /// The numbers of a set, in their order.
+    pub fn of_set(alloc: Global, groups: &NumberSet) -> Result<Groups, AllocError>
+        ensures { IfOk result (λ made. made ≡ groups.now) }
     {
-        self.numbers.binary_search(&group).is_ok()
-    }
-
-    // The groups that are in exactly one of the two.
-    pub(crate) fn flipped(&self, alloc: Global, others: &[u64]) -> Result<Groups, AllocError>
-        ensures { IfOk result (λ made. made ≡ flipped self.now others.now) }
-    {
-        let mut made = Groups::of_slice(alloc, &self.numbers)?;
-        for group in others {
-            made.turn(*group)?;
-        }
-        Ok(made)
-    }
-
-    // The same, of a whole set.
-    pub(crate) fn flipped_by_set(
-        &self,
-        alloc: Global,
-        others: &BTreeSet<u64>,
-    ) -> Result<Groups, AllocError>
-        ensures { IfOk result (λ made. made ≡ flipped self.now others.now.keys) }
-    {
-        let mut made = Groups::of_slice(alloc, &self.numbers)?;
-        for group in others {
-            made.turn(*group)?;
-        }
-        Ok(made)
-    }
-
-    // Takes the group out where it is among them, and else puts it in.
-    fn turn(&mut self, group: u64) -> Result<(), AllocError>
-        ensures { OnOk result (self.new ≡ turned self.old group) }
-    {
-        self.numbers.reserve(1)?;
-        turn_in(&mut self.numbers, group);
-        Ok(())
+        Ok(Groups {
+            numbers: listed(alloc, groups)?,
+        })
     }
 }
 
-fn turn_in(numbers: &mut Vec<u64>, group: u64)
-    requires rising { IsRising numbers.old.items }
-    requires room { vec_len numbers.old < vec_capacity numbers.old }
-    ensures items { numbers.new.items ≡ turned numbers.old.items group }
-    ensures rising { IsRising numbers.new.items }
+// The numbers of a set, one by one.
+fn listed(alloc: Global, groups: &NumberSet) -> Result<Vec<u64>, AllocError>
+    ensures all { IfOk result (λ made. made.items ≡ groups.now) }
+    ensures rising { IsRising groups.now }
 {
-    match numbers.binary_search(&group) {
-        Ok(at) => {
-            numbers.remove(at);
-        }
-        Err(at) => {
-            let _ = numbers.insert(at, group);
-        }
+    let mut numbers = Vec::new(alloc);
+    for index in 0..groups.len() {
+        numbers.push(groups.at(index))?;
     }
+    Ok(numbers)
 }

@@ -12,12 +12,14 @@
 //! Each revision keeps its subsets in the positions of its own union, the one after it. A later one touches none of them; they are
 //! carried forward when they are asked for. Beside the edit a revision keeps the positions that it turned from dead to alive or
 //! back, so that the way back over an edit, an edit of an undone group and an undo is the same. An undo keeps the groups in which
-//! its set differs from the one before it.
+//! its set differs from the one before it. The undone groups of the head, and the first edit of each group, stand in trees whose copies
+//! share, so that no push copies a set.
 #![tactic(auto)]
 
 mod carry;
 mod edit;
 mod fault;
+mod firsts;
 mod groups;
 pub mod laws;
 mod list;

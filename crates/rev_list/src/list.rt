@@ -1,14 +1,19 @@
 ghost use Rattle.std.specs.Prelude.{◌≡◌, ◌≢◌, ℕ, ◌+◌, ◌-◌, ◌<◌, ◌≤◌, ◌↔◌, false, length, replicate, IfOk, IfSome, IfNone, OnOk, OnErr};
+ghost use Rattle.std.specs.List.{AllByRecursion};
 ghost use Rattle.plain_text.specs.Numbers.{has, IsRising};
 ghost use Rattle.plain_edits.specs.History.{IsSound, head, loaded, revision_at};
 ghost use Rattle.plain_edits.specs.Edits.{undid};
+ghost use Rattle.plain_edits.specs.HistorySteps.{HasRisingSet};
 ghost use Rattle.plain_edits.specs.Undo.{undone_now};
+ghost use Rattle.rev_list.specs.Groups.{IsFirstEdit};
 ghost use Rattle.rev_list.specs.Edit.{after_edit, undone_by, MayPush, MayPushUndo};
-ghost use Rattle.rev_list.specs.Hidden.{AreRevisionsAfter, IsCollected, IsEditAt, IsKeptAt, IsUnknown, hidden_at, hidden_then, is_edit};
+ghost use Rattle.rev_list.specs.Hidden.{AreDeletedLater, AreRevisionsAfter, IsCollected, IsEditAt, IsKeptAt, IsRevisionAt, IsUnknown, hidden_at, hidden_then, is_edit};
 
 use crate::carry::{before, carried, recorded_edit, recorded_undo};
+use crate::firsts::FirstEdits;
 use crate::records::Records;
 use crate::{Groups, RevEdit, RevFault, RevStep, RevisionsAfter};
+use number_set::NumberSet;
 use plain_text::NoMemory;
 use std::alloc::{AllocError, Global};
 use std::collections::BTreeSet;
@@ -25,8 +30,10 @@ pub struct RevList {
     records: Records,
     /// What is dead at the head.
     dead: Arc<Subset, Global>,
+    /// The first edit of each group.
+    firsts: FirstEdits,
     /// The groups that are undone at the head.
-    undone: Arc<Groups, Global>,
+    undone: NumberSet,
 }
 
 impl Model for RevList {
@@ -39,7 +46,7 @@ impl Model for RevList {
 
     ghost view = { λ s. history_of s.len (steps_of s.records) };
 
-    ghost invariant = { λ s. HoldsRevisions s.len s.records (arc_value s.dead) (arc_value s.undone) };
+    ghost invariant = { λ s. HoldsRevisions s.len s.records (arc_value s.dead) s.firsts s.undone };
 }
 
 impl RevList {
@@ -52,7 +59,8 @@ impl RevList {
             len,
             records: Records::new(alloc),
             dead: Arc::new(alloc, Subset::none(alloc, len))?,
-            undone: Arc::new(alloc, Groups::none(alloc))?,
+            firsts: FirstEdits::start(alloc)?,
+            undone: NumberSet::new(alloc),
         })
     }
 
@@ -111,12 +119,30 @@ impl RevList {
         Ok(rev - floor)
     }
 
-    /// The groups that are undone at the head, in O(1).
-    pub fn undone(&self) -> &Groups
+    /// The groups that are undone at the head, in O(1). Each undo of the history has a set without group 0.
+    pub fn undone(&self) -> &NumberSet
         ensures groups { result.now ≡ undone_now self.now }
         ensures rising { IsRising result.now }
+        ensures sets { AllByRecursion HasRisingSet self.now.revisions }
     {
         &self.undone
+    }
+
+    /// The first edit of a group, in the logarithm of the number of groups; none where it has no edit. The loaded text, revision 0,
+    /// is of group 0.
+    pub fn first_edit(&self, group: u64) -> Option<u64>
+        ensures { IsFirstEdit self.now.revisions group result }
+    {
+        self.firsts.get(group)
+    }
+
+    /// A revision after the loaded text, in O(height). The subsets of an edit are in the positions of the union after it.
+    pub fn revision(&self, rev: u64) -> &RevStep
+        requires counts { 1 ≤ rev }
+        requires known { rev ≤ head self.now }
+        ensures { IsRevisionAt self.now rev result.now }
+    {
+        &self.records.get(rev - 1).step
     }
 
     /// The edit of a revision, in O(height); none for the loaded text, for an undo and above the head. Its subsets are in the
@@ -141,6 +167,7 @@ impl RevList {
         requires { base ≤ head self.now }
         ensures revisions { AreRevisionsAfter self.now base result }
         ensures sound { IsSound self.now }
+        ensures later { AreDeletedLater self.now }
     {
         RevisionsAfter::new(&self.records, base)
     }
@@ -194,7 +221,7 @@ impl RevList {
     }
 
     /// Makes the edit the next revision and gives its number. It costs the runs of what is dead at the head and those of the edit,
-    /// the height of the list, and the logarithm of the number of undone groups. An edit whose group is undone is hidden on arrival,
+    /// the height of the list, and the logarithm of the number of groups. An edit whose group is undone is hidden on arrival,
     /// and hides nothing. After want of memory the revisions are as before.
     pub fn push_edit(&mut self, alloc: Global, edit: RevEdit) -> Result<u64, NoMemory>
         requires { MayPush self.old edit }
@@ -202,17 +229,20 @@ impl RevList {
         ensures err { OnErr result (self.new ≡ self.old) }
         ensures number { IfOk result (λ rev. rev ≡ head self.old + 1) }
     {
-        let undone = self.undone.has(edit.group);
+        let group = edit.group;
+        let undone = self.undone.has(group);
         let (newest, dead) = recorded_edit(alloc, &self.dead, undone, edit)?;
         let dead = Arc::new(alloc, dead)?;
+        let firsts = self.firsts.with(alloc, group, self.records.len() + 1)?;
         self.records.push(alloc, newest)?;
         self.dead = dead;
+        self.firsts = firsts;
         Ok(self.records.len())
     }
 
     /// Makes an undo the next revision and gives its number: from it on exactly these groups are undone. `dead` is what of the union
-    /// is not visible under them. It costs the runs of what is dead before and after, and one pass over the groups that are undone
-    /// before and after. After want of memory the revisions are as before.
+    /// is not visible under them. It costs the runs of what is dead before and after, and one pass over the set and over the groups in
+    /// which it differs from those that are undone at the head. After want of memory the revisions are as before.
     pub fn push_undo(
         &mut self,
         alloc: Global,
@@ -225,10 +255,12 @@ impl RevList {
         ensures number { IfOk result (λ rev. rev ≡ head self.old + 1) }
     {
         let differ = self.undone().flipped_by_set(alloc, groups)?;
+        let differ = Groups::of_set(alloc, &differ)?;
         self.push_undo_by(alloc, differ.as_slice(), dead)
     }
 
-    /// The same, of the groups in which the new set differs from the groups that are undone at the head, in rising order.
+    /// The same, of the groups in which the new set differs from the groups that are undone at the head, in rising order. For those that
+    /// are undone before and after it costs nothing.
     pub fn push_undo_by(
         &mut self,
         alloc: Global,
@@ -243,8 +275,7 @@ impl RevList {
     {
         let differ = Groups::of_slice(alloc, groups)?;
         let newest = recorded_undo(alloc, &self.dead, &dead, differ)?;
-        let flipped = self.undone.flipped(alloc, groups)?;
-        let undone = Arc::new(alloc, flipped)?;
+        let undone = self.undone.flipped(alloc, groups)?;
         let dead = Arc::new(alloc, dead)?;
         self.records.push(alloc, newest)?;
         self.dead = dead;
@@ -260,7 +291,8 @@ impl RevList {
             len: self.len,
             records: self.records.copy(alloc)?,
             dead: Arc::try_clone(&self.dead)?,
-            undone: Arc::try_clone(&self.undone)?,
+            firsts: self.firsts.copy(alloc)?,
+            undone: self.undone.copy(alloc)?,
         })
     }
 }

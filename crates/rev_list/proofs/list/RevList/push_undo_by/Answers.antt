@@ -1,7 +1,6 @@
 use Rattle.std.proofs.Common.{◌≡◌, [], ◌∷◌, ◌++◌, length, length-append, arith, ap, ◌∙◌}
 use Rattle.std.specs.Arc.{arc_value}
 use Rattle.subset_runs.specs.Subset.{symmetric_difference}
-use Rattle.plain_text.specs.Numbers.{flipped}
 use Rattle.rev_list.specs.declared.step.RevStep.TheVariants.{Undo}
 use Rattle.rev_list.proofs.RecordLemmas.{head-history_of, push_undo, undo_lengths}
 use Rattle.rev_list.proofs.list.RevList.push_undo_by.Goals as goal
@@ -10,7 +9,7 @@ pub recorded_undo-requires : goal.recorded_undo-requires
 recorded_undo-requires c =
     let s = c.self.inside in
     let may = rw (← c.self.view_is) at c.requires.may in
-    ap length c.deref.ensures ∙ undo_lengths s.len s.records _ (arc_value s.dead) c.args.dead (arc_value s.undone) c.self.invariant may
+    ap length c.deref.ensures ∙ undo_lengths s.len s.records _ (arc_value s.dead) c.args.dead s.firsts s.undone c.self.invariant may
 
 pub push-requires : goal.push-requires
 push-requires c =
@@ -24,10 +23,10 @@ invariant_of-self-2 c =
     let made = c.in_ok-newest.ensures in
     let may = rw (← c.self.view_is) at c.requires.may in
     rw (c.in_ok-push.ensures.pushed, c.in_ok-dead.ensures.ok)
-    (push_undo s.len s.records c.in_ok-newest.newest groups (arc_value s.dead) c.args.dead (arc_value s.undone) (arc_value c.in_ok-undone.undone) c.self.invariant may
+    (push_undo s.len s.records c.in_ok-newest.newest groups (arc_value s.dead) c.args.dead s.firsts s.undone c.in_ok-undone.undone c.self.invariant may
     (made.step ∙ ap Undo c.in_ok-differ.ensures)
     (made.turned ∙ ap (λ flags. symmetric_difference flags c.args.dead) c.deref.ensures)
-    (c.in_ok-undone.ensures.ok ∙ (c.in_ok-flipped.ensures ∙ ap (λ xs. flipped xs groups) c.deref-2.ensures))).holds
+    c.in_ok-undone.ensures.made).holds
 
 pub returns-clause-number : goal.returns-clause-number
 returns-clause-number c =

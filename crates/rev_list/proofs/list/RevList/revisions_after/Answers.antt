@@ -1,6 +1,6 @@
 use Rattle.std.proofs.Common.{arith}
 use Rattle.rev_list.specs.Kept.{steps_of}
-use Rattle.rev_list.proofs.RecordLemmas.{head-history_of, sound-history_of, AreRevisionsAfter-history_of}
+use Rattle.rev_list.proofs.RecordLemmas.{head-history_of, later-history_of, sound-history_of, AreRevisionsAfter-history_of}
 use Rattle.rev_list.proofs.list.RevList.revisions_after.Goals as goal
 
 pub new-requires : goal.new-requires
@@ -16,3 +16,6 @@ returns-clause-revisions c =
 
 pub returns-clause-sound : goal.returns-clause-sound
 returns-clause-sound c = rw (← c.self.view_is) (sound-history_of c.self.inside.len (steps_of c.self.inside.records))
+
+pub returns-clause-later : goal.returns-clause-later
+returns-clause-later c = rw (← c.self.view_is) (later-history_of c.self.inside.len (steps_of c.self.inside.records))
