@@ -1,0 +1,5 @@
+pub mod FlagLemmas
+pub mod ItemLemmas
+pub mod StepLemmas
+pub mod StartLemmas
+pub mod AllowedLemmas

@@ -1,0 +1,11 @@
+use Rattle.std.proofs.Common.{◌↔◌}
+use Rattle.std.specs.List.{AllByRecursion}
+use Rattle.rev_undo.specs.Allowed.{IsThere}
+use Rattle.rev_undo.proofs.allowed.all_undone.Given as goal
+
+abbrev pub invariant-loop-group : goal.invariant-loop-group
+invariant-loop-group l = record {
+  can_next : (goal.iterator-loop-group).can_next l.group-iterator;
+  is_finite : (goal.iterator-loop-group).is_finite l.group-iterator;
+  so_far : AllByRecursion (IsThere l.revs) l.group-iterator ↔ AllByRecursion (IsThere l.revs) l.groups.keys;
+}

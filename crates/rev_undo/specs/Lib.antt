@@ -1,0 +1,3 @@
+pub mod Under
+pub mod Start
+pub mod Allowed
