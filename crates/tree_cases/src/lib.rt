@@ -1,6 +1,12 @@
-//! Tables of tests of ropes: random edits from a seed make of a rope what they make of a plain text, leaves are as full as characters
-//! allow, and a leaf is cut at each gap.
+//! Tables of tests of the shared tree and of the ropes that stand on it: random steps from a seed are those of a plain list or text,
+//! trees that were grown by different ways hold the same items, leaves are as full as characters allow, and offsets are as counted.
 #![tactic(auto)]
 
 #[cfg(test)]
+mod numbers;
+#[cfg(test)]
+mod offsets;
+#[cfg(test)]
 mod ropes;
+#[cfg(test)]
+mod trees;
