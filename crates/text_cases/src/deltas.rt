@@ -10,49 +10,32 @@ use std::alloc::Global;
 use std::test::Fail;
 use subset_runs::Subset;
 
-// An element of a row: a copy, or an insertion of one of the texts.
+// An element of a row: a copy, or an insertion.
 #[derive(Clone, Copy)]
-enum Row {
+enum Row<'a> {
     Copy(u64, u64),
-    Insert(Word),
-}
-
-// A text of a row.
-#[derive(Clone, Copy)]
-enum Word {
-    Empty,
-    X,
-    Y,
-    Z,
-    XY,
-    YZ,
+    Insert(&'a str),
 }
 
 use Row::{Copy, Insert};
 
-fn text_of(alloc: Global, word: Word) -> Result<Text, NoMemory> {
-    Text::from_str(
-        alloc,
-        match word {
-            Word::Empty => "",
-            Word::X => "X",
-            Word::Y => "Y",
-            Word::Z => "Z",
-            Word::XY => "XY",
-            Word::YZ => "YZ",
-        },
-    )
+fn element(alloc: Global, row: Row<'_>) -> Result<El, NoMemory> {
+    match row {
+        Copy(a, b) => Ok(El::Copy { a, b }),
+        Insert(text) => insertion(alloc, text),
+    }
 }
 
-fn delta(alloc: Global, base_len: u64, rows: &[Row]) -> Result<Delta, NoMemory> {
+fn insertion(alloc: Global, text: &str) -> Result<El, NoMemory> {
+    Ok(El::Insert {
+        text: Text::from_str(alloc, text)?,
+    })
+}
+
+fn delta(alloc: Global, base_len: u64, rows: &[Row<'_>]) -> Result<Delta, NoMemory> {
     let mut els = Els::new(alloc);
     for row in rows {
-        els.push(match row {
-            Copy(a, b) => El::Copy { a: *a, b: *b },
-            Insert(text) => El::Insert {
-                text: text_of(alloc, *text)?,
-            },
-        })?;
+        els.push(element(alloc, *row)?)?;
     }
     Ok(Delta { els, base_len })
 }
@@ -61,7 +44,7 @@ fn units(
     alloc: Global,
     base: u64,
     runs: &[(u64, u64)],
-    additions: &[(u64, Word)],
+    additions: &[(u64, &str)],
 ) -> Result<UnitDelta, NoMemory> {
     let mut kept = Runs::new(alloc);
     for run in runs {
@@ -74,7 +57,7 @@ fn units(
     for addition in additions {
         added.push(Added {
             gap: addition.0,
-            text: text_of(alloc, addition.1)?,
+            text: Text::from_str(alloc, addition.1)?,
         })?;
     }
     Ok(UnitDelta { base, kept, added })
@@ -84,127 +67,158 @@ fn units(
 #[derive(Clone, Copy)]
 struct Form<'a> {
     text: &'a str,
-    els: &'a [Row],
+    els: &'a [Row<'a>],
     runs: &'a [(u64, u64)],
-    additions: &'a [(u64, Word)],
-    wire: &'a [Row],
+    additions: &'a [(u64, &'a str)],
+    wire: &'a [Row<'a>],
     after: &'a str,
 }
 
-const FORMS: [Form<'static>; 5] = [
-    Form {
-        text: "abc",
-        els: &[Copy(0, 1), Insert(Word::X), Copy(2, 3)],
-        runs: &[(0, 1), (2, 3)],
-        additions: &[(1, Word::X)],
-        wire: &[Copy(0, 1), Insert(Word::X), Copy(2, 3)],
-        after: "aXc",
-    },
-    // An empty copy fixes a gap inside a deleted range; the wire has no trace of it.
-    Form {
-        text: "aébc",
-        els: &[Copy(0, 1), Copy(3, 3), Insert(Word::X), Copy(4, 5)],
-        runs: &[(0, 1), (3, 4)],
-        additions: &[(2, Word::X)],
-        wire: &[Copy(0, 1), Insert(Word::X), Copy(4, 5)],
-        after: "aXc",
-    },
-    // Insertions before any copy, several at one gap, empty ones, and copies that touch.
-    Form {
-        text: "a𝄞b",
-        els: &[
-            Insert(Word::X),
-            Insert(Word::Empty),
-            Insert(Word::Y),
-            Copy(0, 1),
-            Insert(Word::Empty),
-            Copy(1, 5),
-            Insert(Word::Z),
-        ],
-        runs: &[(0, 2)],
-        additions: &[(0, Word::XY), (2, Word::Z)],
-        wire: &[Insert(Word::XY), Copy(0, 5), Insert(Word::Z)],
-        after: "XYa𝄞Z",
-    },
-    // An insertion between two kept neighbours parts them on the wire, and insertions round a dropped character are one.
-    Form {
-        text: "abcd",
-        els: &[
-            Copy(0, 1),
-            Insert(Word::X),
-            Copy(1, 2),
-            Insert(Word::Y),
-            Copy(3, 3),
-            Insert(Word::Z),
-            Copy(3, 4),
-        ],
-        runs: &[(0, 2), (3, 4)],
-        additions: &[(1, Word::X), (2, Word::Y), (3, Word::Z)],
-        wire: &[
-            Copy(0, 1),
-            Insert(Word::X),
-            Copy(1, 2),
-            Insert(Word::YZ),
-            Copy(3, 4),
-        ],
-        after: "aXbYZd",
-    },
-    Form {
-        text: "ab",
-        els: &[],
-        runs: &[],
-        additions: &[],
-        wire: &[],
-        after: "",
-    },
-];
+// Whether the delta fits, and has these forms.
+fn holds(alloc: Global, form: Form<'_>) -> Result<bool, NoMemory> {
+    let text = Text::from_str(alloc, form.text)?;
+    let given = delta(alloc, text.byte_len(), form.els)?;
+    if fits(&text, &given).is_err() {
+        return Ok(false);
+    }
+    let in_units = to_units(alloc, &text, &given)?;
+    let wire = to_wire(alloc, &text, &in_units)?;
+    let after = apply(alloc, &text, &in_units)?;
+    let wanted = delta(alloc, text.byte_len(), form.wire)?;
+    Ok(after.as_str() == form.after && wire == wanted && are_units(alloc, &in_units, form)?)
+}
+
+// Whether these are the runs and the additions of the form.
+fn are_units(alloc: Global, found: &UnitDelta, form: Form<'_>) -> Result<bool, NoMemory> {
+    let wanted = units(alloc, found.base, form.runs, form.additions)?;
+    Ok(*found == wanted)
+}
+
+const REPLACED: Form<'static> = Form {
+    text: "abc",
+    els: &[Copy(0, 1), Insert("X"), Copy(2, 3)],
+    runs: &[(0, 1), (2, 3)],
+    additions: &[(1, "X")],
+    wire: &[Copy(0, 1), Insert("X"), Copy(2, 3)],
+    after: "aXc",
+};
+
+const NOTHING: Form<'static> = Form {
+    text: "ab",
+    els: &[],
+    runs: &[],
+    additions: &[],
+    wire: &[],
+    after: "",
+};
+
+// An empty copy fixes a gap inside a deleted range; the wire has no trace of it.
+const EMPTY_COPY: Form<'static> = Form {
+    text: "aébc",
+    els: &[Copy(0, 1), Copy(3, 3), Insert("X"), Copy(4, 5)],
+    runs: &[(0, 1), (3, 4)],
+    additions: &[(2, "X")],
+    wire: &[Copy(0, 1), Insert("X"), Copy(4, 5)],
+    after: "aXc",
+};
+
+// Insertions before any copy, several at one gap, empty ones, and copies that touch.
+const SEVERAL: Form<'static> = Form {
+    text: "a𝄞b",
+    els: &[
+        Insert("X"),
+        Insert(""),
+        Insert("Y"),
+        Copy(0, 1),
+        Insert(""),
+        Copy(1, 5),
+        Insert("Z"),
+    ],
+    runs: &[(0, 2)],
+    additions: &[(0, "XY"), (2, "Z")],
+    wire: &[Insert("XY"), Copy(0, 5), Insert("Z")],
+    after: "XYa𝄞Z",
+};
+
+// An insertion between two kept neighbours parts them on the wire, and insertions round a dropped character are one.
+const PARTED: Form<'static> = Form {
+    text: "abcd",
+    els: &[
+        Copy(0, 1),
+        Insert("X"),
+        Copy(1, 2),
+        Insert("Y"),
+        Copy(3, 3),
+        Insert("Z"),
+        Copy(3, 4),
+    ],
+    runs: &[(0, 2), (3, 4)],
+    additions: &[(1, "X"), (2, "Y"), (3, "Z")],
+    wire: &[
+        Copy(0, 1),
+        Insert("X"),
+        Copy(1, 2),
+        Insert("YZ"),
+        Copy(3, 4),
+    ],
+    after: "aXbYZd",
+};
 
 #[test]
 fn a_delta_in_all_its_forms(rt: HostRuntime) -> Result<(), Fail> {
     let alloc = rt.alloc();
-    for form in FORMS {
-        let text = Text::from_str(alloc, form.text)?;
-        let given = delta(alloc, text.byte_len(), form.els)?;
-        assert_eq!(rt; fits(&text, &given), Ok(()));
-        let in_units = to_units(alloc, &text, &given)?;
-        let wanted = units(alloc, text.char_count(), form.runs, form.additions)?;
-        assert!(rt; in_units == wanted, "{} in units", form.text);
-        let wire = to_wire(alloc, &text, &in_units)?;
-        let wanted = delta(alloc, text.byte_len(), form.wire)?;
-        assert!(rt; wire == wanted, "{} on the wire", form.text);
-        assert_eq!(rt; apply(alloc, &text, &in_units)?.as_str(), form.after);
-    }
+    assert!(rt; holds(alloc, REPLACED).unwrap_or(false));
+    assert!(rt; holds(alloc, NOTHING).unwrap_or(false));
+    assert!(rt; holds(alloc, EMPTY_COPY).unwrap_or(false));
+    assert!(rt; holds(alloc, SEVERAL).unwrap_or(false));
+    assert!(rt; holds(alloc, PARTED).unwrap_or(false));
     Ok(())
+}
+
+// Whether this is the first misfit of the delta.
+fn is_misfit(
+    alloc: Global,
+    text: &str,
+    base_len: u64,
+    els: &[Row<'_>],
+    misfit: (u8, u64),
+) -> Result<bool, NoMemory> {
+    let text = Text::from_str(alloc, text)?;
+    let given = delta(alloc, base_len, els)?;
+    let (kind, at) = misfit;
+    Ok(fits(&text, &given) == Err(Misfit { kind, at }))
 }
 
 #[test]
 fn misfits_come_in_their_order(rt: HostRuntime) -> Result<(), Fail> {
     let alloc = rt.alloc();
-    for (text, base_len, els, kind, at) in [
-        ("aé", 4, [Copy(0, 9)].as_slice(), 1, 4),
-        ("aé", 3, [Copy(0, 1), Copy(0, 3)].as_slice(), 2, 0),
-        ("aé", 3, [Copy(2, 1)].as_slice(), 2, 2),
-        ("aé", 3, [Copy(0, 4)].as_slice(), 3, 4),
-        ("aé", 3, [Copy(2, 4)].as_slice(), 3, 4),
-        ("aé", 3, [Copy(0, 2)].as_slice(), 4, 2),
-        (
+    assert!(rt; is_misfit(alloc, "aé", 4, &[Copy(0, 9)], (1, 4)).unwrap_or(false));
+    assert!(rt; is_misfit(alloc, "aé", 3, &[Copy(0, 1), Copy(0, 3)], (2, 0)).unwrap_or(false));
+    assert!(rt; is_misfit(alloc, "aé", 3, &[Copy(2, 1)], (2, 2)).unwrap_or(false));
+    assert!(rt; is_misfit(alloc, "aé", 3, &[Copy(0, 4)], (3, 4)).unwrap_or(false));
+    assert!(rt; is_misfit(alloc, "aé", 3, &[Copy(2, 4)], (3, 4)).unwrap_or(false));
+    assert!(rt;
+        is_misfit(
+            alloc,
             "aé",
             3,
-            [Copy(0, 1), Insert(Word::X), Copy(2, 2), Copy(9, 0)].as_slice(),
-            4,
-            2,
-        ),
-        ("€", 3, [Copy(1, 2)].as_slice(), 4, 1),
-        ("€", 3, [Copy(0, 2)].as_slice(), 4, 2),
-        ("a𝄞", 5, [Copy(1, 2)].as_slice(), 4, 2),
-        ("a𝄞", 5, [Copy(3, 5)].as_slice(), 4, 3),
-        ("a𝄞", 5, [Copy(4, 4)].as_slice(), 4, 4),
-    ] {
-        let text = Text::from_str(alloc, text)?;
-        let found = fits(&text, &delta(alloc, base_len, els)?);
-        assert_eq!(rt; found, Err(Misfit { kind, at }), "{kind} at {at}");
-    }
+            &[Copy(0, 1), Insert("X"), Copy(2, 2), Copy(9, 0)],
+            (4, 2)
+        )
+        .unwrap_or(false)
+    );
     Ok(())
+}
+
+#[test]
+fn offsets_inside_a_character_are_misfits(rt: HostRuntime) {
+    let alloc = rt.alloc();
+    assert!(rt; is_misfit(alloc, "aé", 3, &[Copy(0, 2)], (4, 2)).unwrap_or(false));
+    assert!(rt; is_misfit(alloc, "€", 3, &[Copy(1, 2)], (4, 1)).unwrap_or(false));
+    assert!(rt; is_misfit(alloc, "€", 3, &[Copy(0, 2)], (4, 2)).unwrap_or(false));
+    assert!(rt; is_misfit(alloc, "a𝄞", 5, &[Copy(1, 2)], (4, 2)).unwrap_or(false));
+    assert!(rt; is_misfit(alloc, "a𝄞", 5, &[Copy(3, 5)], (4, 3)).unwrap_or(false));
+    assert!(rt; is_misfit(alloc, "a𝄞", 5, &[Copy(4, 4)], (4, 4)).unwrap_or(false));
 }
 
 // The edit of `abc` that has `X` in the place of `b`.
@@ -225,67 +239,98 @@ fn edit_of_abc(alloc: Global) -> Result<UnitDelta, NoMemory>
     })
 }
 
+// Whether that edit drops the one and inserts the other.
+fn is_factored(
+    alloc: Global,
+    dropped: &[(u64, u64)],
+    inserted: &[(u64, u64)],
+) -> Result<bool, NoMemory> {
+    let edit = edit_of_abc(alloc)?;
+    let (gone, come) = factor(alloc, &edit)?;
+    Ok(gone.len() == 3 && gone.runs() == dropped && come.len() == 4 && come.runs() == inserted)
+}
+
 #[test]
-fn a_unit_delta_as_two_subsets(rt: HostRuntime) -> Result<(), Fail> {
-    let alloc = rt.alloc();
-    let (dropped, inserted) = factor(alloc, &edit_of_abc(alloc)?)?;
-    assert_eq!(rt; (dropped.len(), dropped.runs()), (3, [(1, 2)].as_slice()));
-    assert_eq!(rt; (inserted.len(), inserted.runs()), (4, [(1, 2)].as_slice()));
-    Ok(())
+fn a_unit_delta_as_two_subsets(rt: HostRuntime) {
+    assert!(rt; is_factored(rt.alloc(), &[(1, 2)], &[(1, 2)]).unwrap_or(false));
+}
+
+// What leads from the one set of positions being dead to the other: the base, and whether these are its runs and additions.
+fn leads(
+    alloc: Global,
+    union: &str,
+    dead: [(u64, u64); 2],
+    runs: &[(u64, u64)],
+    additions: &[(u64, &str)],
+) -> Result<bool, NoMemory> {
+    let union = Text::from_str(alloc, union)?;
+    let [before, after] = dead;
+    let Ok(before) = Subset::of_ranges(alloc, union.char_count(), &[before]) else {
+        return Ok(false);
+    };
+    let Ok(after) = Subset::of_ranges(alloc, union.char_count(), &[after]) else {
+        return Ok(false);
+    };
+    let made = synthesize(alloc, &union, &before, &after)?;
+    let wanted = units(
+        alloc,
+        union.char_count().saturating_sub(before.count()),
+        runs,
+        additions,
+    )?;
+    Ok(made == wanted)
 }
 
 #[test]
 fn two_subsets_as_a_unit_delta(rt: HostRuntime) -> Result<(), Fail> {
     let alloc = rt.alloc();
-    for (union, before, after, runs, additions) in [
-        (
-            "XYZ",
-            (1, 2),
-            (2, 3),
-            [(0, 1)].as_slice(),
-            [(1, Word::Y)].as_slice(),
-        ),
-        (
-            "XYéb",
-            (0, 2),
-            (3, 4),
-            [(0, 1)].as_slice(),
-            [(0, Word::XY)].as_slice(),
-        ),
-        ("abc", (1, 2), (1, 2), [(0, 2)].as_slice(), [].as_slice()),
-    ] {
-        let union = Text::from_str(alloc, union)?;
-        let before = Subset::of_ranges(alloc, union.char_count(), &[before])?;
-        let after = Subset::of_ranges(alloc, union.char_count(), &[after])?;
-        let made = synthesize(alloc, &union, &before, &after)?;
-        assert_eq!(rt;
-            made.base,
-            union.char_count().saturating_sub(before.count())
-        );
-        assert!(rt; made == units(alloc, made.base, runs, additions)?);
-    }
+    assert!(rt; leads(alloc, "XYZ", [(1, 2), (2, 3)], &[(0, 1)], &[(1, "Y")]).unwrap_or(false));
+    assert!(rt; leads(alloc, "XYéb", [(0, 2), (3, 4)], &[(0, 1)], &[(0, "XY")]).unwrap_or(false));
+    assert!(rt; leads(alloc, "abc", [(1, 2), (1, 2)], &[(0, 2)], &[]).unwrap_or(false));
     Ok(())
+}
+
+// Insertions of a base of so many characters: all of a subset from one position up to another.
+type Ins = (u64, u64, u64);
+
+// The runs that the insertions have among the later ones.
+fn carried(alloc: Global, ins: Ins, later: Ins, after: bool) -> Result<Option<Subset>, NoMemory> {
+    let Ok(ins) = Subset::of_ranges(alloc, ins.0, &[(ins.1, ins.2)]) else {
+        return Ok(None);
+    };
+    let Ok(later) = Subset::of_ranges(alloc, later.0, &[(later.1, later.2)]) else {
+        return Ok(None);
+    };
+    let (long, more) = (ins.len(), later.count());
+    let (other, some) = (later.len(), ins.count());
+    if long > 9 || more > 9 || other > 9 || some > 9 || long + more != other + some {
+        return Ok(None);
+    }
+    Ok(Some(carry_ins(alloc, &ins, &later, after)?))
+}
+
+// Whether the insertions are carried to these positions.
+fn go(
+    alloc: Global,
+    ins: Ins,
+    later: Ins,
+    after: bool,
+    runs: &[(u64, u64)],
+) -> Result<bool, NoMemory> {
+    match carried(alloc, ins, later, after)? {
+        Some(made) => Ok(made.runs() == runs),
+        None => Ok(false),
+    }
 }
 
 #[test]
 fn ties_go_by_after(rt: HostRuntime) -> Result<(), Fail> {
     let alloc = rt.alloc();
-    for (ins, later, after, len, runs) in [
-        ((2, 0, 1), (2, 0, 1), true, 3, [(1, 2)].as_slice()),
-        ((2, 0, 1), (2, 0, 1), false, 3, [(0, 1)].as_slice()),
-        ((4, 1, 3), (3, 0, 1), true, 5, [(2, 4)].as_slice()),
-        ((4, 1, 3), (3, 1, 2), false, 5, [(1, 3)].as_slice()),
-        ((4, 1, 3), (3, 1, 2), true, 5, [(2, 4)].as_slice()),
-        ((2, 2, 2), (3, 2, 3), true, 3, [].as_slice()),
-    ] {
-        let ins = Subset::of_ranges(alloc, ins.0, &[(ins.1, ins.2)])?;
-        let later = Subset::of_ranges(alloc, later.0, &[(later.1, later.2)])?;
-        let (long, more) = (ins.len(), later.count());
-        let (other, some) = (later.len(), ins.count());
-        assert!(rt; long < 10 && more < 10 && other < 10 && some < 10);
-        assert!(rt; long + more == other + some);
-        let carried = carry_ins(alloc, &ins, &later, after)?;
-        assert_eq!(rt; (carried.len(), carried.runs()), (len, runs));
-    }
+    assert!(rt; go(alloc, (2, 0, 1), (2, 0, 1), true, &[(1, 2)]).unwrap_or(false));
+    assert!(rt; go(alloc, (2, 0, 1), (2, 0, 1), false, &[(0, 1)]).unwrap_or(false));
+    assert!(rt; go(alloc, (4, 1, 3), (3, 0, 1), true, &[(2, 4)]).unwrap_or(false));
+    assert!(rt; go(alloc, (4, 1, 3), (3, 1, 2), false, &[(1, 3)]).unwrap_or(false));
+    assert!(rt; go(alloc, (4, 1, 3), (3, 1, 2), true, &[(2, 4)]).unwrap_or(false));
+    assert!(rt; go(alloc, (2, 2, 2), (3, 2, 3), true, &[]).unwrap_or(false));
     Ok(())
 }

@@ -9,25 +9,33 @@ use std::io;
 use std::io::{ErrorKind, Read, Write};
 use std::test::Fail;
 
+/// Whether a read gives this much, and the sink that takes what it gave then has these bytes.
+fn moves(source: &mut CalmSource, sink: &mut CalmSink, pulled: Pulled, held: &[u8]) -> bool {
+    let mut buf = [0; 2];
+    let found = source.read(&mut buf);
+    if let Pulled::Got(count) = found {
+        if count == 0 || buf.len() < count || sink.write(&buf[..count]) != Pushed::Took(count) {
+            return false;
+        }
+    }
+    found == pulled && sink.bytes() == Some(held)
+}
+
 #[test]
 fn calm_ones_move_all_that_there_is_room_for(rt: HostRuntime) -> Result<(), Fail> {
     let alloc = rt.alloc();
     let mut source = CalmSource::new(Vec::from_slice(alloc, b"abc")?);
     let mut sink = CalmSink::new(alloc);
-    for (pulled, held) in [
-        (Pulled::Got(2), b"ab".as_slice()),
-        (Pulled::Got(1), b"abc".as_slice()),
-        (Pulled::End, b"abc".as_slice()),
-    ] {
-        let mut buf = [0; 2];
-        assert_eq!(rt; source.read(&mut buf), pulled);
-        if let Pulled::Got(count) = pulled {
-            assert!(rt; 0 < count && count <= buf.len());
-            assert_eq!(rt; sink.write(&buf[..count]), Pushed::Took(count));
-        }
-        assert_eq!(rt; sink.bytes(), Some(held));
-    }
+    assert!(rt; moves(&mut source, &mut sink, Pulled::Got(2), b"ab"));
+    assert!(rt; moves(&mut source, &mut sink, Pulled::Got(1), b"abc"));
+    assert!(rt; moves(&mut source, &mut sink, Pulled::End, b"abc"));
     Ok(())
+}
+
+/// Whether a read comes to this, and leaves these bytes and so many faults.
+fn gives(source: &mut MemSource, pulled: Pulled, left: &[u8], faults: u64) -> bool {
+    let found = source.read(&mut [0; 3]);
+    found == pulled && source.left() == left && source.faults() == faults
 }
 
 #[test]
@@ -35,33 +43,27 @@ fn memory_gives_small_pieces_and_fails_when_told(rt: HostRuntime) -> Result<(), 
     let alloc = rt.alloc();
     let failing = Vec::from_slice(alloc, &[2, 5])?;
     let mut source = MemSource::new(Vec::from_slice(alloc, b"abc")?, 2, failing);
-    for (pulled, left, faults) in [
-        (Pulled::Got(2), b"c".as_slice(), 0),
-        (Pulled::Failed, b"c".as_slice(), 1),
-        (Pulled::Got(1), b"".as_slice(), 1),
-        (Pulled::End, b"".as_slice(), 1),
-        (Pulled::Failed, b"".as_slice(), 2),
-    ] {
-        assert_eq!(rt; source.read(&mut [0; 3]), pulled);
-        assert_eq!(rt; (source.left(), source.faults()), (left, faults));
-    }
+    assert!(rt; gives(&mut source, Pulled::Got(2), b"c", 0));
+    assert!(rt; gives(&mut source, Pulled::Failed, b"c", 1));
+    assert!(rt; gives(&mut source, Pulled::Got(1), b"", 1));
+    assert!(rt; gives(&mut source, Pulled::End, b"", 1));
+    assert!(rt; gives(&mut source, Pulled::Failed, b"", 2));
     Ok(())
+}
+
+/// Whether a write comes to this, and leaves these bytes.
+fn takes(sink: &mut MemSink, piece: &[u8], pushed: Pushed, held: &[u8]) -> bool {
+    !piece.is_empty() && sink.write(piece) == pushed && sink.bytes() == Some(held)
 }
 
 #[test]
 fn memory_takes_small_pieces_and_fails_when_told(rt: HostRuntime) -> Result<(), Fail> {
     let alloc = rt.alloc();
     let mut sink = MemSink::new(alloc, 3, Vec::from_slice(alloc, &[1, 3])?);
-    for (piece, pushed, held) in [
-        (b"ab".as_slice(), Pushed::Failed, b"".as_slice()),
-        (b"abcd".as_slice(), Pushed::Took(3), b"abc".as_slice()),
-        (b"d".as_slice(), Pushed::Failed, b"abc".as_slice()),
-        (b"d".as_slice(), Pushed::Took(1), b"abcd".as_slice()),
-    ] {
-        assert!(rt; !piece.is_empty());
-        assert_eq!(rt; sink.write(piece), pushed);
-        assert_eq!(rt; sink.bytes(), Some(held));
-    }
+    assert!(rt; takes(&mut sink, b"ab", Pushed::Failed, b""));
+    assert!(rt; takes(&mut sink, b"abcd", Pushed::Took(3), b"abc"));
+    assert!(rt; takes(&mut sink, b"d", Pushed::Failed, b"abc"));
+    assert!(rt; takes(&mut sink, b"d", Pushed::Took(1), b"abcd"));
     assert_eq!(rt; (sink.calls(), sink.faults()), (4, 2));
     Ok(())
 }
@@ -104,21 +106,26 @@ impl Write for Unsteady {
     }
 }
 
+/// Whether a read comes to this, and leaves so many faults.
+fn reads(source: &mut StdSource<Unsteady>, pulled: Pulled, faults: u64) -> bool {
+    source.read(&mut [0; 4]) == pulled && source.faults == faults
+}
+
+/// Whether a write comes to this, and leaves so many faults.
+fn writes(sink: &mut StdSink<Unsteady>, pushed: Pushed, faults: u64) -> bool {
+    sink.write(b"abcd") == pushed && sink.faults == faults
+}
+
+// To read nothing is the end, and to write nothing is a fault.
 #[test]
 fn an_interrupted_call_is_made_again(rt: HostRuntime) {
     let mut source = StdSource::new(Unsteady { calls: 0 });
     let mut sink = StdSink::new(Unsteady { calls: 0 });
-    for (pulled, at_source, pushed, at_sink) in [
-        (Pulled::Got(1), 0, Pushed::Took(1), 0),
-        (Pulled::Failed, 1, Pushed::Failed, 1),
-        // To read nothing is the end, and to write nothing is a fault.
-        (Pulled::End, 1, Pushed::Failed, 2),
-    ] {
-        assert_eq!(rt;
-            (source.read(&mut [0; 4]), source.faults),
-            (pulled, at_source)
-        );
-        assert_eq!(rt; (sink.write(b"abcd"), sink.faults), (pushed, at_sink));
-    }
+    assert!(rt; reads(&mut source, Pulled::Got(1), 0));
+    assert!(rt; reads(&mut source, Pulled::Failed, 1));
+    assert!(rt; reads(&mut source, Pulled::End, 1));
+    assert!(rt; writes(&mut sink, Pushed::Took(1), 0));
+    assert!(rt; writes(&mut sink, Pushed::Failed, 1));
+    assert!(rt; writes(&mut sink, Pushed::Failed, 2));
     assert_eq!(rt; StdSink::new(rt.stdout()).write(b"\n"), Pushed::Took(1));
 }
