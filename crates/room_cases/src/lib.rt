@@ -1,5 +1,9 @@
-//! Tables of tests of the room: threads that ask and look at once, and one that waits for the other.
+//! Tables of tests of the room: threads that ask and look at once, and some that wait for another.
 #![tactic(auto)]
 
 #[cfg(test)]
-mod room;
+mod crew;
+#[cfg(test)]
+mod receipts;
+#[cfg(test)]
+mod tally;
