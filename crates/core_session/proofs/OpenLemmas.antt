@@ -17,7 +17,7 @@ use Rattle.core_session.specs.Session.{first_document, open_outcome, text_limit}
 
 -- a document that was just loaded takes events
 pub TakesEvents-loaded : (doc : Doc) (text : List ℕ) → DocStandsFor doc (loaded_document text 0 text_limit) → TakesEvents doc
-TakesEvents-loaded doc text stands = (stands.plugins, omega (arith, head-stands doc.engine (loaded text) stands.parts.shown.stands))
+TakesEvents-loaded doc text stands = (stands.plugins, omega (arith, head-stands doc.engine (loaded text) stands.parts.stands))
 
 pub stands-first : (doc : Doc) (text : List ℕ) → text ≡ [] → DocStandsFor doc (loaded_document text 0 text_limit) → DocStandsFor doc first_document
 stands-first doc text none stands = subst (λ t. DocStandsFor doc (loaded_document t 0 text_limit)) none stands

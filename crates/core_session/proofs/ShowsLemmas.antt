@@ -394,7 +394,7 @@ MayBeAsked-few : (doc : Option Doc) (plain : Option Document) → Stands doc pla
 MayBeAsked-few None plain stands few = tt
 MayBeAsked-few (Some doc) None stands few = absurd stands
 MayBeAsked-few (Some doc) (Some plain) stands few =
-    ((stands.no_plugins, omega (arith, few, head-stands doc.engine plain.history stands.stands.parts.shown.stands)), ∣ (plain, stands.stands) ∣₁)
+    ((stands.no_plugins, omega (arith, few, head-stands doc.engine plain.history stands.stands.parts.stands)), ∣ (plain, stands.stands) ∣₁)
 
 pub MayBeAsked-stands : (doc : Option Doc) (journal : List Entry) → Stands doc (plain_of journal) → length journal < 2 ^ 63 - 1 → MayBeAsked doc
 MayBeAsked-stands doc journal stands few = MayBeAsked-few doc (plain_of journal) stands (omega (arith, few, revisions_few journal))

@@ -28,11 +28,11 @@ typing_fits doc plain (c ∷ chars) stands =
     let h = plain.history in
     let delta = (front_edit plain (c ∷ chars)).delta in
     let total = inserted_count h + inserted_len delta.els in
-    let fresh = IsFresh-given doc.engine.limit h stands.parts.shown.stands.given in
+    let fresh = IsFresh-given doc.engine.limit h stands.parts.stands.given in
     let low : h.floor ≤ head h = omega (arith, fresh.floor) in
     let high : head h ≤ head h = omega arith in
     let inside : plain.caret ≤ length (text_of plain) =
-    omega (arith, stands.parts.inside, stands.caret, ap length stands.parts.shown.text_is) in
+    omega (arith, stands.parts.inside, stands.caret) in
     let same : typing_refusal plain (c ∷ chars) ≡ misfit_or_spent None plain.limit total =
     refusal-kept h plain.limit (head h) delta low high ∙
     ap (λ found. misfit_or_spent found plain.limit total) (Fits-insertion (text_of plain) plain.caret (c ∷ chars) inside) in

@@ -1,13 +1,15 @@
 -- The front end's insertion: its delta fits, and what it makes of the text.
-use Rattle.std.proofs.Common.{◌≡◌, ℕ, ◌+◌, ◌-◌, ◌≤◌, true, List, [], ◌∷◌, ◌++◌, length, take, drop, Some, None, refl, ap, ap₂, sym, ◌∙◌, subst, arith, append-nil, length-append, length-take, length-drop}
-use Rattle.std.proofs.Math.Logic.{∥∥₁_elim, ∥∥₁_map}
+use Rattle.std.proofs.Common.{◌≡◌, ◌≢◌, ℕ, ◌+◌, ◌-◌, ◌≤◌, Bool, true, false, List, [], ◌∷◌, ◌++◌, length, take, drop, Some, None, refl, ap, ap₂, sym, ◌∙◌, subst, arith, append-nil, length-append, length-take, length-drop, inl, inr}
+use Rattle.std.proofs.Math.Logic.{∥∥₁_elim}
 use Rattle.std.proofs.Math.Nat.{ℕ_set}
-use Rattle.std.specs.Coded.{le_prop}
-use Rattle.std.specs.Prelude.{if◌then◌else◌, unwrap_or, is_some}
-use Rattle.std.proofs.lemmas.Bool.{eq-eqb}
+use Rattle.std.proofs.Math.Path.{fun_ext}
+use Rattle.std.specs.Prelude.{if◌then◌else◌, unwrap_or, is_some, nat_lt, nat_le, ◌&&◌, ◌||◌}
+use Rattle.std.proofs.lemmas.Bool.{eq-eqb, cases_lt, lt-ltb, le-ltb, le-leb, ltb-true, ltb-false}
 use Rattle.std.proofs.lemmas.List.{take_all}
 use Rattle.plain_edits.specs.declared.delta.El.TheVariants.{Copy, Insert}
-use Rattle.plain_edits.specs.Delta.{Fits, copies_misfit, keeps, adds, applied}
+use Rattle.plain_edits.specs.declared.delta.UnitDelta.{UnitDelta}
+use Rattle.plain_edits.specs.Delta.{Fits, copies_misfit, keeps, adds, applied, is_in_runs, text_at_gap}
+use Rattle.plain_edits.specs.UnitDelta.{IsCanonical, unit_keeps, unit_adds}
 use Rattle.plain_edits.specs.History.{History, head, text_at}
 use Rattle.plain_text.specs.Numbers.{has}
 use Rattle.plain_text.specs.Text.{byte_len, place_of, gap_of, is_place}
@@ -15,17 +17,23 @@ use Rattle.plain_edits.proofs.callers.EditLemmas.{text_at-edited_at_head}
 use Rattle.plain_text.proofs.callers.TextLemmas.{gap_from-place}
 use Rattle.delta_core.proofs.ForCallers.{is_place-end, gap_of-end, place_within}
 use Rattle.delta_core.proofs.ForCallers.{CopyFits-to, applied-shown}
+use Rattle.delta_core.specs.Units.{IsUnitsOf}
+use Rattle.rev_engine.specs.declared.edit.UnitEdit.{UnitEdit}
 use Rattle.rev_engine.specs.State.{State}
-use Rattle.rev_engine.specs.Given.{AskedEdit, after, meant}
+use Rattle.rev_engine.specs.Given.{AskedEdit, MayAsk, after, meant}
+use Rattle.rev_engine.specs.Engine.{StandsFor, IsSaidBy}
 use Rattle.rev_engine.proofs.ForCallers.{IsFresh-given}
-use Rattle.rev_engine.specs.declared.edit.Change.{Change}
-use Rattle.rev_engine.specs.Engine.{StandsFor, IsChange}
 use Rattle.doc_session.specs.declared.taken.Taken.{Taken}
-use Rattle.doc_session.specs.Asking.{insertion_delta, insertion_at}
-use Rattle.doc_session.specs.Inner.{IsAfter}
-use Rattle.doc_session.specs.Whole.{ShowsHead, IsStateOf, IsStateOfSome}
-use Rattle.doc_session.specs.Inner.{IsChangeOf, ShowsSomeHead}
-use Rattle.doc_session.proofs.MoveLemmas.{head-after, head-stands, IsChangeOf-shown}
+use Rattle.doc_session.specs.InMemory.{Doc}
+use Rattle.doc_session.specs.Asking.{front_priority, insertion_delta}
+use Rattle.doc_session.specs.Inner.{IsAfter, IsHeadEdit, all_kept, head_shown, insertion_in, insertion_units}
+use Rattle.doc_session.specs.Whole.{IsStateOf, IsStateOfSome}
+use Rattle.doc_session.proofs.HeadLemmas.{head_shown-stands}
+use Rattle.doc_session.proofs.MoveLemmas.{head-after}
+
+or-false : (b : Bool) → (b || false) ≡ b
+or-false true = refl
+or-false false = refl
 
 -- the text with characters put in at a gap
 abbrev pub put_in : ℕ → List ℕ → List ℕ → List ℕ
@@ -80,64 +88,116 @@ module _ (text : List ℕ) (gap : ℕ) (chars : List ℕ) (inside : gap ≤ leng
   pub applied-insertion : applied (keeps text (insertion_delta text gap chars)) (adds text (insertion_delta text gap chars)) text ≡ put_in gap chars text
   applied-insertion = applied-shown text (insertion_delta text gap chars).els copies-fit ∙ shown-insertion
 
+  -- ---- the same in characters
+
+  -- the one run is all
+  within_all : (index : ℕ) → is_in_runs (all_kept (length text)) index ≡ nat_lt index (length text)
+  within_all index = by (nat_lt 0 (length text)) refl
+    where
+      by : (some : Bool) → nat_lt 0 (length text) ≡ some → is_in_runs (if some then record { start = 0; end = length text } ∷ [] else []) index ≡ nat_lt index (length text)
+      by true is =
+          ap (λ b. (b && nat_lt index (length text)) || false) (le-leb 0 index (omega arith)) ∙ or-false (nat_lt index (length text))
+      by false is = sym (le-ltb index (length text) (omega (arith, ltb-false 0 (length text) is)))
+
+  -- and so are the characters left of the gap and those right of it
+  both_sides : (index : ℕ) →
+      is_in_runs (record { start = 0; end = gap } ∷ record { start = gap; end = length text } ∷ []) index ≡ nat_lt index (length text)
+  both_sides index =
+      ap (λ b. (b && nat_lt index gap) || ((nat_le gap index && nat_lt index (length text)) || false)) (le-leb 0 index (omega arith)) ∙
+      elim (cases_lt index gap) [
+        | inl left ↦
+            ap (λ b. b || ((nat_le gap index && nat_lt index (length text)) || false)) (lt-ltb index gap left) ∙
+            sym (lt-ltb index (length text) (omega arith))
+        | inr right ↦
+            ap₂ (λ b c. b || ((c && nat_lt index (length text)) || false)) (le-ltb index gap right) (le-leb gap index right) ∙
+            or-false (nat_lt index (length text))
+      ]
+
+  kept-insertion : (index : ℕ) → unit_keeps (insertion_units (length text) gap chars) index ≡ keeps text (insertion_delta text gap chars) index
+  kept-insertion index =
+      within_all index ∙ sym (both_sides index) ∙
+      sym (ap₂ (λ from to. is_in_runs (record { start = from; end = to } ∷ record { start = to; end = gap_of text (byte_len text) } ∷ []) index) (starts text).1 gap_is ∙
+      ap (λ end. is_in_runs (record { start = 0; end = gap } ∷ record { start = gap; end = end } ∷ []) index) (gap_of-end text))
+
+  added-insertion : (place : ℕ) → unit_adds (insertion_units (length text) gap chars) place ≡ adds text (insertion_delta text gap chars) place
+  added-insertion place = ap (λ at. text_at_gap (record { gap = at; text = chars } ∷ []) place) (sym gap_is)
+
+  canonical-insertion : chars ≢ [] → IsCanonical (insertion_units (length text) gap chars)
+  canonical-insertion some = by (nat_lt 0 (length text)) refl
+    where
+      by : (any : Bool) → nat_lt 0 (length text) ≡ any → IsCanonical (record (insertion_units (length text) gap chars) {
+        kept = if any then record { start = 0; end = length text } ∷ [] else [];
+      })
+      by true is = record {
+        well_formed = record { runs = (omega arith, omega arith, omega arith); adds = (omega arith, inside, some, tt) };
+        apart = (omega arith, ltb-true 0 (length text) is, tt);
+      }
+      by false is = record {
+        well_formed = record { runs = omega arith; adds = (omega arith, inside, some, tt) };
+        apart = tt;
+      }
+
+  pub IsUnitsOf-insertion : chars ≢ [] → IsUnitsOf text (insertion_delta text gap chars) (insertion_units (length text) gap chars)
+  IsUnitsOf-insertion some = record {
+    canonical = canonical-insertion some;
+    base = refl;
+    kept = kept-insertion;
+    added = added-insertion;
+    leads = ap₂ (λ kept added. applied kept added text) (fun_ext kept-insertion) (fun_ext added-insertion);
+  }
+
+-- an edit that puts characters in at a gap says the insertion
+pub IsSaidBy-insertion : (h : History) (edit : UnitEdit) (len gap : ℕ) (chars : List ℕ) → len ≡ length (text_at h (head h)) →
+    gap ≤ length (text_at h (head h)) → chars ≢ [] → edit.units ≡ insertion_units len gap chars → edit.priority ≡ front_priority → edit.author ≡ 0 →
+    edit.group ≡ head h + 1 → IsSaidBy h edit (insertion_in h gap chars)
+IsSaidBy-insertion h edit len gap chars len_is inside some units priority author group =
+    let text = text_at h (head h) in
+    let Says : UnitDelta → Type 0 = λ u. IsUnitsOf text (insertion_delta text gap chars) u in
+    record {
+      base = refl;
+      fits = Fits-insertion text gap chars inside;
+      units = subst Says (sym (units ∙ ap (λ n. insertion_units n gap chars) len_is)) (IsUnitsOf-insertion text gap chars inside some);
+      group = sym group;
+      priority = sym priority;
+      author = sym author;
+    }
+
+pub IsHeadEdit-insertion : (engine : State) (edit : UnitEdit) (text : List ℕ) (len gap : ℕ) (chars : List ℕ) → text ≡ head_shown engine → len ≡ length text →
+    gap ≤ length (head_shown engine) → chars ≢ [] → edit.units ≡ insertion_units len gap chars → MayAsk engine.revisions edit.group → IsHeadEdit engine edit
+IsHeadEdit-insertion engine edit text len gap chars text_is len_is inside some units may =
+    let is : edit.units ≡ insertion_units (length (head_shown engine)) gap chars = units ∙ ap (λ n. insertion_units n gap chars) (len_is ∙ ap length text_is) in
+    record {
+      may = may;
+      canonical = subst IsCanonical (sym is) (canonical-insertion (head_shown engine) gap chars inside some);
+      base = ap (λ (u : UnitDelta). u.base) is;
+    }
+
 -- the head text after an insertion at a gap
-pub text_at-inserted : (h : History) (engine : State) (text : List ℕ) (gap : ℕ) (chars : List ℕ) → ShowsHead h engine text → gap ≤ length text →
-    text_at (after h (insertion_at (head h) text gap chars)) (head (after h (insertion_at (head h) text gap chars))) ≡ put_in gap chars text
-text_at-inserted h engine text gap chars shows inside =
-    let fresh = IsFresh-given engine.limit h shows.stands.given in
-    let asked : AskedEdit = insertion_at (head h) text gap chars in
+pub text_at-inserted : (h : History) (engine : State) (gap : ℕ) (chars : List ℕ) → StandsFor engine h → gap ≤ length (text_at h (head h)) →
+    text_at (after h (insertion_in h gap chars)) (head (after h (insertion_in h gap chars))) ≡ put_in gap chars (text_at h (head h))
+text_at-inserted h engine gap chars stands inside =
+    let fresh = IsFresh-given engine.limit h stands.given in
+    let text = text_at h (head h) in
+    let asked : AskedEdit = insertion_in h gap chars in
     ap (text_at (after h asked)) (head-after h asked) ∙
     text_at-edited_at_head h (meant h asked) fresh.plain.sound refl (ap (λ groups. has groups asked.group) (fresh.plain.none (head h))) ∙
-    ap (λ t. applied (keeps t asked.delta) (adds t asked.delta) t) (sym shows.text_is) ∙ applied-insertion text gap chars inside
-
--- ---- what edits leave is whole
-
-pub whole-taken : (engine : State) (text : List ℕ) (caret gap : ℕ) (asked : AskedEdit) (taken : Taken) → taken.engine.limit ≡ engine.limit →
-    IsStateOfSome engine text caret → ((h : History) → ShowsHead h engine text → IsAfter h asked taken) → gap ≤ length taken.text →
-    IsStateOfSome taken.engine taken.text gap
-whole-taken engine text caret gap asked taken same whole each inside =
-    ∥∥₁_map whole (λ (s : (h : History) × IsStateOf h engine text caret).
-    let is : IsAfter s.0 asked taken = each s.0 s.1.shown in (
-      after s.0 asked,
-      record {
-        shown = is.shown;
-        inside = inside;
-        within = is.within;
-        bound = omega (arith, s.1.bound, same);
-      },
-    ))
-
-pub shown-whole : (engine : State) (text : List ℕ) (caret : ℕ) → IsStateOfSome engine text caret → ShowsSomeHead engine text
-shown-whole engine text caret whole = ∥∥₁_map whole (λ (s : (h : History) × IsStateOf h engine text caret). (s.0, s.1.shown))
-
-pub inside-whole : (engine : State) (text : List ℕ) (caret : ℕ) → IsStateOfSome engine text caret → caret ≤ length text
-inside-whole engine text caret whole = ∥∥₁_elim whole le_prop (λ (s : (h : History) × IsStateOf h engine text caret). s.1.inside)
+    applied-insertion text gap chars inside
 
 -- so many characters has the text after an insertion at the caret
-pub inside-inserted : (engine : State) (text : List ℕ) (caret : ℕ) (chars : List ℕ) (asked : AskedEdit) (taken : Taken) →
-    IsStateOfSome engine text caret → asked ≡ insertion_at (head engine.revisions) text caret chars →
-    ((h : History) → ShowsHead h engine text → IsAfter h asked taken) → length taken.text ≡ length text + length chars
-inside-inserted engine text caret chars asked taken whole is each =
-    ∥∥₁_elim whole (ℕ_set _ _) (λ (s : (h : History) × IsStateOf h engine text caret).
-    let here : asked ≡ insertion_at (head s.0) text caret chars =
-    is ∙ ap (λ n. insertion_at n text caret chars) (head-stands engine s.0 s.1.shown.stands) in
-    ap length ((each s.0 s.1.shown).shown.text_is ∙
-    ap (λ (a : AskedEdit). text_at (after s.0 a) (head (after s.0 a))) here ∙
-    text_at-inserted s.0 engine text caret chars s.1.shown s.1.inside) ∙ length-put_in caret chars text s.1.inside)
+pub length-inserted : (engine : State) (caret : ℕ) (chars : List ℕ) (taken : Taken) → IsStateOfSome engine caret →
+    ((h : History) → StandsFor engine h → IsAfter h (insertion_in h caret chars) taken) →
+    length (head_shown taken.engine) ≡ length (head_shown engine) + length chars
+length-inserted engine caret chars taken whole each =
+    ∥∥₁_elim whole (ℕ_set _ _) (λ (s : (h : History) × IsStateOf h engine caret).
+    let h = s.0 in
+    let is = each h s.1.stands in
+    ap length (head_shown-stands taken.engine (after h (insertion_in h caret chars)) is.stands ∙ text_at-inserted h engine caret chars s.1.stands s.1.inside) ∙
+    length-put_in caret chars (text_at h (head h)) s.1.inside ∙
+    ap (λ n. n + length chars) (sym (ap length (head_shown-stands engine h s.1.stands))))
 
--- what is whole is that of each history that it shows
-pub IsStateOf-whole : (h : History) (engine : State) (text : List ℕ) (caret : ℕ) → IsStateOfSome engine text caret → ShowsHead h engine text →
-    IsStateOf h engine text caret
-IsStateOf-whole h engine text caret whole shows = record {
-  shown = shows;
-  inside = inside-whole engine text caret whole;
-  within = ∥∥₁_elim whole le_prop (λ (s : (h : History) × IsStateOf h engine text caret).
-      omega (arith, s.1.within, s.1.shown.stands.spent, shows.stands.spent));
-  bound = ∥∥₁_elim whole le_prop (λ (s : (h : History) × IsStateOf h engine text caret). s.1.bound);
-}
-
--- the change of an edit that a copy of the engine took is one of the text
-pub IsChangeOf-copied : (engine now : State) (text : List ℕ) (asked : AskedEdit) (change : Change) → now ≡ engine → ShowsSomeHead engine text →
-    ((h : History) → StandsFor now h → IsChange h (after h asked) change) → IsChangeOf text change.units
-IsChangeOf-copied engine now text asked change same some each =
-    IsChangeOf-shown now text asked change (subst (λ (e : State). ShowsSomeHead e text) (sym same) some) each
+-- what holds of a document beside its parts holds of the parts
+pub each-inside : (inside now : Doc) (chars : List ℕ) (taken : Taken) → inside ≡ now →
+    ((h : History) → StandsFor now.engine h → IsAfter h (insertion_in h now.caret chars) taken) →
+    (h : History) → StandsFor inside.engine h → IsAfter h (insertion_in h inside.caret chars) taken
+each-inside inside now chars taken is each =
+    subst (λ (d : Doc). (h : History) → StandsFor d.engine h → IsAfter h (insertion_in h d.caret chars) taken) (sym is) each

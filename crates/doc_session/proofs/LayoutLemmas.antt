@@ -1,21 +1,20 @@
 -- Lemmas on layouts and points, by the first character of what is left of a text.
-use Rattle.std.proofs.Common.{◌≡◌, ◌≢◌, ℕ, zero, suc, ◌+◌, ◌-◌, ◌<◌, ◌≤◌, Bool, true, false, cond, List, [], ◌∷◌, ◌++◌, length, length-append, map, refl, ap, sym, ◌∙◌, arith, append-nil, append_assoc, inl, inr}
+use Rattle.std.proofs.Common.{◌≡◌, ◌≢◌, ℕ, zero, suc, ◌+◌, ◌-◌, ◌<◌, ◌≤◌, Bool, true, false, cond, List, [], ◌∷◌, ◌++◌, length, length-append, map, refl, ap, ap₂, sym, ◌∙◌, arith, append-nil, append_assoc, inl, inr}
 use Rattle.std.specs.Prelude.{if◌then◌else◌, ◌==◌, nat_lt}
 use Rattle.std.specs.List.{filter, range_with_len, onto_first}
 use Rattle.std.proofs.lemmas.Bool.{cases_eq}
 use Rattle.std.proofs.lemmas.Bool.Decides.{nat_tests}
 use Rattle.std.proofs.lemmas.List.{length_push, take_at, take_all}
-use Rattle.std.specs.Char.{len_utf8}
+use Rattle.std.specs.Char.{encode_utf8, len_utf8}
+use Rattle.std.specs.Str.{encode_utf8_all}
+use Rattle.std.proofs.lemmas.Str.{length-encode, len_utf8_bounds}
 use Rattle.plain_screen.specs.declared.screen.Line.{Line}
 use Rattle.plain_text.specs.Numbers.{has}
 use Rattle.plain_text.specs.Text.{byte_len, place_of}
 use Rattle.plain_text.specs.Lines.{logical_lines}
-use Rattle.doc_session.specs.Layout.{cursor_of, layout_line, layout_from, layout, Position, position_from, position_of}
-
--- the lines with characters put before the first
-abbrev pub joined : List ℕ → List (List ℕ) → List (List ℕ)
-joined begun [] = begun ∷ []
-joined begun (line ∷ lines) = (begun ++ line) ∷ lines
+use Rattle.doc_session.specs.declared.layout.LayoutWalk.{LayoutWalk}
+use Rattle.doc_session.specs.Inner.{joined, layout_ahead}
+use Rattle.doc_session.specs.Layout.{cursor_of, layout_line, layout_from, layout, Position, position_from}
 
 -- the logical lines of a text by its first character, where `ends` says whether that is an LF
 abbrev lines_by : Bool → ℕ → List (List ℕ) → List (List ℕ)
@@ -142,44 +141,47 @@ abbrev pub point_rest : ℕ → ℕ → List ℕ → List ℕ → Position
 point_rest index gap begun text = position_from index (length begun + gap) (joined begun (logical_lines text))
 
 -- what a walk makes of one character more, of an LF and of the end
-pub layout_step-other : (carets : List ℕ) (made : List Line) (number start c : ℕ) (begun pushed text rest : List ℕ) (all : List Line) →
-    text ≡ c ∷ rest → pushed ≡ begun ++ c ∷ [] → c ≢ 10 →
-    made ++ layout_rest carets number start begun text ≡ all → made ++ layout_rest carets number start pushed rest ≡ all
-layout_step-other carets made number start c begun pushed text rest all split push not so =
-    ap (λ p. made ++ layout_rest carets number start p rest) push ∙
-    ap (λ lines. made ++ lines) (sym (layout_rest-other carets number start c begun rest not)) ∙
-    ap (λ t. made ++ layout_rest carets number start begun t) (sym split) ∙ so
+pub layout_ahead-other : (old new : LayoutWalk) (c : ℕ) (rest : List ℕ) → c ≢ 10 → new ≡ record old { line = old.line ++ c ∷ []; len = old.len + 1 } →
+    layout_ahead new rest ≡ layout_ahead old (c ∷ rest)
+layout_ahead-other old new c rest not is =
+    ap (λ walk. layout_ahead walk rest) is ∙
+    ap (λ lines. old.lines ++ lines) (sym (layout_rest-other (old.caret ∷ []) (length old.lines + 1) old.start c old.line rest not))
 
-pub layout_step-newline : (carets : List ℕ) (made grown : List Line) (line : Line) (number start len c : ℕ)
-    (begun pushed fresh text rest : List ℕ) (all : List Line) →
-    text ≡ c ∷ rest → pushed ≡ begun ++ c ∷ [] → c ≡ 10 → len ≡ length pushed →
-    line ≡ layout_line carets number start len pushed → grown ≡ made ++ line ∷ [] → fresh ≡ [] →
-    made ++ layout_rest carets number start begun text ≡ all →
-    grown ++ layout_rest carets (number + 1) (start + len) fresh rest ≡ all
-layout_step-newline carets made grown line number start len c begun pushed fresh text rest all split push newline len_is line_is grow none so =
-    ap (λ m. m ++ layout_rest carets (number + 1) (start + len) fresh rest) grow ∙
-    append_assoc made (line ∷ []) (layout_rest carets (number + 1) (start + len) fresh rest) ∙
-    ap (λ f. made ++ (line ∷ layout_rest carets (number + 1) (start + len) f rest)) none ∙
-    ap (λ l. made ++ (l ∷ layout_rest carets (number + 1) (start + len) [] rest)) line_is ∙
-    ap (λ p. made ++ (layout_line carets number start len p ∷ layout_rest carets (number + 1) (start + len) [] rest)) push ∙
-    ap (λ n. made ++ (layout_line carets number start n (begun ++ c ∷ []) ∷ layout_rest carets (number + 1) (start + n) [] rest))
-    (len_is ∙ ap length push) ∙
-    ap (λ lines. made ++ lines) (sym (layout_rest-newline carets number start c begun rest newline)) ∙
-    ap (λ t. made ++ layout_rest carets number start begun t) (sym split) ∙ so
+pub layout_ahead-newline : (old pushed new : LayoutWalk) (c : ℕ) (rest : List ℕ) → c ≡ 10 → old.len ≡ length old.line →
+    pushed ≡ record old { line = old.line ++ c ∷ []; len = old.len + 1 } →
+    new.lines ≡ pushed.lines ++ layout_line (pushed.caret ∷ []) (length pushed.lines + 1) pushed.start pushed.len pushed.line ∷ [] →
+    new.caret ≡ pushed.caret → new.start ≡ pushed.start + pushed.len → new.line ≡ [] →
+    layout_ahead new rest ≡ layout_ahead old (c ∷ rest)
+layout_ahead-newline old pushed new c rest newline len_is push lines caret start line =
+    let carets = old.caret ∷ [] in
+    let number = length old.lines + 1 in
+    let begun = old.line ++ c ∷ [] in
+    let width : old.len + 1 ≡ length begun = omega (arith, len_is, length_push old.line c) in
+    let ended = layout_line carets number old.start (length begun) begun in
+    let lines_is : new.lines ≡ old.lines ++ ended ∷ [] =
+    lines ∙ ap (λ (w : LayoutWalk). w.lines ++ layout_line (w.caret ∷ []) (length w.lines + 1) w.start w.len w.line ∷ []) push ∙
+    ap (λ n. old.lines ++ layout_line carets number old.start n begun ∷ []) width in
+    let caret_is : new.caret ≡ old.caret = caret ∙ ap (λ (w : LayoutWalk). w.caret) push in
+    let start_is : new.start ≡ old.start + length begun =
+    start ∙ ap (λ (w : LayoutWalk). w.start + w.len) push ∙ ap (λ n. old.start + n) width in
+    let more : length new.lines + 1 ≡ number + 1 = omega (arith, ap length lines_is, length_push old.lines ended) in
+    ap₂ (λ ls k. ls ++ layout_rest (k ∷ []) (length new.lines + 1) new.start new.line rest) lines_is caret_is ∙
+    ap₂ (λ n at. (old.lines ++ ended ∷ []) ++ layout_rest carets n at new.line rest) more start_is ∙
+    ap (λ l. (old.lines ++ ended ∷ []) ++ layout_rest carets (number + 1) (old.start + length begun) l rest) line ∙
+    append_assoc old.lines (ended ∷ []) (layout_rest carets (number + 1) (old.start + length begun) [] rest) ∙
+    ap (λ ls. old.lines ++ ls) (sym (layout_rest-newline carets number old.start c old.line rest newline))
 
-pub layout_step-end : (carets : List ℕ) (made grown : List Line) (line : Line) (number start len : ℕ) (begun text : List ℕ) (all : List Line) →
-    text ≡ [] → len ≡ length begun → line ≡ layout_line carets number start (len + 1) begun → grown ≡ made ++ line ∷ [] →
-    made ++ layout_rest carets number start begun text ≡ all → grown ≡ all
-layout_step-end carets made grown line number start len begun text all none len_is line_is grow so =
-    grow ∙ ap (λ l. made ++ l ∷ []) (line_is ∙ ap (λ n. layout_line carets number start (n + 1) begun) len_is) ∙
-    ap (λ lines. made ++ lines) (sym (layout_rest-end carets number start begun)) ∙
-    ap (λ t. made ++ layout_rest carets number start begun t) (sym none) ∙ so
+pub layout_ahead-end : (walk : LayoutWalk) (gaps : ℕ) → walk.len ≡ length walk.line → gaps ≡ walk.len + 1 →
+    walk.lines ++ layout_line (walk.caret ∷ []) (length walk.lines + 1) walk.start gaps walk.line ∷ [] ≡ layout_ahead walk []
+layout_ahead-end walk gaps len_is gaps_is =
+    ap (λ n. walk.lines ++ layout_line (walk.caret ∷ []) (length walk.lines + 1) walk.start n walk.line ∷ []) (gaps_is ∙ ap (λ n. n + 1) len_is) ∙
+    ap (λ lines. walk.lines ++ lines) (sym (layout_rest-end (walk.caret ∷ []) (length walk.lines + 1) walk.start walk.line))
 
-pub layout_step-start : (carets : List ℕ) (made : List Line) (begun text whole : List ℕ) → made ≡ [] → begun ≡ [] → text ≡ whole →
-    made ++ layout_rest carets 1 0 begun text ≡ layout whole carets
-layout_step-start carets made begun text whole none empty same =
-    ap (λ m. m ++ layout_rest carets 1 0 begun text) none ∙ ap (λ b. layout_rest carets 1 0 b text) empty ∙
-    ap (layout_rest carets 1 0 []) same ∙ ap (layout_from carets 1 0) (joined-nil whole)
+pub layout_ahead-start : (walk : LayoutWalk) (caret : ℕ) (rest : List ℕ) → walk.caret ≡ caret → walk.lines ≡ [] → walk.start ≡ 0 → walk.line ≡ [] →
+    layout_ahead walk rest ≡ layout rest (caret ∷ [])
+layout_ahead-start walk caret rest caret_is none first empty =
+    ap₂ (λ ls k. ls ++ layout_rest (k ∷ []) (length ls + 1) walk.start walk.line rest) none caret_is ∙
+    ap₂ (λ at l. layout_rest (caret ∷ []) 1 at l rest) first empty ∙ ap (layout_from (caret ∷ []) 1 0) (joined-nil rest)
 
 -- a point in the first of some lines
 lt_yes : (m n : ℕ) → m < n → nat_lt m n ≡ true
@@ -263,46 +265,7 @@ pub byte_len-push : (begun : List ℕ) (c : ℕ) → byte_len (begun ++ c ∷ []
 byte_len-push [] c = omega arith
 byte_len-push (b ∷ begun) c = let rest = byte_len-push begun c in omega arith
 
--- a point that has been walked to, where so many bytes stand before it in its line
-pub record IsWalkTo (line bytes left : ℕ) (rest whole : List ℕ) (gap : ℕ) : Type 0 where
-  pub begun : List ℕ
-  pub col : bytes ≡ byte_len begun
-  pub same : point_rest line left begun rest ≡ position_of whole gap
-
-pub walk_start : (line col left : ℕ) (rest whole : List ℕ) (gap : ℕ) → line ≡ 0 → col ≡ 0 → left ≡ gap → rest ≡ whole → IsWalkTo line col left rest whole gap
-walk_start line col left rest whole gap first none is same = record {
-  begun = [];
-  col = none;
-  same =
-      ap (λ n. point_rest n left [] rest) first ∙ ap (position_from 0 (0 + left)) (joined-nil rest) ∙
-      ap (λ n. position_from 0 n (logical_lines rest)) (omega arith) ∙ ap (λ text. position_of text gap) same;
-}
-
-pub walk_newline : (line col left less c : ℕ) (text rest whole : List ℕ) (gap : ℕ) → text ≡ c ∷ rest → c ≡ 10 → left ≡ less + 1 →
-    IsWalkTo line col left text whole gap → IsWalkTo (line + 1) 0 less rest whole gap
-walk_newline line col left less c text rest whole gap split is more walk = record {
-  begun = [];
-  col = refl;
-  same =
-      sym (point_rest-newline line left less c walk.begun rest is more) ∙ ap (point_rest line left walk.begun) (sym split) ∙ walk.same;
-}
-
-pub walk_other : (line col wider left less c : ℕ) (text rest whole : List ℕ) (gap : ℕ) → text ≡ c ∷ rest → c ≢ 10 → left ≡ less + 1 →
-    wider ≡ col + len_utf8 c → IsWalkTo line col left text whole gap → IsWalkTo line wider less rest whole gap
-walk_other line col wider left less c text rest whole gap split not more wide walk = record {
-  begun = walk.begun ++ c ∷ [];
-  col = wide ∙ ap (λ n. n + len_utf8 c) walk.col ∙ sym (byte_len-push walk.begun c);
-  same =
-      sym (point_rest-other line left less c walk.begun rest not more) ∙ ap (point_rest line left walk.begun) (sym split) ∙ walk.same;
-}
-
-pub walk_here : (line col left : ℕ) (rest whole : List ℕ) (gap : ℕ) → left ≡ 0 → IsWalkTo line col left rest whole gap →
-    record { line = line; col = col } ≡ position_of whole gap
-walk_here line col left rest whole gap is walk =
-    ap (λ n. record { line = line; col = n }) walk.col ∙ sym (point_rest-here line left walk.begun rest is) ∙ walk.same
-
-pub walk_end : (line col left : ℕ) (rest whole : List ℕ) (gap : ℕ) → rest ≡ [] → IsWalkTo line col left rest whole gap →
-    record { line = line; col = col } ≡ position_of whole gap
-walk_end line col left rest whole gap none walk =
-    ap (λ n. record { line = line; col = n }) walk.col ∙ sym (point_rest-end line left walk.begun) ∙
-    ap (point_rest line left walk.begun) (sym none) ∙ walk.same
+-- a character takes one byte at least
+pub length-encoded : (xs : List ℕ) → length xs ≤ length (encode_utf8_all xs)
+length-encoded [] = omega arith
+length-encoded (x ∷ xs) = omega (arith, length-encoded xs, length-append (encode_utf8 x) (encode_utf8_all xs), length-encode x, len_utf8_bounds x)

@@ -1,3 +1,4 @@
+pub mod HeadLemmas
 pub mod MoveLemmas
 pub mod LoadLemmas
 pub mod InsertLemmas
@@ -5,6 +6,9 @@ pub mod SettleLemmas
 pub mod StepLemmas
 pub mod FitLemmas
 pub mod LayoutLemmas
+pub mod PlaceLemmas
+pub mod SameLemmas
+pub mod WireLemmas
 pub mod PlanLemmas
 pub mod TellLemmas
 pub mod ScreenLemmas

@@ -1,11 +1,11 @@
 -- What an edit that was taken leaves: the texts on both sides of its change, where it takes gaps, and its notice.
-use Rattle.std.proofs.Common.{◌≡◌, ℕ, zero, suc, ◌+◌, ◌<◌, ◌≤◌, Bool, true, false, cond, List, [], ◌∷◌, length, take, filter, Option, Some, None, ap, ap₂, sym, ◌∙◌, arith, inl, inr}
+use Rattle.std.proofs.Common.{◌≡◌, ℕ, zero, suc, ◌+◌, ◌<◌, ◌≤◌, Bool, true, false, cond, List, [], ◌∷◌, length, take, filter, Option, Some, None, ap, ap₂, sym, ◌∙◌, subst, arith, inl, inr}
 use Rattle.std.proofs.Math.Nat.{ℕ_set}
 use Rattle.std.proofs.Math.Path.{fun_ext}
-use Rattle.std.proofs.Math.Logic.{∥∥₁_elim}
+use Rattle.std.proofs.Math.Logic.{∥∥₁_elim, ∥∥₁_map}
 use Rattle.std.specs.Prelude.{if◌then◌else◌, nat_lt, ◌^◌}
 use Rattle.std.specs.List.{count_by}
-use Rattle.std.specs.Coded.{Unit-prop, le_prop}
+use Rattle.std.specs.Coded.{Coded-set, Unit-prop, coded_list, coded_ℕ, le_prop}
 use Rattle.std.proofs.lemmas.Bool.{cases_lt, lt-ltb}
 use Rattle.std.proofs.lemmas.List.{length-map, length_push}
 use Rattle.std.proofs.lemmas.List.Sums.{sum_by-cons}
@@ -25,26 +25,26 @@ use Rattle.plain_edits.specs.History.{Tagged, History, head, is_visible, visible
 use Rattle.plain_text.specs.Text.{byte_len}
 use Rattle.plain_edits.specs.UnitDelta.{AreRuns, AreAdds, IsUnitDelta}
 use Rattle.plain_edits.proofs.callers.HistoryLemmas.{text_at-edited}
-use Rattle.delta_core.specs.Units.{text_after}
 use Rattle.delta_core.specs.Wire.{wire_from, wire_of}
 use Rattle.rev_engine.specs.declared.edit.Change.{Change}
 use Rattle.rev_engine.specs.State.{State}
-use Rattle.rev_engine.specs.Engine.{StandsFor, IsChange}
+use Rattle.rev_engine.specs.declared.edit.UnitEdit.{UnitEdit}
+use Rattle.rev_engine.specs.Engine.{StandsFor, IsChange, IsSaidBy}
 use Rattle.rev_engine.specs.Given.{AskedEdit, after, meant}
 use Rattle.rev_engine.proofs.ForCallers.{IsFresh-given, inserted_count-plain}
 use Rattle.selection_core.specs.Mapped.{new_gap}
 use Rattle.selection_core.proofs.ForCallers.{new_gap-after_step}
 use Rattle.doc_session.specs.declared.taken.Taken.{Taken}
-use Rattle.doc_session.specs.Inner.{IsAfter}
 use Rattle.doc_session.specs.Effects.{notice_of, change_delta}
-use Rattle.doc_session.specs.Whole.{ShowsHead}
-use Rattle.doc_session.specs.Inner.{ShowsSomeHead, IsChangeOf, LeadsTo}
+use Rattle.doc_session.specs.Inner.{IsAfter, IsChangeOf, IsNoticed, IsSaidOfSome, IsTakenFrom, SaysSome, StandsForSome, head_shown}
+use Rattle.doc_session.specs.Whole.{IsStateOf, IsStateOfSome}
+use Rattle.doc_session.proofs.HeadLemmas.{head_shown-stands}
 
 pub head-after : (h : History) (asked : AskedEdit) → head (after h asked) ≡ head h + 1
 head-after h asked = length_push h.revisions _
 
-pub sound-shown : (h : History) (engine : State) (text : List ℕ) → ShowsHead h engine text → IsSound h
-sound-shown h engine text shown = (IsFresh-given engine.limit h shown.stands.given).plain.sound
+pub sound-given : (engine : State) (h : History) → StandsFor engine h → IsSound h
+sound-given engine h stands = (IsFresh-given engine.limit h stands.given).plain.sound
 
 -- the caret rule gives a gap of the text
 count_by-take-le : (q : Tagged → Bool) (n : ℕ) (xs : List Tagged) → count_by q (take n xs) ≤ length (filter q xs)
@@ -61,48 +61,43 @@ moved_caret-le before after false gap = count_by-take-le (is_visible after.revis
 moved_caret-le before after true zero = omega arith
 moved_caret-le before after true (suc gap) = count_by-take-le (is_visible after.revisions (head after)) _ after.characters
 
-module _ (h : History) (engine : State) (text : List ℕ) (shown : ShowsHead h engine text) (asked : AskedEdit) (rev : ℕ) (units : UnitDelta)
-    (change : IsChange h (after h asked) (record { rev = rev; units = units })) where
+module _ (h : History) (sound : IsSound h) (asked : AskedEdit) (change : Change) (is : IsChange h (after h asked) change) where
   abbrev next : History
   next = after h asked
 
-  pub IsChangeOf-taken : IsChangeOf text units
-  IsChangeOf-taken = record { well_formed = change.canonical.well_formed; base = change.base ∙ ap length (sym shown.text_is) }
+  abbrev text : List ℕ
+  text = text_at h (head h)
 
-  -- the change leads to the head text of the history after it
-  pub text_after-taken : text_after units text ≡ text_at next (head next)
-  text_after-taken = ap (text_after units) shown.text_is ∙ change.leads
-
-  abbrev sound : IsSound h
-  sound = sound-shown h engine text shown
+  pub IsChangeOf-taken : IsChangeOf text (text_at next (head next)) change.units
+  IsChangeOf-taken = record { well_formed = is.canonical.well_formed; base = is.base; leads = sym is.leads }
 
   -- it takes a gap where the caret rule takes a caret
-  pub new_gap-moved : (right : Bool) (gap : ℕ) → new_gap units right gap ≡ moved_caret h next right gap
-  new_gap-moved right gap = new_gap-after_step h (edits (meant h asked)) units right sound change.kept change.added gap
+  pub new_gap-moved : (right : Bool) (gap : ℕ) → new_gap change.units right gap ≡ moved_caret h next right gap
+  new_gap-moved right gap = new_gap-after_step h (edits (meant h asked)) change.units right sound is.kept is.added gap
 
-  pub new_gap-le : (right : Bool) (gap : ℕ) → new_gap units right gap ≤ length (text_at next (head next))
+  pub new_gap-le : (right : Bool) (gap : ℕ) → new_gap change.units right gap ≤ length (text_at next (head next))
   new_gap-le right gap =
       omega (arith, new_gap-moved right gap, moved_caret-le h next right gap, length-map (visible_at next (head next)) (λ (t : Tagged). t.character))
 
   -- the notice of the change
-  pub notice-taken : (notice : Notice) (made : List ℕ) → made ≡ text_at next (head next) → notice.view ≡ [] → notice.author ≡ asked.author →
-      notice.rev ≡ rev → notice.new_len ≡ byte_len made → notice.delta ≡ wire_of text units → notice ≡ notice_of h next asked.author
-  notice-taken notice made made_is view author rev_is len delta =
+  pub notice-taken : (notice : Notice) → notice.view ≡ [] → notice.author ≡ asked.author → notice.rev ≡ change.rev →
+      notice.new_len ≡ byte_len (text_at next (head next)) → notice.delta ≡ wire_of text change.units → notice ≡ notice_of h next asked.author
+  notice-taken notice view author rev_is len delta =
       ap (λ v. record notice { view = v }) view ∙
       ap (λ a. record notice { view = []; author = a }) author ∙
-      ap (λ r. record notice { view = []; author = asked.author; rev = r }) (rev_is ∙ change.rev) ∙
-      ap (λ n. record notice { view = []; author = asked.author; rev = head next; new_len = n }) (len ∙ ap byte_len made_is) ∙
+      ap (λ r. record notice { view = []; author = asked.author; rev = r }) (rev_is ∙ is.rev) ∙
+      ap (λ n. record notice { view = []; author = asked.author; rev = head next; new_len = n }) len ∙
       ap (λ (d : Delta). record { view = []; author = asked.author; rev = head next; new_len = byte_len (text_at next (head next)); delta = d })
       (delta ∙ delta-is)
     where
       same : text ≡ text_at next (head h)
-      same = shown.text_is ∙ sym (text_at-edited h (meant h asked) (head h) sound (omega arith))
+      same = sym (text_at-edited h (meant h asked) (head h) sound (omega arith))
 
-      delta-is : wire_of text units ≡ change_delta next (head h) (head next)
+      delta-is : wire_of text change.units ≡ change_delta next (head h) (head next)
       delta-is =
-          ap (λ t. wire_of t units) same ∙
+          ap (λ t. wire_of t change.units) same ∙
           ap₂ (λ keeps adds. record { els = wire_from keeps adds 0 0 (text_at next (head h)); base_len = byte_len (text_at next (head h)) })
-          (fun_ext change.kept) (fun_ext change.added)
+          (fun_ext is.kept) (fun_ext is.added)
 
 -- ---- what was spent
 
@@ -142,50 +137,102 @@ AreAdds-prop base from (added ∷ adds) = hlevel (le_prop, AreAdds-prop base (ad
 pub IsUnitDelta-prop : (units : UnitDelta) → IsProp (IsUnitDelta units)
 IsUnitDelta-prop units = hlevel (AreRuns-prop units.base 0 units.kept, AreAdds-prop units.base 0 units.added)
 
-pub IsChangeOf-prop : (text : List ℕ) (units : UnitDelta) → IsProp (IsChangeOf text units)
-IsChangeOf-prop text units = hlevel (IsUnitDelta-prop units, ℕ_set)
-
--- what holds whatever the history: the change is one of the text
-pub IsChangeOf-shown : (engine : State) (text : List ℕ) (asked : AskedEdit) (change : Change) → ShowsSomeHead engine text →
-    ((h : History) → StandsFor engine h → IsChange h (after h asked) change) → IsChangeOf text change.units
-IsChangeOf-shown engine text asked change shown each =
-    ∥∥₁_elim shown (IsChangeOf-prop text change.units)
-    (λ (s : (h : History) × ShowsHead h engine text). IsChangeOf-taken s.0 engine text s.1 asked change.rev change.units (each s.0 s.1.stands))
-
-pub head-stands : (engine : State) (h : History) → StandsFor engine h → head engine.revisions ≡ head h
-head-stands engine h stands = ap head stands.revisions
-
--- a change leads into the text that it makes
-pub LeadsTo-shown : (engine : State) (text made : List ℕ) (asked : AskedEdit) (change : Change) → ShowsSomeHead engine text → length made < 2 ^ 64 →
-    made ≡ text_after change.units text → ((h : History) → ShowsHead h engine text → IsChange h (after h asked) change) → LeadsTo made change.units
-LeadsTo-shown engine text made asked change shown long is each = record {
-  inside = λ right gap.
-      ∥∥₁_elim shown le_prop (λ (s : (h : History) × ShowsHead h engine text).
-      omega (
-        arith,
-        new_gap-le s.0 engine text s.1 asked change.rev change.units (each s.0 s.1) right gap,
-        ap length is,
-        ap length (text_after-taken s.0 engine text s.1 asked change.rev change.units (each s.0 s.1)),
-      ));
-  long = long;
-}
-
 pub length-byte_len : (text : List ℕ) → length text ≤ byte_len text
 length-byte_len [] = omega arith
 length-byte_len (c ∷ text) = omega (arith, length-byte_len text, len_utf8_bounds c)
 
--- what the edit makes
-pub IsAfter-taken : (h : History) (engine : State) (text : List ℕ) (asked : AskedEdit) (taken : Taken) → ShowsHead h engine text →
-    StandsFor taken.engine (after h asked) → inserted_count (after h asked) ≤ taken.engine.limit → IsChange h (after h asked) taken.change →
-    taken.text ≡ text_after taken.change.units text → taken.notice.view ≡ [] → taken.notice.author ≡ asked.author →
-    taken.notice.rev ≡ taken.change.rev → taken.notice.new_len ≡ byte_len taken.text → taken.notice.delta ≡ wire_of text taken.change.units →
-    IsAfter h asked taken
-IsAfter-taken h engine text asked taken shown stands within changes text_is view author rev len delta =
-    let change = taken.change in
-    let made = text_is ∙ text_after-taken h engine text shown asked change.rev change.units changes in
+-- a change from what the one engine shows to what the other shows, by a history
+pub IsChangeOf-stands : (h : History) (engine now : State) (asked : AskedEdit) (change : Change) → StandsFor engine h → StandsFor now (after h asked) →
+    IsChange h (after h asked) change → IsChangeOf (head_shown engine) (head_shown now) change.units
+IsChangeOf-stands h engine now asked change was stands is =
+    let From : List ℕ → Type 0 = λ t. IsChangeOf t (head_shown now) change.units in
+    let To : List ℕ → Type 0 = λ t. IsChangeOf (text_at h (head h)) t change.units in
+    subst From (sym (head_shown-stands engine h was))
+    (subst To (sym (head_shown-stands now (after h asked) stands)) (IsChangeOf-taken h (sound-given engine h was) asked change is))
+
+-- whatever the history
+pub IsChangeOf-shown : (engine copied now : State) (asked : AskedEdit) (change : Change) → copied ≡ engine → StandsForSome engine →
+    ((h : History) → StandsFor copied h → StandsFor now (after h asked)) → ((h : History) → StandsFor copied h → IsChange h (after h asked) change) →
+    IsChangeOf (head_shown engine) (head_shown now) change.units
+IsChangeOf-shown engine copied now asked change same some leaves each =
+    let one : (s : (h : History) × StandsFor engine h) → IsChangeOf (head_shown engine) (head_shown now) change.units =
+    λ s. let was = subst (λ (e : State). StandsFor e s.0) (sym same) s.1 in
+    IsChangeOf-stands s.0 engine now asked change s.1 (leaves s.0 was) (each s.0 was) in
     record {
-      shown = record { stands = stands; text_is = made };
-      within = within;
-      changes = changes;
-      notice = notice-taken h engine text shown asked change.rev change.units changes taken.notice taken.text made view author rev len delta;
+      well_formed = ∥∥₁_elim some (IsUnitDelta-prop change.units) (λ s. (one s).well_formed);
+      base = ∥∥₁_elim some (ℕ_set _ _) (λ s. (one s).base);
+      leads = ∥∥₁_elim some (Coded-set (coded_list coded_ℕ) _ _) (λ s. (one s).leads);
     }
+
+-- the same of an edit in characters
+pub IsChangeOf-said : (engine copied now : State) (edit : UnitEdit) (change : Change) → copied ≡ engine → IsSaidOfSome engine edit →
+    ((h : History) (asked : AskedEdit) → StandsFor copied h → IsSaidBy h edit asked → StandsFor now (after h asked)) →
+    ((h : History) (asked : AskedEdit) → StandsFor copied h → IsSaidBy h edit asked → IsChange h (after h asked) change) →
+    IsChangeOf (head_shown engine) (head_shown now) change.units
+IsChangeOf-said engine copied now edit change same some leaves each =
+    let one : (s : (h : History) × (asked : AskedEdit) × SaysSome engine edit h asked) → IsChangeOf (head_shown engine) (head_shown now) change.units =
+    λ s. let stands = s.2.stands in
+    let said = s.2.said in
+    let was = subst (λ (e : State). StandsFor e s.0) (sym same) stands in
+    IsChangeOf-stands s.0 engine now s.1 change stands (leaves s.0 s.1 was said) (each s.0 s.1 was said) in
+    record {
+      well_formed = ∥∥₁_elim some (IsUnitDelta-prop change.units) (λ s. (one s).well_formed);
+      base = ∥∥₁_elim some (ℕ_set _ _) (λ s. (one s).base);
+      leads = ∥∥₁_elim some (Coded-set (coded_list coded_ℕ) _ _) (λ s. (one s).leads);
+    }
+
+pub IsTakenFrom-noticed : (engine now : State) (before : List ℕ) (change : Change) (author : ℕ) (taken : Taken) → IsNoticed before now change author taken →
+    IsChangeOf (head_shown engine) (head_shown now) change.units → length (head_shown taken.engine) < 2 ^ 64 → now.limit ≡ engine.limit →
+    IsTakenFrom engine taken
+IsTakenFrom-noticed engine now before change author taken noticed changes counted limit =
+    let By : Change → Type 0 = λ c. IsChangeOf (head_shown engine) (head_shown now) c.units in
+    let To : State → Type 0 = λ e. IsChangeOf (head_shown engine) (head_shown e) taken.change.units in
+    record {
+      changes = subst To (sym noticed.engine_is) (subst By (sym noticed.change_is) changes);
+      counted = counted;
+      limit = ap (λ (e : State). e.limit) noticed.engine_is ∙ limit;
+    }
+
+-- what the edit makes
+pub IsAfter-noticed : (h : History) (engine : State) (asked : AskedEdit) (now : State) (change : Change) (author : ℕ) (taken : Taken) →
+    StandsFor engine h → StandsFor now (after h asked) → inserted_count (after h asked) ≤ now.limit →
+    IsChange h (after h asked) change → author ≡ asked.author → IsNoticed (head_shown engine) now change author taken →
+    IsAfter h asked taken
+IsAfter-noticed h engine asked now change author taken was stands within changes by noticed =
+    let At : State → Type 0 = λ e. StandsFor e (after h asked) in
+    let Few : State → Type 0 = λ e. inserted_count (after h asked) ≤ e.limit in
+    record {
+      stands = subst At (sym noticed.engine_is) stands;
+      within = subst Few (sym noticed.engine_is) within;
+      changes = subst (IsChange h (after h asked)) (sym noticed.change_is) changes;
+      notice =
+          notice-taken h (sound-given engine h was) asked change changes taken.notice noticed.view (noticed.author_is ∙ by) noticed.rev
+          (noticed.new_len ∙ ap byte_len (head_shown-stands now (after h asked) stands)) (noticed.delta ∙ ap (λ t. wire_of t change.units) (head_shown-stands engine h was));
+    }
+
+-- ---- what an edit that was taken leaves, whatever the history
+
+module _ (engine : State) (caret : ℕ) (asked : History → AskedEdit) (taken : Taken) (whole : IsStateOfSome engine caret)
+    (each : (h : History) → StandsFor engine h → IsAfter h (asked h) taken) where
+  pub new_gap-taken : (right : Bool) (gap : ℕ) → new_gap taken.change.units right gap ≤ length (head_shown taken.engine)
+  new_gap-taken right gap =
+      ∥∥₁_elim whole le_prop (λ (s : (h : History) × IsStateOf h engine caret).
+      let is = each s.0 s.1.stands in
+      omega (
+        arith,
+        new_gap-le s.0 (sound-given engine s.0 s.1.stands) (asked s.0) taken.change is.changes right gap,
+        ap length (head_shown-stands taken.engine (after s.0 (asked s.0)) is.stands),
+      ))
+
+  pub whole-taken : (gap : ℕ) → taken.engine.limit ≡ engine.limit → gap ≤ length (head_shown taken.engine) → IsStateOfSome taken.engine gap
+  whole-taken gap same inside =
+      ∥∥₁_map whole (λ (s : (h : History) × IsStateOf h engine caret).
+      let is = each s.0 s.1.stands in (
+        after s.0 (asked s.0),
+        record {
+          stands = is.stands;
+          inside = omega (arith, inside, ap length (head_shown-stands taken.engine (after s.0 (asked s.0)) is.stands));
+          within = is.within;
+          bound = omega (arith, s.1.bound, same);
+        },
+      ))

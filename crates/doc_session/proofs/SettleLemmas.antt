@@ -2,10 +2,10 @@
 use Rattle.std.proofs.Common.{◌≡◌, ℕ, ◌+◌, ◌≤◌, Bool, true, false, List, [], ◌∷◌, length, map, Option, Some, None, refl, ap, ap₂, sym, ◌∙◌, subst, arith}
 use Rattle.std.specs.Prelude.{if◌then◌else◌, ◌==◌, not, ◌&&◌, ◌||◌, unwrap_or, is_some}
 use Rattle.std.specs.List.{enumerate_from, onto_first}
-use Rattle.std.specs.Str.{bytes_eq, chars, encode_utf8_all}
-use Rattle.std.proofs.lemmas.Bool.{ne_eqb, eqb-true, true≢false}
-use Rattle.std.proofs.lemmas.Bool.Decides.{Decides-and, Decides-like, Decides-eqb, same_from_decides}
+use Rattle.std.specs.Str.{bytes_eq}
 use Rattle.std.proofs.lemmas.Slice.Eq.{bytes_eq-Decides}
+use Rattle.std.proofs.lemmas.Bool.Decides.{Decides-and, Decides-like, Decides-eqb, same_from_decides}
+use Rattle.std.proofs.lemmas.Bool.{ne_eqb, eqb-true, true≢false}
 use Rattle.plain_text.specs.declared.run.Run.{Run}
 use Rattle.plain_screen.specs.declared.screen.Line.{Line}
 use Rattle.plain_screen.specs.declared.screen.Update.{Update}
@@ -21,16 +21,14 @@ use Rattle.rev_engine.specs.Given.{AskedEdit, after}
 use Rattle.doc_session.specs.InMemory.{Doc}
 use Rattle.doc_session.specs.declared.taken.Taken.{Taken}
 use Rattle.doc_session.specs.Document.{Document, text_of, layout_of, is_pristine, no_request, first_window}
-use Rattle.doc_session.specs.Effects.{ops_of, update_of, updated, differ, are_valid, is_window_valid, wants_update, update_after, settled, scroll_after, is_same_point}
-use Rattle.doc_session.specs.Inner.{is_lacking}
-use Rattle.doc_session.specs.Inner.{IsAfter}
-use Rattle.doc_session.specs.Inner.{planned}
+use Rattle.doc_session.specs.Effects.{ops_of, update_of, updated, differ, are_valid, is_window_valid, wants_update, update_after, settled, scroll_after}
+use Rattle.doc_session.specs.Inner.{IsAfter, head_shown, is_lacking, is_same_after, planned, scroll_between, told_of}
 use Rattle.doc_session.specs.Stands.{DocStandsFor}
 use Rattle.doc_session.specs.Step.{edited_document}
 use Rattle.doc_session.specs.Whole.{IsStateOf, IsStateOfSome}
 use Rattle.doc_session.specs.SameLayout.{is_same_layout}
-use Rattle.doc_session.proofs.InsertLemmas.{IsStateOf-whole}
-use Rattle.doc_session.proofs.MoveLemmas.{head-after, head-stands}
+use Rattle.doc_session.proofs.HeadLemmas.{IsStateOf-whole, head-stands, head_shown-stands}
+use Rattle.doc_session.proofs.MoveLemmas.{head-after}
 use Rattle.plain_screen.proofs.callers.SameLemmas.{is_same_layout-Decides}
 use Rattle.doc_session.proofs.TellLemmas.{layout_tells}
 
@@ -87,11 +85,8 @@ differ-same : (b : Bool) → differ b b ≡ false
 differ-same true = refl
 differ-same false = refl
 
-same_bytes : (xs : List ℕ) → bytes_eq xs xs ≡ true
-same_bytes xs = (bytes_eq-Decides xs xs).1 refl
-
 by_flags : (t c p v w : Bool) → (v ≡ false → w ≡ false) → (v ≡ true → t ≡ true → c ≡ true → w ≡ true) →
-    (not v || (not c || (p || not t))) ≡ ((not (t && c) || differ p false) || not w)
+    (not v || (not c || (p || not (if c then t else false)))) ≡ ((not (t && c) || differ p false) || not w)
 by_flags t c p false w none all =
     sym (ap (λ b. (not (t && c) || differ p false) || not b) (none refl) ∙ or-true (not (t && c) || differ p false))
 by_flags true true true true w none all = refl
@@ -145,14 +140,14 @@ module _ (doc : Doc) (plain : Document) (stands : DocStandsFor doc plain) where
 
     pristine_plain : is_pristine plain ≡ (head doc.engine.revisions == doc.saved)
     pristine_plain =
-        ap₂ (λ now saved. now == saved) (sym (head-stands doc.engine plain.history stands.parts.shown.stands)) (sym stands.saved)
+        ap₂ (λ now saved. now == saved) (sym (head-stands doc.engine plain.history stands.parts.stands)) (sym stands.saved)
 
     -- the layouts are the same exactly where the texts and the carets are
     layout_by : gap ≤ length (text_of next) →
         (bytes_eq (text_of plain) (text_of next) && (plain.caret == gap)) ≡ is_same_layout (layout_of plain) (layout_of next)
     layout_by inside =
         let within : plain.caret ≤ length (text_of plain) =
-        omega (arith, stands.parts.inside, stands.caret, ap length stands.parts.shown.text_is) in
+        omega (arith, stands.parts.inside, stands.caret) in
         let here = bytes_eq (text_of plain) (text_of next) in
         let both =
         Decides-and here (plain.caret == gap) (bytes_eq-Decides (text_of plain) (text_of next)) (Decides-eqb plain.caret gap) in
@@ -162,17 +157,17 @@ module _ (doc : Doc) (plain : Document) (stands : DocStandsFor doc plain) where
         (is_same_layout-Decides (layout_of plain) (layout_of next))
 
     -- THE OCCASION, by what is in memory
-    pub wants_update-edited : (text : List ℕ) → text ≡ text_of next → gap ≤ length text →
-        is_lacking doc.view.valid (head doc.engine.revisions == doc.saved) doc.text doc.caret text gap ≡ wants_update plain next
-    wants_update-edited text text_is inside =
-        ap₂ (λ t c. is_lacking doc.view.valid (head doc.engine.revisions == doc.saved) t c text gap) stands.parts.shown.text_is stands.caret ∙
-        ap (λ t. is_lacking doc.view.valid (head doc.engine.revisions == doc.saved) (text_of plain) plain.caret t gap) text_is ∙
+    pub wants_update-edited : (same : Bool) → same ≡ (if doc.caret == gap then bytes_eq (text_of plain) (text_of next) else false) →
+        gap ≤ length (text_of next) → is_lacking doc same gap ≡ wants_update plain next
+    wants_update-edited same same_is inside =
+        ap (λ b. is_lacking doc b gap) same_is ∙
+        ap (λ c. not doc.view.valid || (not (c == gap) || (head doc.engine.revisions == doc.saved ||
+        not (if c == gap then bytes_eq (text_of plain) (text_of next) else false)))) stands.caret ∙
         by_flags (bytes_eq (text_of plain) (text_of next)) (plain.caret == gap) (head doc.engine.revisions == doc.saved) doc.view.valid (is_window_valid next)
         (window_lacks doc.view.valid stands.screen) (window_has doc.view.valid stands.screen) ∙
         ap₂ (λ was is. (not (bytes_eq (text_of plain) (text_of next) && (plain.caret == gap)) || differ was is) || not (is_window_valid next))
         (sym pristine_plain) (sym pristine_next) ∙
-        ap (λ same. (not same || differ (is_pristine plain) (is_pristine next)) || not (is_window_valid next))
-        (layout_by (subst (λ t. gap ≤ length t) text_is inside))
+        ap (λ same. (not same || differ (is_pristine plain) (is_pristine next)) || not (is_window_valid next)) (layout_by inside)
 
     -- nothing is wanted where the layouts are the same and the window is valid
     none_wanted : (same p w : Bool) → ((not same || p) || not w) ≡ false → (same ≡ true) × (w ≡ true)
@@ -198,38 +193,27 @@ module _ (doc : Doc) (plain : Document) (stands : DocStandsFor doc plain) where
             stands.screen ∙ valid_by doc.view.valid stands.screen flags.1 ∙
             ap (shown_lines plain.window no_request) ((is_same_layout-Decides (layout_of plain) (layout_of next)).0 flags.0)
 
--- two texts are alike where their bytes are
-pub bytes_texts : (xs ys a b : List ℕ) → a ≡ encode_utf8_all xs → b ≡ encode_utf8_all ys → chars a ≡ xs → chars b ≡ ys → bytes_eq a b ≡ bytes_eq xs ys
-bytes_texts xs ys a b a_is b_is xs_is ys_is = by (bytes_eq a b) (bytes_eq xs ys) refl refl
-  where
-    by : (p q : Bool) → bytes_eq a b ≡ p → bytes_eq xs ys ≡ q → p ≡ q
-    by true true one other = refl
-    by false false one other = refl
-    by true false one other =
-        let is : xs ≡ ys = sym xs_is ∙ ap chars ((bytes_eq-Decides a b).0 one) ∙ ys_is in
-        sym (same_bytes ys) ∙ ap (λ t. bytes_eq t ys) (sym is) ∙ other
-    by false true one other =
-        let is : a ≡ b = a_is ∙ ap encode_utf8_all ((bytes_eq-Decides xs ys).0 other) ∙ sym b_is in
-        sym one ∙ ap (bytes_eq a) (sym is) ∙ same_bytes a
-
 -- ---- a document in memory after an edit
 
-pub DocStandsFor-settled : (doc made : Doc) (plain : Document) (asked : AskedEdit) (taken : Taken) → DocStandsFor doc plain →
-    IsAfter plain.history asked taken → taken.engine.limit ≡ doc.engine.limit → IsStateOfSome taken.engine taken.text made.caret →
-    made.engine ≡ taken.engine → made.text ≡ taken.text → made.view.lines ≡ layout taken.text (made.caret ∷ []) →
+pub DocStandsFor-settled : (doc made : Doc) (plain : Document) (asked : AskedEdit) (taken : Taken) (text : List ℕ) → DocStandsFor doc plain →
+    IsAfter plain.history asked taken → taken.engine.limit ≡ doc.engine.limit → IsStateOfSome taken.engine made.caret →
+    made.engine ≡ taken.engine → text ≡ head_shown taken.engine → made.view.lines ≡ layout text (made.caret ∷ []) →
     made.plugins ≡ doc.plugins → made.saved ≡ doc.saved → made.view.valid ≡ true →
     DocStandsFor made (settled plain (edited_document plain asked made.caret))
-DocStandsFor-settled doc made plain asked taken stands is limit_is whole engine_is text_is lines_is plugins_is saved_is valid_is =
+DocStandsFor-settled doc made plain asked taken text stands is limit_is whole engine_is text_is lines_is plugins_is saved_is valid_is =
     by (wants_update plain next) refl
   where
     next : Document
     next = edited_document plain asked made.caret
 
-    parts : IsStateOf (after plain.history asked) made.engine made.text made.caret
-    parts = rw (engine_is, text_is) (IsStateOf-whole (after plain.history asked) taken.engine taken.text made.caret whole is.shown)
+    parts : IsStateOf (after plain.history asked) made.engine made.caret
+    parts = rw engine_is (IsStateOf-whole (after plain.history asked) taken.engine made.caret whole is.stands)
 
     before : plain.saved ≤ head (after plain.history asked)
     before = omega (arith, stands.saved_before, head-after plain.history asked)
+
+    laid_out : made.view.lines ≡ layout_of next
+    laid_out = lines_is ∙ ap (λ t. layout t (made.caret ∷ [])) (text_is ∙ head_shown-stands taken.engine (after plain.history asked) is.stands)
 
     shown_by : (valid : Bool) → valid ≡ true → shown_lines plain.window no_request (layout_of next) ≡ screen_by valid next
     shown_by true is = refl
@@ -246,7 +230,7 @@ DocStandsFor-settled doc made plain asked taken stands is limit_is whole engine_
       caret = refl;
       saved = saved_is ∙ stands.saved;
       saved_before = before;
-      lines = lines_is ∙ ap (λ t. layout t (made.caret ∷ [])) is.shown.text_is;
+      lines = laid_out;
       window = stands.window;
       screen = screen-updated next ∙ shown_by made.view.valid valid_is;
     }
@@ -257,37 +241,61 @@ DocStandsFor-settled doc made plain asked taken stands is limit_is whole engine_
       caret = refl;
       saved = saved_is ∙ stands.saved;
       saved_before = before;
-      lines = lines_is ∙ ap (λ t. layout t (made.caret ∷ [])) is.shown.text_is;
+      lines = laid_out;
       window = stands.window;
       screen = ap (λ b. (if b then updated next else next).screen) (sym wants) ∙ screen_is;
     }
 
 -- the update of an edit
-pub update-settled : (doc : Doc) (plain : Document) (asked : AskedEdit) (taken : Taken) (gap : ℕ) (wanted : Bool) (lines : List Line) (update : Option Update) →
-    DocStandsFor doc plain → IsAfter plain.history asked taken → gap ≤ length taken.text → lines ≡ layout taken.text (gap ∷ []) →
-    wanted ≡ is_lacking doc.view.valid (head doc.engine.revisions == doc.saved) doc.text doc.caret taken.text gap →
-    update ≡ (if wanted then Some (planned lines false) else None) → update ≡ update_after plain (edited_document plain asked gap)
-update-settled doc plain asked taken gap wanted lines update stands is inside lines_is wanted_is update_is =
+pub update-settled : (doc : Doc) (plain : Document) (asked : AskedEdit) (taken : Taken) (gap : ℕ) (lines : List Line) (update : Option Update) →
+    DocStandsFor doc plain → IsAfter plain.history asked taken → gap ≤ length (head_shown taken.engine) → lines ≡ layout (head_shown taken.engine) (gap ∷ []) →
+    update ≡ told_of doc taken.engine lines gap → update ≡ update_after plain (edited_document plain asked gap)
+update-settled doc plain asked taken gap lines update stands is inside lines_is update_is =
     update_is ∙
-    ap₂ (λ b u. if b then Some u else None) (wanted_is ∙ wants_update-edited doc plain stands asked gap taken.text is.shown.text_is inside) planned_is
+    ap₂ (λ b u. if b then Some u else None)
+    (wants_update-edited doc plain stands asked gap (is_same_after doc taken.engine gap) same_by (omega (arith, inside, ap length shown_is))) planned_is
   where
     next : Document
     next = edited_document plain asked gap
 
+    shown_is : head_shown taken.engine ≡ text_of next
+    shown_is = head_shown-stands taken.engine (after plain.history asked) is.stands
+
+    same_by : is_same_after doc taken.engine gap ≡ (if doc.caret == gap then bytes_eq (text_of plain) (text_of next) else false)
+    same_by =
+        ap₂ (λ t u. if doc.caret == gap then bytes_eq t u else false) (head_shown-stands doc.engine plain.history stands.parts.stands) shown_is
+
     planned_is : planned lines false ≡ update_of next
     planned_is =
-        ap (λ l. planned l false) (lines_is ∙ ap (λ t. layout t (gap ∷ [])) is.shown.text_is) ∙
+        ap (λ l. planned l false) (lines_is ∙ ap (λ t. layout t (gap ∷ [])) shown_is) ∙
         ap₂ (λ window pristine. record { ops = update_plan window no_request (layout_of next) []; pristine = pristine }) (sym stands.window)
         (sym (pristine_next doc plain stands asked gap))
 
--- its scroll
-pub scroll-settled : (doc : Doc) (plain : Document) (asked : AskedEdit) (taken : Taken) (gap : ℕ) (was now : Position) (scroll : Option Position) →
-    DocStandsFor doc plain → IsAfter plain.history asked taken → was ≡ position_of doc.text doc.caret → now ≡ position_of taken.text gap →
-    scroll ≡ (if is_same_point was now then None else Some now) → scroll ≡ scroll_after plain (edited_document plain asked gap)
-scroll-settled doc plain asked taken gap was now scroll stands is was_is now_is scroll_is =
+-- whether the text is the same, where the parts of the document are at hand
+pub same-inside : (inside doc : Doc) (engine : State) (before now : List ℕ) (gap : ℕ) (same : Bool) → inside ≡ doc → before ≡ head_shown inside.engine →
+    now ≡ head_shown engine → same ≡ (if inside.caret == gap then bytes_eq before now else false) → same ≡ is_same_after doc engine gap
+same-inside inside doc engine before now gap same is before_is now_is same_is =
+    same_is ∙ ap₂ (λ t u. if inside.caret == gap then bytes_eq t u else false) before_is now_is ∙
+    ap (λ (d : Doc). is_same_after d engine gap) is
+
+-- the scroll of an edit
+pub scroll-settled : (doc : Doc) (plain : Document) (asked : AskedEdit) (taken : Taken) (gap : ℕ) (scroll : Option Position) → DocStandsFor doc plain →
+    IsAfter plain.history asked taken →
+    scroll ≡ scroll_between (position_of (head_shown doc.engine) doc.caret) (position_of (head_shown taken.engine) gap) →
+    scroll ≡ scroll_after plain (edited_document plain asked gap)
+scroll-settled doc plain asked taken gap scroll stands is scroll_is =
     scroll_is ∙
-    ap₂ (λ was now. if is_same_point was now then None else Some now) (was_is ∙ ap₂ position_of stands.parts.shown.text_is stands.caret)
-    (now_is ∙ ap (λ t. position_of t gap) is.shown.text_is)
+    ap₂ scroll_between (ap₂ position_of (head_shown-stands doc.engine plain.history stands.parts.stands) stands.caret)
+    (ap (λ t. position_of t gap) (head_shown-stands taken.engine (after plain.history asked) is.stands))
+
+-- the same, where the parts of the document are at hand
+pub scroll-inside : (inside doc : Doc) (next : State) (before now : List ℕ) (gap : ℕ) (was is : Position) → inside ≡ doc → before ≡ head_shown inside.engine →
+    now ≡ head_shown next → was ≡ position_of before inside.caret → is ≡ position_of now gap →
+    scroll_between was is ≡ scroll_between (position_of (head_shown doc.engine) doc.caret) (position_of (head_shown next) gap)
+scroll-inside inside doc next before now gap was is same before_is now_is was_is is_is =
+    ap₂ scroll_between
+    (was_is ∙ ap (λ t. position_of t inside.caret) before_is ∙ ap (λ (d : Doc). position_of (head_shown d.engine) d.caret) same)
+    (is_is ∙ ap (λ t. position_of t gap) now_is)
 
 -- ---- a document in memory where nothing changed
 
@@ -333,7 +341,7 @@ update-still doc plain pristine update stands pristine_is update_is =
     is_now : pristine ≡ is_pristine plain
     is_now =
         pristine_is ∙
-        ap₂ (λ now saved. now == saved) (head-stands doc.engine plain.history stands.parts.shown.stands) stands.saved
+        ap₂ (λ now saved. now == saved) (head-stands doc.engine plain.history stands.parts.stands) stands.saved
 
     planned_is : planned doc.view.lines pristine ≡ update_of plain
     planned_is =

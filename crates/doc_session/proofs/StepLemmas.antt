@@ -1,5 +1,5 @@
 -- The steps of the document in memory are those of the plain one.
-use Rattle.std.proofs.Common.{◌≡◌, ◌≢◌, ℕ, ◌+◌, ◌-◌, ◌<◌, ◌≤◌, Bool, true, false, List, [], ◌∷◌, length, refl, ap, ap₂, ◌∙◌, subst}
+use Rattle.std.proofs.Common.{◌≡◌, ◌≢◌, ℕ, ◌+◌, ◌-◌, ◌<◌, ◌≤◌, Bool, true, false, List, [], ◌∷◌, length, refl, ap, ◌∙◌, subst}
 use Rattle.std.proofs.Math.Logic.{∥∥₁_elim}
 use Rattle.std.specs.Coded.{Coded-set, coded_bool}
 use Rattle.std.specs.Prelude.{◌^◌, IsTrue}
@@ -8,29 +8,29 @@ use Rattle.plain_edits.specs.History.{History, head}
 use Rattle.plain_text.specs.Numbers.{has}
 use Rattle.rev_engine.specs.declared.edit.Edit.{Edit}
 use Rattle.rev_engine.specs.State.{State}
-use Rattle.rev_engine.specs.Engine.{asked_by}
+use Rattle.rev_engine.specs.Engine.{StandsFor, asked_by}
 use Rattle.rev_engine.specs.Given.{AskedEdit, MayAsk}
 use Rattle.rev_engine.proofs.ForCallers.{IsFresh-given}
 use Rattle.selection_core.specs.Mapped.{new_gap}
 use Rattle.doc_session.specs.InMemory.{Doc}
 use Rattle.doc_session.specs.declared.event.Event.TheVariants.{Front}
 use Rattle.doc_session.specs.declared.taken.Taken.{Taken}
-use Rattle.doc_session.specs.Asking.{front_edit, insertion_at, plugin_edit, asked_refusal}
+use Rattle.doc_session.specs.Asking.{front_edit, plugin_edit, asked_refusal}
 use Rattle.doc_session.specs.Document.{Document}
-use Rattle.doc_session.specs.Inner.{IsAfter}
+use Rattle.doc_session.specs.Inner.{IsAfter, insertion_in}
 use Rattle.doc_session.specs.Stands.{DocStandsFor}
 use Rattle.doc_session.specs.Step.{caret_by, front_step, refusal_at, event_step}
-use Rattle.doc_session.specs.Whole.{ShowsHead, IsStateOf, IsStateOfSome}
-use Rattle.doc_session.proofs.MoveLemmas.{head-stands, new_gap-moved}
+use Rattle.doc_session.specs.Whole.{IsStateOf, IsStateOfSome}
+use Rattle.doc_session.proofs.MoveLemmas.{new_gap-moved, sound-given}
 
 -- an edit in the group of its own revision may be asked for
-pub MayAsk-whole : (engine : State) (text : List ℕ) (caret group : ℕ) → IsStateOfSome engine text caret → 1 ≤ group →
+pub MayAsk-whole : (engine : State) (caret group : ℕ) → IsStateOfSome engine caret → 1 ≤ group →
     head engine.revisions < 2 ^ 63 - 1 → MayAsk engine.revisions group
-MayAsk-whole engine text caret group whole counts numbered = record {
+MayAsk-whole engine caret group whole counts numbered = record {
   group_counts = counts;
-  group_kept = ∥∥₁_elim whole (Coded-set coded_bool _ _) (λ (s : (h : History) × IsStateOf h engine text caret).
-      ap (λ (h : History). has h.collected group) s.1.shown.stands.revisions ∙
-      ap (λ groups. has groups group) (IsFresh-given engine.limit s.0 s.1.shown.stands.given).collected);
+  group_kept = ∥∥₁_elim whole (Coded-set coded_bool _ _) (λ (s : (h : History) × IsStateOf h engine caret).
+      ap (λ (h : History). has h.collected group) s.1.stands.revisions ∙
+      ap (λ groups. has groups group) (IsFresh-given engine.limit s.0 s.1.stands.given).collected);
   has_number = numbered;
 }
 
@@ -42,25 +42,29 @@ asked-given plain caller rev edit given is rev_is =
     ap (λ n. record { base = edit.rev; delta = edit.delta; group = n; priority = edit.priority; author = caller }) rev_is
 
 pub IsAfter-plain : (doc : Doc) (plain : Document) (asked other : AskedEdit) (taken : Taken) → DocStandsFor doc plain → other ≡ asked →
-    ((h : History) → ShowsHead h doc.engine doc.text → IsAfter h other taken) → IsAfter plain.history asked taken
+    ((h : History) → StandsFor doc.engine h → IsAfter h other taken) → IsAfter plain.history asked taken
 IsAfter-plain doc plain asked other taken stands same each =
     let At : AskedEdit → Type 0 = λ a. IsAfter plain.history a taken in
-    subst At same (each plain.history stands.parts.shown)
+    subst At same (each plain.history stands.parts.stands)
 
 -- its caret is where the caret rule takes it
 pub caret-given : (doc : Doc) (plain : Document) (asked : AskedEdit) (taken : Taken) (right : Bool) (gap : ℕ) → DocStandsFor doc plain →
     IsAfter plain.history asked taken → gap ≡ new_gap taken.change.units right doc.caret → gap ≡ caret_by plain asked right
 caret-given doc plain asked taken right gap stands is gap_is =
     gap_is ∙
-    new_gap-moved plain.history doc.engine doc.text stands.parts.shown asked taken.change.rev taken.change.units is.changes right doc.caret ∙
+    new_gap-moved plain.history (sound-given doc.engine plain.history stands.parts.stands) asked taken.change is.changes right doc.caret ∙
     ap (λ gap. caret_by (record plain { caret = gap }) asked right) stands.caret
 
 -- the front end's edit
-pub asked-front : (doc : Doc) (plain : Document) (chars : List ℕ) (other : AskedEdit) → DocStandsFor doc plain →
-    other ≡ insertion_at (head doc.engine.revisions) doc.text doc.caret chars → other ≡ front_edit plain chars
-asked-front doc plain chars other stands is =
-    is ∙ ap (λ n. insertion_at n doc.text doc.caret chars) (head-stands doc.engine plain.history stands.parts.shown.stands) ∙
-    ap₂ (λ text gap. insertion_at (head plain.history) text gap chars) stands.parts.shown.text_is stands.caret
+pub asked-front : (doc : Doc) (plain : Document) (chars : List ℕ) → DocStandsFor doc plain →
+    insertion_in plain.history doc.caret chars ≡ front_edit plain chars
+asked-front doc plain chars stands = ap (λ gap. insertion_in plain.history gap chars) stands.caret
+
+pub IsAfter-front : (doc : Doc) (plain : Document) (chars : List ℕ) (taken : Taken) → DocStandsFor doc plain →
+    ((h : History) → StandsFor doc.engine h → IsAfter h (insertion_in h doc.caret chars) taken) → IsAfter plain.history (front_edit plain chars) taken
+IsAfter-front doc plain chars taken stands each =
+    let At : AskedEdit → Type 0 = λ a. IsAfter plain.history a taken in
+    subst At (asked-front doc plain chars stands) (each plain.history stands.parts.stands)
 
 pub event_step-front : (plain : Document) (chars : List ℕ) → chars ≢ [] →
     event_step plain (Front (Insert chars)) ≡ front_step plain (front_edit plain chars) (plain.caret + length chars)

@@ -1,16 +1,20 @@
 -- What contracts see of a document in memory.
-use Rattle.std.specs.Prelude.{ℕ, List}
+use Rattle.std.specs.Prelude.{ℕ, Bool, List}
+use Rattle.plain_screen.specs.declared.screen.Line.{Line}
 use Rattle.xi_plain.specs.declared.config.Config.{Config}
 use Rattle.rev_engine.specs.State.{State}
-use Rattle.doc_session.specs.declared.view.ViewState.{ViewState}
 
--- its revisions, the head text, the caret as a gap of it, the revision that was loaded or last saved, how texts are laid out, how many
+-- of its view: the layout of the head text with its caret, and whether the front end has the lines of the window
+pub record View : Type 0 where
+  pub lines : List Line
+  pub valid : Bool
+
+-- its revisions, the caret as a gap of the head text, the revision that was loaded or last saved, how texts are laid out, how many
 -- plugins there are, and its view
 pub record Doc : Type 0 where
   pub engine : State
-  pub text : List ℕ
   pub caret : ℕ
   pub saved : ℕ
   pub config : Config
   pub plugins : ℕ
-  pub view : ViewState
+  pub view : View

@@ -1,56 +1,159 @@
 -- What private functions say: the steps of an event.
-use Rattle.std.specs.Prelude.{ℕ, Bool, not, ◌||◌, ◌==◌, List, ◌≡◌, ◌≤◌, [], ◌^◌, ◌<◌, length}
+use Rattle.std.specs.Prelude.{◌≡◌, ℕ, ◌+◌, ◌^◌, ◌<◌, ◌≤◌, Bool, not, false, ◌||◌, if◌then◌else◌, nat_lt, ◌==◌, List, [], ◌∷◌, ◌++◌, length, Option, Some, None}
 use Rattle.std.specs.Str.{bytes_eq}
-use Rattle.plain_edits.specs.History.{History, inserted_count}
-use Rattle.rev_engine.specs.State.{State}
-use Rattle.rev_engine.specs.Engine.{IsChange}
-use Rattle.rev_engine.specs.Given.{AskedEdit, after}
-use Rattle.doc_session.specs.declared.event.Effects.{Effects}
-use Rattle.doc_session.specs.declared.taken.Taken.{Taken}
-use Rattle.doc_session.specs.InMemory.{Doc}
-use Rattle.doc_session.specs.Stands.{DocStandsFor}
-use Rattle.doc_session.specs.Step.{AreEffectsOf, EventStep}
-use Rattle.doc_session.specs.Effects.{notice_of}
-use Rattle.doc_session.specs.Whole.{ShowsHead}
+use Rattle.plain_text.specs.declared.run.Run.{Run}
+use Rattle.plain_text.specs.Lines.{logical_lines}
+use Rattle.plain_text.specs.Text.{byte_len}
+use Rattle.plain_edits.specs.declared.delta.UnitDelta.{UnitDelta}
+use Rattle.plain_edits.specs.History.{History, head, text_at, inserted_count}
+use Rattle.plain_edits.specs.UnitDelta.{IsCanonical, IsUnitDelta}
 use Rattle.plain_screen.specs.declared.screen.Line.{Line}
 use Rattle.plain_screen.specs.declared.screen.Update.{Update}
 use Rattle.plain_screen.specs.Plan.{update_plan}
+use Rattle.delta_core.specs.Units.{text_after}
+use Rattle.delta_core.specs.Wire.{wire_of}
+use Rattle.rev_engine.specs.declared.edit.Change.{Change}
+use Rattle.rev_engine.specs.declared.edit.UnitEdit.{UnitEdit}
+use Rattle.rev_engine.specs.State.{State, shown_at}
+use Rattle.rev_engine.specs.Engine.{IsChange, IsSaidBy, StandsFor}
+use Rattle.rev_engine.specs.Given.{AskedEdit, MayAsk, after}
+use Rattle.doc_session.specs.declared.event.Effects.{Effects}
+use Rattle.doc_session.specs.declared.layout.LayoutWalk.{LayoutWalk}
+use Rattle.doc_session.specs.declared.taken.Taken.{Taken}
+use Rattle.doc_session.specs.Asking.{insertion_at}
 use Rattle.doc_session.specs.Document.{first_window, no_request}
-use Rattle.plain_edits.specs.declared.delta.UnitDelta.{UnitDelta}
-use Rattle.plain_edits.specs.UnitDelta.{IsUnitDelta}
-use Rattle.selection_core.specs.Mapped.{new_gap}
+use Rattle.doc_session.specs.Effects.{is_same_point, notice_of}
+use Rattle.doc_session.specs.InMemory.{Doc}
+use Rattle.doc_session.specs.Layout.{Position, layout_from}
+use Rattle.doc_session.specs.Stands.{DocStandsFor}
+use Rattle.doc_session.specs.Step.{AreEffectsOf, EventStep}
 
--- it has not the lines of the window, or caret or text are others than before, or the text was the one that was loaded or saved
-abbrev pub is_lacking : Bool → Bool → List ℕ → ℕ → List ℕ → ℕ → Bool
-is_lacking valid pristine text caret text_now caret_now =
-    not valid || (not (caret == caret_now) || (pristine || not (bytes_eq text text_now)))
+-- ---- edits
 
--- what an edit makes is that of the history after it: the engine, the head text, the change, and the notice of it
+-- what the head of the engine shows
+abbrev pub head_shown : State → List ℕ
+head_shown engine = shown_at engine.union engine.revisions (head engine.revisions)
+
+-- the engine stands for some history
+abbrev pub StandsForSome : State → Type 0
+StandsForSome engine = ∥ ((history : History) × StandsFor engine history) ∥₁
+
+-- the engine stands for the history, and the edit in characters says this edit of its head text
+pub record SaysSome (engine : State) (edit : UnitEdit) (history : History) (asked : AskedEdit) : Type 0 where
+  pub stands : StandsFor engine history
+  pub said : IsSaidBy history edit asked
+
+-- the engine stands for some history, of which the edit says some edit
+abbrev pub IsSaidOfSome : State → UnitEdit → Type 0
+IsSaidOfSome engine edit = ∥ ((history : History) × (asked : AskedEdit) × SaysSome engine edit history asked) ∥₁
+
+-- an edit in characters can be made of what the head shows
+pub record IsHeadEdit (engine : State) (edit : UnitEdit) : Type 0 where
+  pub may : MayAsk engine.revisions edit.group
+  pub canonical : IsCanonical edit.units
+  pub base : edit.units.base ≡ length (head_shown engine)
+
+-- a change was made of a text, and led to another
+pub record IsChangeOf (text made : List ℕ) (units : UnitDelta) : Type 0 where
+  pub well_formed : IsUnitDelta units
+  pub base : units.base ≡ length text
+  pub leads : made ≡ text_after units text
+
+-- a change of this text was noticed: its delta is that of the notices
+pub record IsNoticed (text : List ℕ) (engine : State) (change : Change) (author : ℕ) (taken : Taken) : Type 0 where
+  pub engine_is : taken.engine ≡ engine
+  pub change_is : taken.change ≡ change
+  pub view : taken.notice.view ≡ []
+  pub author_is : taken.notice.author ≡ author
+  pub rev : taken.notice.rev ≡ change.rev
+  pub new_len : taken.notice.new_len ≡ byte_len (head_shown engine)
+  pub delta : taken.notice.delta ≡ wire_of text change.units
+
+-- the insertion of characters at a gap of what the head of a history shows
+abbrev pub insertion_in : History → ℕ → List ℕ → AskedEdit
+insertion_in history gap chars = insertion_at (head history) (text_at history (head history)) gap chars
+
+-- what every edit makes of an engine, whatever the history: a change of the head text, and 64 bits count the characters after it
+pub record IsTakenFrom (engine : State) (taken : Taken) : Type 0 where
+  pub changes : IsChangeOf (head_shown engine) (head_shown taken.engine) taken.change.units
+  pub counted : length (head_shown taken.engine) < 2 ^ 64
+  pub limit : taken.engine.limit ≡ engine.limit
+
+-- what an edit makes is that of the history after it: the engine, the change, and the notice of it
 pub record IsAfter (history : History) (asked : AskedEdit) (taken : Taken) : Type 0 where
-  pub shown : ShowsHead (after history asked) taken.engine taken.text
+  pub stands : StandsFor taken.engine (after history asked)
   pub within : inserted_count (after history asked) ≤ taken.engine.limit
   pub changes : IsChange history (after history asked) taken.change
   pub notice : taken.notice ≡ notice_of history (after history asked) asked.author
+
+-- the whole text is kept, where there is any
+abbrev pub all_kept : ℕ → List Run
+all_kept len = if nat_lt 0 len then record { start = 0; end = len } ∷ [] else []
+
+-- characters are put in at a gap of a text of this length, and all of it stays
+abbrev pub insertion_units : ℕ → ℕ → List ℕ → UnitDelta
+insertion_units len gap chars = record { base = len; kept = all_kept len; added = record { gap = gap; text = chars } ∷ [] }
+
+-- ---- what the front end is told
+
+-- it has not the lines of the window, or caret or text are others than before, or the text was the one that was loaded or saved
+abbrev pub is_lacking : Doc → Bool → ℕ → Bool
+is_lacking doc same caret = not doc.view.valid || (not (doc.caret == caret) || (head doc.engine.revisions == doc.saved || not same))
+
+-- the text after an edit that left the caret here is the one before it, where that is asked: the caret stands where it stood
+abbrev pub is_same_after : Doc → State → ℕ → Bool
+is_same_after doc engine caret = if doc.caret == caret then bytes_eq (head_shown doc.engine) (head_shown engine) else false
+
+-- the update that sends the lines of the window
+abbrev pub planned : List Line → Bool → Update
+planned lines pristine = record { ops = update_plan first_window no_request lines []; pristine = pristine }
+
+-- what the front end is told of an edit that left the engine so, its head text laid out so, and the caret here
+abbrev pub told_of : Doc → State → List Line → ℕ → Option Update
+told_of doc engine lines caret = if is_lacking doc (is_same_after doc engine caret) caret then Some (planned lines false) else None
+
+-- the place to scroll to, where it is another than before
+abbrev pub scroll_between : Position → Position → Option Position
+scroll_between was now = if is_same_point was now then None else Some now
 
 -- what an event makes is what its step gives: the document after it, and what those outside are told
 pub record IsStepped (step : EventStep) (made : Doc × Effects) : Type 0 where
   pub stands : DocStandsFor made.0 step.document
   pub effects : AreEffectsOf step made.1
 
--- the update that sends the lines of the window
-abbrev pub planned : List Line → Bool → Update
-planned lines pristine = record { ops = update_plan first_window no_request lines []; pristine = pristine }
+-- ---- a layout in the making
 
--- they are those of some history: the text alone
-abbrev pub ShowsSomeHead : State → List ℕ → Type 0
-ShowsSomeHead engine text = ∥ ((history : History) × ShowsHead history engine text) ∥₁
+-- the lines with characters put before the first
+abbrev pub joined : List ℕ → List (List ℕ) → List (List ℕ)
+joined begun [] = begun ∷ []
+joined begun (line ∷ lines) = (begun ++ line) ∷ lines
 
--- a change can be made of the text
-pub record IsChangeOf (text : List ℕ) (units : UnitDelta) : Type 0 where
-  pub well_formed : IsUnitDelta units
-  pub base : units.base ≡ length text
+-- the layout of a text, so much of which is ahead
+abbrev pub layout_ahead : LayoutWalk → List ℕ → List Line
+layout_ahead walk rest =
+    walk.lines ++ layout_from (walk.caret ∷ []) (length walk.lines + 1) walk.start (joined walk.line (logical_lines rest))
 
--- it takes each gap into the text after it, which has so few characters that 64 bits count them
-pub record LeadsTo (text : List ℕ) (units : UnitDelta) : Type 0 where
-  pub inside : (after : Bool) (gap : ℕ) → new_gap units after gap ≤ length text
-  pub long : length text < 2 ^ 64
+-- so many characters are laid out or begun
+pub record IsBegun (walk : LayoutWalk) (count : ℕ) : Type 0 where
+  pub reached : walk.start + walk.len ≡ count
+  pub len : walk.len ≡ length walk.line
+
+-- ---- what a change leaves alone
+
+-- two texts begin with the same so many characters
+pub record BeginAlike (count : ℕ) (one other : List ℕ) : Type 0 where
+  pub front : List ℕ
+  pub one_rest : List ℕ
+  pub other_rest : List ℕ
+  pub long : length front ≡ count
+  pub one_is : one ≡ front ++ one_rest
+  pub other_is : other ≡ front ++ other_rest
+
+-- they end with the same so many
+pub record EndAlike (count : ℕ) (one other : List ℕ) : Type 0 where
+  pub back : List ℕ
+  pub one_front : List ℕ
+  pub other_front : List ℕ
+  pub long : length back ≡ count
+  pub one_is : one ≡ one_front ++ back
+  pub other_is : other ≡ other_front ++ back

@@ -9,7 +9,7 @@ use Rattle.doc_session.specs.Whole.{IsStateOf}
 -- the document in memory stands for the plain one: they have the same history, limit, plugins, caret, saved revision and layout, and
 -- the front end's screen is as the last update left it, or empty where there was none
 pub record DocStandsFor (doc : Doc) (plain : Document) : Type 0 where
-  pub parts : IsStateOf plain.history doc.engine doc.text doc.caret
+  pub parts : IsStateOf plain.history doc.engine doc.caret
   pub limit : doc.engine.limit ≡ plain.limit
   pub plugins : doc.plugins ≡ plain.plugins
   pub caret : doc.caret ≡ plain.caret

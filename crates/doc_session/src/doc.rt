@@ -1,29 +1,34 @@
-ghost use Rattle.std.specs.Prelude.{◌≡◌, ◌==◌, ◌+◌, ◌-◌, ◌^◌, ◌<◌, ◌≤◌, true, length, Some, None, IfOk, IfErr, OnOk, OnErr, option_map};
+ghost use Rattle.std.specs.Prelude.{◌≡◌, ◌≢◌, ◌+◌, ◌-◌, ◌^◌, ◌<◌, ◌≤◌, [], length, None, IfOk, IfErr, OnOk, OnErr, option_map};
 ghost use Rattle.plain_edits.specs.Collection.{kept};
-ghost use Rattle.plain_edits.specs.History.{head};
+ghost use Rattle.plain_edits.specs.History.{History, head};
 ghost use Rattle.xi_plain.specs.declared.command.EditAct.TheVariants.{Insert};
-ghost use Rattle.rev_engine.specs.Engine.{asked_by};
+ghost use Rattle.rev_engine.specs.Engine.{IsSaidBy, StandsFor};
 ghost use Rattle.rev_engine.specs.Given.{AskedEdit};
-ghost use Rattle.doc_session.specs.Asking.{insertion_at, plugin_edit, asked_refusal};
+ghost use Rattle.doc_session.specs.Asking.{front_edit, plugin_edit, asked_refusal};
 ghost use Rattle.doc_session.specs.Document.{Document, layout_of, loaded_document, text_of};
 ghost use Rattle.doc_session.specs.Fault.{DocRefuses};
-ghost use Rattle.doc_session.specs.Inner.{IsAfter, IsStepped, is_lacking};
+ghost use Rattle.doc_session.specs.Inner.{IsAfter, IsChangeOf, IsHeadEdit, IsStepped, IsTakenFrom, head_shown, insertion_in, is_lacking, scroll_between, told_of};
+ghost use Rattle.doc_session.specs.Layout.{position_of};
 ghost use Rattle.doc_session.specs.PositionView.{position_view};
 ghost use Rattle.doc_session.specs.ScreenOf.{IsUpToDate};
 ghost use Rattle.doc_session.specs.Stands.{DocStandsFor};
-ghost use Rattle.doc_session.specs.Step.{AreEffectsOf, HasCaller, edit_step, plugin_step, refusal_at, event_step, still_step, typed};
+ghost use Rattle.doc_session.specs.Step.{AreEffectsOf, HasCaller, edit_step, front_step, plugin_step, refusal_at, event_step, still_step, typed};
 ghost use Rattle.doc_session.specs.Whole.{IsStateOfSome};
 ghost use Rattle.doc_session.specs.declared.event.Event.TheVariants.{Front};
 
 use crate::event::{Body, Effects, Event};
 use crate::fault::DocFault;
-use crate::layout::{layout_of, position_of};
+use crate::insertion::insertion_of;
+use crate::layout::layout_of;
 use crate::plan::{scroll_of, update_if};
-use crate::taken::{Taken, taken_by};
+use crate::same::is_same_if;
+use crate::taken::{Taken, taken_by, taken_head};
+use crate::texts::{position_of, whole};
 use crate::view::ViewState;
-use plain_edits::{Delta, El, Els};
-use plain_text::{NoMemory, Steps, Text, TryClone};
-use rev_engine::{Edit, Engine};
+use plain_edits::UnitDelta;
+use plain_screen::{Lines, Update};
+use plain_text::{NoMemory, Steps, Text};
+use rev_engine::{Edit, Engine, UnitEdit};
 use selection_core::gap_after;
 use std::alloc::Global;
 use std::marker::Model;
@@ -36,9 +41,9 @@ const FRONT_PRIORITY: u32 = 65_536;
 /// A document with one view.
 #[derive(Drop)]
 pub struct Doc {
+    /// The text with all its revisions.
     engine: Engine,
-    /// The head text.
-    text: Text,
+    /// As a gap of the head text.
     caret: u64,
     /// The revision that was loaded or last saved.
     saved: u64,
@@ -57,7 +62,6 @@ impl Model for Doc {
 
     ghost view = { λ d. record {
       engine = d.engine;
-      text = d.text;
       caret = d.caret;
       saved = d.saved;
       config = d.config;
@@ -65,7 +69,7 @@ impl Model for Doc {
       view = d.view;
     } };
 
-    ghost invariant = { λ d. IsStateOfSome d.engine d.text d.caret };
+    ghost invariant = { λ d. IsStateOfSome d.engine d.caret };
 }
 
 impl Doc {
@@ -81,24 +85,21 @@ impl Doc {
         requires { limit ≤ 2 ^ 60 }
         ensures { IfOk result (λ made. DocStandsFor made (loaded_document text plugins limit)) }
     {
-        let lines = layout_of(alloc, &text, 0)?;
-        let engine = Engine::of_text(alloc, text.copy(alloc)?, limit)?;
+        let engine = Engine::of_text(alloc, text, limit)?;
+        let lines = layout_of(alloc, engine.head_rope(), 0)?;
         Ok(Doc {
             engine,
-            text,
             caret: 0,
             saved: 0,
             config,
             plugins,
-            view: ViewState {
-                lines,
-                valid: false,
-            },
+            view: ViewState::new(alloc, lines, false)?,
         })
     }
 
-    /// The document after an event, beside this one, and what those outside are told of it. It costs the text and the layout, and an
-    /// edit against an old revision the runs of the later ones besides. `named` is passed over, and no step is counted yet.
+    /// The document after an event, beside this one, and what those outside are told of it. An edit costs its elements, each times the
+    /// height of the text, and the layout, which is made anew; one against an old revision the union and the runs of the later
+    /// revisions besides. `named` is passed over, and no step is counted yet.
     pub fn after<L: Ledger>(
         &self,
         alloc: Global,
@@ -179,39 +180,68 @@ impl Doc {
         if chars.is_empty() {
             return Ok(self.look(alloc)?);
         }
-        let typed = self.insertion(alloc, chars)?;
-        let taken = taken_by(alloc, &self.engine, &self.text, &typed)?;
+        self.put_in(alloc, chars)
+    }
+
+    // The same with one character at least.
+    fn put_in(&self, alloc: Global, chars: &Text) -> Result<(Doc, Effects), DocFault>
+        requires some { chars.now ≢ [] }
+        requires has_number { head self.now.engine.revisions < 2 ^ 63 - 1 }
+        ensures stepped { (plain : Document) → DocStandsFor self.now plain
+            → IfOk result (IsStepped (front_step plain (front_edit plain chars.now) (plain.caret + length chars.now))) }
+        ensures accepted { (plain : Document) → DocStandsFor self.now plain
+            → OnOk result (asked_refusal plain (front_edit plain chars.now) ≡ None) }
+        ensures refused { (plain : Document) → DocStandsFor self.now plain
+            → IfErr result (DocRefuses (asked_refusal plain (front_edit plain chars.now))) }
+        ensures plugins { IfOk result (λ made. made.0.plugins ≡ self.now.plugins) }
+    {
+        let taken = self.inserted(alloc, chars)?;
         let caret = self.caret + chars.char_count();
-        let scroll = scroll_of(
-            position_of(&self.text, self.caret),
-            position_of(&taken.text, caret),
-        );
+        let scroll = self.scroll_to(&taken.engine, caret);
         Ok(self.settled(alloc, taken, caret, Body::Null, scroll)?)
     }
 
-    // The edit that puts characters in at the caret.
-    fn insertion(&self, alloc: Global, chars: &Text) -> Result<Edit, NoMemory>
-        requires { head self.now.engine.revisions < 2 ^ 63 - 1 }
-        ensures { IfOk result (λ edit. asked_by edit
-            ≡ insertion_at (head self.now.engine.revisions) self.now.text self.now.caret chars.now) }
+    // What the characters make, where they are put in at the caret.
+    fn inserted(&self, alloc: Global, chars: &Text) -> Result<Taken, DocFault>
+        requires some { chars.now ≢ [] }
+        requires has_number { head self.now.engine.revisions < 2 ^ 63 - 1 }
+        ensures taken { (history : History) → StandsFor self.now.engine history
+            → IfOk result (IsAfter history (insertion_in history self.now.caret chars.now)) }
+        ensures made { IfOk result (IsTakenFrom self.now.engine) }
+        ensures accepted { (plain : Document) → DocStandsFor self.now plain
+            → OnOk result (asked_refusal plain (front_edit plain chars.now) ≡ None) }
+        ensures refused { (plain : Document) → DocStandsFor self.now plain
+            → IfErr result (DocRefuses (asked_refusal plain (front_edit plain chars.now))) }
     {
-        let at = self.text.place_of(self.caret);
-        let end = self.text.byte_len();
-        let mut els = Els::new(alloc);
-        els.push(El::Copy { a: 0, b: at })?;
-        els.push(El::Insert {
-            text: chars.copy(alloc)?,
-        })?;
-        els.push(El::Copy { a: at, b: end })?;
-        let head = self.engine.head();
-        Ok(Edit {
-            rev: head,
-            delta: Delta { els, base_len: end },
+        let typed = self.insertion(alloc, chars)?;
+        taken_head(alloc, &self.engine, typed)
+    }
+
+    // The edit that puts characters in at the caret, in characters.
+    fn insertion(&self, alloc: Global, chars: &Text) -> Result<UnitEdit, NoMemory>
+        requires some { chars.now ≢ [] }
+        requires has_number { head self.now.engine.revisions < 2 ^ 63 - 1 }
+        ensures fits { IfOk result (IsHeadEdit self.now.engine) }
+        ensures said { (history : History) → StandsFor self.now.engine history
+            → IfOk result (λ edit. IsSaidBy history edit (insertion_in history self.now.caret chars.now)) }
+    {
+        let units = insertion_of(alloc, self.engine.head_rope().len(), self.caret, chars)?;
+        Ok(UnitEdit {
+            units,
             priority: FRONT_PRIORITY,
-            after_cursor: false,
             author: 0,
-            group: head + 1,
+            group: self.engine.head() + 1,
         })
+    }
+
+    // Where the caret stands after an edit, if that is another place on the layout than before.
+    fn scroll_to(&self, next: &Engine, caret: u64) -> Option<(u64, u64)>
+        ensures { option_map position_view result ≡ scroll_between (position_of (head_shown self.now.engine) self.now.caret)
+            (position_of (head_shown next.now) caret) }
+    {
+        let before = position_of(self.engine.head_rope(), self.caret);
+        let after = position_of(next.head_rope(), caret);
+        scroll_of(before, after)
     }
 
     // A plugin edits the text.
@@ -228,7 +258,7 @@ impl Doc {
         let rev = self.engine.head() + 1;
         let after_cursor = edit.after_cursor;
         let edit = given(edit, caller, rev);
-        let taken = taken_by(alloc, &self.engine, &self.text, &edit)?;
+        let taken = taken_by(alloc, &self.engine, &edit)?;
         let caret = gap_after(&taken.change.units, after_cursor, self.caret);
         Ok(self.settled(alloc, taken, caret, Body::Edited { rev, group: rev }, None)?)
     }
@@ -242,29 +272,27 @@ impl Doc {
         body: Body,
         scroll: Option<(u64, u64)>,
     ) -> Result<(Doc, Effects), NoMemory>
-        requires whole { IsStateOfSome taken.engine taken.text caret }
-        requires limit { taken.engine.limit ≡ self.now.engine.limit }
+        requires whole { IsStateOfSome taken.engine caret }
+        requires made { IsTakenFrom self.now.engine taken }
         ensures stepped { (plain : Document) (asked : AskedEdit) → DocStandsFor self.now plain → IsAfter plain.history asked taken
             → IfOk result (IsStepped (edit_step plain asked caret body (option_map position_view scroll))) }
         ensures plugins { IfOk result (λ made. made.0.plugins ≡ self.now.plugins) }
     {
         let Taken {
             engine,
-            text,
-            change: _,
+            change,
             notice,
         } = taken;
-        let lines = layout_of(alloc, &text, caret)?;
-        let wanted = self.lacks(&text, caret);
-        let update = update_if(alloc, wanted, &lines, false)?;
+        let lines = layout_of(alloc, engine.head_rope(), caret)?;
+        let update = self.update_for(alloc, &engine, &change.units, &lines, caret)?;
+        let view = ViewState::new(alloc, lines, true)?;
         let next = Doc {
             engine,
-            text,
             caret,
             saved: self.saved,
             config: self.config,
             plugins: self.plugins,
-            view: ViewState { lines, valid: true },
+            view,
         };
         let effects = Effects {
             body,
@@ -275,15 +303,36 @@ impl Doc {
         Ok((next, effects))
     }
 
-    // Whether the front end has to be told of this text and caret, which an edit made.
-    fn lacks(&self, text: &Text, caret: u64) -> bool
-        ensures { result ≡ is_lacking self.now.view.valid (head self.now.engine.revisions == self.now.saved)
-            self.now.text self.now.caret text.now caret }
+    // What the front end is told of an edit that made this change, left the engine and its layout so, and the caret here.
+    fn update_for(
+        &self,
+        alloc: Global,
+        engine: &Engine,
+        units: &UnitDelta,
+        lines: &Lines,
+        caret: u64,
+    ) -> Result<Option<Update>, NoMemory>
+        requires { IsChangeOf (head_shown self.now.engine) (head_shown engine.now) units.now }
+        ensures { IfOk result (λ made. made ≡ told_of self.now engine.now lines.now caret) }
     {
-        !self.view.valid
-            || self.caret != caret
-            || self.engine.head() == self.saved
-            || self.text.as_str() != text.as_str()
+        let stays = self.caret == caret;
+        let same = is_same_if(
+            alloc,
+            stays,
+            self.engine.head_rope(),
+            engine.head_rope(),
+            units,
+        )?;
+        let wanted = self.lacks(same, caret);
+        let update = update_if(alloc, wanted, lines, false)?;
+        Ok(update)
+    }
+
+    // Whether the front end has to be told of an edit that left the caret here, and the text as it was or not.
+    fn lacks(&self, same: bool, caret: u64) -> bool
+        ensures { result ≡ is_lacking self.now same caret }
+    {
+        !self.view.is_valid() || self.caret != caret || self.engine.head() == self.saved || !same
     }
 
     // Nothing changes, and the front end is told what it lacks.
@@ -292,9 +341,8 @@ impl Doc {
         ensures plugins { IfOk result (λ made. made.0.plugins ≡ self.now.plugins) }
     {
         let pristine = self.engine.head() == self.saved;
-        let update = update_if(alloc, !self.view.valid, &self.view.lines, pristine)?;
-        let mut next = self.copy(alloc)?;
-        next.tell();
+        let update = update_if(alloc, !self.view.is_valid(), self.view.lines(), pristine)?;
+        let next = self.with_view(alloc, self.view.told()?)?;
         let effects = Effects {
             body: Body::Null,
             update,
@@ -304,11 +352,18 @@ impl Doc {
         Ok((next, effects))
     }
 
-    // The front end has the lines of the window from now on.
-    fn tell(&mut self)
-        ensures { self.new ≡ record self.old { view = record self.old.view { valid = true } } }
+    // The same document with another view.
+    fn with_view(&self, alloc: Global, view: ViewState) -> Result<Doc, NoMemory>
+        ensures { IfOk result (λ made. made ≡ record self.now { view = view }) }
     {
-        self.view.valid = true;
+        Ok(Doc {
+            engine: self.engine.copy(alloc)?,
+            caret: self.caret,
+            saved: self.saved,
+            config: self.config,
+            plugins: self.plugins,
+            view,
+        })
     }
 
     /// The last revision.
@@ -323,7 +378,7 @@ impl Doc {
     pub fn head_text(&self, alloc: Global) -> Result<Text, NoMemory>
         ensures { (plain : Document) → DocStandsFor self.now plain → IfOk result (λ text. text ≡ text_of plain) }
     {
-        self.text.copy(alloc)
+        whole(alloc, self.engine.head_rope())
     }
 
     /// How many characters some revision can still show.
@@ -337,22 +392,14 @@ impl Doc {
     pub fn lines(&self) -> u64
         ensures { (plain : Document) → DocStandsFor self.now plain → result ≡ length (layout_of plain) }
     {
-        self.view.lines.len() as u64
+        self.view.lines().len() as u64
     }
 
-    /// A second document that stands for the same. It costs the text and the layout.
+    /// A second document that stands for the same, in O(1): it shares text, revisions and layout with this one.
     pub fn copy(&self, alloc: Global) -> Result<Doc, NoMemory>
         ensures { IfOk result (λ made. made ≡ self.now) }
     {
-        Ok(Doc {
-            engine: self.engine.copy(alloc)?,
-            text: self.text.copy(alloc)?,
-            caret: self.caret,
-            saved: self.saved,
-            config: self.config,
-            plugins: self.plugins,
-            view: self.view.copy(alloc)?,
-        })
+        self.with_view(alloc, self.view.copy()?)
     }
 }
 

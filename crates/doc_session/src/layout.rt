@@ -1,40 +1,120 @@
-ghost use Rattle.std.specs.Prelude.{◌≡◌, [], ◌∷◌, IfOk};
+ghost use Rattle.std.specs.Prelude.{◌≡◌, ◌+◌, ◌^◌, ◌<◌, [], ℕ, List, IfOk, OnOk, length, ◌∷◌, ◌++◌};
 ghost use Rattle.std.specs.Str.{chars};
-ghost use Rattle.doc_session.specs.Layout.{cursor_of, layout_line, layout, position_of};
-ghost use Rattle.doc_session.specs.PositionView.{position_view};
+ghost use Rattle.doc_session.specs.Inner.{IsBegun, layout_ahead};
+ghost use Rattle.doc_session.specs.Layout.{cursor_of, layout_line, layout};
 
 use plain_screen::{Line, Lines, Triples};
 use plain_text::{NoMemory, Offsets, Text};
+use rope_tree::Rope;
 use std::alloc::Global;
+use std::mem;
 
-/// The layout of a text with one caret, in one walk over its characters.
-pub(crate) fn layout_of(alloc: Global, text: &Text, caret: u64) -> Result<Lines, NoMemory>
+/// The layout of a text with one caret, in one walk over the leaves of its rope.
+pub(crate) fn layout_of(alloc: Global, text: &Rope, caret: u64) -> Result<Lines, NoMemory>
     ensures { IfOk result (λ lines. lines ≡ layout text.now (caret ∷ [])) }
 {
-    layout_in(alloc, text.as_str(), caret)
+    let _chars = text.len();
+    let mut walk = LayoutWalk::new(alloc, caret);
+    for chunk in text.chunks()? {
+        walk.put(alloc, chunk.as_str())?;
+    }
+    walk.finish(alloc)
 }
 
-fn layout_in(alloc: Global, text: &str, caret: u64) -> Result<Lines, NoMemory>
-    ensures { IfOk result (λ lines. lines ≡ layout (chars text.now) (caret ∷ [])) }
-{
-    let mut made = Lines::new(alloc);
-    let mut line = Text::new(alloc);
-    let mut number: u64 = 1;
-    let mut start: u64 = 0;
-    let mut len: u64 = 0;
-    for c in text.chars() {
-        line.push(c)?;
-        len += 1;
-        if c == '\n' {
-            made.push(line_of(alloc, line, number, start, len, caret)?)?;
-            line = Text::new(alloc);
-            number += 1;
-            start += len;
-            len = 0;
+/// A layout in the making: its lines so far, and the line that was begun, which starts at a gap of the text and has so many
+/// characters so far.
+#[derive(Drop)]
+pub(crate) struct LayoutWalk {
+    caret: u64,
+    lines: Lines,
+    start: u64,
+    line: Text,
+    len: u64,
+}
+
+impl LayoutWalk {
+    fn new(alloc: Global, caret: u64) -> LayoutWalk
+        ensures begun { IsBegun result 0 }
+        ensures ahead { (rest : List ℕ) → layout_ahead result rest ≡ layout rest (caret ∷ []) }
+    {
+        LayoutWalk {
+            caret,
+            lines: Lines::new(alloc),
+            start: 0,
+            line: Text::new(alloc),
+            len: 0,
         }
     }
-    made.push(line_of(alloc, line, number, start, len + 1, caret)?)?;
-    Ok(made)
+
+    /// Lays out so much more of the text.
+    fn put(&mut self, alloc: Global, text: &str) -> Result<(), NoMemory>
+        requires begun { IsBegun self.old (self.old.start + self.old.len) }
+        requires few { self.old.start + self.old.len + length (chars text.now) < 2 ^ 64 }
+        ensures begun { OnOk result (IsBegun self.new (self.old.start + self.old.len + length (chars text.now))) }
+        ensures ahead { OnOk result ((rest : List ℕ) → layout_ahead self.new rest ≡ layout_ahead self.old (chars text.now ++ rest)) }
+    {
+        for c in text.chars() {
+            self.line.push(c)?;
+            self.len += 1;
+            if c == '\n' {
+                self.end_line(alloc)?;
+            }
+        }
+        Ok(())
+    }
+
+    /// Ends the line that was begun.
+    fn end_line(&mut self, alloc: Global) -> Result<(), NoMemory>
+        requires few { self.old.start + self.old.len < 2 ^ 64 }
+        ensures lines { OnOk result (self.new.lines ≡ self.old.lines
+            ++ layout_line (self.old.caret ∷ []) (length self.old.lines + 1) self.old.start self.old.len self.old.line ∷ []) }
+        ensures caret { OnOk result (self.new.caret ≡ self.old.caret) }
+        ensures start { OnOk result (self.new.start ≡ self.old.start + self.old.len) }
+        ensures line { OnOk result (self.new.line ≡ []) }
+        ensures len { OnOk result (self.new.len ≡ 0) }
+    {
+        let text = mem::replace(&mut self.line, Text::new(alloc));
+        let line = line_of(alloc, text, self.number(), self.start, self.len, self.caret)?;
+        self.lines.push(line)?;
+        self.start += self.len;
+        self.len = 0;
+        Ok(())
+    }
+
+    /// The layout, where the text ends here.
+    fn finish(self, alloc: Global) -> Result<Lines, NoMemory>
+        requires { IsBegun self (self.start + self.len) }
+        ensures { IfOk result (λ lines. lines ≡ layout_ahead self []) }
+    {
+        let number = self.number();
+        let gaps = self.gaps();
+        let LayoutWalk {
+            caret,
+            lines,
+            start,
+            line,
+            len: _,
+        } = self;
+        let mut lines = lines;
+        lines.push(line_of(alloc, line, number, start, gaps, caret)?)?;
+        Ok(lines)
+    }
+
+    /// The number of the line that was begun.
+    fn number(&self) -> u64
+        ensures { result ≡ length self.now.lines + 1 }
+    {
+        self.lines.as_slice().len() as u64 + 1
+    }
+
+    /// How many gaps that line has, where the text ends here.
+    fn gaps(&self) -> u64
+        requires { self.now.len ≡ length self.now.line }
+        ensures { result ≡ self.now.len + 1 }
+    {
+        let _line = self.line.as_str();
+        self.len + 1
+    }
 }
 
 /// A line with this number, which starts at a gap of the text and has so many gaps of its own.
@@ -72,32 +152,4 @@ fn cursor_in(
         cursor.push(line.place_of(caret - start))?;
     }
     Ok(cursor)
-}
-
-/// The place of a gap on the layout, a line and an offset in it, in one walk up to it.
-pub(crate) fn position_of(text: &Text, gap: u64) -> (u64, u64)
-    ensures { position_view result ≡ position_of text.now gap }
-{
-    point_in(text.as_str(), gap)
-}
-
-fn point_in(text: &str, gap: u64) -> (u64, u64)
-    ensures { position_view result ≡ position_of (chars text.now) gap }
-{
-    let mut line: u64 = 0;
-    let mut col: u64 = 0;
-    let mut left = gap;
-    for c in text.chars() {
-        if left == 0 {
-            break;
-        }
-        left -= 1;
-        if c == '\n' {
-            line += 1;
-            col = 0;
-        } else {
-            col += c.len_utf8() as u64;
-        }
-    }
-    (line, col)
 }

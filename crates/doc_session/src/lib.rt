@@ -8,12 +8,17 @@
 mod doc;
 mod event;
 mod fault;
+mod insertion;
 pub mod laws;
 mod layout;
 mod plan;
 pub mod rows;
+mod same;
 mod taken;
+mod texts;
 mod view;
+mod wire;
+mod wire_builder;
 
 pub use doc::Doc;
 pub use event::{Body, Effects, Event};

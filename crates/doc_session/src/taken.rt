@@ -1,62 +1,87 @@
-// What an edit of the head text makes, beside the text that there is.
-ghost use Rattle.std.specs.Prelude.{◌≡◌, None, IfOk, IfErr, OnOk};
+// What an edit makes, on a copy of the engine.
+ghost use Rattle.std.specs.Prelude.{◌≡◌, ◌^◌, ◌<◌, None, IfOk, IfErr, OnOk, length};
 ghost use Rattle.plain_edits.specs.Edits.{edit_refusal};
 ghost use Rattle.plain_edits.specs.History.{History};
-ghost use Rattle.rev_engine.specs.Engine.{asked_by};
-ghost use Rattle.rev_engine.specs.Given.{MayAsk};
+ghost use Rattle.plain_edits.specs.UnitDelta.{IsCanonical};
+ghost use Rattle.rev_engine.specs.Engine.{IsSaidBy, StandsFor, asked_by};
+ghost use Rattle.rev_engine.specs.Given.{AskedEdit, MayAsk};
 ghost use Rattle.doc_session.specs.Fault.{DocRefuses};
-ghost use Rattle.doc_session.specs.Inner.{IsAfter, IsChangeOf, LeadsTo, ShowsSomeHead};
-ghost use Rattle.doc_session.specs.Whole.{ShowsHead};
+ghost use Rattle.doc_session.specs.Inner.{IsAfter, IsChangeOf, IsNoticed, IsSaidOfSome, IsTakenFrom, StandsForSome, head_shown};
 
 use crate::fault::DocFault;
-use delta_core::{apply, to_wire};
-use plain_text::Text;
-use rev_engine::{Change, Edit, Engine};
+use crate::wire::to_wire;
+use plain_text::{NoMemory, Text};
+use rev_engine::{Change, Edit, Engine, UnitEdit};
+use rope_tree::Rope;
 use std::alloc::Global;
 use xi_plain::Notice;
 
-/// What an edit makes: the engine with it, the head text then, the change from the text before, and what the plugins are told.
+/// What an edit makes: the engine with it, the change of the head text, and what the plugins are told.
 #[derive(Drop)]
 pub(crate) struct Taken {
     pub(crate) engine: Engine,
-    pub(crate) text: Text,
     pub(crate) change: Change,
     pub(crate) notice: Notice,
 }
 
-/// Takes an edit of the head text on a copy of the engine.
-pub(crate) fn taken_by(
-    alloc: Global,
-    engine: &Engine,
-    text: &Text,
-    edit: &Edit,
-) -> Result<Taken, DocFault>
+/// Takes an edit.
+pub(crate) fn taken_by(alloc: Global, engine: &Engine, edit: &Edit) -> Result<Taken, DocFault>
     requires may { MayAsk engine.now.revisions edit.now.group }
-    requires shown { ShowsSomeHead engine.now text.now }
-    ensures taken { (history : History) → ShowsHead history engine.now text.now
-        → IfOk result (IsAfter history (asked_by edit.now)) }
-    ensures limit { IfOk result (λ made. made.engine.limit ≡ engine.now.limit) }
-    ensures accepted { (history : History) → ShowsHead history engine.now text.now
+    requires some { StandsForSome engine.now }
+    ensures taken { (history : History) → StandsFor engine.now history → IfOk result (IsAfter history (asked_by edit.now)) }
+    ensures made { IfOk result (IsTakenFrom engine.now) }
+    ensures accepted { (history : History) → StandsFor engine.now history
         → OnOk result (edit_refusal history engine.now.limit edit.now.rev edit.now.delta ≡ None) }
-    ensures refused { (history : History) → ShowsHead history engine.now text.now
+    ensures refused { (history : History) → StandsFor engine.now history
         → IfErr result (DocRefuses (edit_refusal history engine.now.limit edit.now.rev edit.now.delta)) }
-    ensures change { IfOk result (λ made. IsChangeOf text.now made.change.units) }
-    ensures leads { IfOk result (λ made. LeadsTo made.text made.change.units) }
 {
     let mut next = engine.copy(alloc)?;
     let change = next.edit(alloc, edit)?;
-    let delta = to_wire(alloc, text, &change.units)?;
-    let text = apply(alloc, text, &change.units)?;
+    Ok(noticed(alloc, engine.head_rope(), next, change, edit.author)?)
+}
+
+/// Takes an edit of the head text, in characters.
+pub(crate) fn taken_head(alloc: Global, engine: &Engine, edit: UnitEdit) -> Result<Taken, DocFault>
+    requires may { MayAsk engine.now.revisions edit.group }
+    requires canonical { IsCanonical edit.units }
+    requires base { edit.units.base ≡ length (head_shown engine.now) }
+    requires some { IsSaidOfSome engine.now edit }
+    ensures taken { (history : History) (asked : AskedEdit) → StandsFor engine.now history → IsSaidBy history edit asked
+        → IfOk result (IsAfter history asked) }
+    ensures made { IfOk result (IsTakenFrom engine.now) }
+    ensures accepted { (history : History) (asked : AskedEdit) → StandsFor engine.now history → IsSaidBy history edit asked
+        → OnOk result (edit_refusal history engine.now.limit asked.base asked.delta ≡ None) }
+    ensures refused { (history : History) (asked : AskedEdit) → StandsFor engine.now history → IsSaidBy history edit asked
+        → IfErr result (DocRefuses (edit_refusal history engine.now.limit asked.base asked.delta)) }
+{
+    let author = edit.author;
+    let mut next = engine.copy(alloc)?;
+    let change = next.edit_head(alloc, edit)?;
+    Ok(noticed(alloc, engine.head_rope(), next, change, author)?)
+}
+
+// The engine after a change of this text, and the notice of it.
+fn noticed(
+    alloc: Global,
+    before: &Rope,
+    engine: Engine,
+    change: Change,
+    author: u32,
+) -> Result<Taken, NoMemory>
+    requires { IsChangeOf before.now (head_shown engine) change.units }
+    ensures noticed { IfOk result (IsNoticed before.now engine change author) }
+    ensures counted { IfOk result (λ made. length (head_shown made.engine) < 2 ^ 64) }
+{
+    let delta = to_wire(alloc, before, &change.units)?;
     let notice = Notice {
         view: Text::new(alloc),
-        author: edit.author,
+        author,
         rev: change.rev,
-        new_len: text.byte_len(),
+        new_len: engine.head_rope().byte_len(),
         delta,
     };
     Ok(Taken {
-        engine: next,
-        text,
+        engine,
         change,
         notice,
     })

@@ -1,55 +1,38 @@
-use Rattle.std.proofs.Common.{◌≤◌, refl, ap, sym, subst, arith}
+use Rattle.std.proofs.Common.{◌≤◌, List, ℕ, refl, ap, sym, ◌∙◌, subst, arith}
 use Rattle.plain_edits.specs.History.{History, inserted_count}
-use Rattle.rev_engine.specs.Engine.{asked_by}
+use Rattle.rev_engine.specs.Engine.{StandsFor, asked_by}
 use Rattle.rev_engine.specs.Given.{MayAsk, after}
 use Rattle.rev_engine.specs.State.{State}
-use Rattle.doc_session.specs.Whole.{ShowsHead}
-use Rattle.doc_session.proofs.InsertLemmas.{IsChangeOf-copied}
-use Rattle.doc_session.proofs.MoveLemmas.{IsAfter-taken, LeadsTo-shown, length-byte_len, spent-within}
+use Rattle.doc_session.specs.Inner.{IsChangeOf, IsNoticed, head_shown}
+use Rattle.doc_session.proofs.MoveLemmas.{IsAfter-noticed, IsChangeOf-shown, IsTakenFrom-noticed, spent-within}
 use Rattle.doc_session.proofs.taken.taken_by.Goals as goal
 
 pub edit-requires : goal.edit-requires
 edit-requires c =
     subst (λ (h : History). MayAsk h c.args.edit.now.group) (sym (ap (λ (e : State). e.revisions) c.in_ok-next.ensures)) c.requires.may
 
-pub to_wire-requires-clause-well_formed : goal.to_wire-requires-clause-well_formed
-to_wire-requires-clause-well_formed c =
-    (IsChangeOf-copied c.args.engine.now c.in_ok-next.next c.args.text.now (asked_by c.args.edit.now) c.in_ok-change.change c.in_ok-next.ensures
-    c.requires.shown c.in_ok-change.ensures.change).well_formed
-
-pub to_wire-requires-clause-base : goal.to_wire-requires-clause-base
-to_wire-requires-clause-base c =
-    (IsChangeOf-copied c.args.engine.now c.in_ok-next.next c.args.text.now (asked_by c.args.edit.now) c.in_ok-change.change c.in_ok-next.ensures
-    c.requires.shown c.in_ok-change.ensures.change).base
-
-pub apply-requires-clause-well_formed : goal.apply-requires-clause-well_formed
-apply-requires-clause-well_formed c =
-    (IsChangeOf-copied c.args.engine.now c.in_ok-next.next c.args.text.now (asked_by c.args.edit.now) c.in_ok-change.change c.in_ok-next.ensures
-    c.requires.shown c.in_ok-change.ensures.change).well_formed
-
-pub apply-requires-clause-base : goal.apply-requires-clause-base
-apply-requires-clause-base c =
-    (IsChangeOf-copied c.args.engine.now c.in_ok-next.next c.args.text.now (asked_by c.args.edit.now) c.in_ok-change.change c.in_ok-next.ensures
-    c.requires.shown c.in_ok-change.ensures.change).base
+pub noticed-requires : goal.noticed-requires
+noticed-requires c =
+    let At : List ℕ → Type 0 = λ text. IsChangeOf text (head_shown c.edit.new.self) c.in_ok-change.change.units in
+    subst At (sym c.head_rope.ensures.shown)
+    (IsChangeOf-shown c.args.engine.now c.in_ok-next.next c.edit.new.self (asked_by c.args.edit.now) c.in_ok-change.change c.in_ok-next.ensures c.requires.some
+    c.in_ok-change.ensures.stands c.in_ok-change.ensures.change)
 
 pub returns-clause-taken : goal.returns-clause-taken
-returns-clause-taken c = λ history shown.
+returns-clause-taken c = λ history stands.
     let asked = asked_by c.args.edit.now in
-    let was = subst (λ (e : State). ShowsHead history e c.args.text.now) (sym c.in_ok-next.ensures) shown in
+    let was = subst (λ (e : State). StandsFor e history) (sym c.in_ok-next.ensures) stands in
     let within : inserted_count (after history asked) ≤ c.edit.new.self.limit =
-    omega (arith, spent-within history c.in_ok-next.next.limit asked (c.in_ok-change.ensures.accepted history was.stands), c.in_ok-change.ensures.limit) in
-    IsAfter-taken history c.args.engine.now c.args.text.now asked _ shown (c.in_ok-change.ensures.stands history was.stands) within
-    (c.in_ok-change.ensures.change history was.stands) c.in_ok-text.ensures c.new.ensures refl refl c.byte_len.ensures c.in_ok-delta.ensures.is
+    omega (arith, spent-within history c.in_ok-next.next.limit asked (c.in_ok-change.ensures.accepted history was), c.in_ok-change.ensures.limit) in
+    let Noticed : List ℕ → Type 0 = λ text. IsNoticed text c.edit.new.self c.in_ok-change.change c.args.edit.now.author c.in_ok-noticed.field-0 in
+    IsAfter-noticed history c.args.engine.now asked c.edit.new.self c.in_ok-change.change c.args.edit.now.author c.in_ok-noticed.field-0 stands
+    (c.in_ok-change.ensures.stands history was) within (c.in_ok-change.ensures.change history was) refl
+    (subst Noticed c.head_rope.ensures.shown c.in_ok-noticed.ensures.noticed)
 
-pub returns-clause-change : goal.returns-clause-change
-returns-clause-change c =
-    IsChangeOf-copied c.args.engine.now c.in_ok-next.next c.args.text.now (asked_by c.args.edit.now) c.in_ok-change.change c.in_ok-next.ensures
-    c.requires.shown c.in_ok-change.ensures.change
-
-pub returns-clause-leads : goal.returns-clause-leads
-returns-clause-leads c =
-    LeadsTo-shown c.args.engine.now c.args.text.now c.in_ok-text.text (asked_by c.args.edit.now) c.in_ok-change.change c.requires.shown
-    (omega (arith, length-byte_len c.in_ok-text.text, c.byte_len.ensures, c.byte_len.type_inv)) c.in_ok-text.ensures
-    (λ history shown.
-    c.in_ok-change.ensures.change history
-    (subst (λ (e : State). ShowsHead history e c.args.text.now) (sym c.in_ok-next.ensures) shown).stands)
+pub returns-clause-made : goal.returns-clause-made
+returns-clause-made c =
+    let changes =
+    IsChangeOf-shown c.args.engine.now c.in_ok-next.next c.edit.new.self (asked_by c.args.edit.now) c.in_ok-change.change c.in_ok-next.ensures c.requires.some
+    c.in_ok-change.ensures.stands c.in_ok-change.ensures.change in
+    IsTakenFrom-noticed c.args.engine.now c.edit.new.self c.head_rope.result.now c.in_ok-change.change c.args.edit.now.author c.in_ok-noticed.field-0
+    c.in_ok-noticed.ensures.noticed changes c.in_ok-noticed.ensures.counted (c.in_ok-change.ensures.limit ∙ ap (λ (e : State). e.limit) c.in_ok-next.ensures)

@@ -1,4 +1,0 @@
-use Rattle.doc_session.proofs.doc.Doc.copy.Goals as goal
-
-pub invariant_of-result : goal.invariant_of-result
-invariant_of-result c = rw (c.in_ok-copy.ensures, c.in_ok-copy-2.ensures) c.self.invariant

@@ -1,0 +1,4 @@
+use Rattle.doc_session.proofs.doc.Doc.with_view.Goals as goal
+
+pub invariant_of-result : goal.invariant_of-result
+invariant_of-result c = rw c.in_ok-copy.ensures c.self.invariant
