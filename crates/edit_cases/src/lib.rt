@@ -14,3 +14,5 @@ mod merging;
 mod revisions;
 #[cfg(test)]
 mod selections;
+#[cfg(test)]
+mod stacks;
