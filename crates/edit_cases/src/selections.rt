@@ -22,7 +22,7 @@ fn region(anchor: u64, caret: u64) -> Region {
 }
 
 // Whether these are the regions, by their anchors and carets.
-fn are_regions(regions: &[Region], rows: &[(u64, u64)]) -> bool {
+pub(crate) fn are_regions(regions: &[Region], rows: &[(u64, u64)]) -> bool {
     for (there, row) in regions.iter().zip(rows) {
         if there.anchor != row.0 || there.caret != row.1 {
             return false;
@@ -32,7 +32,7 @@ fn are_regions(regions: &[Region], rows: &[(u64, u64)]) -> bool {
 }
 
 // The selection to which the regions were added, one after the other.
-fn selection(alloc: Global, rows: &[(u64, u64)]) -> Result<Sel, NoMemory>
+pub(crate) fn selection(alloc: Global, rows: &[(u64, u64)]) -> Result<Sel, NoMemory>
     ensures { IfOk result (λ sel. IsSelection sel.regions) }
 {
     let mut sel = Sel {
@@ -85,7 +85,7 @@ fn a_region_joins_those_that_it_meets(rt: HostRuntime) -> Result<(), Fail> {
 }
 
 // Whether no region goes past the end of a text of this length.
-fn are_within(regions: &[Region], len: u64) -> bool
+pub(crate) fn are_within(regions: &[Region], len: u64) -> bool
     ensures { IsTrue result → AreWithin len regions.now }
 {
     for region in regions {
