@@ -1,0 +1,6 @@
+mod OrderLemmas
+mod CaretLemmas
+mod SelectedLemmas
+mod CutLemmas
+mod FeedLemmas
+mod LawLemmas
