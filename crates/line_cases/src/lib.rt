@@ -8,6 +8,8 @@ mod motions;
 #[cfg(test)]
 mod pieces;
 #[cfg(test)]
+mod rendering;
+#[cfg(test)]
 mod views;
 #[cfg(test)]
 mod wrapping;
