@@ -52,7 +52,8 @@ fn selected(run: Run) -> Span
 
 // Goes on from the last run, which is put at the end of the list where the next one does not begin at its end. Gives the last one.
 fn put_run(spans: &mut Spans, last: Option<Run>, run: Run) -> Result<Option<Run>, NoMemory>
-    ensures { IfOk result (λ now. (rest : List span_value) → spans.new ++ onto_some now rest ≡ spans.old ++ onto_some last (onto_any run rest)) }
+    ensures { IfOk result (λ now. (rest : List span_value) → spans.new ++ onto_some now rest
+        ≡ spans.old ++ onto_some last (onto_any run rest)) }
 {
     if run.end <= run.start {
         return Ok(last);
