@@ -1,2 +1,13 @@
-mod SortLemmas
-mod PlaceLemmas
+pub mod RunLemmas
+pub mod WalkLemmas
+pub mod OverlayLemmas
+pub mod SpannedLemmas
+pub mod MapLemmas
+pub mod ShowLemmas
+pub mod OrderLemmas
+pub mod PlaceLemmas
+pub mod TableLemmas
+pub mod DeadLemmas
+pub mod LengthLemmas
+pub mod RiseLemmas
+pub mod ForCallers

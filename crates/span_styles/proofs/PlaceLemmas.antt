@@ -1,7 +1,9 @@
 -- The byte offsets of the gaps of a line, from its start on.
-use Rattle.std.proofs.Common.{◌≡◌, ℕ, zero, suc, ◌+◌, ◌<◌, ◌≤◌, List, [], ◌∷◌, ◌++◌, length, get_or, map, drop, refl, ap, ap₂, sym, subst, ◌∙◌, arith, append_assoc, append-nil, zero-add, ◌-◌, pos, ◌-ℤ◌}
+use Rattle.std.proofs.Common.{◌≡◌, ℕ, zero, suc, Bool, true, false, ◌+◌, ◌<◌, ◌≤◌, List, [], ◌∷◌, ◌++◌, length, get_or, map, drop, refl, ap, ap₂, sym, subst, ◌∙◌, arith, append_assoc, append-nil, zero-add, ◌-◌, pos, ◌-ℤ◌}
 use Rattle.std.specs.Char.{len_utf8, encode_utf8}
-use Rattle.std.specs.List.{range_with_len}
+use Rattle.std.specs.Prelude.{if◌then◌else◌}
+use Rattle.std.specs.Ordering.{is_lt}
+use Rattle.std.specs.List.{AllByRecursion, range_with_len}
 use Rattle.std.specs.Str.{chars, IsUtf8}
 use Rattle.std.proofs.lemmas.Str.{chars_past_char, chars-nil}
 use Rattle.std.proofs.lemmas.List.{nil_from_length}
@@ -9,6 +11,7 @@ use Rattle.std.proofs.lemmas.List.FromFn.{get_or-map-range_with_len, length-map-
 use Rattle.plain_text.specs.Text.{byte_len, place_of}
 use Rattle.plain_edits.specs.declared.style.Span.{Span}
 use Rattle.plain_screen.specs.declared.screen.Triple.{Triple}
+use Rattle.span_styles.specs.Spans.{span_cmp, with_span, sorted_spans}
 use Rattle.span_styles.specs.Triples.{LieInLine, triples_after}
 
 -- the offsets behind each character, the first of which stands at this offset
@@ -103,3 +106,16 @@ pub LieInLine-at : (len i : ℕ) (spans : List Span) (d : Span) → i < length s
 LieInLine-at len i spans d inside lie =
     let at = LieInLine-suc len i spans d inside lie in
     (at.0, at.1, subst (λ n. LieInLine len (drop n spans)) (let next : suc i ≡ i + 1 = omega arith in next) at.2)
+
+all-with_span : (P : Span → Type 0) (span : Span) (spans : List Span) → P span → AllByRecursion P spans → AllByRecursion P (with_span span spans)
+all-with_span P span [] one all = (one, tt)
+all-with_span P span (first ∷ spans) one all = by (is_lt (span_cmp first span)) (all-with_span P span spans one all.1)
+  where
+    by : (b : Bool) → AllByRecursion P (with_span span spans) → AllByRecursion P (if b then first ∷ with_span span spans else span ∷ first ∷ spans)
+    by true rest = (all.0, rest)
+    by false rest = (one, all)
+
+-- what holds of each span holds of each of them in order
+pub all-sorted_spans : (P : Span → Type 0) (spans : List Span) → AllByRecursion P spans → AllByRecursion P (sorted_spans spans)
+all-sorted_spans P [] all = tt
+all-sorted_spans P (span ∷ spans) all = all-with_span P span (sorted_spans spans) all.0 (all-sorted_spans P spans all.1)

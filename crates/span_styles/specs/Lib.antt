@@ -1,2 +1,9 @@
+pub mod Layers
 pub mod Spans
 pub mod Triples
+pub mod Table
+pub mod Laws
+pub mod Inner
+pub mod Rows
+pub mod Shared
+pub mod Keys

@@ -5,7 +5,8 @@ ghost use Rattle.plain_text.specs.Text.{byte_len, place_of};
 ghost use Rattle.span_styles.specs.Spans.{sorted_spans};
 ghost use Rattle.span_styles.specs.Triples.{LieInLine, triples_after, triples_of};
 
-use plain_edits::{Span, Spans};
+use crate::order::{copied, in_order};
+use plain_edits::Span;
 use plain_screen::{Triple, Triples};
 use plain_text::{NoMemory, Offsets, Text};
 use std::alloc::Global;
@@ -19,7 +20,7 @@ pub fn triples(alloc: Global, line: &Text, spans: &[Span]) -> Result<Triples, No
     if spans.is_empty() {
         return Ok(Triples::new(alloc));
     }
-    let sorted = in_order(alloc, spans)?;
+    let sorted = in_order(copied(alloc, spans)?)?;
     let places = places_in(alloc, line)?;
     in_sequence(alloc, line, &places, sorted.as_slice())
 }
@@ -40,18 +41,6 @@ pub fn place_at(line: &Text, places: &Offsets, gap: u64) -> u64
     ensures inside { result ≤ byte_len line.now }
 {
     places.as_slice()[gap as usize]
-}
-
-// The spans by their starts, those of one start by their styles, and those by their ends.
-fn in_order(alloc: Global, spans: &[Span]) -> Result<Spans, NoMemory>
-    ensures { IfOk result (λ sorted. sorted ≡ sorted_spans spans.now) }
-{
-    let mut sorted = Vec::with_capacity(alloc, spans.len())?;
-    for span in spans {
-        sorted.push(*span)?;
-    }
-    sorted.sort_by_key(|span| (span.start, span.style, span.end))?;
-    Ok(Spans::from_vec(sorted))
 }
 
 fn walked(alloc: Global, line: &str) -> Result<Offsets, NoMemory>

@@ -1,10 +1,11 @@
-use Rattle.std.proofs.Common.{◌≤◌, length, subst, sym, ◌∙◌}
+use Rattle.std.proofs.Common.{◌≤◌, length, subst, sym, ap, ◌∙◌}
 use Rattle.plain_edits.specs.declared.style.Span.{Span}
+use Rattle.span_styles.specs.Spans.{sorted_spans}
 use Rattle.span_styles.specs.Triples.{LieInLine}
-use Rattle.span_styles.proofs.SortLemmas.{all-sorted_spans}
+use Rattle.span_styles.proofs.PlaceLemmas.{all-sorted_spans}
 use Rattle.span_styles.proofs.byte_triples.triples.Goals as goal
 
 pub in_sequence-requires-clause-inside : goal.in_sequence-requires-clause-inside
 in_sequence-requires-clause-inside c =
-    subst (LieInLine (length c.args.line.now)) (sym (c.as_slice.ensures ∙ c.in_ok-sorted.ensures))
+    subst (LieInLine (length c.args.line.now)) (sym (c.as_slice.ensures ∙ c.in_ok-sorted.ensures ∙ ap sorted_spans c.in_ok-copied.ensures))
     (all-sorted_spans (λ (span : Span). (span.start ≤ span.end) × (span.end ≤ length c.args.line.now)) c.args.spans.now c.requires)

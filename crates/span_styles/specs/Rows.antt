@@ -1,0 +1,54 @@
+-- Worked rows: small layers and lines, with what the definitions are to give.
+use Rattle.std.specs.Prelude.{◌≡◌, ℕ, pos, negsuc, ℤ, List, [], ◌∷◌}
+use Rattle.plain_text.specs.declared.run.Run.{Run}
+use Rattle.plain_edits.specs.declared.style.Span.{Span}
+use Rattle.plain_edits.specs.declared.delta.UnitDelta.{UnitDelta}
+use Rattle.plain_edits.specs.Styles.{Layer}
+use Rattle.plain_screen.specs.declared.screen.Triple.{Triple}
+use Rattle.span_styles.specs.Layers.{unstyled, spanned_layer, mapped_layers}
+use Rattle.span_styles.specs.Spans.{spans_in, spans_of}
+use Rattle.span_styles.specs.Triples.{triples_of}
+
+abbrev pub run : ℕ → ℕ → Run
+run start end = record { start = start; end = end }
+
+abbrev pub span : ℕ → ℕ → ℕ → Span
+span start end style = record { start = start; end = end; style = style }
+
+-- a layer after spans over a range
+abbrev pub with_spans : Layer → Run → List Span → Layer
+with_spans layer range spans = spanned_layer layer (record { range = range; spans = spans })
+
+-- the layer over `abcd` with style 2 over 1 to 3
+abbrev pub styled : Layer
+styled = with_spans (unstyled 4) (run 0 4) (span 1 3 2 ∷ [])
+
+-- the edits of `abcd` that put `X` at a gap, and that drop `b`
+abbrev pub with_x : ℕ → UnitDelta
+with_x gap = record { base = 4; kept = run 0 4 ∷ []; added = (record { gap = gap; text = 88 ∷ [] }) ∷ [] }
+
+abbrev pub without_b : UnitDelta
+without_b = record { base = 4; kept = run 0 1 ∷ run 2 4 ∷ []; added = [] }
+
+-- a style stays with its character, and what is added has none
+pub record StylesStay : Type 0 where
+  pub before : spans_of (mapped_layers (with_x 0) (styled ∷ [])) (run 0 5) ≡ span 2 4 2 ∷ []
+  pub inside : spans_of (mapped_layers (with_x 2) (styled ∷ [])) (run 0 5) ≡ span 1 2 2 ∷ span 3 4 2 ∷ []
+  pub dropped : spans_of (mapped_layers without_b (styled ∷ [])) (run 0 3) ≡ span 1 2 2 ∷ []
+
+-- a range is cleared, of two spans the later wins, neighbours of one style are one run, and two layers show one run twice
+pub record SpansAreSet : Type 0 where
+  pub cleared : spans_in (run 0 4) (with_spans styled (run 2 4) []) ≡ span 1 2 2 ∷ []
+  pub later_wins : spans_in (run 0 4) (with_spans styled (run 0 4) (span 0 3 2 ∷ span 1 4 3 ∷ [])) ≡ span 0 1 2 ∷ span 1 4 3 ∷ []
+  pub joined : spans_in (run 0 4) (with_spans styled (run 3 4) (span 3 4 2 ∷ [])) ≡ span 1 4 2 ∷ []
+  pub cut : spans_in (run 2 4) styled ≡ span 2 3 2 ∷ []
+  pub twice : spans_of (styled ∷ with_spans styled (run 0 1) (span 0 1 3 ∷ []) ∷ []) (run 0 4) ≡ span 0 1 3 ∷ span 1 3 2 ∷ span 1 3 2 ∷ []
+
+abbrev pub triple : ℤ → ℕ → ℕ → Triple
+triple start len id = record { start = start; len = len; id = id }
+
+-- `aé中b` with two neighbouring spans; and `abc` with a region and a match in it, whichever comes first
+pub record TriplesAreInBytes : Type 0 where
+  pub bytes : triples_of (97 ∷ 233 ∷ 20013 ∷ 98 ∷ []) (span 1 2 2 ∷ span 2 3 3 ∷ []) ≡ triple (pos 1) 2 2 ∷ triple (pos 0) 3 3 ∷ []
+  pub back : triples_of (97 ∷ 98 ∷ 99 ∷ []) (span 0 3 0 ∷ span 1 2 1 ∷ []) ≡ triple (pos 0) 3 0 ∷ triple (negsuc 1) 1 1 ∷ []
+  pub sorted : triples_of (97 ∷ 98 ∷ 99 ∷ []) (span 1 2 1 ∷ span 0 3 0 ∷ []) ≡ triple (pos 0) 3 0 ∷ triple (negsuc 1) 1 1 ∷ []
