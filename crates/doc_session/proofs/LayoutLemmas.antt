@@ -13,7 +13,7 @@ use Rattle.plain_text.specs.Numbers.{has}
 use Rattle.plain_text.specs.Text.{byte_len, place_of}
 use Rattle.plain_text.specs.Lines.{logical_lines}
 use Rattle.doc_session.specs.declared.layout.LayoutWalk.{LayoutWalk}
-use Rattle.doc_session.specs.Inner.{joined, layout_ahead}
+use Rattle.doc_session.specs.Inner.{lines_begun, layout_ahead}
 use Rattle.doc_session.specs.Layout.{cursor_of, layout_line, layout_from, layout, Position, position_from}
 
 -- the logical lines of a text by its first character, where `ends` says whether that is an LF
@@ -26,32 +26,32 @@ test_yes c is = grind (arith, nat_tests)
 test_no : (c : ℕ) → c ≢ 10 → (c == 10) ≡ false
 test_no c not = grind (arith, nat_tests)
 
-pub joined-nil : (text : List ℕ) → joined [] (logical_lines text) ≡ logical_lines text
-joined-nil [] = refl
-joined-nil (c ∷ text) = by_case (c == 10) (logical_lines text)
+pub lines_begun-nil : (text : List ℕ) → lines_begun [] (logical_lines text) ≡ logical_lines text
+lines_begun-nil [] = refl
+lines_begun-nil (c ∷ text) = by_case (c == 10) (logical_lines text)
   where
-    by_case : (b : Bool) (lines : List (List ℕ)) → joined [] (lines_by b c lines) ≡ lines_by b c lines
+    by_case : (b : Bool) (lines : List (List ℕ)) → lines_begun [] (lines_by b c lines) ≡ lines_by b c lines
     by_case true lines = refl
     by_case false [] = refl
     by_case false (line ∷ lines) = refl
 
 -- a character that is no LF joins the line begun
-joined-onto_first : (begun : List ℕ) (c : ℕ) (lines : List (List ℕ)) → joined begun (onto_first c lines) ≡ joined (begun ++ c ∷ []) lines
-joined-onto_first begun c [] = refl
-joined-onto_first begun c (line ∷ lines) = ap (λ l. l ∷ lines) (sym (append_assoc begun (c ∷ []) line))
+lines_begun-onto_first : (begun : List ℕ) (c : ℕ) (lines : List (List ℕ)) → lines_begun begun (onto_first c lines) ≡ lines_begun (begun ++ c ∷ []) lines
+lines_begun-onto_first begun c [] = refl
+lines_begun-onto_first begun c (line ∷ lines) = ap (λ l. l ∷ lines) (sym (append_assoc begun (c ∷ []) line))
 
-pub joined-other : (begun text : List ℕ) (c : ℕ) → c ≢ 10 →
-    joined begun (logical_lines (c ∷ text)) ≡ joined (begun ++ c ∷ []) (logical_lines text)
-joined-other begun text c not =
-    ap (λ b. joined begun (lines_by b c (logical_lines text))) (test_no c not) ∙ joined-onto_first begun c (logical_lines text)
+pub lines_begun-other : (begun text : List ℕ) (c : ℕ) → c ≢ 10 →
+    lines_begun begun (logical_lines (c ∷ text)) ≡ lines_begun (begun ++ c ∷ []) (logical_lines text)
+lines_begun-other begun text c not =
+    ap (λ b. lines_begun begun (lines_by b c (logical_lines text))) (test_no c not) ∙ lines_begun-onto_first begun c (logical_lines text)
 
 -- an LF ends the line begun
-pub joined-newline : (begun text : List ℕ) (c : ℕ) → c ≡ 10 →
-    joined begun (logical_lines (c ∷ text)) ≡ (begun ++ c ∷ []) ∷ logical_lines text
-joined-newline begun text c is = ap (λ b. joined begun (lines_by b c (logical_lines text))) (test_yes c is)
+pub lines_begun-newline : (begun text : List ℕ) (c : ℕ) → c ≡ 10 →
+    lines_begun begun (logical_lines (c ∷ text)) ≡ (begun ++ c ∷ []) ∷ logical_lines text
+lines_begun-newline begun text c is = ap (λ b. lines_begun begun (lines_by b c (logical_lines text))) (test_yes c is)
 
-pub joined-end : (begun : List ℕ) → joined begun (logical_lines []) ≡ begun ∷ []
-joined-end begun = ap (λ l. l ∷ []) (append-nil begun)
+pub lines_begun-end : (begun : List ℕ) → lines_begun begun (logical_lines []) ≡ begun ∷ []
+lines_begun-end begun = ap (λ l. l ∷ []) (append-nil begun)
 
 -- the layout of a line that is not the last
 layout_from-line : (carets : List ℕ) (number start : ℕ) (line text : List ℕ) →
@@ -69,25 +69,25 @@ layout_from-line carets number start line (c ∷ text) = by_case (c == 10) (logi
 
 -- the layout of what is left of a text, after a line begun
 abbrev pub layout_rest : List ℕ → ℕ → ℕ → List ℕ → List ℕ → List Line
-layout_rest carets number start begun text = layout_from carets number start (joined begun (logical_lines text))
+layout_rest carets number start begun text = layout_from carets number start (lines_begun begun (logical_lines text))
 
 pub layout_rest-newline : (carets : List ℕ) (number start c : ℕ) (begun text : List ℕ) → c ≡ 10 →
     layout_rest carets number start begun (c ∷ text) ≡
     layout_line carets number start (length (begun ++ c ∷ [])) (begun ++ c ∷ []) ∷
     layout_rest carets (number + 1) (start + length (begun ++ c ∷ [])) [] text
 layout_rest-newline carets number start c begun text is =
-    ap (layout_from carets number start) (joined-newline begun text c is) ∙
+    ap (layout_from carets number start) (lines_begun-newline begun text c is) ∙
     layout_from-line carets number start (begun ++ c ∷ []) text ∙
     ap (λ lines. layout_line carets number start (length (begun ++ c ∷ [])) (begun ++ c ∷ []) ∷
-    layout_from carets (number + 1) (start + length (begun ++ c ∷ [])) lines) (sym (joined-nil text))
+    layout_from carets (number + 1) (start + length (begun ++ c ∷ [])) lines) (sym (lines_begun-nil text))
 
 pub layout_rest-other : (carets : List ℕ) (number start c : ℕ) (begun text : List ℕ) → c ≢ 10 →
     layout_rest carets number start begun (c ∷ text) ≡ layout_rest carets number start (begun ++ c ∷ []) text
-layout_rest-other carets number start c begun text not = ap (layout_from carets number start) (joined-other begun text c not)
+layout_rest-other carets number start c begun text not = ap (layout_from carets number start) (lines_begun-other begun text c not)
 
 pub layout_rest-end : (carets : List ℕ) (number start : ℕ) (begun : List ℕ) →
     layout_rest carets number start begun [] ≡ layout_line carets number start (length begun + 1) begun ∷ []
-layout_rest-end carets number start begun = ap (layout_from carets number start) (joined-end begun)
+layout_rest-end carets number start begun = ap (layout_from carets number start) (lines_begun-end begun)
 
 is_caret : (caret at : ℕ) → caret ≡ at → has (caret ∷ []) at ≡ true
 is_caret caret at is = grind (arith, nat_tests)
@@ -138,7 +138,7 @@ cursor_of-past caret start gaps line low past =
 
 -- the place of a gap in what is left of a text, after a line begun
 abbrev pub point_rest : ℕ → ℕ → List ℕ → List ℕ → Position
-point_rest index gap begun text = position_from index (length begun + gap) (joined begun (logical_lines text))
+point_rest index gap begun text = position_from index (length begun + gap) (lines_begun begun (logical_lines text))
 
 -- what a walk makes of one character more, of an LF and of the end
 pub layout_ahead-other : (old new : LayoutWalk) (c : ℕ) (rest : List ℕ) → c ≢ 10 → new ≡ record old { line = old.line ++ c ∷ []; len = old.len + 1 } →
@@ -181,7 +181,7 @@ pub layout_ahead-start : (walk : LayoutWalk) (caret : ℕ) (rest : List ℕ) →
     layout_ahead walk rest ≡ layout rest (caret ∷ [])
 layout_ahead-start walk caret rest caret_is none first empty =
     ap₂ (λ ls k. ls ++ layout_rest (k ∷ []) (length ls + 1) walk.start walk.line rest) none caret_is ∙
-    ap₂ (λ at l. layout_rest (caret ∷ []) 1 at l rest) first empty ∙ ap (layout_from (caret ∷ []) 1 0) (joined-nil rest)
+    ap₂ (λ at l. layout_rest (caret ∷ []) 1 at l rest) first empty ∙ ap (layout_from (caret ∷ []) 1 0) (lines_begun-nil rest)
 
 -- a point in the first of some lines
 lt_yes : (m n : ℕ) → m < n → nat_lt m n ≡ true
@@ -232,24 +232,24 @@ point_rest-here index gap begun (c ∷ text) is = by_case (c == 10) (logical_lin
         ap (λ n. record { line = index; col = n }) (place_of-begun begun (c ∷ line) gap is)
 
     by_case : (b : Bool) (lines : List (List ℕ)) →
-        position_from index (length begun + gap) (joined begun (lines_by b c lines)) ≡ record { line = index; col = byte_len begun }
+        position_from index (length begun + gap) (lines_begun begun (lines_by b c lines)) ≡ record { line = index; col = byte_len begun }
     by_case true lines = inside [] lines
     by_case false [] = inside [] []
     by_case false (line ∷ lines) = inside line lines
 
 pub point_rest-end : (index gap : ℕ) (begun : List ℕ) → point_rest index gap begun [] ≡ record { line = index; col = byte_len begun }
 point_rest-end index gap begun =
-    ap (position_from index (length begun + gap)) (joined-end begun) ∙
+    ap (position_from index (length begun + gap)) (lines_begun-end begun) ∙
     ap (λ line. record { line = index; col = byte_len line }) (take_all (length begun + gap) begun (omega arith))
 
 pub point_rest-newline : (index gap less c : ℕ) (begun text : List ℕ) → c ≡ 10 → gap ≡ less + 1 →
     point_rest index gap begun (c ∷ text) ≡ point_rest (index + 1) less [] text
 point_rest-newline index gap less c begun text is more =
     let all : length (begun ++ c ∷ []) ≡ length begun + 1 = length_push begun c in
-    ap (position_from index (length begun + gap)) (joined-newline begun text c is) ∙
+    ap (position_from index (length begun + gap)) (lines_begun-newline begun text c is) ∙
     position_from-line index (length begun + gap) (begun ++ c ∷ []) text (omega arith) ∙
     ap (λ n. position_from (index + 1) n (logical_lines text)) (left all) ∙
-    ap (position_from (index + 1) (0 + less)) (sym (joined-nil text))
+    ap (position_from (index + 1) (0 + less)) (sym (lines_begun-nil text))
   where
     left : length (begun ++ c ∷ []) ≡ length begun + 1 → length begun + gap - length (begun ++ c ∷ []) ≡ 0 + less
     left all = omega arith
@@ -257,8 +257,8 @@ point_rest-newline index gap less c begun text is more =
 pub point_rest-other : (index gap less c : ℕ) (begun text : List ℕ) → c ≢ 10 → gap ≡ less + 1 →
     point_rest index gap begun (c ∷ text) ≡ point_rest index less (begun ++ c ∷ []) text
 point_rest-other index gap less c begun text not more =
-    ap (position_from index (length begun + gap)) (joined-other begun text c not) ∙
-    ap (λ n. position_from index n (joined (begun ++ c ∷ []) (logical_lines text)))
+    ap (position_from index (length begun + gap)) (lines_begun-other begun text c not) ∙
+    ap (λ n. position_from index n (lines_begun (begun ++ c ∷ []) (logical_lines text)))
     (omega (arith, length_push begun c))
 
 pub byte_len-push : (begun : List ℕ) (c : ℕ) → byte_len (begun ++ c ∷ []) ≡ byte_len begun + len_utf8 c

@@ -9,9 +9,9 @@ use Rattle.plain_text.specs.Text.{byte_len, place_of}
 use Rattle.rope_node.specs.Lengths.{byte_len-append, count_by-append, lf_count}
 use Rattle.rope_metrics.specs.declared.measure.Measure.TheVariants.{Bytes, Chars, Lines}
 use Rattle.rope_metrics.specs.Measure.{HasNone, IsConverted, IsCut}
-use Rattle.doc_session.specs.Inner.{joined}
+use Rattle.doc_session.specs.Inner.{lines_begun}
 use Rattle.doc_session.specs.Layout.{Position, position_of}
-use Rattle.doc_session.proofs.LayoutLemmas.{byte_len-push, joined-nil, point_rest, point_rest-end, point_rest-here, point_rest-newline, point_rest-other}
+use Rattle.doc_session.proofs.LayoutLemmas.{byte_len-push, lines_begun-nil, point_rest, point_rest-end, point_rest-here, point_rest-newline, point_rest-other}
 use Rattle.plain_text.specs.Lines.{logical_lines}
 use Rattle.doc_session.specs.Layout.{position_from}
 
@@ -41,7 +41,7 @@ point_rest-led index (suc gap) begun (c ∷ text) =
 
 position_of-led : (text : List ℕ) (gap : ℕ) → position_of text gap ≡ led_to 0 0 (take gap text)
 position_of-led text gap =
-    ap (position_from 0 gap) (sym (joined-nil text)) ∙ ap (λ n. position_from 0 n (joined [] (logical_lines text))) (omega arith) ∙
+    ap (position_from 0 gap) (sym (lines_begun-nil text)) ∙ ap (λ n. position_from 0 n (lines_begun [] (logical_lines text))) (omega arith) ∙
     point_rest-led 0 gap [] text
 
 led_to-append : (line col : ℕ) (xs ys : List ℕ) → led_to line col (xs ++ ys) ≡ led_to (led_to line col xs).line (led_to line col xs).col ys

@@ -20,7 +20,7 @@ use Rattle.rev_engine.specs.State.{State}
 use Rattle.rev_engine.specs.Given.{AskedEdit, after}
 use Rattle.doc_session.specs.InMemory.{Doc}
 use Rattle.doc_session.specs.declared.taken.Taken.{Taken}
-use Rattle.doc_session.specs.Document.{Document, text_of, layout_of, is_pristine, no_request, first_window}
+use Rattle.doc_session.specs.Document.{Document, text_of, layout_of, is_pristine, no_request}
 use Rattle.doc_session.specs.Effects.{ops_of, update_of, updated, differ, are_valid, is_window_valid, wants_update, update_after, settled, scroll_after}
 use Rattle.doc_session.specs.Inner.{IsAfter, head_shown, is_lacking, is_same_after, planned, scroll_between, told_of}
 use Rattle.doc_session.specs.Stands.{DocStandsFor}
@@ -70,10 +70,10 @@ some_lines carets (c ∷ text) = by (c == 10) (logical_lines text)
     by false [] = first (c ∷ []) []
     by false (line ∷ lines) = first (c ∷ line) lines
 
-are_valid-none : (text carets : List ℕ) → are_valid first_window 0 (layout text carets) [] ≡ false
-are_valid-none text carets =
+are_valid-none : (window : Run) (text carets : List ℕ) → is_within window 0 ≡ true → are_valid window 0 (layout text carets) [] ≡ false
+are_valid-none window text carets shows =
     let some = some_lines carets text in
-    ap (λ lines. are_valid first_window 0 lines []) some.2
+    ap (λ lines. are_valid window 0 lines []) some.2 ∙ ap (λ b. not b && are_valid window (0 + 1) some.1 []) shows
 
 -- ---- the occasion of an update
 
@@ -105,7 +105,7 @@ module _ (doc : Doc) (plain : Document) (stands : DocStandsFor doc plain) where
   screen_valid true is =
       ap (are_valid plain.window 0 (layout_of plain)) is ∙ are_valid-shown plain.window no_request 0 (layout_of plain)
   screen_valid false is =
-      ap₂ (λ window screen. are_valid window 0 (layout_of plain) screen) stands.window is ∙ are_valid-none (text_of plain) (plain.caret ∷ [])
+      ap (are_valid plain.window 0 (layout_of plain)) is ∙ are_valid-none plain.window (text_of plain) (plain.caret ∷ []) stands.shows_first
 
   pub wants_update-same : wants_update plain plain ≡ not doc.view.valid
   wants_update-same =
@@ -120,7 +120,7 @@ module _ (doc : Doc) (plain : Document) (stands : DocStandsFor doc plain) where
     window_lacks : (valid : Bool) → plain.screen ≡ screen_by valid plain → valid ≡ false → is_window_valid next ≡ false
     window_lacks true is none = absurd cc
     window_lacks false is none =
-        ap₂ (λ window screen. are_valid window 0 (layout_of next) screen) stands.window is ∙ are_valid-none (text_of next) (gap ∷ [])
+        ap (are_valid plain.window 0 (layout_of next)) is ∙ are_valid-none plain.window (text_of next) (gap ∷ []) stands.shows_first
 
     layout_same : bytes_eq (text_of plain) (text_of next) ≡ true → (plain.caret == gap) ≡ true → layout_of next ≡ layout_of plain
     layout_same text caret =
@@ -198,9 +198,9 @@ module _ (doc : Doc) (plain : Document) (stands : DocStandsFor doc plain) where
 pub DocStandsFor-settled : (doc made : Doc) (plain : Document) (asked : AskedEdit) (taken : Taken) (text : List ℕ) → DocStandsFor doc plain →
     IsAfter plain.history asked taken → taken.engine.limit ≡ doc.engine.limit → IsStateOfSome taken.engine made.caret →
     made.engine ≡ taken.engine → text ≡ head_shown taken.engine → made.view.lines ≡ layout text (made.caret ∷ []) →
-    made.plugins ≡ doc.plugins → made.saved ≡ doc.saved → made.view.valid ≡ true →
+    made.view.window ≡ doc.view.window → made.plugins ≡ doc.plugins → made.saved ≡ doc.saved → made.view.valid ≡ true →
     DocStandsFor made (settled plain (edited_document plain asked made.caret))
-DocStandsFor-settled doc made plain asked taken text stands is limit_is whole engine_is text_is lines_is plugins_is saved_is valid_is =
+DocStandsFor-settled doc made plain asked taken text stands is limit_is whole engine_is text_is lines_is window_is plugins_is saved_is valid_is =
     by (wants_update plain next) refl
   where
     next : Document
@@ -231,7 +231,8 @@ DocStandsFor-settled doc made plain asked taken text stands is limit_is whole en
       saved = saved_is ∙ stands.saved;
       saved_before = before;
       lines = laid_out;
-      window = stands.window;
+      window = stands.window ∙ sym window_is;
+      shows_first = stands.shows_first;
       screen = screen-updated next ∙ shown_by made.view.valid valid_is;
     }
     by false wants = record {
@@ -242,7 +243,8 @@ DocStandsFor-settled doc made plain asked taken text stands is limit_is whole en
       saved = saved_is ∙ stands.saved;
       saved_before = before;
       lines = laid_out;
-      window = stands.window;
+      window = stands.window ∙ sym window_is;
+      shows_first = stands.shows_first;
       screen = ap (λ b. (if b then updated next else next).screen) (sym wants) ∙ screen_is;
     }
 
@@ -265,9 +267,9 @@ update-settled doc plain asked taken gap lines update stands is inside lines_is 
     same_by =
         ap₂ (λ t u. if doc.caret == gap then bytes_eq t u else false) (head_shown-stands doc.engine plain.history stands.parts.stands) shown_is
 
-    planned_is : planned lines false ≡ update_of next
+    planned_is : planned doc.view.window lines false ≡ update_of next
     planned_is =
-        ap (λ l. planned l false) (lines_is ∙ ap (λ t. layout t (gap ∷ [])) shown_is) ∙
+        ap (λ l. planned doc.view.window l false) (lines_is ∙ ap (λ t. layout t (gap ∷ [])) shown_is) ∙
         ap₂ (λ window pristine. record { ops = update_plan window no_request (layout_of next) []; pristine = pristine }) (sym stands.window)
         (sym (pristine_next doc plain stands asked gap))
 
@@ -318,6 +320,7 @@ DocStandsFor-still doc made plain stands is = subst (λ d. DocStandsFor d (settl
       saved_before = stands.saved_before;
       lines = stands.lines;
       window = stands.window;
+      shows_first = stands.shows_first;
       screen = screen-updated plain;
     }
     by false wants = record {
@@ -329,11 +332,12 @@ DocStandsFor-still doc made plain stands is = subst (λ d. DocStandsFor d (settl
       saved_before = stands.saved_before;
       lines = stands.lines;
       window = stands.window;
+      shows_first = stands.shows_first;
       screen = stands.screen ∙ valid_by doc.view.valid (sym (wants_update-same doc plain stands) ∙ wants);
     }
 
 pub update-still : (doc : Doc) (plain : Document) (pristine : Bool) (update : Option Update) → DocStandsFor doc plain →
-    pristine ≡ (head doc.engine.revisions == doc.saved) → update ≡ (if not doc.view.valid then Some (planned doc.view.lines pristine) else None) →
+    pristine ≡ (head doc.engine.revisions == doc.saved) → update ≡ (if not doc.view.valid then Some (planned doc.view.window doc.view.lines pristine) else None) →
     update ≡ update_after plain plain
 update-still doc plain pristine update stands pristine_is update_is =
     update_is ∙ ap₂ (λ b u. if b then Some u else None) (sym (wants_update-same doc plain stands)) planned_is
@@ -343,7 +347,7 @@ update-still doc plain pristine update stands pristine_is update_is =
         pristine_is ∙
         ap₂ (λ now saved. now == saved) (head-stands doc.engine plain.history stands.parts.stands) stands.saved
 
-    planned_is : planned doc.view.lines pristine ≡ update_of plain
+    planned_is : planned doc.view.window doc.view.lines pristine ≡ update_of plain
     planned_is =
-        ap (λ l. planned l pristine) stands.lines ∙
+        ap (λ l. planned doc.view.window l pristine) stands.lines ∙
         ap₂ (λ window pristine. record { ops = update_plan window no_request (layout_of plain) []; pristine = pristine }) (sym stands.window) is_now

@@ -1,12 +1,14 @@
 -- What contracts see of a document in memory.
 use Rattle.std.specs.Prelude.{ℕ, Bool, List}
+use Rattle.plain_text.specs.declared.run.Run.{Run}
 use Rattle.plain_screen.specs.declared.screen.Line.{Line}
 use Rattle.xi_plain.specs.declared.config.Config.{Config}
 use Rattle.rev_engine.specs.State.{State}
 
--- of its view: the layout of the head text with its caret, and whether the front end has the lines of the window
+-- of its view: the layout of the head text with its caret, the lines of it that are shown, and whether the front end has these
 pub record View : Type 0 where
   pub lines : List Line
+  pub window : Run
   pub valid : Bool
 
 -- its revisions, the caret as a gap of the head text, the revision that was loaded or last saved, how texts are laid out, how many

@@ -1,5 +1,5 @@
 -- What private functions say: the steps of an event.
-use Rattle.std.specs.Prelude.{◌≡◌, ℕ, ◌+◌, ◌^◌, ◌<◌, ◌≤◌, Bool, not, false, ◌||◌, if◌then◌else◌, nat_lt, ◌==◌, List, [], ◌∷◌, ◌++◌, length, Option, Some, None}
+use Rattle.std.specs.Prelude.{◌≡◌, ℕ, zero, suc, ◌+◌, ◌^◌, ◌<◌, ◌≤◌, Bool, not, false, ◌||◌, if◌then◌else◌, nat_lt, ◌==◌, List, [], ◌∷◌, ◌++◌, length, Option, Some, None}
 use Rattle.std.specs.Str.{bytes_eq}
 use Rattle.plain_text.specs.declared.run.Run.{Run}
 use Rattle.plain_text.specs.Lines.{logical_lines}
@@ -8,6 +8,8 @@ use Rattle.plain_edits.specs.declared.delta.UnitDelta.{UnitDelta}
 use Rattle.plain_edits.specs.History.{History, head, text_at, inserted_count}
 use Rattle.plain_edits.specs.UnitDelta.{IsCanonical, IsUnitDelta}
 use Rattle.plain_screen.specs.declared.screen.Line.{Line}
+use Rattle.plain_screen.specs.declared.screen.Op.{Op}
+use Rattle.plain_screen.specs.declared.screen.Op.TheVariants.{Invalidate}
 use Rattle.plain_screen.specs.declared.screen.Update.{Update}
 use Rattle.plain_screen.specs.Plan.{update_plan}
 use Rattle.delta_core.specs.Units.{text_after}
@@ -21,7 +23,7 @@ use Rattle.doc_session.specs.declared.event.Effects.{Effects}
 use Rattle.doc_session.specs.declared.layout.LayoutWalk.{LayoutWalk}
 use Rattle.doc_session.specs.declared.taken.Taken.{Taken}
 use Rattle.doc_session.specs.Asking.{insertion_at}
-use Rattle.doc_session.specs.Document.{first_window, no_request}
+use Rattle.doc_session.specs.Document.{no_request}
 use Rattle.doc_session.specs.Effects.{is_same_point, notice_of}
 use Rattle.doc_session.specs.InMemory.{Doc}
 use Rattle.doc_session.specs.Layout.{Position, layout_from}
@@ -104,13 +106,18 @@ is_lacking doc same caret = not doc.view.valid || (not (doc.caret == caret) || (
 abbrev pub is_same_after : Doc → State → ℕ → Bool
 is_same_after doc engine caret = if doc.caret == caret then bytes_eq (head_shown doc.engine) (head_shown engine) else false
 
--- the update that sends the lines of the window
-abbrev pub planned : List Line → Bool → Update
-planned lines pristine = record { ops = update_plan first_window no_request lines []; pristine = pristine }
+-- what leaves so many lines invalid, where there are any
+abbrev pub left_ops : ℕ → List Op
+left_ops zero = []
+left_ops (suc n) = Invalidate (suc n) ∷ []
+
+-- the update that sends the lines of a window
+abbrev pub planned : Run → List Line → Bool → Update
+planned window lines pristine = record { ops = update_plan window no_request lines []; pristine = pristine }
 
 -- what the front end is told of an edit that left the engine so, its head text laid out so, and the caret here
 abbrev pub told_of : Doc → State → List Line → ℕ → Option Update
-told_of doc engine lines caret = if is_lacking doc (is_same_after doc engine caret) caret then Some (planned lines false) else None
+told_of doc engine lines caret = if is_lacking doc (is_same_after doc engine caret) caret then Some (planned doc.view.window lines false) else None
 
 -- the place to scroll to, where it is another than before
 abbrev pub scroll_between : Position → Position → Option Position
@@ -124,14 +131,14 @@ pub record IsStepped (step : EventStep) (made : Doc × Effects) : Type 0 where
 -- ---- a layout in the making
 
 -- the lines with characters put before the first
-abbrev pub joined : List ℕ → List (List ℕ) → List (List ℕ)
-joined begun [] = begun ∷ []
-joined begun (line ∷ lines) = (begun ++ line) ∷ lines
+abbrev pub lines_begun : List ℕ → List (List ℕ) → List (List ℕ)
+lines_begun begun [] = begun ∷ []
+lines_begun begun (line ∷ lines) = (begun ++ line) ∷ lines
 
 -- the layout of a text, so much of which is ahead
 abbrev pub layout_ahead : LayoutWalk → List ℕ → List Line
 layout_ahead walk rest =
-    walk.lines ++ layout_from (walk.caret ∷ []) (length walk.lines + 1) walk.start (joined walk.line (logical_lines rest))
+    walk.lines ++ layout_from (walk.caret ∷ []) (length walk.lines + 1) walk.start (lines_begun walk.line (logical_lines rest))
 
 -- so many characters are laid out or begun
 pub record IsBegun (walk : LayoutWalk) (count : ℕ) : Type 0 where

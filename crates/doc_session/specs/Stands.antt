@@ -1,13 +1,13 @@
 -- What a document in memory stands for.
-use Rattle.std.specs.Prelude.{◌≡◌, ◌≤◌, if◌then◌else◌, []}
+use Rattle.std.specs.Prelude.{◌≡◌, ◌≤◌, if◌then◌else◌, [], true}
 use Rattle.plain_edits.specs.History.{head}
-use Rattle.plain_screen.specs.Plan.{shown_lines}
+use Rattle.plain_screen.specs.Plan.{is_within, shown_lines}
 use Rattle.doc_session.specs.InMemory.{Doc}
-use Rattle.doc_session.specs.Document.{Document, layout_of, first_window, no_request}
+use Rattle.doc_session.specs.Document.{Document, layout_of, no_request}
 use Rattle.doc_session.specs.Whole.{IsStateOf}
 
--- the document in memory stands for the plain one: they have the same history, limit, plugins, caret, saved revision and layout, and
--- the front end's screen is as the last update left it, or empty where there was none
+-- the document in memory stands for the plain one: they have the same history, limit, plugins, caret, saved revision, layout and window,
+-- which shows the first line, and the front end's screen is as the last update left it, or empty where there was none
 pub record DocStandsFor (doc : Doc) (plain : Document) : Type 0 where
   pub parts : IsStateOf plain.history doc.engine doc.caret
   pub limit : doc.engine.limit ≡ plain.limit
@@ -16,5 +16,6 @@ pub record DocStandsFor (doc : Doc) (plain : Document) : Type 0 where
   pub saved : doc.saved ≡ plain.saved
   pub saved_before : plain.saved ≤ head plain.history
   pub lines : doc.view.lines ≡ layout_of plain
-  pub window : plain.window ≡ first_window
+  pub window : plain.window ≡ doc.view.window
+  pub shows_first : is_within plain.window 0 ≡ true
   pub screen : plain.screen ≡ (if doc.view.valid then shown_lines plain.window no_request (layout_of plain) else [])

@@ -27,7 +27,7 @@ use crate::texts::{position_of, whole};
 use crate::view::ViewState;
 use plain_edits::UnitDelta;
 use plain_screen::{Lines, Update};
-use plain_text::{NoMemory, Steps, Text};
+use plain_text::{NoMemory, Run, Steps, Text};
 use rev_engine::{Edit, Engine, UnitEdit};
 use selection_core::gap_after;
 use std::alloc::Global;
@@ -37,6 +37,9 @@ use xi_plain::{Config, EditAct};
 
 /// The priority of the front end's edits.
 const FRONT_PRIORITY: u32 = 65_536;
+
+/// The lines that a view shows when it is opened.
+const FIRST_WINDOW: Run = Run { start: 0, end: 10 };
 
 /// A document with one view.
 #[derive(Drop)]
@@ -93,7 +96,7 @@ impl Doc {
             saved: 0,
             config,
             plugins,
-            view: ViewState::new(alloc, lines, false)?,
+            view: ViewState::new(alloc, lines, FIRST_WINDOW, false)?,
         })
     }
 
@@ -285,7 +288,7 @@ impl Doc {
         } = taken;
         let lines = layout_of(alloc, engine.head_rope(), caret)?;
         let update = self.update_for(alloc, &engine, &change.units, &lines, caret)?;
-        let view = ViewState::new(alloc, lines, true)?;
+        let view = ViewState::new(alloc, lines, self.view.window(), true)?;
         let next = Doc {
             engine,
             caret,
@@ -324,7 +327,7 @@ impl Doc {
             units,
         )?;
         let wanted = self.lacks(same, caret);
-        let update = update_if(alloc, wanted, lines, false)?;
+        let update = update_if(alloc, wanted, lines, self.view.window(), false)?;
         Ok(update)
     }
 
@@ -341,7 +344,14 @@ impl Doc {
         ensures plugins { IfOk result (λ made. made.0.plugins ≡ self.now.plugins) }
     {
         let pristine = self.engine.head() == self.saved;
-        let update = update_if(alloc, !self.view.is_valid(), self.view.lines(), pristine)?;
+        let wanted = !self.view.is_valid();
+        let update = update_if(
+            alloc,
+            wanted,
+            self.view.lines(),
+            self.view.window(),
+            pristine,
+        )?;
         let next = self.with_view(alloc, self.view.told()?)?;
         let effects = Effects {
             body: Body::Null,

@@ -1,59 +1,57 @@
-ghost use Rattle.std.specs.Prelude.{◌≡◌, [], IfOk, option_map, Some, None, if◌then◌else◌};
+ghost use Rattle.std.specs.Prelude.{◌≡◌, [], ◌++◌, IfOk, OnOk, option_map, Some, None, if◌then◌else◌};
 ghost use Rattle.plain_screen.specs.Plan.{update_plan};
-ghost use Rattle.doc_session.specs.Document.{first_window, no_request};
+ghost use Rattle.doc_session.specs.Document.{no_request};
 ghost use Rattle.doc_session.specs.Effects.{is_same_point};
 ghost use Rattle.doc_session.specs.PositionView.{position_view};
-ghost use Rattle.doc_session.specs.Inner.{planned};
+ghost use Rattle.doc_session.specs.Inner.{left_ops, planned};
 
 use plain_screen::{Line, Lines, Op, Ops, Update};
-use plain_text::{NoMemory, TryClone};
+use plain_text::{NoMemory, Run, TryClone};
 use std::alloc::Global;
 
-/// How many lines the window of a view shows.
-const WINDOW: usize = 10;
-
-/// The update that sends the lines of the window and leaves the others invalid.
-pub(crate) fn update_of(alloc: Global, lines: &Lines, pristine: bool) -> Result<Update, NoMemory>
-    ensures { IfOk result (λ made. made ≡ planned lines.now pristine) }
-{
-    let ops = ops_of(alloc, lines)?;
-    Ok(Update { ops, pristine })
-}
-
-/// The same, where it is wanted.
+/// The update that sends the lines of a window and leaves the others invalid, where it is wanted.
 pub(crate) fn update_if(
     alloc: Global,
     wanted: bool,
     lines: &Lines,
+    window: Run,
     pristine: bool,
 ) -> Result<Option<Update>, NoMemory>
-    ensures { IfOk result (λ made. made ≡ (if wanted then Some (planned lines.now pristine) else None)) }
+    ensures { IfOk result (λ made. made ≡ (if wanted then Some (planned window lines.now pristine) else None)) }
 {
-    if wanted {
-        return Ok(Some(update_of(alloc, lines, pristine)?));
+    if !wanted {
+        return Ok(None);
     }
-    Ok(None)
+    let ops = ops_of(alloc, lines, window)?;
+    Ok(Some(Update { ops, pristine }))
 }
 
-fn ops_of(alloc: Global, lines: &Lines) -> Result<Ops, NoMemory>
-    ensures { IfOk result (λ ops. ops ≡ update_plan first_window no_request lines.now []) }
+fn ops_of(alloc: Global, lines: &Lines, window: Run) -> Result<Ops, NoMemory>
+    ensures { IfOk result (λ ops. ops ≡ update_plan window no_request lines.now []) }
 {
-    let mut ops = Ops::new(alloc);
     let all = lines.as_slice();
-    if all.is_empty() {
+    let len = all.len() as u64;
+    let end = window.end.min(len);
+    let mut ops = Ops::new(alloc);
+    if end <= window.start {
+        put_left(&mut ops, len)?;
         return Ok(ops);
     }
-    if all.len() <= WINDOW {
-        let shown = copies(alloc, all)?;
-        ops.push(Op::Ins { lines: shown })?;
-        return Ok(ops);
-    }
-    let shown = copies(alloc, &all[..WINDOW])?;
+    put_left(&mut ops, window.start)?;
+    let shown = copies(alloc, &all[window.start as usize..end as usize])?;
     ops.push(Op::Ins { lines: shown })?;
-    ops.push(Op::Invalidate {
-        n: (all.len() - WINDOW) as u64,
-    })?;
+    put_left(&mut ops, len - end)?;
     Ok(ops)
+}
+
+// Leaves so many lines invalid.
+fn put_left(ops: &mut Ops, n: u64) -> Result<(), NoMemory>
+    ensures { OnOk result (ops.new ≡ ops.old ++ left_ops n) }
+{
+    if n > 0 {
+        ops.push(Op::Invalidate { n })?;
+    }
+    Ok(())
 }
 
 fn copies(alloc: Global, lines: &[Line]) -> Result<Lines, NoMemory>

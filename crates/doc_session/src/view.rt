@@ -1,7 +1,7 @@
 ghost use Rattle.std.specs.Prelude.{◌≡◌, true, IfOk};
 
 use plain_screen::Lines;
-use plain_text::NoMemory;
+use plain_text::{NoMemory, Run};
 use std::alloc::Global;
 use std::marker::Model;
 use std::sync::Arc;
@@ -11,7 +11,9 @@ use std::sync::Arc;
 pub struct ViewState {
     /// The layout of the head text, with its caret.
     lines: Arc<Lines, Global>,
-    /// Whether the front end has the lines of the window.
+    /// The lines of it that are shown.
+    window: Run,
+    /// Whether the front end has these.
     valid: bool,
 }
 
@@ -21,16 +23,22 @@ impl Model for ViewState {
 
     ghost Value = { View };
 
-    ghost view = { λ v. record { lines = arc_value v.lines; valid = v.valid } };
+    ghost view = { λ v. record { lines = arc_value v.lines; window = v.window; valid = v.valid } };
 }
 
 impl ViewState {
-    /// A view with this layout, whose front end has the lines of the window or was told nothing.
-    pub(crate) fn new(alloc: Global, lines: Lines, valid: bool) -> Result<ViewState, NoMemory>
-        ensures { IfOk result (λ made. made ≡ record { lines = lines; valid = valid }) }
+    /// A view with this layout and window, whose front end has the lines of the window or was told nothing.
+    pub(crate) fn new(
+        alloc: Global,
+        lines: Lines,
+        window: Run,
+        valid: bool,
+    ) -> Result<ViewState, NoMemory>
+        ensures { IfOk result (λ made. made ≡ record { lines = lines; window = window; valid = valid }) }
     {
         Ok(ViewState {
             lines: Arc::new(alloc, lines)?,
+            window,
             valid,
         })
     }
@@ -39,6 +47,12 @@ impl ViewState {
         ensures { result.now ≡ self.now.lines }
     {
         &self.lines
+    }
+
+    pub(crate) fn window(&self) -> Run
+        ensures { result ≡ self.now.window }
+    {
+        self.window
     }
 
     pub(crate) fn is_valid(&self) -> bool
@@ -53,6 +67,7 @@ impl ViewState {
     {
         Ok(ViewState {
             lines: Arc::try_clone(&self.lines)?,
+            window: self.window,
             valid: true,
         })
     }
@@ -63,6 +78,7 @@ impl ViewState {
     {
         Ok(ViewState {
             lines: Arc::try_clone(&self.lines)?,
+            window: self.window,
             valid: self.valid,
         })
     }

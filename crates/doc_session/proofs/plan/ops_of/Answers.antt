@@ -1,27 +1,33 @@
-use Rattle.std.proofs.Common.{◌≡◌, ◌<◌, ◌≤◌, ◌-◌, [], ◌∷◌, ◌++◌, length, take, refl, ap, sym, ◌∙◌, arith}
-use Rattle.std.proofs.lemmas.Bool.Decides.{nat_tests}
-use Rattle.std.proofs.lemmas.Grind.{common_steps}
-use Rattle.plain_screen.specs.declared.screen.Op.TheVariants.{Invalidate, Ins}
-use Rattle.doc_session.proofs.PlanLemmas.{update_plan-short, update_plan-long}
+use Rattle.std.proofs.Common.{◌≡◌, ◌-◌, [], ◌∷◌, ◌++◌, List, length, take, drop, ap, sym, ◌∙◌, append_assoc}
+use Rattle.std.specs.Prelude.{min}
+use Rattle.plain_screen.specs.declared.screen.Op.{Op}
+use Rattle.plain_screen.specs.declared.screen.Op.TheVariants.{Ins}
+use Rattle.doc_session.specs.Inner.{left_ops}
+use Rattle.doc_session.proofs.PlanLemmas.{update_plan-none, update_plan-some}
 use Rattle.doc_session.proofs.plan.ops_of.Goals as goal
 
-pub returns-then-all-le-WINDOW : goal.returns-then-all-le-WINDOW
-returns-then-all-le-WINDOW c =
-    let all : c.as_slice-all.result.now ≡ c.args.lines.now = c.as_slice-all.ensures in
-    let shown : c.in_ok-shown.shown ≡ c.args.lines.now = c.in_ok-shown.ensures ∙ all in
-    let len = ap length all in
-    let few : length c.args.lines.now ≤ 10 = omega (arith, c.if-all-le-WINDOW.true) in
-    let some : 0 < length c.args.lines.now = grind (arith, nat_tests, common_steps) in
-    c.in_ok-push.ensures.pushed ∙ ap (λ ops. ops ++ Ins c.in_ok-shown.shown ∷ []) c.new-ops.ensures ∙
-    ap (λ lines. Ins lines ∷ []) shown ∙ sym (update_plan-short 10 c.args.lines.now refl some few)
+pub returns-then-end-window : goal.returns-then-end-window
+returns-then-end-window c =
+    let lines = c.args.lines.now in
+    let all : c.as_slice-all.result.now ≡ lines = c.as_slice-all.ensures in
+    let end_is : c.min-end.result ≡ min c.args.window.end (length lines) = c.min-end.ensures ∙ ap (λ ls. min c.args.window.end (length ls)) all in
+    c.in_ok-put_left.ensures ∙ ap (λ ops. ops ++ left_ops (length c.as_slice-all.result.now)) c.new-ops.ensures ∙
+    ap (λ ls. left_ops (length ls)) all ∙ sym (update_plan-none c.args.window lines c.min-end.result end_is c.if-end-window.true)
 
 pub returns : goal.returns
 returns c =
-    let all : c.as_slice-all.result.now ≡ c.args.lines.now = c.as_slice-all.ensures in
-    let len = ap length all in
-    let many : 10 < length c.args.lines.now = omega (arith, c.if-all-le-WINDOW.false) in
-    let shown : c.in_ok-shown-2.shown ≡ take 10 c.args.lines.now = c.in_ok-shown-2.ensures ∙ ap (take 10) all in
-    c.in_ok-push-3.ensures.pushed ∙
-    ap (λ ops. ops ++ Invalidate (length c.as_slice-all.result.now - 10) ∷ []) (c.in_ok-push-2.ensures.pushed ∙ ap (λ ops. ops ++ Ins c.in_ok-shown-2.shown ∷ []) c.new-ops.ensures) ∙
-    ap (λ lines. Ins lines ∷ Invalidate (length c.as_slice-all.result.now - 10) ∷ []) shown ∙
-    ap (λ n. Ins (take 10 c.args.lines.now) ∷ Invalidate (n - 10) ∷ []) len ∙ sym (update_plan-long 10 c.args.lines.now refl many)
+    let lines = c.args.lines.now in
+    let window = c.args.window in
+    let end = c.min-end.result in
+    let all : c.as_slice-all.result.now ≡ lines = c.as_slice-all.ensures in
+    let end_is : end ≡ min window.end (length lines) = c.min-end.ensures ∙ ap (λ ls. min window.end (length ls)) all in
+    let shown : c.in_ok-shown.shown ≡ take (end - window.start) (drop window.start lines) =
+    c.in_ok-shown.ensures ∙ ap (λ ls. take (end - window.start) (drop window.start ls)) all in
+    let left : List Op = left_ops (length c.as_slice-all.result.now - end) in
+    c.in_ok-put_left-3.ensures ∙
+    ap (λ ops. ops ++ left) (c.in_ok-push.ensures.pushed ∙
+    ap (λ ops. ops ++ Ins c.in_ok-shown.shown ∷ []) (c.in_ok-put_left-2.ensures ∙ ap (λ ops. ops ++ left_ops window.start) c.new-ops.ensures)) ∙
+    append_assoc (left_ops window.start) (Ins c.in_ok-shown.shown ∷ []) left ∙
+    ap (λ sent. left_ops window.start ++ Ins sent ∷ left) shown ∙
+    ap (λ ls. left_ops window.start ++ Ins (take (end - window.start) (drop window.start lines)) ∷ left_ops (length ls - end)) all ∙
+    sym (update_plan-some window lines end end_is c.if-end-window.false)

@@ -20,7 +20,8 @@ returns-clause-stepped c = λ plain stands.
             update-still _ plain _ c.in_ok-update.update (subst (λ d. DocStandsFor d plain) (sym c.self.view_is) stands)
             (ap (λ n. n == doc.saved) c.head.ensures.revisions)
             (c.in_ok-update.ensures ∙
-            ap₂ (λ b lines. if not b then Some (planned lines (c.head.result == doc.saved)) else None) c.is_valid.ensures c.lines.ensures);
+            ap₂ (λ b lines. if not b then Some (planned c.window.result lines (c.head.result == doc.saved)) else None) c.is_valid-wanted.ensures c.lines.ensures ∙
+            ap (λ w. if not doc.view.valid then Some (planned w doc.view.lines (c.head.result == doc.saved)) else None) c.window.ensures);
         scroll = refl;
         notice = refl;
       };

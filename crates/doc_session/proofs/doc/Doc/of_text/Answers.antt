@@ -21,7 +21,8 @@ returns c =
       saved = refl;
       saved_before = omega arith;
       lines = ap (λ (v : View). v.lines) c.in_ok-new.ensures ∙ c.in_ok-lines.ensures ∙ ap (λ t. layout t (0 ∷ [])) (c.head_rope.ensures.text (loaded c.args.text) c.in_ok-engine.ensures.stands);
-      window = refl;
+      window = sym (ap (λ (v : View). v.window) c.in_ok-new.ensures);
+      shows_first = refl;
       screen = rw c.in_ok-new.ensures refl;
     })
 

@@ -15,7 +15,8 @@ returns-clause-stepped c = λ plain asked stands is.
     record {
       stands =
           DocStandsFor-settled c.args.self.now _ plain asked c.args.taken c.head_rope.result.now stands is c.requires.made.limit c.requires.whole refl
-          c.head_rope.ensures.shown (ap (λ (v : View). v.lines) c.in_ok-view.ensures ∙ c.in_ok-lines.ensures) (ap (λ (d : Doc). d.plugins) c.self.view_is)
+          c.head_rope.ensures.shown (ap (λ (v : View). v.lines) c.in_ok-view.ensures ∙ c.in_ok-lines.ensures)
+          (ap (λ (v : View). v.window) c.in_ok-view.ensures ∙ c.window.ensures ∙ ap (λ (d : Doc). d.view.window) c.self.view_is) (ap (λ (d : Doc). d.plugins) c.self.view_is)
           (ap (λ (d : Doc). d.saved) c.self.view_is) (ap (λ (v : View). v.valid) c.in_ok-view.ensures);
       effects = record {
         body = refl;

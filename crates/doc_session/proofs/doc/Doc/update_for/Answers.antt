@@ -18,5 +18,7 @@ returns c =
     same-inside _ c.args.self.now c.args.engine.now c.head_rope.result.now c.head_rope-2.result.now c.args.caret c.in_ok-same.same c.self.view_is
     c.head_rope.ensures.shown c.head_rope-2.ensures.shown c.in_ok-same.ensures in
     c.in_ok-update.ensures ∙
-    ap (λ b. if b then Some (planned c.args.lines.now false) else None)
+    ap (λ w. if c.lacks-wanted.result then Some (planned w c.args.lines.now false) else None)
+    (c.window.ensures ∙ ap (λ (d : Doc). d.view.window) c.self.view_is) ∙
+    ap (λ b. if b then Some (planned c.args.self.now.view.window c.args.lines.now false) else None)
     (c.lacks-wanted.ensures ∙ ap (λ b. is_lacking c.args.self.now b c.args.caret) same)
