@@ -4,16 +4,16 @@ ghost use Rattle.std.specs.Prelude.{◌≡◌, ◌-◌, ◌^◌, ◌<◌, IfOk};
 ghost use Rattle.plain_edits.specs.History.{head};
 ghost use Rattle.doc_session.specs.Step.{HasCaller};
 
+use crate::elements::replacing;
 use doc_session::{Body, Doc, DocFault, Effects, Event};
-use plain_edits::{Delta, El, Els, Misfit};
+use plain_edits::{Delta, Misfit};
 use plain_screen::{Op, Update};
 use plain_text::{NoMemory, Steps, Text};
 use rev_engine::Edit;
 use std::alloc::Global;
 use std::marker::Brand;
 use std::sync::ledger::{Blank, Ledger};
-use std::test::Fail;
-use xi_plain::{Config, EditAct};
+use xi_plain::{Config, EditAct, Notice};
 
 const CONFIG: Config = Config {
     tab: 4,
@@ -21,71 +21,52 @@ const CONFIG: Config = Config {
     spaces: false,
 };
 
-// What a row asks: the front end types, or the first plugin puts a text in at an offset of a base of so many bytes.
+// What a row asks: the first plugin puts a text in at an offset of a base of so many bytes.
 #[derive(Clone, Copy)]
-enum Row<'a> {
-    Typed(&'a str),
-    Put {
-        rev: u64,
-        len: u64,
-        at: u64,
-        added: &'a str,
-        after_cursor: bool,
-    },
+struct Insertion<'a> {
+    rev: u64,
+    len: u64,
+    at: u64,
+    added: &'a str,
+    after_cursor: bool,
+}
+
+fn front_event(chars: Text) -> Event
+    ensures { HasCaller 1 result }
+{
+    Event::Front(EditAct::Insert { chars })
 }
 
 fn typing(alloc: Global, chars: &str) -> Result<Event, NoMemory>
     ensures { IfOk result (HasCaller 1) }
 {
-    Ok(Event::Front(EditAct::Insert {
-        chars: Text::from_str(alloc, chars)?,
-    }))
+    let chars = Text::from_str(alloc, chars)?;
+    Ok(front_event(chars))
 }
 
-fn putting(
-    alloc: Global,
-    rev: u64,
-    len: u64,
-    at: u64,
-    added: &str,
-    after_cursor: bool,
-) -> Result<Event, NoMemory>
-    ensures { IfOk result (HasCaller 1) }
+fn plugin_event(delta: Delta, put: Insertion<'_>) -> Event
+    ensures { HasCaller 1 result }
 {
-    let mut els = Els::new(alloc);
-    els.push(El::Copy { a: 0, b: at })?;
-    els.push(El::Insert {
-        text: Text::from_str(alloc, added)?,
-    })?;
-    els.push(El::Copy { a: at, b: len })?;
     let edit = Edit {
-        rev,
-        delta: Delta { els, base_len: len },
+        rev: put.rev,
+        delta,
         priority: 0,
-        after_cursor,
+        after_cursor: put.after_cursor,
         author: 7,
         group: 7,
     };
-    Ok(Event::Edit {
+    Event::Edit {
         caller: 1,
         edit,
         named: None,
-    })
+    }
 }
 
-fn event_of(alloc: Global, row: Row<'_>) -> Result<Event, NoMemory>
+fn putting(alloc: Global, put: Insertion<'_>) -> Result<Event, NoMemory>
     ensures { IfOk result (HasCaller 1) }
 {
-    match row {
-        Row::Typed(chars) => typing(alloc, chars),
-        Row::Put {
-            rev,
-            len,
-            at,
-            added,
-            after_cursor,
-        } => putting(alloc, rev, len, at, added, after_cursor),
-    }
+    let delta = replacing(alloc, put.at, put.at, put.len, put.added)?;
+    Ok(plugin_event(delta, put))
 }
 
 // The document of a text, with one plugin and a limit of four characters.
@@ -122,17 +103,48 @@ fn take(alloc: Global, doc: &mut Doc, event: Event) -> Result<Effects, DocFault>
     counted::<Brand>(alloc, doc, event, Blank::new(1))
 }
 
-// A document of a text after it was opened and the rows were taken, and what the last of them came to.
-fn after_all(alloc: Global, text: &str, rows: &[Row<'_>]) -> Result<(Doc, Effects), DocFault>
-    ensures { IfOk result (λ made. made.0.plugins ≡ 1) }
+// The document of a text after it was opened.
+fn opened(alloc: Global, text: &str) -> Result<Doc, DocFault>
+    ensures { IfOk result (λ doc. doc.plugins ≡ 1) }
 {
     let mut doc = loaded(alloc, text)?;
-    let mut last = take(alloc, &mut doc, Event::Other)?;
-    for row in rows {
-        let event = event_of(alloc, *row)?;
-        last = take(alloc, &mut doc, event)?;
-    }
-    Ok((doc, last))
+    let _opened = take(alloc, &mut doc, Event::Other)?;
+    Ok(doc)
+}
+
+// The same after the front end typed.
+fn typed(alloc: Global, text: &str, chars: &str) -> Result<Doc, DocFault>
+    ensures { IfOk result (λ doc. doc.plugins ≡ 1) }
+{
+    let mut doc = opened(alloc, text)?;
+    let event = typing(alloc, chars)?;
+    let _shown = take(alloc, &mut doc, event)?;
+    Ok(doc)
+}
+
+// The same after it typed once more.
+fn typed_twice(alloc: Global, text: &str, chars: &str, more: &str) -> Result<Doc, DocFault>
+    ensures { IfOk result (λ doc. doc.plugins ≡ 1) }
+{
+    let mut doc = typed(alloc, text, chars)?;
+    let event = typing(alloc, more)?;
+    let _shown = take(alloc, &mut doc, event)?;
+    Ok(doc)
+}
+
+// The head text when the plugin's text is put in, and where the caret stands then in the first line that is sent.
+fn after_put(
+    alloc: Global,
+    doc: Result<Doc, DocFault>,
+    put: Insertion<'_>,
+) -> Result<(Text, Option<u64>), DocFault>
+    requires { IfOk doc (λ doc. doc.plugins ≡ 1) }
+{
+    let mut doc = doc?;
+    let event = putting(alloc, put)?;
+    let last = take(alloc, &mut doc, event)?;
+    let shown = doc.head_text(alloc)?;
+    Ok((shown, caret_in(&last.update)))
 }
 
 // Where the caret stands in the first line that an update sends.
@@ -144,8 +156,8 @@ fn caret_in(update: &Option<Update>) -> Option<u64> {
     }
 }
 
-fn put(rev: u64, len: u64, at: u64, added: &str, after_cursor: bool) -> Row<'_> {
-    Row::Put {
+fn put(rev: u64, len: u64, at: u64, added: &str, after_cursor: bool) -> Insertion<'_> {
+    Insertion {
         rev,
         len,
         at,
@@ -154,74 +166,113 @@ fn put(rev: u64, len: u64, at: u64, added: &str, after_cursor: bool) -> Row<'_> 
     }
 }
 
-// Whether a document shows this text after the rows, and its caret stands there in the first line that the last update sends.
-fn shows(alloc: Global, text: &str, rows: &[Row<'_>], want: (&str, u64)) -> Result<bool, DocFault> {
-    let (doc, last) = after_all(alloc, text, rows)?;
-    let shown = doc.head_text(alloc)?;
-    Ok(shown.as_str() == want.0 && caret_in(&last.update) == Some(want.1))
-}
-
-#[test]
-fn a_caret_beside_a_plugins_insertion(rt: HostRuntime) -> Result<(), Fail> {
-    let alloc = rt.alloc();
-    let typed = Row::Typed("a");
-    for (text, rows, want) in [
-        (
-            "ac",
-            [Row::Typed("X"), put(0, 2, 2, "Y", false)].as_slice(),
-            ("XacY", 1),
-        ),
-        ("b", [put(0, 1, 0, "Z", false)].as_slice(), ("Zb", 1)),
-        ("b", [put(0, 1, 0, "Z", true)].as_slice(), ("Zb", 0)),
-        (
-            "c",
-            [typed, Row::Typed("X"), put(1, 2, 2, "Y", false)].as_slice(),
-            ("aXcY", 2),
-        ),
-        (
-            "b",
-            [typed, put(1, 2, 1, "Z", false)].as_slice(),
-            ("aZb", 2),
-        ),
-        ("b", [typed, put(1, 2, 1, "Z", true)].as_slice(), ("aZb", 1)),
-    ] {
-        let shown = shows(alloc, text, rows, want);
-        assert!(rt; shown == Ok(true), "{want:?}");
+// Whether the document then shows this, and its caret stands there.
+fn shows(alloc: Global, doc: Result<Doc, DocFault>, put: Insertion<'_>, want: (&str, u64)) -> bool
+    requires { IfOk doc (λ doc. doc.plugins ≡ 1) }
+{
+    match after_put(alloc, doc, put) {
+        Ok((shown, caret)) => shown.as_str() == want.0 && caret == Some(want.1),
+        Err(_) => false,
     }
-    Ok(())
 }
 
 #[test]
-fn plugins_are_told_of_an_edit(rt: HostRuntime) -> Result<(), Fail> {
-    let rows = [Row::Typed("é"), put(0, 1, 0, "Z", false)];
-    let (doc, last) = after_all(rt.alloc(), "b", &rows)
-        .ok()
-        .expect(&rt, "refused");
-    assert_eq!(rt; last.body, Body::Edited { rev: 2, group: 2 });
-    assert_eq!(rt; last.scroll, None);
-    let notice = last.notice.expect(&rt, "no notice");
-    assert_eq!(rt; (notice.author, notice.rev, notice.new_len), (1, 2, 4));
-    assert_eq!(rt; (notice.delta.base_len, notice.delta.els.len()), (3, 2));
-    assert_eq!(rt; doc.copy(rt.alloc())?.kept(), 3);
-    Ok(())
-}
-
-#[test]
-fn an_event_is_refused(rt: HostRuntime) -> Result<(), Fail> {
+fn a_caret_beside_a_plugins_insertion(rt: HostRuntime) {
     let alloc = rt.alloc();
-    let (mut doc, _opened) = after_all(alloc, "b", &[]).ok().expect(&rt, "refused");
-    for (row, fault) in [
-        (put(1, 1, 0, "Z", false), DocFault::Unknown(0)),
-        (
-            put(0, 2, 0, "Z", false),
-            DocFault::Misfit(Misfit { kind: 1, at: 2 }),
-        ),
-        (put(0, 1, 0, "added", false), DocFault::Spent(5)),
-        (Row::Typed("added"), DocFault::Spent(5)),
-    ] {
-        let event = event_of(alloc, row)?;
-        assert_eq!(rt; take(alloc, &mut doc, event).err(), Some(fault));
+    let (z, after_z) = (put(0, 1, 0, "Z", false), put(0, 1, 0, "Z", true));
+    assert!(rt; shows(alloc, opened(alloc, "b"), z, ("Zb", 1)));
+    assert!(rt; shows(alloc, opened(alloc, "b"), after_z, ("Zb", 0)));
+}
+
+#[test]
+fn a_caret_beside_an_insertion_where_the_front_end_typed(rt: HostRuntime) {
+    let alloc = rt.alloc();
+    let (z, after_z) = (put(1, 2, 1, "Z", false), put(1, 2, 1, "Z", true));
+    assert!(rt; shows(alloc, typed(alloc, "b", "a"), z, ("aZb", 2)));
+    assert!(rt; shows(alloc, typed(alloc, "b", "a"), after_z, ("aZb", 1)));
+    let doc = typed_twice(alloc, "c", "a", "X");
+    assert!(rt; shows(alloc, doc, put(1, 2, 2, "Y", false), ("aXcY", 2)));
+    let doc = typed(alloc, "ac", "X");
+    assert!(rt; shows(alloc, doc, put(0, 2, 2, "Y", false), ("XacY", 1)));
+}
+
+// Whether a notice says this revision and author, this length after, and so many elements over a base of so many bytes.
+fn says(notice: &Option<Notice>, rev: u64, new_len: u64, base_len: u64, els: usize) -> bool {
+    match notice {
+        Some(notice) => {
+            (notice.author, notice.rev, notice.new_len) == (1, rev, new_len)
+                && (notice.delta.base_len, notice.delta.els.len()) == (base_len, els)
+        }
+        None => false,
     }
-    assert_eq!(rt; (doc.head(), doc.kept()), (0, 1));
-    Ok(())
+}
+
+// What a plugin's insertion into a document comes to, in which the front end typed.
+fn told(alloc: Global) -> Result<Effects, DocFault> {
+    let mut doc = typed(alloc, "b", "é")?;
+    let event = putting(alloc, put(0, 1, 0, "Z", false))?;
+    take(alloc, &mut doc, event)
+}
+
+fn tells(effects: &Effects) -> bool {
+    match effects.body {
+        Body::Edited { rev: 2, group: 2 } => {
+            effects.scroll == None && says(&effects.notice, 2, 4, 3, 2)
+        }
+        _ => false,
+    }
+}
+
+#[test]
+fn plugins_are_told_of_an_edit(rt: HostRuntime) {
+    match told(rt.alloc()) {
+        Ok(effects) => assert!(rt; tells(&effects)),
+        Err(_) => panic!(rt; "refused"),
+    }
+}
+
+// How many characters a copy keeps of a document in which the front end typed.
+fn kept_in_a_copy(alloc: Global) -> Result<u64, DocFault> {
+    let doc = typed(alloc, "b", "é")?;
+    let copy = doc.copy(alloc)?;
+    Ok(copy.kept())
+}
+
+#[test]
+fn a_copy_keeps_what_was_typed(rt: HostRuntime) {
+    assert!(rt; kept_in_a_copy(rt.alloc()).is_ok_and(|kept| kept == 2));
+}
+
+// Whether the document refuses the plugin's text for this.
+fn refuses(
+    alloc: Global,
+    doc: &mut Doc,
+    put: Insertion<'_>,
+    fault: DocFault,
+) -> Result<bool, NoMemory>
+    requires { doc.old.plugins ≡ 1 }
+    ensures { doc.new.plugins ≡ 1 }
+{
+    let event = putting(alloc, put)?;
+    match take(alloc, doc, event) {
+        Ok(_) => Ok(false),
+        Err(found) => Ok(found == fault),
+    }
+}
+
+// Whether a document of one character refuses the plugin's text for this, and is as it was.
+fn stays(alloc: Global, put: Insertion<'_>, fault: DocFault) -> Result<bool, NoMemory> {
+    let mut doc = loaded(alloc, "b")?;
+    let refused = refuses(alloc, &mut doc, put, fault)?;
+    Ok(refused && doc.head() == 0 && doc.kept() == 1)
+}
+
+#[test]
+fn an_event_is_refused(rt: HostRuntime) {
+    let alloc = rt.alloc();
+    let misfit = DocFault::Misfit(Misfit { kind: 1, at: 2 });
+    let (unknown, spent) = (DocFault::Unknown(0), DocFault::Spent(5));
+    assert!(rt; stays(alloc, put(1, 1, 0, "Z", false), unknown).unwrap_or(false));
+    assert!(rt; stays(alloc, put(0, 2, 0, "Z", false), misfit).unwrap_or(false));
+    assert!(rt; stays(alloc, put(0, 1, 0, "added", false), spent).unwrap_or(false));
 }

@@ -1,6 +1,7 @@
 //! The revision engine, and through it the places of stale edits.
 
-use plain_edits::{Delta, El, Els, Misfit};
+use crate::elements::replacing;
+use plain_edits::Misfit;
 use plain_text::{NoMemory, Run, Text};
 use rev_engine::{Change, Edit, EditFault, Engine};
 use rev_list::RevFault;
@@ -41,21 +42,10 @@ fn deletion(rev: u64, len: u64, from: u64, to: u64) -> Row<'static> {
 }
 
 fn edit_of(alloc: Global, row: Row<'_>) -> Result<Edit, NoMemory> {
-    let mut els = Els::new(alloc);
-    els.push(El::Copy { a: 0, b: row.from })?;
-    els.push(El::Insert {
-        text: Text::from_str(alloc, row.added)?,
-    })?;
-    els.push(El::Copy {
-        a: row.to,
-        b: row.len,
-    })?;
+    let delta = replacing(alloc, row.from, row.to, row.len, row.added)?;
     Ok(Edit {
         rev: row.rev,
-        delta: Delta {
-            els,
-            base_len: row.len,
-        },
+        delta,
         priority: row.priority,
         after_cursor: false,
         author: 0,
@@ -72,127 +62,150 @@ fn take(alloc: Global, engine: &mut Engine, row: Row<'_>) -> Result<Change, Edit
     engine.edit(alloc, &edit)
 }
 
-// Each edit of a list, and what its revision shows.
-type Steps<'a> = &'a [(Row<'a>, &'a str)];
-
-// The engine after the steps over a loaded text.
-fn engine_after(alloc: Global, loaded: &str, steps: Steps<'_>) -> Result<Engine, EditFault> {
-    let mut engine = Engine::of_text(alloc, Text::from_str(alloc, loaded)?, 1000)?;
-    for step in steps {
-        take(alloc, &mut engine, step.0)?;
-    }
-    Ok(engine)
+// The engine of a text, with room for 1,000 characters more.
+fn loaded(alloc: Global, text: &str) -> Result<Engine, NoMemory> {
+    Engine::of_text(alloc, Text::from_str(alloc, text)?, 1000)
 }
 
-// Whether each revision shows what its step says, when all of them are taken.
-fn show(alloc: Global, loaded: &str, steps: Steps<'_>) -> Result<bool, EditFault> {
-    let engine = engine_after(alloc, loaded, steps)?;
-    for (rev, step) in (1u64..100).zip(steps) {
-        if engine.text_at(alloc, rev)?.as_str() != step.1 {
-            return Ok(false);
-        }
+// Whether the engine takes the row's edit, shows this after it, and shows it as that revision.
+fn then_shows(
+    alloc: Global,
+    engine: &mut Engine,
+    row: Row<'_>,
+    shown: &str,
+) -> Result<bool, EditFault> {
+    let change = take(alloc, engine, row)?;
+    match engine.text_at(alloc, change.rev) {
+        Ok(text) => Ok(text.as_str() == shown),
+        Err(_) => Ok(false),
     }
-    Ok(engine.text_at(alloc, 0)?.as_str() == loaded)
+}
+
+fn shows(alloc: Global, engine: &mut Engine, row: Row<'_>, shown: &str) -> bool {
+    match then_shows(alloc, engine, row, shown) {
+        Ok(is) => is,
+        Err(_) => false,
+    }
 }
 
 #[test]
-fn stale_edits_go_to_their_places(rt: HostRuntime) -> Result<(), Fail> {
+fn stale_edits_go_beside_each_other_by_priority(rt: HostRuntime) -> Result<(), Fail> {
     let alloc = rt.alloc();
-    let x = insertion(0, 2, 1, "X", 7);
-    let y = insertion(0, 2, 1, "Y", 3);
-    let z = insertion(0, 2, 1, "Z", 7);
-    for (loaded, steps) in [
-        // Priorities at one gap.
-        ("ab", [(x, "aXb"), (y, "aYXb")].as_slice()),
-        ("ab", [(y, "aYb"), (x, "aYXb")].as_slice()),
-        ("ab", [(x, "aXb"), (z, "aXZb")].as_slice()),
-        // The eldest edit decides.
-        (
-            "ptq",
-            [
-                (deletion(0, 3, 1, 2), "pq"),
-                (insertion(0, 3, 1, "E", 1), "pEq"),
-                (insertion(1, 2, 1, "F", 0), "pEFq"),
-                (deletion(0, 3, 0, 3), "EF"),
-            ]
-            .as_slice(),
-        ),
-        // A block is not entered, but by an edit that knows it.
-        (
-            "ab",
-            [
-                (insertion(0, 2, 1, "XY", 5), "aXYb"),
-                (insertion(1, 4, 2, "M", 0), "aXMYb"),
-                (insertion(0, 2, 1, "N", 3), "aNXMYb"),
-                (deletion(0, 2, 0, 2), "NXMY"),
-            ]
-            .as_slice(),
-        ),
-    ] {
-        let shown = show(alloc, loaded, steps);
-        assert!(rt; shown == Ok(true), "{loaded}");
-    }
+    let mut engine = loaded(alloc, "ab")?;
+    assert!(rt; shows(alloc, &mut engine, insertion(0, 2, 1, "X", 7), "aXb"));
+    assert!(rt; shows(alloc, &mut engine, insertion(0, 2, 1, "Y", 3), "aYXb"));
+    assert!(rt; shows(alloc, &mut engine, insertion(0, 2, 1, "Z", 7), "aYXZb"));
+    let mut other = loaded(alloc, "ab")?;
+    assert!(rt; shows(alloc, &mut other, insertion(0, 2, 1, "Y", 3), "aYb"));
+    assert!(rt; shows(alloc, &mut other, insertion(0, 2, 1, "X", 7), "aYXb"));
     Ok(())
+}
+
+#[test]
+fn the_eldest_edit_decides(rt: HostRuntime) -> Result<(), Fail> {
+    let alloc = rt.alloc();
+    let mut engine = loaded(alloc, "ptq")?;
+    assert!(rt; shows(alloc, &mut engine, deletion(0, 3, 1, 2), "pq"));
+    assert!(rt; shows(alloc, &mut engine, insertion(0, 3, 1, "E", 1), "pEq"));
+    assert!(rt; shows(alloc, &mut engine, insertion(1, 2, 1, "F", 0), "pEFq"));
+    assert!(rt; shows(alloc, &mut engine, deletion(0, 3, 0, 3), "EF"));
+    Ok(())
+}
+
+// A block is not entered, but by an edit that knows it.
+#[test]
+fn a_block_is_entered_by_an_edit_that_knows_it(rt: HostRuntime) -> Result<(), Fail> {
+    let alloc = rt.alloc();
+    let mut engine = loaded(alloc, "ab")?;
+    assert!(rt; shows(alloc, &mut engine, insertion(0, 2, 1, "XY", 5), "aXYb"));
+    assert!(rt; shows(alloc, &mut engine, insertion(1, 4, 2, "M", 0), "aXMYb"));
+    assert!(rt; shows(alloc, &mut engine, insertion(0, 2, 1, "N", 3), "aNXMYb"));
+    assert!(rt; shows(alloc, &mut engine, deletion(0, 2, 0, 2), "NXMY"));
+    assert!(rt;
+        engine
+            .text_at(alloc, 1)
+            .is_ok_and(|text| text.as_str() == "aXYb")
+    );
+    Ok(())
+}
+
+// Whether the engine refuses the row's edit for this.
+fn refuses(alloc: Global, engine: &mut Engine, row: Row<'_>, fault: EditFault) -> bool {
+    match take(alloc, engine, row) {
+        Ok(_) => false,
+        Err(found) => found == fault,
+    }
+}
+
+// A row that puts five characters in the place of a range of revision 0.
+fn adding(len: u64, from: u64, to: u64) -> Row<'static> {
+    Row {
+        rev: 0,
+        len,
+        from,
+        to,
+        added: "added",
+        priority: 0,
+    }
+}
+
+fn misfit(kind: u8, at: u64) -> EditFault {
+    EditFault::Misfit(Misfit { kind, at })
 }
 
 #[test]
 fn faults_come_in_their_order(rt: HostRuntime) -> Result<(), Fail> {
     let alloc = rt.alloc();
     let mut engine = Engine::of_text(alloc, Text::from_str(alloc, "aé")?, 4)?;
-    for (rev, len, from, to, fault) in [
-        (1, 4, 0, 0, EditFault::Unknown(0)),
-        (0, 4, 0, 0, EditFault::Misfit(Misfit { kind: 1, at: 4 })),
-        (0, 3, 3, 1, EditFault::Misfit(Misfit { kind: 2, at: 1 })),
-        (0, 3, 4, 3, EditFault::Misfit(Misfit { kind: 3, at: 4 })),
-        (0, 3, 2, 3, EditFault::Misfit(Misfit { kind: 4, at: 2 })),
-        (0, 3, 1, 1, EditFault::Spent(5)),
-    ] {
-        let row = Row {
-            rev,
-            len,
-            from,
-            to,
-            added: "added",
-            priority: 0,
-        };
-        assert_eq!(rt; take(alloc, &mut engine, row).err(), Some(fault));
-    }
+    assert!(rt;
+        refuses(
+            alloc,
+            &mut engine,
+            deletion(1, 4, 0, 0),
+            EditFault::Unknown(0)
+        )
+    );
+    assert!(rt; refuses(alloc, &mut engine, adding(4, 0, 0), misfit(1, 4)));
+    assert!(rt; refuses(alloc, &mut engine, adding(3, 3, 1), misfit(2, 1)));
+    assert!(rt; refuses(alloc, &mut engine, adding(3, 4, 3), misfit(3, 4)));
+    assert!(rt; refuses(alloc, &mut engine, adding(3, 2, 3), misfit(4, 2)));
+    assert!(rt; refuses(alloc, &mut engine, adding(3, 1, 1), EditFault::Spent(5)));
     assert_eq!(rt; (engine.head(), engine.kept()), (0, 2));
     Ok(())
 }
 
+// The change of an edit that deletes what another was inserted beside.
+fn changed(alloc: Global) -> Result<Change, EditFault> {
+    let mut engine = loaded(alloc, "ab")?;
+    take(alloc, &mut engine, insertion(0, 2, 1, "X", 7))?;
+    take(alloc, &mut engine, deletion(0, 2, 1, 2))
+}
+
+fn leads(change: &Change) -> bool {
+    let kept = change.units.kept.as_slice();
+    change.rev == 2
+        && change.units.base == 3
+        && kept == [Run { start: 0, end: 2 }].as_slice()
+        && change.units.added.is_empty()
+}
+
 #[test]
-fn five_characters_under_a_limit_of_four(rt: HostRuntime) -> Result<(), Fail> {
-    let alloc = rt.alloc();
-    let mut engine = Engine::of_text(alloc, Text::new(alloc), 4)?;
-    for (len, added, fault, kept) in [
-        (0, "added", Some(EditFault::Spent(5)), 0),
-        (0, "four", None, 4),
-        (4, "!", Some(EditFault::Spent(5)), 4),
-    ] {
-        let row = insertion(engine.head(), len, 0, added, 0);
-        assert_eq!(rt; take(alloc, &mut engine, row).err(), fault);
-        assert_eq!(rt; engine.kept(), kept);
+fn a_change_leads_from_the_head_text(rt: HostRuntime) {
+    match changed(rt.alloc()) {
+        Ok(change) => assert!(rt; leads(&change)),
+        Err(_) => panic!(rt; "refused"),
     }
-    Ok(())
 }
 
-// The change of an edit, and a copy of the engine from before it.
-fn change_of(alloc: Global, row: Row<'_>) -> Result<(Change, Engine), EditFault> {
-    let mut engine = engine_after(alloc, "ab", &[(insertion(0, 2, 1, "X", 7), "aXb")])?;
+// Whether a copy does not know of an edit that came later.
+fn copy_stays(alloc: Global) -> Result<bool, EditFault> {
+    let mut engine = loaded(alloc, "ab")?;
     let copy = engine.copy(alloc)?;
-    Ok((take(alloc, &mut engine, row)?, copy))
+    take(alloc, &mut engine, insertion(0, 2, 1, "X", 7))?;
+    Ok(copy.text_at(alloc, 1).err() == Some(RevFault::Unknown(0)))
 }
 
 #[test]
-fn a_change_leads_from_the_head_text_and_a_copy_stays(rt: HostRuntime) -> Result<(), Fail> {
-    let alloc = rt.alloc();
-    let (change, copy) = change_of(alloc, deletion(0, 2, 1, 2))
-        .ok()
-        .expect(&rt, "refused");
-    assert_eq!(rt; (change.rev, change.units.base), (2, 3));
-    assert!(rt; change.units.kept.as_slice() == [Run { start: 0, end: 2 }].as_slice());
-    assert!(rt; change.units.added.is_empty());
-    assert_eq!(rt; copy.text_at(alloc, 2).err(), Some(RevFault::Unknown(1)));
-    Ok(())
+fn a_copy_stays_as_it_is(rt: HostRuntime) {
+    assert!(rt; copy_stays(rt.alloc()).is_ok_and(|stays| stays));
 }

@@ -1,83 +1,109 @@
 //! Undo groups.
 
-use plain_text::NoMemory;
 use std::alloc::Global;
 use std::collections::BTreeSet;
-use std::test::Fail;
 use undo_groups::Stack;
 
-// What is asked of a stack.
-#[derive(Clone, Copy)]
-enum Call {
-    Open,
-    Undo,
-    Redo,
-}
-
-use Call::{Open, Redo, Undo};
-
-// The groups in order, and none where there is no answer.
-fn listed(alloc: Global, found: Option<BTreeSet<u64>>) -> Result<Option<Vec<u64>>, NoMemory> {
-    let Some(found) = found else {
-        return Ok(None);
-    };
-    let mut groups = Vec::new(alloc);
-    for group in &found {
-        groups.push(*group)?;
+// Whether the stack is a copy of what it was.
+fn copies(alloc: Global, stack: &mut Stack) -> bool {
+    match stack.copy(alloc) {
+        Ok(copy) => {
+            *stack = copy;
+            true
+        }
+        Err(_) => false,
     }
-    Ok(Some(groups))
 }
 
-// The groups that are then undone, where there was one to open, to undo or to redo.
-fn ask(alloc: Global, stack: &mut Stack, call: Call) -> Result<Option<Vec<u64>>, NoMemory> {
-    match call {
-        Open => {
-            if stack.given() < 1000 {
-                stack.open_group()?;
+// Whether so many groups are opened, one after the other.
+fn opens(stack: &mut Stack, count: u64) -> bool {
+    for _ in 0..count {
+        if stack.given() >= 1000 || stack.open_group().is_err() {
+            return false;
+        }
+    }
+    true
+}
+
+// Whether these are the groups in order, and there is none where there is no answer.
+fn are(found: &Option<BTreeSet<u64>>, groups: Option<&[u64]>) -> bool {
+    match (found, groups) {
+        (Some(found), Some(groups)) => {
+            let mut rest = groups;
+            for group in found {
+                let Some((first, others)) = rest.split_first() else {
+                    return false;
+                };
+                if first != group {
+                    return false;
+                }
+                rest = others;
             }
-            Ok(None)
+            rest.is_empty()
         }
-        Undo => listed(alloc, stack.undo()?),
-        Redo => listed(alloc, stack.redo()?),
+        (None, None) => true,
+        _ => false,
     }
 }
 
-#[test]
-fn undo_and_redo_give_the_whole_set(rt: HostRuntime) -> Result<(), Fail> {
-    let alloc = rt.alloc();
-    let mut stack = Stack::new(alloc);
-    for (call, undone, retired) in [
-        (Open, None, None),
-        (Open, None, None),
-        (Undo, Some([2].as_slice()), None),
-        (Undo, Some([1, 2].as_slice()), None),
-        (Undo, None, None),
-        (Redo, Some([2].as_slice()), None),
-        (Open, None, Some(2)),
-        (Redo, None, Some(2)),
-        (Undo, Some([2, 3].as_slice()), Some(2)),
-    ] {
-        stack = stack.copy(alloc)?;
-        assert_eq!(rt; ask(alloc, &mut stack, call)?.as_deref(), undone);
-        assert_eq!(rt; (stack.retired(0), stack.retired(1)), (retired, None));
+// Whether an undo gives these groups.
+fn undoes(alloc: Global, stack: &mut Stack, groups: Option<&[u64]>) -> bool {
+    match stack.undo() {
+        Ok(found) => are(&found, groups) && copies(alloc, stack),
+        Err(_) => false,
     }
-    Ok(())
+}
+
+// Whether a redo gives these groups.
+fn redoes(alloc: Global, stack: &mut Stack, groups: Option<&[u64]>) -> bool {
+    match stack.redo() {
+        Ok(found) => are(&found, groups) && copies(alloc, stack),
+        Err(_) => false,
+    }
+}
+
+// Whether this group alone is retired, or none.
+fn retires(stack: &Stack, group: Option<u64>) -> bool {
+    stack.retired(0) == group && stack.retired(1) == None
 }
 
 #[test]
-fn the_twenty_first_group_retires_the_oldest(rt: HostRuntime) -> Result<(), Fail> {
+fn undo_and_redo_give_the_whole_set(rt: HostRuntime) {
     let alloc = rt.alloc();
     let mut stack = Stack::new(alloc);
-    for (calls, call, given, retired) in [
-        (20, Open, 20, None),
-        (1, Open, 21, Some(1)),
-        (20, Undo, 21, Some(1)),
-    ] {
-        for _ in 0..calls {
-            ask(alloc, &mut stack, call)?;
+    assert!(rt; opens(&mut stack, 2) && copies(alloc, &mut stack));
+    assert!(rt; undoes(alloc, &mut stack, Some(&[2])));
+    assert!(rt; undoes(alloc, &mut stack, Some(&[1, 2])));
+    assert!(rt; undoes(alloc, &mut stack, None));
+    assert!(rt; redoes(alloc, &mut stack, Some(&[2])));
+    assert!(rt; retires(&stack, None));
+    assert!(rt; opens(&mut stack, 1));
+    assert!(rt; retires(&stack, Some(2)));
+    assert!(rt; redoes(alloc, &mut stack, None));
+    assert!(rt; undoes(alloc, &mut stack, Some(&[2, 3])));
+    assert!(rt; retires(&stack, Some(2)));
+}
+
+// Whether so many undos each give a set.
+fn undoes_all(stack: &mut Stack, count: u64) -> bool {
+    for _ in 0..count {
+        match stack.undo() {
+            Ok(Some(_)) => {}
+            _ => return false,
         }
-        assert_eq!(rt; (stack.given(), stack.retired(0)), (given, retired));
     }
-    assert!(rt; stack.undo()?.is_none());
-    Ok(())
+    true
+}
+
+#[test]
+fn the_twenty_first_group_retires_the_oldest(rt: HostRuntime) {
+    let alloc = rt.alloc();
+    let mut stack = Stack::new(alloc);
+    assert!(rt; opens(&mut stack, 20) && stack.given() == 20);
+    assert!(rt; retires(&stack, None));
+    assert!(rt; opens(&mut stack, 1) && stack.given() == 21);
+    assert!(rt; retires(&stack, Some(1)));
+    assert!(rt; undoes_all(&mut stack, 20) && stack.given() == 21);
+    assert!(rt; retires(&stack, Some(1)));
+    assert!(rt; undoes(alloc, &mut stack, None));
 }

@@ -7,6 +7,8 @@ mod commands;
 #[cfg(test)]
 mod documents;
 #[cfg(test)]
+mod elements;
+#[cfg(test)]
 mod engines;
 #[cfg(test)]
 mod groups;

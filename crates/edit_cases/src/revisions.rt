@@ -40,39 +40,53 @@ fn push(
     }
 }
 
+// Whether these are the runs of what is dead at the revision.
+fn are_dead(alloc: Global, revs: &RevList, rev: u64, runs: Ranges<'_>) -> bool {
+    match revs.dead_at(alloc, rev) {
+        Ok(dead) => dead.runs() == runs,
+        Err(_) => false,
+    }
+}
+
+// Whether these are the runs of what was dead then in the union of that time.
+fn were_dead(alloc: Global, revs: &RevList, rev: u64, runs: Ranges<'_>) -> bool {
+    match revs.dead_then(alloc, rev) {
+        Ok(dead) => dead.runs() == runs,
+        Err(_) => false,
+    }
+}
+
 #[test]
 fn row_of_rev_list(rt: HostRuntime) -> Result<(), Fail> {
     let alloc = rt.alloc();
     let mut revs = RevList::start(alloc, 2)?;
     let rev = push(alloc, &mut revs, 0, 3, &[(1, 2)], &[(2, 3)])?;
     assert_eq!(rt; rev, Some(1));
-    for (rev, dead) in [(0, [(1, 2)].as_slice()), (1, [(2, 3)].as_slice())] {
-        assert_eq!(rt; revs.dead_at(alloc, rev)?.runs(), dead, "at {rev}");
-    }
+    assert!(rt; are_dead(alloc, &revs, 0, &[(1, 2)]));
+    assert!(rt; are_dead(alloc, &revs, 1, &[(2, 3)]));
     Ok(())
+}
+
+// Three edits of a text of three characters, of which the last only deletes.
+fn edited(alloc: Global) -> Result<RevList, Fail> {
+    let mut revs = RevList::start(alloc, 3)?;
+    push(alloc, &mut revs, 0, 4, &[(1, 2)], &[(3, 4)])?;
+    push(alloc, &mut revs, 1, 6, &[(0, 1), (5, 6)], &[(1, 2)])?;
+    push(alloc, &mut revs, 0, 6, &[], &[(1, 3)])?;
+    Ok(revs)
 }
 
 #[test]
 fn each_revision_has_its_dead(rt: HostRuntime) -> Result<(), Fail> {
     let alloc = rt.alloc();
-    let mut revs = RevList::start(alloc, 3)?;
-    for (base, len, inserted, deleted) in [
-        (0, 4, [(1, 2)].as_slice(), [(3, 4)].as_slice()),
-        (1, 6, [(0, 1), (5, 6)].as_slice(), [(1, 2)].as_slice()),
-        (0, 6, [].as_slice(), [(1, 3)].as_slice()),
-    ] {
-        assert!(rt; push(alloc, &mut revs, base, len, inserted, deleted)?.is_some());
-    }
+    let revs = edited(alloc)?;
     let copy = revs.copy(alloc)?;
-    for (rev, dead, then) in [
-        (0, [(0, 1), (2, 3), (5, 6)].as_slice(), [].as_slice()),
-        (1, [(0, 1), (4, 6)].as_slice(), [(3, 4)].as_slice()),
-        (2, [(1, 2), (4, 5)].as_slice(), [(1, 2), (4, 5)].as_slice()),
-        (3, [(1, 3), (4, 5)].as_slice(), [(1, 3), (4, 5)].as_slice()),
-    ] {
-        assert_eq!(rt; copy.dead_at(alloc, rev)?.runs(), dead, "at {rev}");
-        assert_eq!(rt; copy.dead_then(alloc, rev)?.runs(), then, "at {rev}");
-    }
+    assert!(rt; are_dead(alloc, &copy, 0, &[(0, 1), (2, 3), (5, 6)]));
+    assert!(rt; are_dead(alloc, &copy, 1, &[(0, 1), (4, 6)]));
+    assert!(rt; are_dead(alloc, &copy, 2, &[(1, 2), (4, 5)]));
+    assert!(rt; are_dead(alloc, &copy, 3, &[(1, 3), (4, 5)]));
+    assert!(rt; were_dead(alloc, &copy, 0, &[]));
+    assert!(rt; were_dead(alloc, &copy, 1, &[(3, 4)]));
     assert_eq!(rt; copy.dead_at(alloc, 4).err(), Some(RevFault::Unknown(3)));
     Ok(())
 }
@@ -90,36 +104,35 @@ fn bases_after(alloc: Global, revs: &RevList, rev: u64) -> Result<Vec<u64>, Allo
     Ok(bases)
 }
 
-#[test]
-fn revisions_after_a_revision_come_in_order(rt: HostRuntime) -> Result<(), Fail> {
-    let alloc = rt.alloc();
-    let mut revs = RevList::start(alloc, 0)?;
-    for (base, len) in [(0, 1), (0, 2), (2, 3)] {
-        assert!(rt; push(alloc, &mut revs, base, len, &[(0, 1)], &[])?.is_some());
-    }
-    for (rev, bases) in [
-        (0, [0, 0, 2].as_slice()),
-        (1, [0, 2].as_slice()),
-        (3, [].as_slice()),
-    ] {
-        assert_eq!(rt;
-            bases_after(alloc, &revs, rev)?.as_slice(),
-            bases,
-            "after {rev}"
-        );
-    }
-    assert_eq!(rt; revs.edit(3).map(|edit| edit.base), Some(2));
-    Ok(())
+// Whether these are the bases of the edits after the revision.
+fn are_bases(alloc: Global, revs: &RevList, rev: u64, bases: &[u64]) -> Result<bool, AllocError> {
+    let found = bases_after(alloc, revs, rev)?;
+    Ok(found.as_slice() == bases)
 }
 
 #[test]
-fn faults_are_printed(rt: HostRuntime) -> Result<(), Fail> {
-    for (fault, text) in [
-        (RevFault::Unknown(3), "the head is revision 3"),
-        (RevFault::Collected(2), "the floor is revision 2"),
-        (RevFault::NoMemory, "out of memory"),
-    ] {
-        assert_eq!(rt; format!(in rt.alloc(); "{fault}")?.as_str(), text);
-    }
+fn revisions_after_a_revision_come_in_order(rt: HostRuntime) -> Result<(), Fail> {
+    let alloc = rt.alloc();
+    let revs = edited(alloc)?;
+    assert!(rt; are_bases(alloc, &revs, 0, &[0, 1, 0]).unwrap_or(false));
+    assert!(rt; are_bases(alloc, &revs, 1, &[1, 0]).unwrap_or(false));
+    assert!(rt; are_bases(alloc, &revs, 3, &[]).unwrap_or(false));
+    assert_eq!(rt; revs.edit(2).map(|edit| edit.base), Some(1));
     Ok(())
+}
+
+// Whether the fault is printed so.
+fn prints(alloc: Global, fault: RevFault, text: &str) -> bool {
+    match format!(in alloc; "{fault}") {
+        Ok(printed) => printed.as_str() == text,
+        Err(_) => false,
+    }
+}
+
+#[test]
+fn faults_are_printed(rt: HostRuntime) {
+    let alloc = rt.alloc();
+    assert!(rt; prints(alloc, RevFault::Unknown(3), "the head is revision 3"));
+    assert!(rt; prints(alloc, RevFault::Collected(2), "the floor is revision 2"));
+    assert!(rt; prints(alloc, RevFault::NoMemory, "out of memory"));
 }

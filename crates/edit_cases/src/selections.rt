@@ -44,44 +44,65 @@ pub(crate) fn selection(alloc: Global, rows: &[(u64, u64)]) -> Result<Sel, NoMem
     Ok(sel)
 }
 
+type Rows<'a> = &'a [(u64, u64)];
+
+// Whether the regions of the rows come to these.
+fn come_to(alloc: Global, rows: Rows<'_>, after: Rows<'_>) -> Result<bool, NoMemory> {
+    let sel = selection(alloc, rows)?;
+    Ok(are_regions(sel.regions.as_slice(), after))
+}
+
 #[test]
 fn a_region_joins_those_that_it_meets(rt: HostRuntime) -> Result<(), Fail> {
     let alloc = rt.alloc();
-    for (rows, after, last) in [
-        ([(2, 4)].as_slice(), [(2, 4)].as_slice(), 4),
-        // Its place is before, between or behind the others.
-        ([(4, 6), (1, 2)].as_slice(), [(1, 2), (4, 6)].as_slice(), 6),
-        (
-            [(1, 2), (7, 7), (4, 5)].as_slice(),
-            [(1, 2), (4, 5), (7, 7)].as_slice(),
-            7,
-        ),
-        ([(1, 2), (5, 4)].as_slice(), [(1, 2), (5, 4)].as_slice(), 4),
-        // Two that touch stay apart where none is a caret.
-        ([(1, 3), (3, 5)].as_slice(), [(1, 3), (3, 5)].as_slice(), 5),
-        ([(3, 5), (3, 1)].as_slice(), [(3, 1), (3, 5)].as_slice(), 5),
-        ([(1, 3), (3, 3)].as_slice(), [(1, 3)].as_slice(), 3),
-        ([(5, 3), (3, 3)].as_slice(), [(3, 5)].as_slice(), 5),
-        ([(2, 2), (2, 2)].as_slice(), [(2, 2)].as_slice(), 2),
-        // Those that overlap are one, forward where one of them is.
-        ([(1, 4), (6, 3)].as_slice(), [(1, 6)].as_slice(), 6),
-        ([(4, 1), (6, 3)].as_slice(), [(6, 1)].as_slice(), 1),
-        (
-            [(0, 0), (1, 2), (4, 3), (8, 8), (0, 7)].as_slice(),
-            [(0, 7), (8, 8)].as_slice(),
-            8,
-        ),
-    ] {
-        let sel = selection(alloc, rows)?;
-        assert!(rt; are_regions(sel.regions.as_slice(), after), "{rows:?}");
-        // Collapsed it is its last caret.
-        if !sel.regions.as_slice().is_empty() {
-            let one = sel.collapse(alloc)?;
-            assert!(rt; are_regions(one.regions.as_slice(), &[(last, last)]));
-        }
-    }
-    assert!(rt; are_regions(Sel::caret_at(alloc, 1)?.regions.as_slice(), &[(1, 1)]));
+    // Its place is before, between or behind the others.
+    assert!(rt; come_to(alloc, &[(4, 6), (1, 2)], &[(1, 2), (4, 6)]).unwrap_or(false));
+    assert!(rt;
+        come_to(alloc, &[(1, 2), (7, 7), (4, 5)], &[(1, 2), (4, 5), (7, 7)]).unwrap_or(false)
+    );
+    assert!(rt; come_to(alloc, &[(1, 2), (5, 4)], &[(1, 2), (5, 4)]).unwrap_or(false));
+    // Two that touch stay apart where none is a caret.
+    assert!(rt; come_to(alloc, &[(3, 5), (3, 1)], &[(3, 1), (3, 5)]).unwrap_or(false));
+    assert!(rt; come_to(alloc, &[(1, 3), (3, 5)], &[(1, 3), (3, 5)]).unwrap_or(false));
+    assert!(rt; come_to(alloc, &[(1, 3), (3, 3)], &[(1, 3)]).unwrap_or(false));
+    assert!(rt; come_to(alloc, &[(5, 3), (3, 3)], &[(3, 5)]).unwrap_or(false));
+    assert!(rt; come_to(alloc, &[(2, 2), (2, 2)], &[(2, 2)]).unwrap_or(false));
+    // Those that overlap are one, forward where one of them is.
+    assert!(rt; come_to(alloc, &[(1, 4), (6, 3)], &[(1, 6)]).unwrap_or(false));
+    assert!(rt; come_to(alloc, &[(4, 1), (6, 3)], &[(6, 1)]).unwrap_or(false));
+    assert!(rt;
+        come_to(
+            alloc,
+            &[(0, 0), (1, 2), (4, 3), (8, 8), (0, 7)],
+            &[(0, 7), (8, 8)]
+        )
+        .unwrap_or(false)
+    );
     Ok(())
+}
+
+// Whether the regions collapse to a caret there.
+fn collapse(alloc: Global, rows: Rows<'_>, caret: u64) -> Result<bool, NoMemory> {
+    let sel = selection(alloc, rows)?;
+    if sel.regions.as_slice().is_empty() {
+        return Ok(false);
+    }
+    let one = sel.collapse(alloc)?;
+    Ok(are_regions(one.regions.as_slice(), &[(caret, caret)]))
+}
+
+fn is_caret(alloc: Global, gap: u64) -> Result<bool, NoMemory> {
+    let sel = Sel::caret_at(alloc, gap)?;
+    Ok(are_regions(sel.regions.as_slice(), &[(gap, gap)]))
+}
+
+#[test]
+fn a_selection_collapses_to_its_last_caret(rt: HostRuntime) {
+    let alloc = rt.alloc();
+    assert!(rt; collapse(alloc, &[(1, 2), (5, 4)], 4).unwrap_or(false));
+    assert!(rt; collapse(alloc, &[(1, 2), (7, 7), (4, 5)], 7).unwrap_or(false));
+    assert!(rt; collapse(alloc, &[(1, 3), (3, 3)], 3).unwrap_or(false));
+    assert!(rt; is_caret(alloc, 1).unwrap_or(false));
 }
 
 // Whether no region goes past the end of a text of this length.
@@ -138,42 +159,59 @@ fn replacing(alloc: Global) -> Result<UnitDelta, NoMemory>
     })
 }
 
-// The regions of a selection before an edit and after it, by `after`.
-type Move<'a> = (bool, &'a [(u64, u64)], &'a [(u64, u64)]);
-
-// Whether the edit makes the move.
-fn moves(alloc: Global, edit: &UnitDelta, row: Move<'_>) -> Result<bool, NoMemory>
+// Whether the edit moves the regions there, by `after`.
+fn moves(
+    alloc: Global,
+    edit: &UnitDelta,
+    after: bool,
+    from: Rows<'_>,
+    to: Rows<'_>,
+) -> Result<bool, NoMemory>
     requires well_formed { IsUnitDelta edit.now }
     requires bound { length_after edit.now < 2 ^ 64 }
 {
-    let sel = selection(alloc, row.1)?;
+    let sel = selection(alloc, from)?;
     if !are_within(sel.regions.as_slice(), edit.base) {
         return Ok(false);
     }
-    let there = sel.map(alloc, edit, row.0)?;
-    Ok(are_regions(there.regions.as_slice(), row.2))
+    let there = sel.map(alloc, edit, after)?;
+    Ok(are_regions(there.regions.as_slice(), to))
 }
 
 #[test]
 fn an_edit_moves_the_regions(rt: HostRuntime) -> Result<(), Fail> {
     let alloc = rt.alloc();
     let edit = replacing(alloc)?;
-    let rows: [Move; 2] = [
-        (false, &[(3, 3), (0, 1)], &[(0, 2), (3, 3)]),
-        (true, &[(3, 3), (0, 1)], &[(0, 1), (3, 3)]),
-    ];
-    for row in rows {
-        assert!(rt; moves(alloc, &edit, row)?, "{:?}", row.1);
-    }
+    assert!(rt; moves(alloc, &edit, false, &[(3, 3), (0, 1)], &[(0, 2), (3, 3)]).unwrap_or(false));
+    assert!(rt; moves(alloc, &edit, true, &[(3, 3), (0, 1)], &[(0, 1), (3, 3)]).unwrap_or(false));
+    Ok(())
+}
+
+#[test]
+fn regions_that_an_edit_brings_together_join(rt: HostRuntime) -> Result<(), Fail> {
+    let alloc = rt.alloc();
     let edit = deleting(alloc)?;
     // Two that only touch stay apart.
-    let rows: [Move; 3] = [
-        (false, &[(0, 2), (3, 3), (6, 4)], &[(0, 1), (3, 1)]),
-        (false, &[(2, 2), (3, 4)], &[(1, 1)]),
-        (true, &[(0, 0), (1, 3), (6, 6)], &[(0, 0), (1, 1), (3, 3)]),
-    ];
-    for row in rows {
-        assert!(rt; moves(alloc, &edit, row)?, "{:?}", row.1);
-    }
+    assert!(rt;
+        moves(
+            alloc,
+            &edit,
+            false,
+            &[(0, 2), (3, 3), (6, 4)],
+            &[(0, 1), (3, 1)]
+        )
+        .unwrap_or(false)
+    );
+    assert!(rt; moves(alloc, &edit, false, &[(2, 2), (3, 4)], &[(1, 1)]).unwrap_or(false));
+    assert!(rt;
+        moves(
+            alloc,
+            &edit,
+            true,
+            &[(0, 0), (1, 3), (6, 6)],
+            &[(0, 0), (1, 1), (3, 3)]
+        )
+        .unwrap_or(false)
+    );
     Ok(())
 }
