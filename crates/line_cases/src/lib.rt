@@ -2,6 +2,8 @@
 #![tactic(auto)]
 
 #[cfg(test)]
+mod carets;
+#[cfg(test)]
 mod clusters;
 #[cfg(test)]
 mod motions;

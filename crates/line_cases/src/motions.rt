@@ -11,7 +11,7 @@ use std::alloc::Global;
 use xi_plain::Motion;
 
 /// The text in one piece a logical line.
-fn view_of(alloc: Global, text: &Text) -> Result<PlainView, NoMemory>
+pub(crate) fn view_of(alloc: Global, text: &Text) -> Result<PlainView, NoMemory>
     ensures characters { IfOk result (λ view. all_scalars view.text ≡ true) }
     ensures starts { IfOk result (λ view. StartAtPlaces view.text view.pieces) }
     ensures text { IfOk result (λ view. view.text ≡ text.now) }
