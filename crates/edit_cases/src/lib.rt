@@ -20,3 +20,5 @@ mod revisions;
 mod selections;
 #[cfg(test)]
 mod stacks;
+#[cfg(test)]
+mod undos;

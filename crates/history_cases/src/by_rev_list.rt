@@ -1,18 +1,25 @@
 //! The list of revisions, and the places of edits in it, beside the plain history.
 
-ghost use Rattle.std.specs.Prelude.{◌≡◌, ◌≤◌, IsTrue, IfOk, OnOk, map};
+ghost use Rattle.std.specs.Prelude.{◌≡◌, ◌≤◌, [], IsTrue, IfOk, OnOk, map};
+ghost use Rattle.std.specs.List.{fold};
+ghost use Rattle.plain_text.specs.Numbers.{with_number};
 ghost use Rattle.plain_edits.specs.History.{head};
+ghost use Rattle.undo_laws.specs.Under.{hidden_under};
 ghost use Rattle.rev_list.specs.Hidden.{hidden_at};
 ghost use Rattle.history_cases.specs.Inner.{is_marked, AgreeUpTo, AreOfHead};
 
 use crate::case_run::MOST;
 use anyhow::{bail, ensure};
 use delta_core::{fits, to_units};
+use plain_collection::is_visible_under;
 use plain_history::{PlainHistory, Tagged, has, is_visible};
+use plain_text::{List, NoMemory};
 use rev_engine::Edit;
 use rev_list::{RevEdit, RevList};
 use rev_rebase::{Rebased, may_rebase, rebase};
+use rev_undo::{agrees_on_collected, may_undo, recompute};
 use std::alloc::{AllocError, Global};
+use std::collections::BTreeSet;
 use subset_runs::Subset;
 
 /// Takes the last edit of the plain history into the list, where `rebase` puts it, and compares both with the plain history.
@@ -27,6 +34,98 @@ pub fn follow(
 {
     push(alloc, plain, list, edit)?;
     compare(alloc, plain, list)
+}
+
+/// Takes the last undo of the plain history into the list, with what `rev_undo` says that it hides, and compares both.
+pub fn follow_undo(
+    alloc: Global,
+    plain: &PlainHistory,
+    list: &mut RevList,
+    groups: &[u64],
+) -> anyhow::Result<()>
+    ensures { OnOk result (AgreeUpTo (head plain.now) plain.now list.new) }
+{
+    let set = set_of(alloc, groups)?;
+    if MOST < list.head() || !may_undo(list, &set) {
+        bail!("rev_list takes no undo that the plain history took");
+    }
+    let dead = recompute(alloc, list, &set)?;
+    list.push_undo(alloc, &set, dead)?;
+    compare(alloc, plain, list)
+}
+
+/// Whether `rev_undo` hides under every set of these groups, four at most, what the plain history does.
+pub fn compare_sets(
+    alloc: Global,
+    plain: &PlainHistory,
+    list: &RevList,
+    groups: &[u64],
+) -> anyhow::Result<()> {
+    for chosen in 0..16_u64 {
+        let some = chosen_of(alloc, groups, chosen)?;
+        compare_set(alloc, plain, list, some.as_slice())?;
+    }
+    Ok(())
+}
+
+/// Those of the groups, four at most, whose bits are set.
+fn chosen_of(alloc: Global, groups: &[u64], chosen: u64) -> Result<List<u64>, NoMemory> {
+    let mut some = List::new(alloc);
+    for (index, group) in groups.iter().enumerate() {
+        if index < 4 && chosen >> index & 1 == 1 {
+            some.push(*group)?;
+        }
+    }
+    Ok(some)
+}
+
+/// Whether it hides under this set what the plain history does.
+fn compare_set(
+    alloc: Global,
+    plain: &PlainHistory,
+    list: &RevList,
+    groups: &[u64],
+) -> anyhow::Result<()>
+    ensures { OnOk result (hidden_under list.now (fold with_number [] groups.now) (head list.now)
+        ≡ hidden_under plain.now groups.now (head plain.now)) }
+{
+    let set = set_of(alloc, groups)?;
+    ensure!(
+        agrees_on_collected(list, &set),
+        "rev_list has collected a group"
+    );
+    let dead = recompute(alloc, list, &set)?;
+    if !is_hidden_set(alloc, plain, groups, &dead)? {
+        bail!("rev_undo hides other characters under {groups:?}");
+    }
+    Ok(())
+}
+
+fn set_of(alloc: Global, groups: &[u64]) -> Result<BTreeSet<u64>, AllocError>
+    ensures { IfOk result (λ set. set.keys ≡ fold with_number [] groups.now) }
+{
+    let mut set = BTreeSet::new(alloc);
+    for group in groups {
+        set.insert(*group)?;
+    }
+    Ok(set)
+}
+
+/// Whether the set has exactly the characters that the groups hide at the head.
+fn is_hidden_set(
+    alloc: Global,
+    plain: &PlainHistory,
+    groups: &[u64],
+    set: &Subset,
+) -> Result<bool, AllocError>
+    ensures { IfOk result (λ same. IsTrue same → set.now ≡ hidden_under plain.now groups.now (head plain.now)) }
+{
+    let head = plain.head();
+    let mut hidden = Subset::none(alloc, 0);
+    for tagged in plain.characters() {
+        hidden.append(1, !is_visible_under(plain, groups, head, tagged))?;
+    }
+    Ok(is_same_set(set, &hidden))
 }
 
 /// Puts the edit into the list as its next revision.

@@ -32,9 +32,9 @@ pub struct Count {
 #[derive(Drop)]
 pub struct CaseRun {
     pub plain: PlainHistory,
-    /// It takes edits alone, so there is none after an undo or a collection.
+    /// It takes edits and undos, so there is none after a collection.
     list: Option<RevList>,
-    /// It takes edits alone too, under the limit that it began with.
+    /// It takes edits alone, under the limit that it began with, so there is none after an undo either.
     engine: Option<Engine>,
     limit: u64,
     count: Count,
@@ -197,7 +197,7 @@ impl CaseRun {
             .saturating_add(u64::from(self.engine.is_some()));
     }
 
-    /// Says what is undone from now on, or the case says that it is refused. No other body can take it yet.
+    /// Says what is undone from now on, or the case says that it is refused. The engine cannot take it yet.
     pub fn undo(
         &mut self,
         alloc: Global,
@@ -214,8 +214,27 @@ impl CaseRun {
             return Ok(());
         }
         self.plain.undo(groups.copy(alloc)?)?;
-        self.go_on_alone();
+        self.follow_undo(alloc, groups.as_slice())
+    }
+
+    /// Has the list take the undo that the plain history took; the engine stops.
+    fn follow_undo(&mut self, alloc: Global, groups: &[u64]) -> anyhow::Result<()>
+        ensures { OnOk result (self.new ≡ self.old) }
+    {
+        self.engine = None;
+        if let Some(list) = &mut self.list {
+            by_rev_list::follow_undo(alloc, &self.plain, list, groups)?;
+        }
+        self.note_step();
         Ok(())
+    }
+
+    /// Compares what every set of up to four groups hides at the head.
+    pub fn compare_sets(&self, alloc: Global, groups: &[u64]) -> anyhow::Result<()> {
+        match &self.list {
+            Some(list) => by_rev_list::compare_sets(alloc, &self.plain, list, groups),
+            None => Ok(()),
+        }
     }
 
     /// Collects groups, or the case says that it is refused. No other body can take it yet.
