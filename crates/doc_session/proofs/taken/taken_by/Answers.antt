@@ -1,4 +1,5 @@
-use Rattle.std.proofs.Common.{◌≤◌, List, ℕ, refl, ap, sym, ◌∙◌, subst, arith}
+use Rattle.std.proofs.Common.{◌≡◌, ◌≤◌, List, ℕ, None, refl, ap, sym, ◌∙◌, subst, arith}
+use Rattle.plain_edits.specs.Edits.{edit_refusal}
 use Rattle.plain_edits.specs.History.{History, inserted_count}
 use Rattle.rev_engine.specs.Engine.{StandsFor, asked_by}
 use Rattle.rev_engine.specs.Given.{MayAsk, after}
@@ -36,3 +37,9 @@ returns-clause-made c =
     c.in_ok-change.ensures.stands c.in_ok-change.ensures.change in
     IsTakenFrom-noticed c.args.engine.now c.edit.new.self c.head_rope.result.now c.in_ok-change.change c.args.edit.now.author c.in_ok-noticed.field-0
     c.in_ok-noticed.ensures.noticed changes c.in_ok-noticed.ensures.counted (c.in_ok-change.ensures.limit ∙ ap (λ (e : State). e.limit) c.in_ok-next.ensures)
+
+pub returns-clause-accepted : goal.returns-clause-accepted
+returns-clause-accepted c = λ history stands.
+    let was = subst (λ (e : State). StandsFor e history) (sym c.in_ok-next.ensures) stands in
+    subst (λ (e : State). edit_refusal history e.limit c.args.edit.now.rev c.args.edit.now.delta ≡ None) c.in_ok-next.ensures
+    (c.in_ok-change.ensures.accepted history was)

@@ -1,9 +1,10 @@
 use Rattle.std.proofs.Common.{◌≡◌, ◌+◌, false, None, ap, sym, ◌∙◌, subst, arith}
+use Rattle.plain_edits.specs.Edits.{edit_refusal}
 use Rattle.plain_edits.specs.History.{head}
 use Rattle.rev_engine.specs.declared.edit.Edit.{Edit}
 use Rattle.rev_engine.specs.Engine.{asked_by}
 use Rattle.doc_session.specs.declared.event.Body.TheVariants.{Edited}
-use Rattle.doc_session.specs.Asking.{plugin_edit}
+use Rattle.doc_session.specs.Asking.{asked_refusal, plugin_edit}
 use Rattle.doc_session.specs.InMemory.{Doc}
 use Rattle.doc_session.specs.Inner.{IsStepped, IsTakenFrom}
 use Rattle.doc_session.specs.Step.{caret_by, edit_step}
@@ -69,3 +70,14 @@ returns-clause-stepped c = λ plain stands.
     subst (λ n. IsStepped (edit_step plain asked (caret_by plain asked c.args.edit.after_cursor) (Edited n n) None) c.in_ok-settled.field-0) numbered
     (subst (λ gap. IsStepped (edit_step plain asked gap (Edited rev rev) None) c.in_ok-settled.field-0) place
     (c.in_ok-settled.ensures.stepped plain asked stands is))
+
+pub returns-clause-accepted : goal.returns-clause-accepted
+returns-clause-accepted c = λ plain stands.
+    let doc = c.self.inside in
+    let was = subst (λ d. DocStandsFor d plain) (sym c.self.view_is) stands in
+    let numbered : c.head-rev.result + 1 ≡ head plain.history + 1 =
+    ap (λ n. n + 1) (c.head-rev.ensures.revisions ∙ head-stands doc.engine plain.history was.parts.stands) in
+    let given = asked-given plain c.args.caller (c.head-rev.result + 1) c.args.edit c.given-edit.result c.given-edit.ensures numbered in
+    subst (λ asked. asked_refusal plain asked ≡ None) given
+    (subst (λ limit. edit_refusal plain.history limit c.given-edit.result.rev c.given-edit.result.delta ≡ None) was.limit
+    (c.in_ok-taken.ensures.accepted plain.history was.parts.stands))
