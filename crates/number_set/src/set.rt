@@ -65,7 +65,7 @@ impl NumberSet {
         *batch.get(place)
     }
 
-    /// Where the number stands, or where it would go, by O(log n) look-ups.
+    /// Where the number stands, or where it would go, by O(log d) look-ups with d numbers from there on.
     pub fn search(&self, number: u64) -> Result<u64, u64>
         ensures place { IsBinarySearchResult (λ y. nat_cmp y number) self.now result }
         ensures rising { IsRising self.now }
@@ -73,8 +73,10 @@ impl NumberSet {
     {
         let mut low = 0;
         let mut high = self.len();
+        let mut back = 0u64;
         while low < high {
-            let middle = low + (high - low) / 2;
+            let middle = place_back(low, high, back);
+            back = back.saturating_mul(2).saturating_add(1);
             match self.at(middle).cmp(&number) {
                 Ordering::Less => low = middle + 1,
                 Ordering::Equal => return Ok(middle),
@@ -212,4 +214,13 @@ impl NumberSet {
         }
         Ok(set)
     }
+}
+
+// So many places before the last one of what is left to search, and none before its middle.
+fn place_back(low: u64, high: u64, back: u64) -> u64
+    requires { low < high }
+    ensures from { low ≤ result }
+    ensures to { result < high }
+{
+    high - 1 - back.min((high - low) / 2)
 }
