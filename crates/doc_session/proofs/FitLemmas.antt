@@ -5,7 +5,7 @@ use Rattle.xi_plain.specs.declared.command.EditAct.{EditAct}
 use Rattle.plain_edits.specs.Delta.{inserted_len}
 use Rattle.plain_edits.specs.Edits.{misfit_or_spent, spent}
 use Rattle.plain_edits.specs.History.{head, inserted_count}
-use Rattle.rev_engine.proofs.ForCallers.{IsFresh-given, refusal-kept}
+use Rattle.rev_engine.proofs.ForCallers.{IsOfEngine-given, refusal-kept}
 use Rattle.doc_session.specs.InMemory.{Doc}
 use Rattle.doc_session.specs.declared.event.Event.TheVariants.{Front}
 use Rattle.doc_session.specs.Asking.{front_edit}
@@ -28,8 +28,7 @@ typing_fits doc plain (c ∷ chars) stands =
     let h = plain.history in
     let delta = (front_edit plain (c ∷ chars)).delta in
     let total = inserted_count h + inserted_len delta.els in
-    let fresh = IsFresh-given doc.engine.limit h stands.parts.stands.given in
-    let low : h.floor ≤ head h = omega (arith, fresh.floor) in
+    let low : h.floor ≤ head h = (IsOfEngine-given doc.engine.limit h stands.parts.stands.given).formed.floor in
     let high : head h ≤ head h = omega arith in
     let inside : plain.caret ≤ length (text_of plain) =
     omega (arith, stands.parts.inside, stands.caret) in

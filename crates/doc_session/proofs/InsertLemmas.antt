@@ -22,14 +22,14 @@ use Rattle.rev_engine.specs.declared.edit.UnitEdit.{UnitEdit}
 use Rattle.rev_engine.specs.State.{State}
 use Rattle.rev_engine.specs.Given.{AskedEdit, MayAsk, after, meant}
 use Rattle.rev_engine.specs.Engine.{StandsFor, IsSaidBy}
-use Rattle.rev_engine.proofs.ForCallers.{IsFresh-given}
+use Rattle.plain_edits.specs.Undo.{undone_now}
 use Rattle.doc_session.specs.declared.taken.Taken.{Taken}
 use Rattle.doc_session.specs.InMemory.{Doc}
 use Rattle.doc_session.specs.Asking.{front_priority, insertion_delta}
 use Rattle.doc_session.specs.Inner.{IsAfter, IsHeadEdit, all_kept, head_shown, insertion_in, insertion_units}
-use Rattle.doc_session.specs.Whole.{IsStateOf, IsStateOfSome}
+use Rattle.doc_session.specs.Whole.{IsOfEdits, IsStateOf, IsStateOfSome}
 use Rattle.doc_session.proofs.HeadLemmas.{head_shown-stands}
-use Rattle.doc_session.proofs.MoveLemmas.{head-after}
+use Rattle.doc_session.proofs.MoveLemmas.{head-after, sound-given}
 
 or-false : (b : Bool) → (b || false) ≡ b
 or-false true = refl
@@ -173,14 +173,15 @@ IsHeadEdit-insertion engine edit text len gap chars text_is len_is inside some u
     }
 
 -- the head text after an insertion at a gap
-pub text_at-inserted : (h : History) (engine : State) (gap : ℕ) (chars : List ℕ) → StandsFor engine h → gap ≤ length (text_at h (head h)) →
+pub text_at-inserted : (h : History) (engine : State) (gap : ℕ) (chars : List ℕ) → StandsFor engine h → IsOfEdits engine.revisions →
+    gap ≤ length (text_at h (head h)) →
     text_at (after h (insertion_in h gap chars)) (head (after h (insertion_in h gap chars))) ≡ put_in gap chars (text_at h (head h))
-text_at-inserted h engine gap chars stands inside =
-    let fresh = IsFresh-given engine.limit h stands.given in
+text_at-inserted h engine gap chars stands of_edits inside =
     let text = text_at h (head h) in
     let asked : AskedEdit = insertion_in h gap chars in
     ap (text_at (after h asked)) (head-after h asked) ∙
-    text_at-edited_at_head h (meant h asked) fresh.plain.sound refl (ap (λ groups. has groups asked.group) (fresh.plain.none (head h))) ∙
+    text_at-edited_at_head h (meant h asked) (sound-given engine h stands) refl
+    (ap (λ groups. has groups asked.group) (sym (ap undone_now stands.revisions) ∙ of_edits.live)) ∙
     applied-insertion text gap chars inside
 
 -- so many characters has the text after an insertion at the caret
@@ -191,7 +192,7 @@ length-inserted engine caret chars taken whole each =
     ∥∥₁_elim whole (ℕ_set _ _) (λ (s : (h : History) × IsStateOf h engine caret).
     let h = s.0 in
     let is = each h s.1.stands in
-    ap length (head_shown-stands taken.engine (after h (insertion_in h caret chars)) is.stands ∙ text_at-inserted h engine caret chars s.1.stands s.1.inside) ∙
+    ap length (head_shown-stands taken.engine (after h (insertion_in h caret chars)) is.stands ∙ text_at-inserted h engine caret chars s.1.stands s.1.of_edits s.1.inside) ∙
     length-put_in caret chars (text_at h (head h)) s.1.inside ∙
     ap (λ n. n + length chars) (sym (ap length (head_shown-stands engine h s.1.stands))))
 

@@ -18,4 +18,5 @@ IsStateOf-loaded text engine limit stands limit_is bound = record {
   inside = omega arith;
   within = omega (arith, spent-loaded text);
   bound = omega (arith, limit_is, bound);
+  of_edits = rw stands.revisions (record { live = refl; kept = refl });
 }

@@ -27,24 +27,33 @@ use Rattle.plain_edits.specs.UnitDelta.{AreRuns, AreAdds, IsUnitDelta}
 use Rattle.plain_edits.proofs.callers.HistoryLemmas.{text_at-edited}
 use Rattle.delta_core.specs.Wire.{wire_from, wire_of}
 use Rattle.rev_engine.specs.declared.edit.Change.{Change}
+use Rattle.plain_edits.specs.Undo.{undone_now}
 use Rattle.rev_engine.specs.State.{State}
 use Rattle.rev_engine.specs.declared.edit.UnitEdit.{UnitEdit}
 use Rattle.rev_engine.specs.Engine.{StandsFor, IsChange, IsSaidBy}
 use Rattle.rev_engine.specs.Given.{AskedEdit, after, meant}
-use Rattle.rev_engine.proofs.ForCallers.{IsFresh-given, inserted_count-plain}
+use Rattle.rev_engine.proofs.ForCallers.{IsOfEngine-given, inserted_count-plain, undone_now-edited}
 use Rattle.selection_core.specs.Mapped.{new_gap}
 use Rattle.selection_core.proofs.ForCallers.{new_gap-after_step}
 use Rattle.doc_session.specs.declared.taken.Taken.{Taken}
 use Rattle.doc_session.specs.Effects.{notice_of, change_delta}
 use Rattle.doc_session.specs.Inner.{IsAfter, IsChangeOf, IsNoticed, IsSaidOfSome, IsTakenFrom, SaysSome, StandsForSome, head_shown}
-use Rattle.doc_session.specs.Whole.{IsStateOf, IsStateOfSome}
+use Rattle.doc_session.specs.Whole.{IsOfEdits, IsStateOf, IsStateOfSome}
 use Rattle.doc_session.proofs.HeadLemmas.{head_shown-stands}
 
 pub head-after : (h : History) (asked : AskedEdit) → head (after h asked) ≡ head h + 1
 head-after h asked = length_push h.revisions _
 
 pub sound-given : (engine : State) (h : History) → StandsFor engine h → IsSound h
-sound-given engine h stands = (IsFresh-given engine.limit h stands.given).plain.sound
+sound-given engine h stands = (IsOfEngine-given engine.limit h stands.given).formed.sound
+
+-- and so it is after an edit
+of_edits-after : (engine now : State) (h : History) (asked : AskedEdit) → StandsFor engine h → StandsFor now (after h asked) → IsOfEdits engine.revisions →
+    IsOfEdits now.revisions
+of_edits-after engine now h asked was is of_edits = record {
+  live = ap undone_now is.revisions ∙ undone_now-edited h (meant h asked) ∙ sym (ap undone_now was.revisions) ∙ of_edits.live;
+  kept = ap (λ (g : History). g.collected) is.revisions ∙ sym (ap (λ (g : History). g.collected) was.revisions) ∙ of_edits.kept;
+}
 
 -- the caret rule gives a gap of the text
 count_by-take-le : (q : Tagged → Bool) (n : ℕ) (xs : List Tagged) → count_by q (take n xs) ≤ length (filter q xs)
@@ -234,5 +243,6 @@ module _ (engine : State) (caret : ℕ) (asked : History → AskedEdit) (taken :
           inside = omega (arith, inside, ap length (head_shown-stands taken.engine (after s.0 (asked s.0)) is.stands));
           within = is.within;
           bound = omega (arith, s.1.bound, same);
+          of_edits = of_edits-after engine taken.engine s.0 (asked s.0) s.1.stands is.stands s.1.of_edits;
         },
       ))

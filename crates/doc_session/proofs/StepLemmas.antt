@@ -1,7 +1,5 @@
 -- The steps of the document in memory are those of the plain one.
 use Rattle.std.proofs.Common.{◌≡◌, ◌≢◌, ℕ, ◌+◌, ◌-◌, ◌<◌, ◌≤◌, Bool, true, false, List, [], ◌∷◌, length, refl, ap, ◌∙◌, subst}
-use Rattle.std.proofs.Math.Logic.{∥∥₁_elim}
-use Rattle.std.specs.Coded.{Coded-set, coded_bool}
 use Rattle.std.specs.Prelude.{◌^◌, IsTrue}
 use Rattle.xi_plain.specs.declared.command.EditAct.TheVariants.{Insert}
 use Rattle.plain_edits.specs.History.{History, head}
@@ -10,7 +8,7 @@ use Rattle.rev_engine.specs.declared.edit.Edit.{Edit}
 use Rattle.rev_engine.specs.State.{State}
 use Rattle.rev_engine.specs.Engine.{StandsFor, asked_by}
 use Rattle.rev_engine.specs.Given.{AskedEdit, MayAsk}
-use Rattle.rev_engine.proofs.ForCallers.{IsFresh-given}
+use Rattle.doc_session.proofs.HeadLemmas.{of_edits-whole}
 use Rattle.selection_core.specs.Mapped.{new_gap}
 use Rattle.doc_session.specs.InMemory.{Doc}
 use Rattle.doc_session.specs.declared.event.Event.TheVariants.{Front}
@@ -20,7 +18,7 @@ use Rattle.doc_session.specs.Document.{Document}
 use Rattle.doc_session.specs.Inner.{IsAfter, insertion_in}
 use Rattle.doc_session.specs.Stands.{DocStandsFor}
 use Rattle.doc_session.specs.Step.{caret_by, front_step, refusal_at, event_step}
-use Rattle.doc_session.specs.Whole.{IsStateOf, IsStateOfSome}
+use Rattle.doc_session.specs.Whole.{IsStateOfSome}
 use Rattle.doc_session.proofs.MoveLemmas.{new_gap-moved, sound-given}
 
 -- an edit in the group of its own revision may be asked for
@@ -28,9 +26,7 @@ pub MayAsk-whole : (engine : State) (caret group : ℕ) → IsStateOfSome engine
     head engine.revisions < 2 ^ 63 - 1 → MayAsk engine.revisions group
 MayAsk-whole engine caret group whole counts numbered = record {
   group_counts = counts;
-  group_kept = ∥∥₁_elim whole (Coded-set coded_bool _ _) (λ (s : (h : History) × IsStateOf h engine caret).
-      ap (λ (h : History). has h.collected group) s.1.stands.revisions ∙
-      ap (λ groups. has groups group) (IsFresh-given engine.limit s.0 s.1.stands.given).collected);
+  group_kept = ap (λ groups. has groups group) (of_edits-whole engine caret whole).kept;
   has_number = numbered;
 }
 

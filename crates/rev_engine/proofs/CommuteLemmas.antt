@@ -10,7 +10,8 @@ use Rattle.plain_edits.specs.History.{Tagged, History, head, undone, visible_at,
 use Rattle.plain_edits.specs.Edits.{PlainEdit, edited, is_edit_of}
 use Rattle.plain_edits.specs.Delta.{inserted_len}
 use Rattle.plain_edits.proofs.callers.HistoryLemmas.{IsSound-edited, text_at-edited}
-use Rattle.rev_engine.specs.Given.{AskedEdit, meant, after, after_all, IsTaken, AreTaken, IsGiven}
+use Rattle.rev_engine.specs.Given.{AskedEdit, meant, after, after_all, IsTaken, AreTaken}
+use Rattle.rev_engine.specs.Asked.{IsGiven}
 use Rattle.rev_engine.specs.Commute.{DifferInPriority, IsForHead, AreForHead, ShowsMerged, EditsCommute}
 use Rattle.plain_edits.specs.Blocks.{block_at}
 use Rattle.plain_edits.proofs.callers.BlockLemmas.{at-by_blocks}
@@ -19,7 +20,8 @@ use Rattle.rev_engine.proofs.MergeLemmas.{head-edited, Done, seen_in, IsMerging,
 use Rattle.rev_engine.proofs.StepLemmas.{dones_after, at_after, IsMerging-edited}
 use Rattle.rev_engine.proofs.OrderLemmas.{AllByRecursion-permutation, Differ, Differ-permutation, merged-permutation}
 use Rattle.rev_engine.proofs.SpentLemmas.{inserted_count-plain}
-use Rattle.rev_engine.proofs.StandLemmas.{IsFresh-given, refusal-none}
+use Rattle.rev_engine.proofs.AskedLemmas.{IsOfEngine-given, has-no_edit}
+use Rattle.rev_engine.proofs.StandLemmas.{refusal-none}
 
 -- ---- which histories take edits
 
@@ -32,12 +34,12 @@ pub record TakesEdits (history : History) : Type 0 where
 
 pub TakesEdits-given : (limit : ℕ) (history : History) → IsGiven limit history → TakesEdits history
 TakesEdits-given limit history given =
-    let fresh = IsFresh-given limit history given in
+    let is = IsOfEngine-given limit history given in
     record {
-      sound = fresh.plain.sound;
-      floor = omega (arith, fresh.floor);
-      live = λ group _. ap (λ groups. has groups group) (fresh.plain.none (head history));
-      kept = λ group _. ap (λ groups. has groups group) fresh.collected;
+      sound = is.formed.sound;
+      floor = is.formed.floor;
+      live = λ group none. has-no_edit history group (undone history.revisions (head history)) is.undone_known none;
+      kept = λ group none. has-no_edit history group history.collected is.collected_known none;
     }
 
 -- ---- one edit in its turn

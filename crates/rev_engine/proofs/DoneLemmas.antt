@@ -1,8 +1,7 @@
 -- The last step of an edit: what is put in is the edit step of every history that the engine stands for.
-use Rattle.std.proofs.Common.{◌≡◌, ℕ, ◌+◌, ◌^◌, ◌<◌, ◌≤◌, Bool, List, [], ◌∷◌, length, length-append, refl, ap, ap₂, sym, ◌∙◌, subst, None, Some, arith}
-use Rattle.std.proofs.Math.Logic.{∥∥₁_elim, ∥∥₁_map}
+use Rattle.std.proofs.Common.{◌≡◌, ℕ, ◌+◌, ◌^◌, ◌<◌, ◌≤◌, Bool, false, List, [], ◌∷◌, length, length-append, refl, ap, ap₂, sym, ◌∙◌, subst, None, Some, arith}
+use Rattle.std.proofs.Math.Logic.{∥∥₁_elim}
 use Rattle.std.proofs.Math.Nat.{ℕ_set}
-use Rattle.std.specs.Coded.{Coded-set, coded_list, coded_ℕ}
 use Rattle.std.proofs.lemmas.List.{length-map}
 use Rattle.plain_edits.specs.declared.delta.UnitDelta.{UnitDelta}
 use Rattle.plain_edits.specs.UnitDelta.{IsCanonical}
@@ -10,15 +9,16 @@ use Rattle.plain_text.specs.Text.{byte_len}
 use Rattle.plain_text.specs.Numbers.{has}
 use Rattle.plain_edits.specs.History.{History, edit as revision, head, text_at}
 use Rattle.plain_edits.specs.Edits.{PlainEdit, edited, edit_refusal, spent}
+use Rattle.plain_edits.specs.Undo.{undone_now}
 use Rattle.plain_edits.specs.Delta.{inserted_len}
 use Rattle.plain_edits.proofs.callers.HistoryLemmas.{IsSound-edited, text_at-edited}
-use Rattle.delta_core.specs.Units.{IsUnitsOf, text_after}
+use Rattle.delta_core.specs.Units.{IsUnitsOf}
 use Rattle.delta_core.specs.Synthesis.{IsBetween}
 use Rattle.rev_list.specs.declared.edit.RevEdit.{RevEdit}
 use Rattle.rev_list.specs.Edit.{after_edit}
 use Rattle.rev_list.specs.Hidden.{IsKeptAt, hidden_at}
 use Rattle.rev_list.specs.WithoutText.{insertion_flags, in_positions, without_text}
-use Rattle.rev_list.proofs.ForCallers.{hidden_without_text, step_without_text, undone_after-edit}
+use Rattle.rev_list.proofs.ForCallers.{step_without_text}
 use Rattle.rev_rebase.specs.Rebase.{added_text, characters_of, put_in}
 use Rattle.rev_rebase.proofs.ForCallers.{insertion_flags-textless, deletion_flags-textless, step-text}
 use Rattle.rev_engine.specs.declared.edit.Edit.{Edit}
@@ -29,12 +29,14 @@ use Rattle.rev_engine.specs.Given.{AskedEdit, MayAsk, after, meant}
 use Rattle.rev_engine.specs.State.{IsHeld, IsHistoryOf, State, shown_at}
 use Rattle.rev_engine.specs.Inner.{IsAnswered, IsBasedOn, IsFitting, IsNext, IsPutIn}
 use Rattle.rev_engine.specs.Engine.{IsChange, IsChangeBy, IsSaidBy, StandsFor, asked_by, in_characters}
+use Rattle.rev_engine.specs.Asked.{asks}
+use Rattle.rev_engine.proofs.AskedLemmas.{IsGiven-after, IsOfEngine-given}
+use Rattle.rev_engine.proofs.NextLemmas.{GoesOn, IsChangeBy-between, goes-on-by, some-after}
 use Rattle.rev_engine.proofs.ByteLemmas.{byte_len-least, byte_len-most, byte_len-outside, byte_len-put_in}
-use Rattle.rev_engine.proofs.ChangeLemmas.{IsChange-between}
 use Rattle.rev_engine.proofs.HeadLemmas.{IsChangeBy-head}
 use Rattle.rev_engine.proofs.PlacedLemmas.{longer-flags, members-flags}
 use Rattle.rev_engine.proofs.SpentLemmas.{inserted_count-plain, length-added_text}
-use Rattle.rev_engine.proofs.StandLemmas.{IsFresh-given, IsGiven-after, IsHistoryOf-stands, accepted-fitting, length-shown_at, refused-spent, shown-history, shown-stands}
+use Rattle.rev_engine.proofs.StandLemmas.{IsHistoryOf-stands, accepted-fitting, length-shown_at, refused-spent, shown-history, shown-stands}
 
 -- ---- what a fitting edit asks for
 
@@ -93,7 +95,6 @@ module _ (union : List ℕ) (revisions : History) (rev : ℕ) (edit : UnitEdit) 
   module _ (h : History) (is : IsHistoryOf union revisions h) where
     pub IsHistoryOf-after : IsHistoryOf union_after revisions_after (edited h step)
     IsHistoryOf-after = record {
-      none = λ at. undone_after-edit [] h.revisions at (in_positions h step) ∙ is.none at;
       sound = IsSound-edited h step is.sound;
       union_is =
           put.union_is ∙
@@ -105,52 +106,21 @@ module _ (union : List ℕ) (revisions : History) (rev : ℕ) (edit : UnitEdit) 
           (ap₂ after_edit is.revisions_is (ap (λ g. in_positions g step) is.revisions_is ∙ positions-textless h step) ∙ step_without_text h step);
     }
 
-    hidden_after : (at : ℕ) → hidden_at revisions_after at ≡ hidden_at (edited h step) at
-    hidden_after at = ap (λ g. hidden_at g at) IsHistoryOf-after.revisions_is ∙ hidden_without_text (edited h step) at
+  -- what leads between the two heads is the change
+  pub IsChangeBy-stale : (h : History) → IsHistoryOf union revisions h → (units : UnitDelta) (from : ℕ) → from ≡ head revisions →
+      IsBetween union_after (hidden_at revisions_after from) (hidden_at revisions_after (head revisions_after)) units →
+      IsChangeBy h (edited h step) units
+  IsChangeBy-stale h is units from from_is between =
+      IsChangeBy-between union union_after revisions revisions_after (λ g. edited g step) IsHistoryOf-after h is units from
+      (text_at-edited h step (head h) is.sound (omega arith)) from_is between
 
-    -- what leads between the two heads is the change
-    pub IsChangeBy-stale : (units : UnitDelta) (from : ℕ) → from ≡ head revisions →
-        IsBetween union_after (hidden_at revisions_after from) (hidden_at revisions_after (head revisions_after)) units →
-        IsChangeBy h (edited h step) units
-    IsChangeBy-stale units from from_is between =
-        IsChange-between h (edited h step) (record { rev = head (edited h step); units = units }) refl
-        (text_at-edited h step (head h) is.sound (omega arith))
-        (subst (λ xs. IsBetween xs (hidden_at (edited h step) (head h)) (hidden_at (edited h step) (head (edited h step))) units) IsHistoryOf-after.union_is
-        (subst (λ before. IsBetween union_after before (hidden_at (edited h step) (head (edited h step))) units)
-        (hidden_after from ∙ ap (hidden_at (edited h step)) (from_is ∙ ap head is.revisions_is))
-        (subst (λ dead. IsBetween union_after (hidden_at revisions_after from) dead units)
-        (hidden_after (head revisions_after) ∙ ap (λ g. hidden_at (edited h step) (head g)) IsHistoryOf-after.revisions_is) between)))
-
-    -- an edit against the head is its change
-    pub IsChangeBy-short : rev ≡ head revisions → IsCanonical edit.units → IsChangeBy h (edited h step) edit.units
-    IsChangeBy-short at_head canonical =
-        IsChangeBy-head h rev edit is.sound (at_head ∙ ap head is.revisions_is) (ap (λ groups. has groups edit.group) (is.none (head h))) canonical
+  module _ (h : History) (is : IsHistoryOf union revisions h) where
+    -- an edit against the head is its change, where its group is not undone
+    pub IsChangeBy-short : rev ≡ head revisions → has (undone_now revisions) edit.group ≡ false → IsCanonical edit.units →
+        IsChangeBy h (edited h step) edit.units
+    IsChangeBy-short at_head live canonical =
+        IsChangeBy-head h rev edit is.sound (at_head ∙ ap head is.revisions_is) (rw is.revisions_is at live) canonical
         (base ∙ ap length (shown-history union revisions h rev is ∙ ap (text_at h) (at_head ∙ ap head is.revisions_is)))
-
-    -- what the change leads to
-    leads_from : (units : UnitDelta) → IsChangeBy h (edited h step) units →
-        (units.base ≡ length (shown_at union revisions (head revisions))) ×
-        (text_after units (shown_at union revisions (head revisions)) ≡ shown_at union_after revisions_after (head revisions_after))
-    leads_from units change =
-        let before : shown_at union revisions (head revisions) ≡ text_at h (head h) =
-        shown-history union revisions h (head revisions) is ∙ ap (λ g. text_at h (head g)) is.revisions_is in
-        let now : shown_at union_after revisions_after (head revisions_after) ≡ text_at (edited h step) (head (edited h step)) =
-        shown-history union_after revisions_after (edited h step) (head revisions_after) IsHistoryOf-after ∙
-        ap (λ g. text_at (edited h step) (head g)) IsHistoryOf-after.revisions_is in (
-          change.base ∙ ap length (sym before),
-          ap (text_after units) before ∙ (change.leads ∙ sym now),
-        )
-
-  -- the same, where the history is some one
-  pub leads : (units : UnitDelta) → ∥ ((h : History) × IsHistoryOf union revisions h) ∥₁ →
-      ((h : History) → IsHistoryOf union revisions h → IsChangeBy h (edited h step) units) →
-      (units.base ≡ length (shown_at union revisions (head revisions))) ×
-      (text_after units (shown_at union revisions (head revisions)) ≡ shown_at union_after revisions_after (head revisions_after))
-  leads units some change = (
-    ∥∥₁_elim some (ℕ_set _ _) (λ (s : (h : History) × IsHistoryOf union revisions h). (leads_from s.0 s.1 units (change s.0 s.1)).0),
-    ∥∥₁_elim some (Coded-set (coded_list coded_ℕ) _ _) (λ (s : (h : History) × IsHistoryOf union revisions h).
-        (leads_from s.0 s.1 units (change s.0 s.1)).1),
-  )
 
 -- ---- the parts after it go together
 
@@ -170,22 +140,21 @@ module _ (engine : State) (text : List ℕ) (rev : ℕ) (fitting : Fitting) (hel
   short-after at =
       omega (arith, byte_len-outside (hidden_at revisions_after at) union_after, bytes-union, fits-bytes engine text rev fitting held is)
 
-  some-after : ∥ ((h : History) × IsHistoryOf union_after revisions_after h) ∥₁
-  some-after =
-      ∥∥₁_map held.some (λ (s : (h : History) × IsHistoryOf engine.union engine.revisions h). (
-        edited s.0 (in_characters rev fitting.edit),
-        IsHistoryOf-after engine.union engine.revisions rev fitting.edit is.base union_after revisions_after put s.0 s.1,
-      ))
+  gone_on : (h : History) → IsHistoryOf engine.union engine.revisions h → IsHistoryOf union_after revisions_after (edited h (in_characters rev fitting.edit))
+  gone_on h of = IsHistoryOf-after engine.union engine.revisions rev fitting.edit is.base union_after revisions_after put h of
+
+  some_later : ∥ ((h : History) × IsHistoryOf union_after revisions_after h) ∥₁
+  some_later = some-after engine.union union_after engine.revisions revisions_after (λ h. edited h (in_characters rev fitting.edit)) gone_on held.some
 
   pub positions-after : length union_after ≡ length revisions_after.characters
   positions-after =
-      ∥∥₁_elim some-after (ℕ_set _ _) (λ (s : (h : History) × IsHistoryOf union_after revisions_after h).
+      ∥∥₁_elim some_later (ℕ_set _ _) (λ (s : (h : History) × IsHistoryOf union_after revisions_after h).
       positions-history union_after revisions_after s.0 s.1)
 
   pub IsHeld-after : (text_now : List ℕ) → text_now ≡ shown_at union_after revisions_after (head revisions_after) →
       IsHeld union_after text_now revisions_after engine.limit fitting.spent
   IsHeld-after text_now shown = record {
-    some = some-after;
+    some = some_later;
     positions = positions-after;
     floor =
         omega (
@@ -201,26 +170,12 @@ module _ (engine : State) (text : List ℕ) (rev : ℕ) (fitting : Fitting) (hel
     bound = omega (arith, held.bound, bytes-union, is.room.is, byte_len-most (added_text fitting.edit.units));
   }
 
-  -- the head text is edited by the change
-  pub record GoesOn (units : UnitDelta) : Type 0 where
-    pub base : units.base ≡ length text
-    pub short : byte_len (text_after units text) < 2 ^ 64
-    pub holds : (text_now : List ℕ) → text_now ≡ text_after units text → IsHeld union_after text_now revisions_after engine.limit fitting.spent
-
   pub goes-on : (units : UnitDelta) →
-      ((h : History) → IsHistoryOf engine.union engine.revisions h → IsChangeBy h (edited h (in_characters rev fitting.edit)) units) → GoesOn units
-  goes-on units change = record {
-    base = both.0 ∙ ap length (sym held.shown);
-    short = rw now (short-after (head revisions_after));
-    holds = λ text_now text_is. IsHeld-after text_now (text_is ∙ now);
-  }
-    where
-      both : (units.base ≡ length (shown_at engine.union engine.revisions (head engine.revisions))) ×
-          (text_after units (shown_at engine.union engine.revisions (head engine.revisions)) ≡ shown_at union_after revisions_after (head revisions_after))
-      both = leads engine.union engine.revisions rev fitting.edit is.base union_after revisions_after put units held.some change
-
-      now : text_after units text ≡ shown_at union_after revisions_after (head revisions_after)
-      now = ap (text_after units) held.shown ∙ both.1
+      ((h : History) → IsHistoryOf engine.union engine.revisions h → IsChangeBy h (edited h (in_characters rev fitting.edit)) units) →
+      GoesOn text union_after revisions_after engine.limit fitting.spent units
+  goes-on units change =
+      goes-on-by engine.union union_after engine.revisions revisions_after (λ h. edited h (in_characters rev fitting.edit)) gone_on held.some text
+      engine.limit fitting.spent held.shown (short-after (head revisions_after)) IsHeld-after units change
 
 -- ---- the histories that the engine stands for
 
@@ -242,7 +197,7 @@ pub StandsFor-after : (engine new : State) (h : History) (asked : AskedEdit) (re
     length (added_text fitting.edit.units) ≡ inserted_len asked.delta.els → IsNext engine rev fitting new → StandsFor new (after h asked)
 StandsFor-after engine new h asked rev fitting stands is may accepted same more next = record {
   given =
-      rw next.limit (IsGiven-after engine.limit h asked stands.given (record {
+      rw next.limit (IsGiven-after engine.limit h (asks asked) stands.given (record {
         may = record { group_counts = asking.group_counts; group_kept = asking.group_kept; has_number = asking.has_number };
         accepted = accepted;
       }));
@@ -293,7 +248,7 @@ module _ (engine : State) (h : History) (edit : UnitEdit) (asked : AskedEdit) (s
 
   kept-said : IsKeptAt engine.revisions asked.base
   kept-said = (
-    omega (arith, ap (λ (g : History). g.floor) stands.revisions, (IsFresh-given engine.limit h stands.given).floor),
+    omega (arith, said.base, ap (λ (g : History). g.floor) stands.revisions, (IsOfEngine-given engine.limit h stands.given).formed.floor),
     omega (arith, head-said),
   )
 

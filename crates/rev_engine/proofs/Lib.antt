@@ -2,10 +2,12 @@ pub mod FlatLemmas
 pub mod SpentLemmas
 pub mod ByteLemmas
 pub mod PlacedLemmas
+pub mod AskedLemmas
 pub mod StandLemmas
 pub mod ChangeLemmas
 pub mod BlockLemmas
 pub mod MergeLemmas
+pub mod NextLemmas
 pub mod HeadLemmas
 pub mod ShortLemmas
 pub mod DoneLemmas
@@ -13,4 +15,6 @@ pub mod StepLemmas
 pub mod OrderLemmas
 pub mod CommuteLemmas
 pub mod SelectiveLemmas
+pub mod FrozenLemmas
+pub mod UndoLemmas
 pub mod ForCallers

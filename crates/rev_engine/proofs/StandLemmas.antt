@@ -1,87 +1,33 @@
 -- What an engine says of a history that it stands for.
-use Rattle.std.proofs.Common.{◌≡◌, ℕ, zero, suc, ◌+◌, ◌^◌, ◌<◌, ◌≤◌, inl, inr, Bool, true, false, cond, if◌then◌else◌, not, nat_lt, List, [], ◌∷◌, ◌++◌, length, map, filter, replicate, Some, None, refl, ap, ap₂, sym, ◌∙◌, subst, arith}
+use Rattle.std.proofs.Common.{◌≡◌, ℕ, ◌+◌, ◌^◌, ◌<◌, ◌≤◌, inl, inr, Bool, true, false, ◌||◌, ◌==◌, cond, if◌then◌else◌, not, nat_lt, List, [], ◌∷◌, length, map, filter, replicate, Some, None, refl, ap, ap₂, sym, ◌∙◌, subst, arith}
 use Rattle.std.specs.List.{AllByRecursion, list_any}
-use Rattle.std.proofs.lemmas.Bool.{cases_lt, lt-ltb, le-ltb}
+use Rattle.std.proofs.lemmas.Bool.{both_ways, cases_lt, eq-eqb, lt-ltb, le-ltb}
 use Rattle.std.proofs.lemmas.List.{length-map}
-use Rattle.std.proofs.lemmas.List.Sums.{fold-append}
 use Rattle.subset_runs.specs.Subset.{items_outside}
 use Rattle.plain_edits.specs.declared.delta.Delta.{Delta}
 use Rattle.plain_edits.specs.declared.delta.Misfit.{Misfit}
 use Rattle.plain_edits.specs.Delta.{Fits, misfit_of}
-use Rattle.plain_edits.specs.History.{Tagged, History, head, is_visible, inserted_count, loaded, text_at, undone, visible_at}
-use Rattle.plain_edits.specs.Edits.{PlainEdit, collected, edited, edit_refusal, misfit, misfit_or_spent, spent, unknown}
+use Rattle.plain_edits.specs.History.{Tagged, History, head, is_visible, inserted_count, loaded, text_at, visible_at}
+use Rattle.plain_edits.specs.Edits.{collected, edit_refusal, misfit, misfit_or_spent, spent, unknown}
 use Rattle.plain_edits.specs.Delta.{inserted_len}
 use Rattle.plain_edits.specs.Collection.{is_dropped, kept}
 use Rattle.plain_text.proofs.callers.ListLemmas.{count_by-no}
-use Rattle.plain_edits.proofs.callers.HistoryLemmas.{IsSound-edited, IsSound-loaded}
+use Rattle.plain_edits.proofs.callers.HistoryLemmas.{IsSound-loaded}
 use Rattle.rev_list.specs.declared.fault.RevFault.{RevFault}
 use Rattle.rev_list.specs.declared.fault.RevFault.TheVariants as Rev
 use Rattle.rev_list.specs.Hidden.{IsCollected, IsKeptAt, IsUnknown}
-use Rattle.rev_list.specs.WithoutText.{in_positions, without_text}
-use Rattle.rev_list.proofs.ForCallers.{undone_after-edit}
-use Rattle.rev_list.proofs.ForCallers.{IsPlain}
+use Rattle.rev_list.specs.WithoutText.{without_text}
 use Rattle.rev_list.proofs.ForCallers.{hidden_without_text}
 use Rattle.rev_rebase.specs.Rebase.{characters_of}
-use Rattle.rev_engine.specs.Given.{AskedEdit, AreTaken, IsGiven, IsTaken, after, after_all, meant}
+use Rattle.plain_text.specs.Numbers.{has}
 use Rattle.plain_edits.specs.declared.fault.EditFault.{EditFault}
 use Rattle.plain_edits.specs.EditFault.{Refuses, refusal_of}
 use Rattle.rev_list.specs.RevFault.{fault_of_base}
 use Rattle.plain_text.specs.Text.{byte_len}
 use Rattle.rev_engine.specs.State.{IsHeld, IsHistoryOf, State, shown_at}
 use Rattle.rev_engine.specs.Engine.{StandsFor}
+use Rattle.rev_engine.proofs.AskedLemmas.{IsGiven-loaded, IsOfEngine-given}
 use Rattle.rev_engine.proofs.SpentLemmas.{count_by-all}
-
--- ---- the histories that calls give
-
--- nothing is undone or collected
-pub record IsFresh (history : History) : Type 0 where
-  pub plain : IsPlain history
-  pub floor : history.floor ≡ 0
-  pub collected : history.collected ≡ []
-
-IsFresh-loaded : (text : List ℕ) → IsFresh (loaded text)
-IsFresh-loaded text = record {
-  plain = record { none = none; sound = IsSound-loaded text };
-  floor = refl;
-  collected = refl;
-}
-  where
-    none : (rev : ℕ) → undone [] rev ≡ []
-    none zero = refl
-    none (suc rev) = refl
-
-IsFresh-edited : (h : History) (e : PlainEdit) → IsFresh h → IsFresh (edited h e)
-IsFresh-edited h e fresh = record {
-  plain = record {
-    none = λ rev. undone_after-edit [] h.revisions rev (in_positions h e) ∙ fresh.plain.none rev;
-    sound = IsSound-edited h e fresh.plain.sound;
-  };
-  floor = fresh.floor;
-  collected = fresh.collected;
-}
-
-IsFresh-all : (h : History) (edits : List AskedEdit) → IsFresh h → IsFresh (after_all h edits)
-IsFresh-all h [] fresh = fresh
-IsFresh-all h (asked ∷ edits) fresh = IsFresh-all (after h asked) edits (IsFresh-edited h (meant h asked) fresh)
-
-pub IsFresh-given : (limit : ℕ) (h : History) → IsGiven limit h → IsFresh h
-IsFresh-given limit h given = rw given.is (IsFresh-all (loaded given.text) given.edits (IsFresh-loaded given.text))
-
-AreTaken-append : (limit : ℕ) (h : History) (edits : List AskedEdit) (asked : AskedEdit) → AreTaken limit h edits → IsTaken limit (after_all h edits) asked →
-    AreTaken limit h (edits ++ asked ∷ [])
-AreTaken-append limit h [] asked are is = (is, tt)
-AreTaken-append limit h (first ∷ edits) asked are is = (are.0, AreTaken-append limit (after h first) edits asked are.1 is)
-
-pub IsGiven-loaded : (limit : ℕ) (text : List ℕ) → IsGiven limit (loaded text)
-IsGiven-loaded limit text = record { text = text; edits = []; taken = tt; is = refl }
-
-pub IsGiven-after : (limit : ℕ) (h : History) (asked : AskedEdit) → IsGiven limit h → IsTaken limit h asked → IsGiven limit (after h asked)
-IsGiven-after limit h asked given is = record {
-  text = given.text;
-  edits = given.edits ++ asked ∷ [];
-  taken = AreTaken-append limit (loaded given.text) given.edits asked given.taken (subst (λ g. IsTaken limit g asked) given.is is);
-  is = ap (λ g. after g asked) given.is ∙ sym (fold-append after (loaded given.text) given.edits (asked ∷ []));
-}
 
 -- ---- what is kept
 
@@ -100,10 +46,19 @@ kept-all h none = count_by-all (λ tagged. not (is_dropped h tagged)) h.characte
     each [] = tt
     each (x ∷ xs) = (ap not (dropped_none h x none), each xs)
 
-pub kept-stands : (engine : State) (h : History) (n : ℕ) → StandsFor engine h → n ≡ length engine.revisions.characters → n ≡ kept h
-kept-stands engine h n stands is =
+none_in : (numbers : List ℕ) → ((n : ℕ) → has numbers n ≡ false) → numbers ≡ []
+none_in [] none = refl
+none_in (n ∷ numbers) none = absurd (both_ways (n == n) (or_first (n == n) (has numbers n) (none n)) (eq-eqb n n refl))
+  where
+    or_first : (a b : Bool) → (a || b) ≡ false → a ≡ false
+    or_first true b is = absurd cc
+    or_first false b is = refl
+
+pub kept-stands : (engine : State) (h : History) (n : ℕ) → StandsFor engine h → ((group : ℕ) → has engine.revisions.collected group ≡ false) →
+    n ≡ length engine.revisions.characters → n ≡ kept h
+kept-stands engine h n stands none is =
     is ∙ (ap (λ g. length g.characters) stands.revisions ∙
-    (length-map h.characters _ ∙ sym (kept-all h (IsFresh-given engine.limit h stands.given).collected)))
+    (length-map h.characters _ ∙ sym (kept-all h (ap (λ (g : History). g.collected) (sym stands.revisions) ∙ none_in engine.revisions.collected none))))
 
 -- ---- what is shown
 
@@ -128,8 +83,7 @@ shown-history union revisions h rev is =
 
 pub IsHistoryOf-stands : (engine : State) (h : History) → StandsFor engine h → IsHistoryOf engine.union engine.revisions h
 IsHistoryOf-stands engine h stands =
-    let fresh = IsFresh-given engine.limit h stands.given in
-    record { none = fresh.plain.none; sound = fresh.plain.sound; union_is = stands.union; revisions_is = stands.revisions }
+    record { sound = (IsOfEngine-given engine.limit h stands.given).formed.sound; union_is = stands.union; revisions_is = stands.revisions }
 
 pub head-text : (engine : State) (h : History) (text : List ℕ) → StandsFor engine h →
     text ≡ shown_at engine.union engine.revisions (head engine.revisions) → text ≡ text_at h (head h)
@@ -166,6 +120,13 @@ module _ (h : History) (limit base : ℕ) (delta : Delta) where
       if nat_lt base h.floor then Some (collected h.floor) else
       misfit_or_spent (misfit_of (text_at h base) delta) limit (inserted_count h + inserted_len delta.els)))
       (lt-ltb (head h) base is.0) ∙ ap (λ k. Some (unknown k)) (sym is.1)
+
+  pub refusal-collected : (n : ℕ) → h.floor ≤ head h → IsCollected h base n → edit_refusal h limit base delta ≡ Some (collected n)
+  refusal-collected n low is =
+      ap₂ (λ above below. if above then Some (unknown (head h)) else (
+      if below then Some (collected h.floor) else
+      misfit_or_spent (misfit_of (text_at h base) delta) limit (inserted_count h + inserted_len delta.els)))
+      (le-ltb (head h) base (omega (arith, low, is.0))) (lt-ltb base h.floor is.0) ∙ ap (λ k. Some (collected k)) (sym is.1)
 
   pub refusal-kept : h.floor ≤ base → base ≤ head h →
       edit_refusal h limit base delta ≡ misfit_or_spent (misfit_of (text_at h base) delta) limit (inserted_count h + inserted_len delta.els)
@@ -208,9 +169,9 @@ module _ (engine : State) (h : History) (base : ℕ) (delta : Delta) (stands : S
       Refuses (edit_refusal h engine.limit base delta) fault
   Refuses-base (Rev.Unknown n) fault above below is = λ _.
       refusal-unknown h engine.limit base delta n (subst (λ revisions. IsUnknown revisions base n) stands.revisions (above n refl)) ∙ ap refusal_of (sym is)
-  Refuses-base (Rev.Collected n) fault above below is =
-      let past = subst (λ revisions. IsCollected revisions base n) stands.revisions (below n refl) in
-      absurd (omega (arith, past.0, (IsFresh-given engine.limit h stands.given).floor))
+  Refuses-base (Rev.Collected n) fault above below is = λ _.
+      refusal-collected h engine.limit base delta n (IsOfEngine-given engine.limit h stands.given).formed.floor
+      (subst (λ revisions. IsCollected revisions base n) stands.revisions (below n refl)) ∙ ap refusal_of (sym is)
   Refuses-base Rev.NoMemory fault above below is = λ other. absurd (other is)
 
   pub refused-misfit : (text : List ℕ) (first : Misfit) → IsKeptAt engine.revisions base → text ≡ shown_at engine.union engine.revisions base →
@@ -285,9 +246,7 @@ IsHeld-loaded text union head_text revisions limit union_is head_is revisions_is
         ap (λ (xs : List Tagged). record { characters = xs; revisions = []; floor = 0; collected = [] }) (positions-loaded text)
 
     is : IsHistoryOf text (without_text (loaded text)) (loaded text)
-    is =
-        let fresh = IsFresh-loaded text in
-        record { none = fresh.plain.none; sound = fresh.plain.sound; union_is = characters-loaded text; revisions_is = refl }
+    is = record { sound = IsSound-loaded text; union_is = characters-loaded text; revisions_is = refl }
 
     shown_at-start : shown_at text (without_text (loaded text)) 0 ≡ text_at (loaded text) 0
     shown_at-start = shown-history text (without_text (loaded text)) (loaded text) 0 is

@@ -5,7 +5,8 @@ use Rattle.plain_edits.specs.Delta.{Fits}
 use Rattle.plain_edits.specs.History.{History, head, text_at, inserted_count}
 use Rattle.plain_edits.specs.Edits.{is_edit_of, merged}
 use Rattle.plain_edits.specs.Delta.{inserted_len}
-use Rattle.rev_engine.specs.Given.{AskedEdit, meant, after_all, AreTaken, IsGiven}
+use Rattle.rev_engine.specs.Given.{AskedEdit, meant, after_all, AreTaken}
+use Rattle.rev_engine.specs.Asked.{IsGiven}
 
 -- no two of the edits have one priority
 abbrev pub DifferInPriority : List AskedEdit → Type 0

@@ -13,7 +13,8 @@ use Rattle.rev_rebase.specs.Rebase.{characters_of}
 use Rattle.rev_engine.specs.declared.edit.Edit.{Edit}
 use Rattle.rev_engine.specs.declared.edit.UnitEdit.{UnitEdit}
 use Rattle.rev_engine.specs.declared.edit.Change.{Change}
-use Rattle.rev_engine.specs.Given.{AskedEdit, IsGiven}
+use Rattle.rev_engine.specs.Given.{AskedEdit}
+use Rattle.rev_engine.specs.Asked.{IsGiven}
 use Rattle.rev_engine.specs.State.{State}
 
 -- THE ENGINE STANDS FOR A HISTORY: it is one that calls give, and the engine has its characters, and its revisions over their positions

@@ -1,9 +1,9 @@
--- Which histories the calls of an engine give.
+-- The edits that are asked of an engine, and when they are taken.
 use Rattle.std.specs.Prelude.{◌≡◌, ℕ, ◌-◌, ◌^◌, ◌<◌, ◌≤◌, false, List, [], ◌∷◌, None, ⊤}
 use Rattle.std.specs.List.{fold}
 use Rattle.plain_edits.specs.declared.delta.Delta.{Delta}
 use Rattle.plain_text.specs.Numbers.{has}
-use Rattle.plain_edits.specs.History.{History, head, loaded}
+use Rattle.plain_edits.specs.History.{History, head}
 use Rattle.plain_edits.specs.Edits.{PlainEdit, edited, plain_edit, edit_refusal}
 
 -- an edit as it is asked for: a delta against the text of a revision
@@ -40,10 +40,3 @@ pub record IsTaken (limit : ℕ) (history : History) (asked : AskedEdit) : Type 
 abbrev pub AreTaken : ℕ → History → List AskedEdit → Type 0
 AreTaken limit history [] = ⊤
 AreTaken limit history (asked ∷ edits) = IsTaken limit history asked × AreTaken limit (after history asked) edits
-
--- THE HISTORIES that the calls of an engine with this limit give: a loaded text, and edits that were taken
-pub record IsGiven (limit : ℕ) (history : History) : Type 0 where
-  pub text : List ℕ
-  pub edits : List AskedEdit
-  pub taken : AreTaken limit (loaded text) edits
-  pub is : history ≡ after_all (loaded text) edits

@@ -1,4 +1,6 @@
 pub mod Given
+pub mod Asked
+pub mod UndoFault
 pub mod State
 pub mod Engine
 pub mod Commute

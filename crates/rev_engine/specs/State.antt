@@ -1,7 +1,7 @@
-use Rattle.std.specs.Prelude.{◌≡◌, ℕ, ◌+◌, ◌*◌, ◌^◌, ◌<◌, ◌≤◌, List, [], length}
+use Rattle.std.specs.Prelude.{◌≡◌, ℕ, ◌+◌, ◌*◌, ◌^◌, ◌<◌, ◌≤◌, List, length}
 use Rattle.subset_runs.specs.Subset.{items_outside}
 use Rattle.plain_text.specs.Text.{byte_len}
-use Rattle.plain_edits.specs.History.{History, IsSound, head, undone}
+use Rattle.plain_edits.specs.History.{History, IsSound, head}
 use Rattle.rev_list.specs.Hidden.{hidden_at}
 use Rattle.rev_list.specs.WithoutText.{without_text}
 use Rattle.rev_rebase.specs.Rebase.{characters_of}
@@ -20,9 +20,8 @@ pub record State : Type 0 where
 abbrev pub shown_at : List ℕ → History → ℕ → List ℕ
 shown_at union revisions rev = items_outside (hidden_at revisions rev) union
 
--- the characters and the revisions are those of a history, in which nothing is undone
+-- the characters and the revisions are those of a history
 pub record IsHistoryOf (union : List ℕ) (revisions history : History) : Type 0 where
-  pub none : (rev : ℕ) → undone history.revisions rev ≡ []
   pub sound : IsSound history
   pub union_is : union ≡ characters_of history
   pub revisions_is : revisions ≡ without_text history

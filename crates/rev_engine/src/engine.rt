@@ -1,28 +1,36 @@
 ghost use Rattle.std.specs.List.{flat_map};
 ghost use Rattle.std.specs.Prelude.{◌≡◌, ◌≢◌, ◌+◌, ◌^◌, ◌<◌, ◌≤◌, ◌↔◌, ℕ, false, None, length, IfOk, IfErr, IsTrue, OnErr, OnOk};
-ghost use Rattle.plain_text.specs.Numbers.{has};
+ghost use Rattle.plain_text.specs.Numbers.{has, IsRising};
 ghost use Rattle.plain_text.specs.Text.{byte_len};
 ghost use Rattle.plain_edits.specs.UnitDelta.{IsCanonical, IsUnitDelta};
 ghost use Rattle.plain_edits.specs.History.{History, head, loaded, text_at};
 ghost use Rattle.plain_edits.specs.Collection.{kept};
-ghost use Rattle.plain_edits.specs.Edits.{edit_refusal, edited};
+ghost use Rattle.plain_edits.specs.Edits.{edit_refusal, edited, undid};
+ghost use Rattle.plain_edits.specs.HistorySteps.{MayUndoSet};
+ghost use Rattle.plain_edits.specs.Undo.{undone_now};
+ghost use Rattle.rev_list.specs.Edit.{undone_by};
+ghost use Rattle.rev_undo.specs.Under.{AgreesOnCollected};
 ghost use Rattle.rev_list.specs.Hidden.{IsCollected, IsKeptAt, IsUnknown};
 ghost use Rattle.rev_rebase.specs.Rebase.{added_text};
 ghost use Rattle.rev_engine.specs.Engine.{IsChange, IsChangeBy, IsSaidBy, StandsFor, asked_by, in_characters};
 ghost use Rattle.plain_edits.specs.EditFault.{Refuses};
 ghost use Rattle.rev_engine.specs.Given.{AskedEdit, MayAsk, after};
+ghost use Rattle.rev_engine.specs.Asked.{IsFrozenAt, MayAskUndo};
 ghost use Rattle.rev_engine.specs.State.{IsHistoryOf, shown_at};
 ghost use Rattle.rev_engine.specs.Inner.{IsAnswered, IsFitting, IsNext, IsPutIn, IsUnitsFor};
 
 use crate::flat::{alive, whole};
 use crate::step::{Fitting, PutIn, put_in, units_from};
-use crate::{Change, Edit, EditFault, UnitEdit, short};
+use crate::undo::frozen;
+use crate::{Change, Edit, EditFault, UndoFault, UnitEdit, short};
 use delta_core::{fits, to_units};
 use plain_edits::{Added, UnitDelta};
 use plain_text::{NoMemory, Text};
-use rev_list::{RevFault, RevList};
+use rev_list::{Groups, RevFault, RevList};
+use rev_undo::recompute_by;
 use rope_tree::Rope;
 use std::alloc::Global;
+use std::collections::BTreeSet;
 use std::marker::Model;
 
 /// A text that many edit, with all its revisions.
@@ -106,6 +114,7 @@ impl Engine {
     pub fn kept(&self) -> u64
         ensures { (history : History) → StandsFor self.now history → result ≡ kept history }
     {
+        let _none = self.revs.is_collected(0);
         self.revs.union_len()
     }
 
@@ -320,7 +329,15 @@ impl Engine {
         })
     }
 
-    // What the edit changes of the head text: an edit against the head is its change itself.
+    // Whether the revision is the head, and the group is not undone there.
+    fn is_live_head(&self, rev: u64, group: u64) -> bool
+        ensures is { IsTrue result → rev ≡ head self.now.revisions }
+        ensures live { IsTrue result → has (undone_now self.now.revisions) group ≡ false }
+    {
+        rev == self.revs.head() && !self.revs.undone().has(group)
+    }
+
+    // What the edit changes of the head text: an edit against the head is its change itself, but where its group is undone.
     fn units_to(
         &self,
         alloc: Global,
@@ -338,7 +355,7 @@ impl Engine {
         ensures change { (history : History) → IsHistoryOf self.now.union self.now.revisions history
             → IfOk result (λ units. IsChangeBy history (edited history (in_characters rev edit)) units) }
     {
-        if self.is_head(rev) {
+        if self.is_live_head(rev, edit.group) {
             let UnitEdit {
                 units,
                 priority: _,
@@ -349,6 +366,92 @@ impl Engine {
         }
         let head = self.head();
         units_from(alloc, &made.union, &made.revs, head)
+    }
+
+    /// Undoes exactly these groups from the next revision on, whatever was undone before, and tells what that changes of the head text.
+    /// The same set once more makes a revision whose change is empty. A fault leaves the engine as it is.
+    ///
+    /// It costs one pass over the set, and then what [`Engine::set_undone_by`] costs.
+    pub fn set_undone(&mut self, alloc: Global, groups: &BTreeSet<u64>) -> Result<Change, UndoFault>
+        requires { MayAskUndo self.old.revisions groups.now.keys }
+        ensures stands { (history : History) → StandsFor self.old history
+            → OnOk result (StandsFor self.new (undid history groups.now.keys)) }
+        ensures change { (history : History) → StandsFor self.old history
+            → IfOk result (IsChange history (undid history groups.now.keys)) }
+        ensures accepted { OnOk result (AgreesOnCollected self.old.revisions groups.now.keys) }
+        ensures frozen { (group : ℕ) → result ≡ Err (UndoFault.Frozen group)
+            → IsFrozenAt self.old.revisions groups.now.keys group }
+        ensures limit { self.new.limit ≡ self.old.limit }
+        ensures same { OnErr result (self.new ≡ self.old) }
+    {
+        let differ = self.differing(alloc, groups)?;
+        self.set_undone_by(alloc, differ.as_slice())
+    }
+
+    // The groups in which the set differs from what is undone at the head.
+    fn differing(&self, alloc: Global, groups: &BTreeSet<u64>) -> Result<Groups, NoMemory>
+        ensures { IfOk result (λ differ. undone_by self.now.revisions differ ≡ groups.now.keys) }
+    {
+        let differ = self.revs.undone().flipped_by_set(alloc, groups)?;
+        Ok(Groups::of_set(alloc, &differ)?)
+    }
+
+    /// The same, by the groups in which the set differs from what is undone at the head, in rising order: those that are undone before
+    /// and after are not walked over.
+    ///
+    /// It costs what `recompute_by` of `rev_undo` does, and the text that was ever inserted once.
+    pub fn set_undone_by(&mut self, alloc: Global, groups: &[u64]) -> Result<Change, UndoFault>
+        requires rising { IsRising groups.now }
+        requires may { MayAskUndo self.old.revisions (undone_by self.old.revisions groups.now) }
+        ensures stands { (history : History) → StandsFor self.old history
+            → OnOk result (StandsFor self.new (undid history (undone_by history groups.now))) }
+        ensures change { (history : History) → StandsFor self.old history
+            → IfOk result (IsChange history (undid history (undone_by history groups.now))) }
+        ensures accepted { OnOk result (AgreesOnCollected self.old.revisions (undone_by self.old.revisions groups.now)) }
+        ensures frozen { (group : ℕ) → result ≡ Err (UndoFault.Frozen group)
+            → IsFrozenAt self.old.revisions (undone_by self.old.revisions groups.now) group }
+        ensures limit { self.new.limit ≡ self.old.limit }
+        ensures same { OnErr result (self.new ≡ self.old) }
+    {
+        if let Some(group) = frozen(&self.revs, groups) {
+            return Err(UndoFault::Frozen(group));
+        }
+        let next = self.next_undo(alloc, groups)?;
+        let Next { engine, change } = next;
+        *self = engine;
+        Ok(change)
+    }
+
+    // The engine after an undo.
+    fn next_undo(&self, alloc: Global, groups: &[u64]) -> Result<Next, NoMemory>
+        requires rising { IsRising groups.now }
+        requires may { MayAskUndo self.now.revisions (undone_by self.now.revisions groups.now) }
+        requires agrees { AgreesOnCollected self.now.revisions (undone_by self.now.revisions groups.now) }
+        ensures next { IfOk result (λ next. next.engine
+            ≡ record self.now { revisions = undid self.now.revisions (undone_by self.now.revisions groups.now) }) }
+        ensures may { IfOk result (λ next. MayUndoSet self.now.revisions (undone_by self.now.revisions groups.now)) }
+        ensures change { (history : History) → IsHistoryOf self.now.union self.now.revisions history
+            → IfOk result (λ next. IsChange history (undid history (undone_by self.now.revisions groups.now)) next.change) }
+    {
+        let _none = self.revs.is_collected(0);
+        let _undone = self.revs.undone();
+        let dead = recompute_by(alloc, &self.revs, groups)?;
+        let mut revs = self.revs.copy(alloc)?;
+        let rev = revs.push_undo_by(alloc, groups, dead)?;
+        let head = self.head();
+        let units = units_from(alloc, &self.union, &revs, head)?;
+        let shown = self.text.edited(alloc, &units)?;
+        let union = self.union.copy(alloc)?;
+        Ok(Next {
+            engine: Engine {
+                union,
+                text: shown,
+                revs,
+                limit: self.limit,
+                spent: self.spent,
+            },
+            change: Change { rev, units },
+        })
     }
 
     /// The same engine, which shares all with this one, in O(1).

@@ -3,8 +3,8 @@
 //! To a contract an [`Engine`] is a record: the characters that were ever inserted, in order, the revisions over their positions, the
 //! limit, and how many characters were inserted after loading. It *stands for* a history (`StandsFor`), and every contract reads:
 //! for every history that the engine stands for before the call, it stands for this one after it. The histories that the calls
-//! give are those of `IsGiven`: a loaded text, and edits that were each taken in their turn. [`laws::edits_commute`] says that edits of
-//! one text may come in any order, and [`laws::undo_is_selective`] that any groups may be undone.
+//! give are those of `IsGiven`: a loaded text, and steps that were each taken in their turn, edits and sets of groups that were undone.
+//! [`laws::edits_commute`] says that edits of one text may come in any order, and [`laws::undo_is_selective`] that any groups may be undone.
 //!
 //! An engine keeps its union and its head text as ropes, so that a copy is a few pointers, and an edit against the head walks over
 //! neither.
@@ -16,7 +16,9 @@ mod flat;
 pub mod laws;
 mod short;
 mod step;
+mod undo;
 
 pub use edit::{Change, Edit, UnitEdit};
 pub use engine::Engine;
 pub use plain_edits::EditFault;
+pub use undo::UndoFault;

@@ -84,6 +84,7 @@ impl RevList {
     pub fn is_collected(&self, _group: u64) -> bool
         ensures collected { result ≡ has self.now.collected _group }
         ensures none { result ≡ false }
+        ensures all { (group : ℕ) → has self.now.collected group ≡ false }
     {
         let _records = &self.records;
         false

@@ -3,3 +3,4 @@ pub mod ItemLemmas
 pub mod StepLemmas
 pub mod StartLemmas
 pub mod AllowedLemmas
+pub mod ForCallers
