@@ -5,20 +5,4 @@
 #[cfg(test)]
 mod commands;
 #[cfg(test)]
-mod documents;
-#[cfg(test)]
-mod elements;
-#[cfg(test)]
-mod engines;
-#[cfg(test)]
-mod groups;
-#[cfg(test)]
-mod merging;
-#[cfg(test)]
-mod revisions;
-#[cfg(test)]
 mod selections;
-#[cfg(test)]
-mod stacks;
-#[cfg(test)]
-mod undos;

@@ -11,6 +11,4 @@ mod names;
 #[cfg(test)]
 mod notes;
 #[cfg(test)]
-mod plugins;
-#[cfg(test)]
 mod words;

@@ -1,5 +1,5 @@
 use Rattle.std.proofs.Common.{◌≡◌, ◌≤◌, false, length}
-use Rattle.turn_cases.proofs.turns.visits.Given as goal
+use Rattle.plugin_cases.proofs.turns.visits.Given as goal
 
 -- the session goes on, and its place is in the journal
 abbrev pub invariant-loop : goal.invariant-loop

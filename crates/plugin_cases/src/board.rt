@@ -81,7 +81,7 @@ impl Object for Board {
     ghost use Rattle.xi_plain.specs.Reply.{has_entry};
     ghost use Rattle.xi_plain.specs.Room.{AddsEntryIf, Begins};
     ghost use Rattle.plugin_session.specs.Call.{SaysLength};
-    ghost use Rattle.turn_cases.specs.Board.{begins_same, begins_on, short_of};
+    ghost use Rattle.plugin_cases.specs.Board.{begins_same, begins_on, short_of};
 
     ghost journal = { λ b. b.entries.items };
 

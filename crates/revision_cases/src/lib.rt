@@ -1,0 +1,20 @@
+//! Tables of tests of revisions, of what undoes them, of the engine and of documents, each proved once: every call that takes memory
+//! gives its answer where there is enough, and worked rows have the values that they had on paper.
+#![tactic(auto)]
+
+#[cfg(test)]
+mod documents;
+#[cfg(test)]
+mod elements;
+#[cfg(test)]
+mod engines;
+#[cfg(test)]
+mod groups;
+#[cfg(test)]
+mod merging;
+#[cfg(test)]
+mod revisions;
+#[cfg(test)]
+mod stacks;
+#[cfg(test)]
+mod undos;
