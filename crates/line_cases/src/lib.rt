@@ -12,6 +12,8 @@ mod pieces;
 #[cfg(test)]
 mod rendering;
 #[cfg(test)]
+mod styles;
+#[cfg(test)]
 mod views;
 #[cfg(test)]
 mod wrapping;
