@@ -1,4 +1,5 @@
 pub mod RunLemmas
+pub mod BareLemmas
 pub mod WalkLemmas
 pub mod OverlayLemmas
 pub mod SpannedLemmas
@@ -9,5 +10,4 @@ pub mod PlaceLemmas
 pub mod TableLemmas
 pub mod DeadLemmas
 pub mod LengthLemmas
-pub mod RiseLemmas
 pub mod ForCallers

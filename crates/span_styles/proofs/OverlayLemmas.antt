@@ -55,7 +55,7 @@ or_style-assoc None b c = refl
 or_style-assoc (Some style) b c = refl
 
 -- spans after others win
-pub span_style-append : (earlier later : List Span) (index : ℕ) → span_style (earlier ++ later) index ≡ or_style (span_style later index) (span_style earlier index)
+span_style-append : (earlier later : List Span) (index : ℕ) → span_style (earlier ++ later) index ≡ or_style (span_style later index) (span_style earlier index)
 span_style-append [] later index = none (span_style later index)
   where
     none : (style : Option ℕ) → style ≡ or_style style None

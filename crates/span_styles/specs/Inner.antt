@@ -1,5 +1,5 @@
 -- What private functions say: layers as runs of one style, and walks over them.
-use Rattle.std.specs.Prelude.{◌≡◌, ◌≢◌, ◌⊎◌, ℕ, suc, ◌+◌, ◌-◌, ◌^◌, ◌<◌, List, [], ◌∷◌, ◌++◌, length, map, replicate, drop, Option, None, Some, slice_get}
+use Rattle.std.specs.Prelude.{◌≡◌, ◌≢◌, ◌⊎◌, ℕ, suc, ◌+◌, ◌-◌, ◌^◌, ◌<◌, Bool, true, false, List, [], ◌∷◌, ◌++◌, length, map, replicate, drop, Option, None, Some, is_some, slice_get}
 use Rattle.std.specs.List.{range_with_len}
 use Rattle.plain_text.specs.declared.run.Run.{Run}
 use Rattle.plain_edits.specs.declared.style.Span.{Span}
@@ -22,6 +22,12 @@ BeginsOtherwise style (run ∷ runs) = style ≢ run.style
 abbrev pub AreStyleRuns : ℕ → List StyleRun → Type 0
 AreStyleRuns from [] = Unit {0}
 AreStyleRuns from (run ∷ runs) = (from < run.end) × BeginsOtherwise run.style runs × AreStyleRuns run.end runs
+
+-- whether some of the runs has a style: of two neighbours one has
+abbrev pub has_style : List StyleRun → Bool
+has_style [] = false
+has_style (run ∷ []) = is_some run.style
+has_style (run ∷ next ∷ runs) = true
 
 -- the last run goes where it has this style
 abbrev pub LosesLast : Option ℕ → List StyleRun → List StyleRun → Type 0

@@ -15,7 +15,7 @@ use std::alloc::Global;
 use std::marker::Model;
 use std::sync::Arc;
 
-/// One layer. Copies share its runs, and a layer without a style has none.
+/// One layer. Copies share its runs; there are none exactly where no character has a style.
 #[derive(Drop)]
 pub(crate) struct StyleLayer {
     len: u64,

@@ -1,5 +1,5 @@
-ghost use Rattle.std.specs.Prelude.{◌≡◌, ◌+◌, ◌^◌, ◌<◌, false, [], ◌++◌, length, drop, replicate, IfOk, OnOk, None};
-ghost use Rattle.span_styles.specs.Inner.{AreStyleRuns, IsRestAt, LosesLast, layer_of};
+ghost use Rattle.std.specs.Prelude.{◌≡◌, ◌↔◌, ◌+◌, ◌^◌, ◌<◌, false, [], ◌++◌, length, drop, replicate, IfOk, OnOk, None};
+ghost use Rattle.span_styles.specs.Inner.{AreStyleRuns, IsRestAt, LosesLast, has_style, layer_of};
 
 use crate::walk::RunWalk;
 use plain_text::NoMemory;
@@ -65,15 +65,11 @@ impl StyleRuns {
         }
     }
 
-    /// Whether some character may have a style, in O(1).
+    /// Whether some character has a style, in O(1).
     pub(crate) fn has_styles(&self) -> bool
-        ensures { result ≡ false → self.now ≡ replicate (length self.now) None }
+        ensures { (result ≡ false) ↔ (self.now ≡ replicate (length self.now) None) }
     {
-        match self.runs.as_slice() {
-            [] => false,
-            [run] => run.style.is_some(),
-            _ => true,
-        }
+        any_styled(&self.runs)
     }
 
     /// Puts `n` characters of one style at the end.
@@ -96,6 +92,17 @@ impl StyleRuns {
     {
         let _len = self.len();
         RunWalk::new(runs_after(&self.runs, at), at)
+    }
+}
+
+// Whether some run has a style: of two neighbours one has.
+fn any_styled(runs: &[StyleRun]) -> bool
+    ensures { result ≡ has_style runs.now }
+{
+    match runs {
+        [] => false,
+        [run] => run.style.is_some(),
+        _ => true,
     }
 }
 
