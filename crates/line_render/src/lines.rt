@@ -14,8 +14,8 @@ use plain_text::{NoMemory, Sel, Text, TryClone};
 use span_styles::triples;
 use std::alloc::Global;
 
-/// The line of a piece of a text. This walks the text up to the piece's end, and all spans, which may come in any order; who has the
-/// characters of the piece at hand takes [`render_piece`].
+/// The line of a piece of a text. This walks the text, and all spans, which may come in any order; who has the characters of the piece
+/// at hand takes [`render_piece`].
 pub fn render(
     alloc: Global,
     text: &Text,

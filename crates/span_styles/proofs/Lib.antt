@@ -4,6 +4,7 @@ pub mod WalkLemmas
 pub mod OverlayLemmas
 pub mod SpannedLemmas
 pub mod MapLemmas
+pub mod StillLemmas
 pub mod ShowLemmas
 pub mod OrderLemmas
 pub mod PlaceLemmas

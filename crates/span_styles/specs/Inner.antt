@@ -3,6 +3,7 @@ use Rattle.std.specs.Prelude.{◌≡◌, ◌≢◌, ◌⊎◌, ℕ, suc, ◌+◌
 use Rattle.std.specs.List.{range_with_len}
 use Rattle.plain_text.specs.declared.run.Run.{Run}
 use Rattle.plain_edits.specs.declared.style.Span.{Span}
+use Rattle.plain_edits.specs.declared.delta.UnitDelta.{UnitDelta}
 use Rattle.plain_edits.specs.Styles.{Layer, or_style, span_style}
 use Rattle.delta_core.specs.UnitStep.{UnitStep, Kept, Dropped, New}
 use Rattle.span_styles.specs.declared.run.StyleRun.{StyleRun}
@@ -69,6 +70,16 @@ layer_of_steps (Kept ∷ steps) [] = []
 layer_of_steps (Kept ∷ steps) (style ∷ layer) = style ∷ layer_of_steps steps layer
 layer_of_steps (Dropped ∷ steps) [] = []
 layer_of_steps (Dropped ∷ steps) (style ∷ layer) = layer_of_steps steps layer
+
+-- the runs are one with all of so many characters, or none of none
+abbrev pub IsWhole : ℕ → List Run → Type 0
+IsWhole base [] = base ≡ 0
+IsWhole base (run ∷ []) = (run.start ≡ 0) × (run.end ≡ base)
+IsWhole base (run ∷ next ∷ runs) = ⊥
+
+-- the edit keeps all characters, in one run, and adds none
+abbrev pub LeavesAll : UnitDelta → Type 0
+LeavesAll units = IsWhole units.base units.kept × (units.added ≡ [])
 
 -- how many characters there are after the steps
 abbrev pub shown_count : List UnitStep → ℕ

@@ -1,8 +1,9 @@
-ghost use Rattle.std.specs.Prelude.{◌≡◌, ◌∷◌, ◌<◌, ◌≤◌, ◌^◌, [], length, IfOk};
+ghost use Rattle.std.specs.Prelude.{◌≡◌, ◌↔◌, ◌∷◌, ◌<◌, ◌≤◌, ◌^◌, [], length, IsTrue, IfOk};
 ghost use Rattle.plain_edits.specs.UnitDelta.{IsUnitDelta};
 ghost use Rattle.span_styles.specs.Layers.{AreOver, LieIn, RiseWithin, layer_at, length_after, mapped_layers, new_layers, spanned_layers};
 ghost use Rattle.std.specs.List.{flat_map};
 ghost use Rattle.span_styles.specs.Spans.{spans_in, spans_of};
+ghost use Rattle.span_styles.specs.Inner.{IsWhole, LeavesAll};
 
 use crate::layer::StyleLayer;
 use crate::order::{copied as copied_spans, in_order};
@@ -79,13 +80,17 @@ impl Layers {
         Ok(Layers { layers })
     }
 
-    /// The layers after an edit. This costs the elements of the edit with their texts, and for each layer that has a style its runs.
+    /// The layers after an edit. This costs the elements of the edit with their texts, and for each layer that has a style these again
+    /// and its runs. An edit that leaves all characters, and adds none, changes no layer: all are shared.
     pub fn map(&self, alloc: Global, units: &UnitDelta) -> Result<Layers, NoMemory>
         requires well_formed { IsUnitDelta units.now }
         requires over { AreOver units.now.base self.now }
         requires bound { length_after units.now < 2 ^ 64 }
         ensures { IfOk result (λ made. made ≡ mapped_layers units.now self.now) }
     {
+        if leaves_all(units) {
+            return self.copy(alloc);
+        }
         let len = len_after(units);
         Ok(Layers {
             layers: mapped(alloc, &self.layers, units, len)?,
@@ -148,6 +153,24 @@ fn shown(alloc: Global, layers: &[StyleLayer], range: Run) -> Result<Spans, NoMe
         layer.push_spans(&mut spans, range)?;
     }
     Ok(spans)
+}
+
+// Whether an edit keeps all characters, in one run, and adds none.
+fn leaves_all(units: &UnitDelta) -> bool
+    ensures { IsTrue result ↔ LeavesAll units.now }
+{
+    units.added.is_empty() && is_whole(units.base, units.kept.as_slice())
+}
+
+// Whether the runs are one with all of so many characters, or none of none.
+fn is_whole(base: u64, kept: &[Run]) -> bool
+    ensures { IsTrue result ↔ IsWhole base kept.now }
+{
+    match kept {
+        [] => base == 0,
+        [run] => run.start == 0 && run.end == base,
+        _ => false,
+    }
 }
 
 // How many characters there are after an edit.
