@@ -8,7 +8,7 @@ use plain_edits::Span;
 use plain_screen::{Line, Piece, Triple};
 use plain_text::{NoMemory, Region, Regions, Sel, Text};
 use selection_core::Selection;
-use span_styles::triples;
+use span_styles::{place_at, places_in, triples};
 use std::alloc::Global;
 
 const fn piece(start: u64, end: u64, ln: Option<u64>) -> Piece {
@@ -73,6 +73,23 @@ fn line_alone(
     }
 }
 
+// The same with no regions, beside what the search found.
+fn line_with_match(
+    alloc: Global,
+    text: &str,
+    piece: Piece,
+    found: Span,
+    spans: &[Span],
+) -> Result<Line, NoMemory> {
+    let text = Text::from_str(alloc, text)?;
+    let sel = selected(alloc, &[])?;
+    if piece.start <= piece.end && piece.end - piece.start == text.char_count() {
+        render_piece(alloc, &text, &piece, false, &sel, &[found], spans)
+    } else {
+        Err(NoMemory)
+    }
+}
+
 // Whether a line was made, with these carets and styles and the number of its piece.
 fn has(line: Result<Line, NoMemory>, ln: Option<u64>, cursor: &[u64], styles: &[Triple]) -> bool {
     match line {
@@ -103,6 +120,25 @@ fn triples_count_bytes(rt: HostRuntime) {
     let alloc = rt.alloc();
     assert!(rt; are_triples(alloc, "aé中b", span(1, 2, 2), &[triple(1, 2, 2)]));
     assert!(rt; are_triples(alloc, "aé中b", span(2, 4, 3), &[triple(3, 4, 3)]));
+}
+
+// Whether a gap of a line is at this byte.
+fn is_at(alloc: Global, line: &str, gap: u64, byte: u64) -> Result<bool, NoMemory> {
+    let line = Text::from_str(alloc, line)?;
+    let places = places_in(alloc, &line)?;
+    if gap <= line.char_count() {
+        Ok(place_at(&line, &places, gap) == byte)
+    } else {
+        Ok(false)
+    }
+}
+
+#[test]
+fn gaps_are_at_bytes(rt: HostRuntime) {
+    let alloc = rt.alloc();
+    assert!(rt; is_at(alloc, "aé中b", 0, 0).unwrap_or(false));
+    assert!(rt; is_at(alloc, "aé中b", 3, 6).unwrap_or(false));
+    assert!(rt; is_at(alloc, "aé中b", 4, 7).unwrap_or(false));
 }
 
 const WHOLE: &[(u64, u64)] = &[(0, 3)];
@@ -221,6 +257,8 @@ fn a_piece_alone_takes_regions_and_spans_of_the_whole(rt: HostRuntime) {
             &[triple(0, 1, 0), triple(-1, 2, 2), triple(-1, 1, 3)]
         )
     );
+    let found = line_with_match(alloc, "ab", middle, span(11, 13, 1), &[span(12, 20, 2)]);
+    assert!(rt; has(found, None, &[], &[triple(0, 1, 1), triple(-1, 2, 2)]));
     assert!(rt;
         has(
             line_alone(alloc, "ab", middle, false, &[(14, 14)], &[]),

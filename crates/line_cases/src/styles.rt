@@ -82,6 +82,7 @@ fn styles_stay_with_their_characters(rt: HostRuntime) {
     assert!(rt; show_after(alloc, 1, "", 2, &[span(1, 2, 2)]).unwrap_or(false));
     assert!(rt; show_after(alloc, 1, "é", 3, &[]).unwrap_or(false));
     assert!(rt; show_after(alloc, 3, "XX", 3, &[span(1, 3, 2)]).unwrap_or(false));
+    assert!(rt; show_after(alloc, 2, "", 2, &[span(1, 3, 2)]).unwrap_or(false));
 }
 
 // Whether the layers show these spans after others over a range of one of them.
@@ -99,7 +100,7 @@ fn show_with(
 {
     let layers = styled(alloc)?;
     let after = layers.set_range(alloc, layer, range, spans)?;
-    Ok(show(alloc, &after, expected)? && show(alloc, &layers, &[span(1, 3, 2)])?)
+    Ok(show(alloc, &after, expected)? && show(alloc, &layers.copy(alloc)?, &[span(1, 3, 2)])?)
 }
 
 fn run(start: u64, end: u64) -> Run
