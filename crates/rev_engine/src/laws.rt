@@ -2,7 +2,7 @@
 
 ghost use Rattle.rev_engine.specs.Commute.{EditsCommute};
 ghost use Rattle.rev_engine.specs.Engine.{HeadEditIsItsChange};
-ghost use Rattle.rev_engine.specs.Selective.{UndoIsSelective};
+ghost use Rattle.rev_engine.specs.Selective.{MoreMayBeUndone, UndoIsSelective};
 
 /// Edits of one text may come in any order: each is taken, and the text is that of all of them merged.
 pub fn edits_commute()
@@ -12,7 +12,8 @@ pub fn edits_commute()
 /// Any groups may be undone: what is theirs goes or comes back, all else stays, and undoing the former groups again gives the former
 /// text back.
 pub fn undo_is_selective()
-    ensures { UndoIsSelective }
+    ensures may { MoreMayBeUndone }
+    ensures selective { UndoIsSelective }
 {}
 
 /// An edit against the head is itself what it changes of the head text: its revision is the edit step, and nothing is carried.

@@ -107,7 +107,7 @@ turned_over true false true = refl
 turned_over true false false = refl
 turned_over false s u = refl
 
-rising_after : (groups : List ℕ) (revisions : List Revision) (rev : ℕ) → IsRising groups → AllByRecursion HasRisingSet revisions →
+pub rising_after : (groups : List ℕ) (revisions : List Revision) (rev : ℕ) → IsRising groups → AllByRecursion HasRisingSet revisions →
     IsRising (undone_after groups (take rev revisions))
 rising_after groups revisions zero up sets = up
 rising_after groups [] (suc rev) up sets = up
