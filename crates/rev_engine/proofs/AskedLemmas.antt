@@ -1,5 +1,5 @@
 -- What each step of an engine keeps of its history.
-use Rattle.std.proofs.Common.{◌≡◌, ℕ, ◌≤◌, Bool, true, false, ◌||◌, if◌then◌else◌, nat_lt, ◌==◌, Option, Some, None, List, [], ◌∷◌, ◌++◌, length-append, refl, ap, sym, ◌∙◌, subst}
+use Rattle.std.proofs.Common.{◌≡◌, ℕ, ◌≤◌, Bool, true, false, ◌||◌, if◌then◌else◌, nat_lt, ◌==◌, Option, Some, None, List, [], ◌∷◌, ◌++◌, length-append, refl, ap, ap₂, sym, ◌∙◌, subst}
 use Rattle.std.specs.List.{list_any, AllByRecursion}
 use Rattle.std.proofs.lemmas.Bool.{both_ways, eqb-true, ltb-false}
 use Rattle.std.proofs.lemmas.List.Folds.{list_any-append}
@@ -13,9 +13,11 @@ use Rattle.plain_edits.specs.Edits.{PlainEdit, edited, undid, is_edit_of, Refusa
 use Rattle.plain_edits.specs.Undo.{undone_now}
 use Rattle.plain_edits.proofs.callers.HistoryLemmas.{undone-edit, undone-undo}
 use Rattle.plain_edits.proofs.callers.WellFormedLemmas.{IsWellFormed-loaded, IsWellFormed-edited, IsWellFormed-undid}
+use Rattle.rev_list.specs.declared.edit.RevEdit.{RevEdit}
+use Rattle.rev_list.specs.Edit.{after_edit, edit_revision}
 use Rattle.rev_undo.specs.Allowed.{HasEdit}
 use Rattle.rev_engine.specs.Given.{AskedEdit, IsTaken, meant}
-use Rattle.rev_engine.specs.Asked.{Asked, asks, undoes, after_asked, after_all_asked, IsTakenStep, AreTakenSteps, IsGiven, IsOfEngine}
+use Rattle.rev_engine.specs.Asked.{Asked, asks, undoes, after_asked, after_all_asked, IsKnown, IsTakenStep, AreTakenSteps, IsGiven, IsOfEngine}
 
 -- ---- groups that have an edit
 
@@ -32,6 +34,23 @@ HasEdit-more h later last groups revisions known =
       is.0,
       ap (list_any (is_edit_of group)) revisions ∙ list_any-append (is_edit_of group) h.revisions (last ∷ []) ∙
           or_left (list_any (is_edit_of group) h.revisions) (list_any (is_edit_of group) (last ∷ [])) is.1,
+    )) groups known
+
+-- the same of groups that have an edit or are collected
+or_more : (a b c : Bool) → (a || c) ≡ true → ((a || b) || c) ≡ true
+or_more true b c is = refl
+or_more false true c is = refl
+or_more false false c is = is
+
+pub IsKnown-more : (h later : History) (last : Revision) (groups : List ℕ) → later.revisions ≡ h.revisions ++ last ∷ [] →
+    later.collected ≡ h.collected → AllByRecursion (IsKnown h) groups → AllByRecursion (IsKnown later) groups
+IsKnown-more h later last groups revisions same known =
+    AllByRecursion-weaker (IsKnown h) (IsKnown later)
+    (λ group is. (
+      is.0,
+      ap₂ (λ a b. a || b) (ap (list_any (is_edit_of group)) revisions ∙ list_any-append (is_edit_of group) h.revisions (last ∷ []))
+          (ap (λ (groups : List ℕ). has groups group) same) ∙
+          or_more (list_any (is_edit_of group) h.revisions) (list_any (is_edit_of group) (last ∷ [])) (has h.collected group) is.1,
     )) groups known
 
 -- a group without an edit is none of them
@@ -52,6 +71,11 @@ IsOfEngine-loaded text = record { formed = IsWellFormed-loaded text; undone_know
 pub undone_now-edited : (h : History) (e : PlainEdit) → undone_now (edited h e) ≡ undone_now h
 undone_now-edited h e =
     ap (undone (edited h e).revisions) (length-append h.revisions (edit e.base e.group e.priority e.author ∷ [])) ∙
+    undone-edit h.revisions e.base e.group e.priority e.author
+
+pub undone_now-after : (h : History) (e : RevEdit) → undone_now (after_edit h e) ≡ undone_now h
+undone_now-after h e =
+    ap (undone (after_edit h e).revisions) (length-append h.revisions (edit_revision e ∷ [])) ∙
     undone-edit h.revisions e.base e.group e.priority e.author
 
 pub undone_now-undid : (h : History) (groups : List ℕ) → undone_now (undid h groups) ≡ groups

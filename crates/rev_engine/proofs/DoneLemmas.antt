@@ -3,6 +3,7 @@ use Rattle.std.proofs.Common.{◌≡◌, ℕ, ◌+◌, ◌^◌, ◌<◌, ◌≤�
 use Rattle.std.proofs.Math.Logic.{∥∥₁_elim}
 use Rattle.std.proofs.Math.Nat.{ℕ_set}
 use Rattle.std.proofs.lemmas.List.{length-map}
+use Rattle.std.specs.List.{AllByRecursion}
 use Rattle.plain_edits.specs.declared.delta.UnitDelta.{UnitDelta}
 use Rattle.plain_edits.specs.UnitDelta.{IsCanonical}
 use Rattle.plain_text.specs.Text.{byte_len}
@@ -15,7 +16,7 @@ use Rattle.plain_edits.proofs.callers.HistoryLemmas.{IsSound-edited, text_at-edi
 use Rattle.delta_core.specs.Units.{IsUnitsOf}
 use Rattle.delta_core.specs.Synthesis.{IsBetween}
 use Rattle.rev_list.specs.declared.edit.RevEdit.{RevEdit}
-use Rattle.rev_list.specs.Edit.{after_edit}
+use Rattle.rev_list.specs.Edit.{after_edit, edit_revision}
 use Rattle.rev_list.specs.Hidden.{IsKeptAt, hidden_at}
 use Rattle.rev_list.specs.WithoutText.{insertion_flags, in_positions, without_text}
 use Rattle.rev_list.proofs.ForCallers.{step_without_text}
@@ -29,8 +30,8 @@ use Rattle.rev_engine.specs.Given.{AskedEdit, MayAsk, after, meant}
 use Rattle.rev_engine.specs.State.{IsHeld, IsHistoryOf, State, shown_at}
 use Rattle.rev_engine.specs.Inner.{IsAnswered, IsBasedOn, IsFitting, IsNext, IsPutIn}
 use Rattle.rev_engine.specs.Engine.{IsChange, IsChangeBy, IsSaidBy, StandsFor, asked_by, in_characters}
-use Rattle.rev_engine.specs.Asked.{asks}
-use Rattle.rev_engine.proofs.AskedLemmas.{IsGiven-after, IsOfEngine-given}
+use Rattle.rev_engine.specs.Asked.{asks, IsKnown}
+use Rattle.rev_engine.proofs.AskedLemmas.{IsGiven-after, IsKnown-more, IsOfEngine-given, undone_now-after}
 use Rattle.rev_engine.proofs.NextLemmas.{GoesOn, IsChangeBy-between, goes-on-by, some-after}
 use Rattle.rev_engine.proofs.ByteLemmas.{byte_len-least, byte_len-most, byte_len-outside, byte_len-put_in}
 use Rattle.rev_engine.proofs.HeadLemmas.{IsChangeBy-head}
@@ -151,6 +152,14 @@ module _ (engine : State) (text : List ℕ) (rev : ℕ) (fitting : Fitting) (hel
       ∥∥₁_elim some_later (ℕ_set _ _) (λ (s : (h : History) × IsHistoryOf union_after revisions_after h).
       positions-history union_after revisions_after s.0 s.1)
 
+  -- what is undone stays, and stays known
+  known-after : AllByRecursion (IsKnown revisions_after) (undone_now revisions_after)
+  known-after =
+      let e : RevEdit = in_positions engine.revisions (in_characters rev fitting.edit) in
+      subst (λ (g : History). AllByRecursion (IsKnown g) (undone_now g)) (sym put.revisions_is)
+      (subst (λ (groups : List ℕ). AllByRecursion (IsKnown (after_edit engine.revisions e)) groups) (sym (undone_now-after engine.revisions e))
+      (IsKnown-more engine.revisions (after_edit engine.revisions e) (edit_revision e) (undone_now engine.revisions) refl refl held.known))
+
   pub IsHeld-after : (text_now : List ℕ) → text_now ≡ shown_at union_after revisions_after (head revisions_after) →
       IsHeld union_after text_now revisions_after engine.limit fitting.spent
   IsHeld-after text_now shown = record {
@@ -165,6 +174,7 @@ module _ (engine : State) (text : List ℕ) (rev : ℕ) (fitting : Fitting) (hel
           head-next engine.revisions (in_positions engine.revisions (in_characters rev fitting.edit)),
         );
     shown = shown;
+    known = known-after;
     within = is.room.within;
     limit_bound = held.limit_bound;
     bound = omega (arith, held.bound, bytes-union, is.room.is, byte_len-most (added_text fitting.edit.units));

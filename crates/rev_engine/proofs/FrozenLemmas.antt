@@ -29,7 +29,7 @@ AreAhead-next h groups i lt kept ahead = λ other in_it collected.
     (rw (drop_more groups i 0 lt) at (ahead other in_it collected))
 
 -- whether a group is in the set that differs in these groups
-has-undone_by : (h : History) (groups : List ℕ) (group : ℕ) → IsRising (undone_now h) → IsRising groups →
+pub has-undone_by : (h : History) (groups : List ℕ) (group : ℕ) → IsRising (undone_now h) → IsRising groups →
     has (undone_by h groups) group ≡ (if has groups group then not (has (undone_now h) group) else has (undone_now h) group)
 has-undone_by h groups group up rising = has-flipped (undone_now h) groups group up rising
 

@@ -16,5 +16,6 @@ pub mod OrderLemmas
 pub mod CommuteLemmas
 pub mod SelectiveLemmas
 pub mod FrozenLemmas
+pub mod KnownLemmas
 pub mod UndoLemmas
 pub mod ForCallers

@@ -235,6 +235,7 @@ IsHeld-loaded text union head_text revisions limit union_is head_is revisions_is
       positions = sym (length-map (loaded text).characters _ ∙ length-map text _);
       floor = omega arith;
       shown = sym (shown_at-start ∙ text_at-loaded text);
+      known = tt;
       within = omega arith;
       limit_bound = bound;
       bound = omega (arith, bound, few);

@@ -19,7 +19,7 @@ use Rattle.plain_text.proofs.callers.NumberLemmas.{IsRising-flipped}
 use Rattle.rev_engine.specs.Asked.{undoes, IsKnown, MayAskUndo}
 use Rattle.rev_engine.specs.State.{IsHeld, IsHistoryOf, State, shown_at}
 use Rattle.rev_engine.specs.Engine.{IsChange, IsChangeBy, StandsFor}
-use Rattle.rev_engine.proofs.AskedLemmas.{IsGiven-after}
+use Rattle.rev_engine.proofs.AskedLemmas.{IsGiven-after, IsKnown-more, undone_now-undid}
 use Rattle.rev_engine.proofs.ByteLemmas.{byte_len-outside}
 use Rattle.rev_engine.proofs.NextLemmas.{GoesOn, IsChangeBy-between, goes-on-by, some-after}
 
@@ -63,7 +63,7 @@ module _ (union : List ℕ) (revisions : History) (groups : List ℕ) where
       IsChangeBy-between union union revisions (undid revisions groups) (λ g. undid g groups) IsHistoryOf-undid h is units from
       (text_at-undid h groups (head h) is.sound (omega arith)) from_is between
 
-  module _ (text : List ℕ) (limit spent : ℕ) (held : IsHeld union text revisions limit spent) where
+  module _ (text : List ℕ) (limit spent : ℕ) (held : IsHeld union text revisions limit spent) (known : AllByRecursion (IsKnown revisions) groups) where
     short-undid : (at : ℕ) → byte_len (shown_at union (undid revisions groups) at) < 2 ^ 64
     short-undid at =
         omega (arith, byte_len-outside (hidden_at (undid revisions groups) at) union, held.bound, held.within)
@@ -75,6 +75,9 @@ module _ (union : List ℕ) (revisions : History) (groups : List ℕ) where
       positions = held.positions;
       floor = omega (arith, held.floor, head-undid revisions groups);
       shown = shown;
+      known =
+          subst (λ (set : List ℕ). AllByRecursion (IsKnown (undid revisions groups)) set) (sym (undone_now-undid revisions groups))
+          (IsKnown-more revisions (undid revisions groups) (undo groups) groups refl refl known);
       within = held.within;
       limit_bound = held.limit_bound;
       bound = held.bound;
@@ -126,11 +129,14 @@ may_undo_by state now groups view none up may agrees =
     (IsRising-flipped (undone_now state.revisions) groups up)
 
 module _ (state now : State) (text groups : List ℕ) (view : state ≡ now) (held : IsHeld state.union text state.revisions state.limit state.spent)
-    (copy pushed : History) (copied : copy ≡ state.revisions) (push : pushed ≡ undid copy (undone_by copy groups)) (from : ℕ)
+    (may : MayAskUndo now.revisions (undone_by now.revisions groups)) (copy pushed : History) (copied : copy ≡ state.revisions) (push : pushed ≡ undid copy (undone_by copy groups)) (from : ℕ)
     (from_is : from ≡ head now.revisions) (units : UnitDelta)
     (between : IsBetween state.union (hidden_at pushed from) (hidden_at pushed (head pushed)) units) where
   pushed_is : pushed ≡ undid state.revisions (undone_by state.revisions groups)
   pushed_is = push ∙ ap (λ h. undid h (undone_by h groups)) copied
+
+  known_then : AllByRecursion (IsKnown state.revisions) (undone_by state.revisions groups)
+  known_then = subst (λ (s : State). AllByRecursion (IsKnown s.revisions) (undone_by s.revisions groups)) (sym view) may.known
 
   change : (h : History) → IsHistoryOf state.union state.revisions h → IsChangeBy h (undid h (undone_by state.revisions groups)) units
   change h is =
@@ -141,7 +147,7 @@ module _ (state now : State) (text groups : List ℕ) (view : state ≡ now) (he
   pub goes-on-pushed : GoesOn text state.union pushed state.limit state.spent units
   goes-on-pushed =
       subst (λ g. GoesOn text state.union g state.limit state.spent units) (sym pushed_is)
-      (goes-on-undid state.union state.revisions (undone_by state.revisions groups) text state.limit state.spent held units change)
+      (goes-on-undid state.union state.revisions (undone_by state.revisions groups) text state.limit state.spent held known_then units change)
 
   pub change-pushed : (rev : ℕ) → rev ≡ head copy + 1 → (h : History) → IsHistoryOf now.union now.revisions h →
       IsChange h (undid h (undone_by now.revisions groups)) (record { rev = rev; units = units })

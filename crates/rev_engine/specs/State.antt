@@ -1,10 +1,13 @@
 use Rattle.std.specs.Prelude.{◌≡◌, ℕ, ◌+◌, ◌*◌, ◌^◌, ◌<◌, ◌≤◌, List, length}
+use Rattle.std.specs.List.{AllByRecursion}
 use Rattle.subset_runs.specs.Subset.{items_outside}
 use Rattle.plain_text.specs.Text.{byte_len}
 use Rattle.plain_edits.specs.History.{History, IsSound, head}
 use Rattle.rev_list.specs.Hidden.{hidden_at}
 use Rattle.rev_list.specs.WithoutText.{without_text}
+use Rattle.plain_edits.specs.Undo.{undone_now}
 use Rattle.rev_rebase.specs.Rebase.{characters_of}
+use Rattle.rev_engine.specs.Asked.{IsKnown}
 
 -- what contracts see of an engine
 pub record State : Type 0 where
@@ -26,13 +29,14 @@ pub record IsHistoryOf (union : List ℕ) (revisions history : History) : Type 0
   pub union_is : union ≡ characters_of history
   pub revisions_is : revisions ≡ without_text history
 
--- the parts go together: they are those of some history, the text is what the head shows, and there are numbers for all characters
--- that may still come, of at most four bytes each
+-- the parts go together: they are those of some history, the text is what the head shows, what is undone is known, and there are
+-- numbers for all characters that may still come, of at most four bytes each
 pub record IsHeld (union text : List ℕ) (revisions : History) (limit spent : ℕ) : Type 0 where
   pub some : ∥ ((history : History) × IsHistoryOf union revisions history) ∥₁
   pub positions : length union ≡ length revisions.characters
   pub floor : revisions.floor ≤ head revisions
   pub shown : text ≡ shown_at union revisions (head revisions)
+  pub known : AllByRecursion (IsKnown revisions) (undone_now revisions)
   pub within : spent ≤ limit
   pub limit_bound : limit ≤ 2 ^ 60
   pub bound : byte_len union + 4 * limit < 2 ^ 64 + 4 * spent

@@ -21,7 +21,7 @@ ghost use Rattle.rev_engine.specs.Inner.{IsAnswered, IsFitting, IsNext, IsPutIn,
 
 use crate::flat::{alive, whole};
 use crate::step::{Fitting, PutIn, put_in, units_from};
-use crate::undo::frozen;
+use crate::undo::{are_known, frozen, has_number, is_set_known};
 use crate::{Change, Edit, EditFault, UndoFault, UnitEdit, short};
 use delta_core::{fits, to_units};
 use plain_edits::{Added, UnitDelta};
@@ -366,6 +366,23 @@ impl Engine {
         }
         let head = self.head();
         units_from(alloc, &made.union, &made.revs, head)
+    }
+
+    /// Whether exactly these groups may be undone from the next revision on: each counts from 1 and has an edit, and that revision has a
+    /// number. It costs a look-up for each group.
+    pub fn may_undo(&self, groups: &BTreeSet<u64>) -> bool
+        ensures { IsTrue result ↔ MayAskUndo self.now.revisions groups.now.keys }
+    {
+        has_number(&self.revs) && is_set_known(&self.revs, groups)
+    }
+
+    /// The same of the set that differs from what is undone at the head in these groups, in rising order: those alone are looked up.
+    pub fn may_undo_by(&self, groups: &[u64]) -> bool
+        requires { IsRising groups.now }
+        ensures { IsTrue result ↔ MayAskUndo self.now.revisions (undone_by self.now.revisions groups.now) }
+    {
+        let _undone = self.revs.undone();
+        has_number(&self.revs) && are_known(&self.revs, groups)
     }
 
     /// Undoes exactly these groups from the next revision on, whatever was undone before, and tells what that changes of the head text.

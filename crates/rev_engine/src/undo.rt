@@ -1,13 +1,16 @@
-// Why a set of groups is not undone.
-ghost use Rattle.std.specs.Prelude.{◌≡◌, IfNone, IfSome};
+// When a set of groups may be undone, and why it is not.
+ghost use Rattle.std.specs.Prelude.{◌≡◌, ◌↔◌, ◌-◌, ◌^◌, ◌<◌, IfNone, IfSome, IsTrue};
+ghost use Rattle.std.specs.List.{AllByRecursion};
 ghost use Rattle.plain_text.specs.Numbers.{IsRising};
+ghost use Rattle.plain_edits.specs.History.{head};
 ghost use Rattle.rev_list.specs.Edit.{undone_by};
 ghost use Rattle.rev_undo.specs.Under.{AgreesOnCollected};
-ghost use Rattle.rev_engine.specs.Asked.{IsFrozenAt};
+ghost use Rattle.rev_engine.specs.Asked.{IsFrozenAt, IsKnown};
 
 use plain_text::NoMemory;
 use rev_list::RevList;
 use std::alloc::AllocError;
+use std::collections::BTreeSet;
 use std::error::Error;
 use std::fmt;
 
@@ -68,4 +71,42 @@ pub(crate) fn frozen(revs: &RevList, groups: &[u64]) -> Option<u64>
         }
     }
     None
+}
+
+// Whether the next revision has a number.
+pub(crate) fn has_number(revs: &RevList) -> bool
+    ensures { IsTrue result ↔ (head revs.now < 2 ^ 63 - 1) }
+{
+    revs.head() < (1 << 63) - 1
+}
+
+// Whether the group counts from 1, and has an edit or is collected.
+pub(crate) fn is_known(revs: &RevList, group: u64) -> bool
+    ensures { IsTrue result ↔ IsKnown revs.now group }
+{
+    group > 0 && (revs.first_edit(group).is_some() || revs.is_collected(group))
+}
+
+// Whether each group of a set is known.
+pub(crate) fn is_set_known(revs: &RevList, groups: &BTreeSet<u64>) -> bool
+    ensures { IsTrue result ↔ AllByRecursion (IsKnown revs.now) groups.now.keys }
+{
+    for group in groups {
+        if !is_known(revs, *group) {
+            return false;
+        }
+    }
+    true
+}
+
+// Whether each of these groups is.
+pub(crate) fn are_known(revs: &RevList, groups: &[u64]) -> bool
+    ensures { IsTrue result ↔ AllByRecursion (IsKnown revs.now) groups.now }
+{
+    for group in groups {
+        if !is_known(revs, *group) {
+            return false;
+        }
+    }
+    true
 }

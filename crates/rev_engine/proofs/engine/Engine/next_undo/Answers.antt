@@ -20,18 +20,18 @@ push_undo_by-requires-clause-may c =
 
 pub edited-requires-clause-base : goal.edited-requires-clause-base
 edited-requires-clause-base c =
-    (goes-on-pushed _ c.args.self.now _ c.args.groups.now c.self.view_is c.self.invariant c.in_ok-revs.revs c.push_undo_by.new.self c.in_ok-revs.ensures
+    (goes-on-pushed _ c.args.self.now _ c.args.groups.now c.self.view_is c.self.invariant c.requires.may c.in_ok-revs.revs c.push_undo_by.new.self c.in_ok-revs.ensures
     c.in_ok-rev.ensures.ok c.head-head.result c.head-head.ensures.revisions c.in_ok-units.units c.in_ok-units.ensures).base
 
 pub edited-requires-clause-fits : goal.edited-requires-clause-fits
 edited-requires-clause-fits c =
-    (goes-on-pushed _ c.args.self.now _ c.args.groups.now c.self.view_is c.self.invariant c.in_ok-revs.revs c.push_undo_by.new.self c.in_ok-revs.ensures
+    (goes-on-pushed _ c.args.self.now _ c.args.groups.now c.self.view_is c.self.invariant c.requires.may c.in_ok-revs.revs c.push_undo_by.new.self c.in_ok-revs.ensures
     c.in_ok-rev.ensures.ok c.head-head.result c.head-head.ensures.revisions c.in_ok-units.units c.in_ok-units.ensures).short
 
 pub invariant_of-result : goal.invariant_of-result
 invariant_of-result c =
     rw c.in_ok-union.ensures
-    ((goes-on-pushed _ c.args.self.now _ c.args.groups.now c.self.view_is c.self.invariant c.in_ok-revs.revs c.push_undo_by.new.self c.in_ok-revs.ensures
+    ((goes-on-pushed _ c.args.self.now _ c.args.groups.now c.self.view_is c.self.invariant c.requires.may c.in_ok-revs.revs c.push_undo_by.new.self c.in_ok-revs.ensures
     c.in_ok-rev.ensures.ok c.head-head.result c.head-head.ensures.revisions c.in_ok-units.units c.in_ok-units.ensures).holds _ c.in_ok-shown.ensures)
 
 pub returns-clause-may : goal.returns-clause-may
@@ -42,6 +42,6 @@ returns-clause-may c =
 
 pub returns-clause-change : goal.returns-clause-change
 returns-clause-change c =
-    change-pushed _ c.args.self.now _ c.args.groups.now c.self.view_is c.self.invariant c.in_ok-revs.revs c.push_undo_by.new.self c.in_ok-revs.ensures
+    change-pushed _ c.args.self.now _ c.args.groups.now c.self.view_is c.self.invariant c.requires.may c.in_ok-revs.revs c.push_undo_by.new.self c.in_ok-revs.ensures
     c.in_ok-rev.ensures.ok c.head-head.result c.head-head.ensures.revisions c.in_ok-units.units c.in_ok-units.ensures c.in_ok-rev.rev
     c.in_ok-rev.ensures.number
