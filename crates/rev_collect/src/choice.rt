@@ -1,0 +1,44 @@
+ghost use Rattle.std.specs.Prelude.{◌≡◌, ◌≤◌, IfOk};
+ghost use Rattle.plain_edits.specs.History.{head};
+ghost use Rattle.plain_edits.specs.Collection.{collection_of, is_where_to_collect};
+ghost use Rattle.rev_collect.specs.Choice.{collection_said};
+
+use crate::floors::clean_floor;
+use crate::rest::resting_groups;
+use plain_text::NoMemory;
+use rev_list::RevList;
+use std::alloc::Global;
+use std::collections::BTreeSet;
+
+/// What is collected after an entry, where these groups are retired and `acknowledged` is the least revision that an open session has
+/// acknowledged, or the head where none is open: a floor, and the groups that are collected there. `None` comes exactly where that is
+/// nothing. Groups that were collected before are passed over. It costs the height of the list for each revision after the greatest
+/// clean floor up to `acknowledged`, and, where groups are collected at that floor, one pass over the retired ones.
+pub fn collectable(
+    alloc: Global,
+    revs: &RevList,
+    acknowledged: u64,
+    retired: &BTreeSet<u64>,
+) -> Result<Option<(u64, BTreeSet<u64>)>, NoMemory>
+    requires reached { revs.now.floor ≤ acknowledged }
+    requires known { acknowledged ≤ head revs.now }
+    ensures { IfOk result (λ found. collection_said found
+        ≡ collection_of revs.now retired.now.keys acknowledged) }
+{
+    let floor = clean_floor(revs, acknowledged);
+    if !is_where_to_collect(revs, floor) {
+        return Ok(None);
+    }
+    let groups = resting_groups(alloc, revs, retired, floor)?;
+    if groups.is_empty() {
+        return Ok(None);
+    }
+    Ok(Some((floor, groups)))
+}
+
+// THE RULE OF WHERE: whether groups are collected at this floor.
+fn is_where_to_collect(revs: &RevList, floor: u64) -> bool
+    ensures { result ≡ is_where_to_collect revs.now floor }
+{
+    floor == revs.head()
+}

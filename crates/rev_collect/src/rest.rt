@@ -1,0 +1,67 @@
+// Groups at rest at a floor.
+ghost use Rattle.std.specs.Prelude.{◌≡◌, ℕ, ◌≤◌, not, ◌&&◌, IfOk};
+ghost use Rattle.plain_text.specs.Numbers.{has};
+ghost use Rattle.plain_edits.specs.History.{head};
+ghost use Rattle.plain_edits.specs.Collection.{is_at_rest, resting_groups};
+ghost use Rattle.rev_collect.specs.Inner.{AreMoving, IsMoved};
+
+use number_set::NumberSet;
+use plain_text::NoMemory;
+use rev_list::{RevList, RevStep};
+use std::alloc::Global;
+use std::collections::BTreeSet;
+
+// The groups of a set that are not collected yet and are at rest at the floor: one pass over the revisions after the floor and over the
+// groups that each moves, and one over the set.
+pub(crate) fn resting_groups(
+    alloc: Global,
+    revs: &RevList,
+    retired: &BTreeSet<u64>,
+    floor: u64,
+) -> Result<BTreeSet<u64>, NoMemory>
+    requires reached { revs.now.floor ≤ floor }
+    requires known { floor ≤ head revs.now }
+    ensures { IfOk result (λ groups. groups.keys ≡ resting_groups revs.now retired.now.keys floor) }
+{
+    let moving = moving_after(alloc, revs, floor)?;
+    let _count = retired.len();
+    let mut groups = BTreeSet::new(alloc);
+    for group in retired {
+        if is_resting(revs, &moving, *group) {
+            groups.insert(*group)?;
+        }
+    }
+    Ok(groups)
+}
+
+fn is_resting(revs: &RevList, moving: &NumberSet, group: u64) -> bool
+    ensures { result ≡ (not (has revs.now.collected group) && not (has moving.now group)) }
+{
+    !revs.is_collected(group) && !moving.has(group)
+}
+
+// The groups that are not at rest at the floor: those with an edit after it, and those that an undo after it turns.
+fn moving_after(alloc: Global, revs: &RevList, floor: u64) -> Result<NumberSet, NoMemory>
+    requires reached { revs.now.floor ≤ floor }
+    requires known { floor ≤ head revs.now }
+    ensures { IfOk result (AreMoving revs.now floor) }
+{
+    let _sets = revs.undone();
+    let mut moving = NumberSet::new(alloc);
+    let mut at = revs.head();
+    while floor < at {
+        moving = with_moved(alloc, &moving, revs.revision(at))?;
+        at -= 1;
+    }
+    Ok(moving)
+}
+
+// With the group of an edit, or the groups that an undo turns.
+fn with_moved(alloc: Global, moving: &NumberSet, revision: &RevStep) -> Result<NumberSet, NoMemory>
+    ensures { IfOk result (IsMoved revision.now moving.now) }
+{
+    match revision {
+        RevStep::Edit(edit) => moving.with(alloc, edit.group),
+        RevStep::Undo(groups) => moving.with_all(alloc, groups.as_slice()),
+    }
+}
