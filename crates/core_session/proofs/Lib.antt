@@ -1,8 +1,10 @@
 pub mod SessionLemmas
+pub mod ViewLemmas
 pub mod RevisionLemmas
 pub mod ShowsLemmas
 pub mod OpenLemmas
 pub mod InsertLemmas
 pub mod LawLemmas
+pub mod OnlyViewLemmas
 pub mod RowLemmas
 pub mod ForCallers

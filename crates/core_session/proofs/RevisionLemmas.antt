@@ -1,6 +1,7 @@
 -- A document has at most as many revisions as its journal has entries.
-use Rattle.std.proofs.Common.{◌≡◌, ℕ, ◌+◌, ◌≤◌, Bool, true, false, List, [], ◌∷◌, length, Option, Some, None, refl, arith}
+use Rattle.std.proofs.Common.{◌≡◌, ℕ, ◌+◌, ◌≤◌, Bool, true, false, List, [], ◌∷◌, length, Option, Some, None, refl, arith, subst}
 use Rattle.std.specs.Prelude.{if◌then◌else◌}
+use Rattle.std.specs.Str.{bytes_eq, encode_utf8_all}
 use Rattle.xi_plain.specs.declared.command.EditAct.{EditAct}
 use Rattle.xi_plain.specs.declared.command.Act.{Act}
 use Rattle.xi_plain.specs.declared.command.Act.TheVariants.{NewView, CloseView, Save, Edit}
@@ -12,55 +13,91 @@ use Rattle.doc_session.specs.Document.{Document}
 use Rattle.doc_session.specs.Effects.{updated, wants_update}
 use Rattle.doc_session.specs.Step.{edited_document, refusal_at, typed, typing_step}
 use Rattle.doc_session.proofs.ForCallers.{head-after}
-use Rattle.core_session.specs.Laws.{revisions_of}
-use Rattle.core_session.specs.Session.{outcome, opening_outcome, first_document, edit_came, spent_total, front_outcome, is_done, answer_undone, keeping, refusing_view, is_first_view, is_there, step, document_after}
-use Rattle.core_session.specs.Answer.{not_built}
-use Rattle.core_session.specs.Core.{plain_of}
-pub use Rattle.core_session.specs.Laws.{revisions_of}
+use Rattle.core_session.specs.Laws.{HaveRevisions}
+use Rattle.core_session.specs.Session.{OpenView, view_of, with_view, named_view, outcome, opening_outcome, first_document, edit_came, edit_outcome, undone_outcome, spent_total, front_outcome, is_done, answer_undone, keeping, step, views_after}
+use Rattle.core_session.specs.Core.{views_of}
 
 head-if : (wants : Bool) (document : Document) → head (if wants then updated document else document).history ≡ head document.history
 head-if true document = refl
 head-if false document = refl
 
+-- the views one by one
+few_more : (n : ℕ) (views : List OpenView) → HaveRevisions n views → HaveRevisions (n + 1) views
+few_more n [] few = tt
+few_more n (view ∷ views) few = (omega (arith, few.0), few_more n views few.1)
+
+few_found : (n : ℕ) (b : Bool) (first : OpenView) (found : Option OpenView) (view : OpenView) → head first.document.history ≤ n →
+    (found ≡ Some view → head view.document.history ≤ n) → (if b then Some first else found) ≡ Some view → head view.document.history ≤ n
+few_found n false first found view few later is = later is
+few_found n true first found view few later is =
+    let here : first ≡ view = cc in
+    let At : OpenView → Type 0 = λ v. head v.document.history ≤ n in
+    subst At here few
+
+pub few_at : (n : ℕ) (views : List OpenView) (id : List ℕ) (view : OpenView) → HaveRevisions n views → view_of views id ≡ Some view → head view.document.history ≤ n
+few_at n [] id view few found = absurd cc
+few_at n (first ∷ views) id view few found =
+    few_found n (bytes_eq id first.id) first (view_of views id) view few.0 (few_at n views id view few.1) found
+
+few_either : (n : ℕ) (b : Bool) (view first : OpenView) → head view.document.history ≤ n → head first.document.history ≤ n →
+    head (if b then view else first).document.history ≤ n
+few_either n true view first one other = one
+few_either n false view first one other = other
+
+few_with : (n : ℕ) (views : List OpenView) (view : OpenView) → HaveRevisions n views → head view.document.history ≤ n → HaveRevisions n (with_view views view)
+few_with n [] view few one = tt
+few_with n (first ∷ views) view few one = (few_either n (bytes_eq view.id first.id) view first one few.0, few_with n views view few.1 one)
+
 -- an act adds one revision at most
-few_came : (document : Document) (total : Option ℕ) (chars : List ℕ) →
-    revisions_of (edit_came document total (typing_step document chars)).document ≤ head document.history + 1
-few_came document (Some total) chars = omega arith
-few_came document None [] = omega (arith, head-if (wants_update document document) document)
-few_came document None (c ∷ chars) =
-    let asked = front_edit document (c ∷ chars) in
-    let next = edited_document document asked (document.caret + length (c ∷ chars)) in
-    omega (arith, head-if (wants_update document next) next, head-after document.history asked)
+few_came : (n : ℕ) (views : List OpenView) (view : OpenView) (total : Option ℕ) (chars : List ℕ) → HaveRevisions n views → head view.document.history ≤ n →
+    HaveRevisions (n + 1) (edit_came views view total (typing_step view.document chars)).views
+few_came n views view (Some total) chars few one = few_more n views few
+few_came n views view None [] few one =
+    few_with (n + 1) views _ (few_more n views few) (omega (arith, one, head-if (wants_update view.document view.document) view.document))
+few_came n views view None (c ∷ chars) few one =
+    let asked = front_edit view.document (c ∷ chars) in
+    let next = edited_document view.document asked (view.document.caret + length (c ∷ chars)) in
+    few_with (n + 1) views _ (few_more n views few)
+    (omega (arith, one, head-if (wants_update view.document next) next, head-after view.document.history asked))
 
-few_view : (there taken : Bool) (document : Document) (act : EditAct) →
-    revisions_of (if there then (if taken then front_outcome document act else keeping (Some document) (answer_undone act)) else
-    refusing_view (Some document)).document ≤ head document.history + 1
-few_view true true document act = few_came document (spent_total (refusal_at document (Front act))) (typed act)
-few_view true false document act = omega arith
-few_view false taken document act = omega arith
+few_view : (n : ℕ) (views : List OpenView) (done : Bool) (view : OpenView) (act : EditAct) → HaveRevisions n views → head view.document.history ≤ n →
+    HaveRevisions (n + 1) (if done then front_outcome views view act else keeping views (answer_undone act)).views
+few_view n views true view act few one = few_came n views view (spent_total (refusal_at view.document (Front act))) (typed act) few one
+few_view n views false view act few one = few_more n views few
 
-few_undone : (there : Bool) (plain : Option Document) →
-    revisions_of (if there then keeping plain not_built else refusing_view plain).document ≤ revisions_of plain + 1
-few_undone true plain = omega arith
-few_undone false plain = omega arith
+few_edit : (n : ℕ) (views : List OpenView) (id : List ℕ) (found : Option OpenView) (act : EditAct) → HaveRevisions n views → view_of views id ≡ found →
+    HaveRevisions (n + 1) (edit_outcome views found act).views
+few_edit n views id None act few is = few_more n views few
+few_edit n views id (Some view) act few is = few_view n views (is_done act) view act few (few_at n views id view few is)
 
-few_opened : revisions_of opening_outcome.document ≤ 1
-few_opened = omega (arith, head-if (wants_update first_document first_document) first_document)
+few_undone : (n : ℕ) (views : List OpenView) (found : Option OpenView) → HaveRevisions n views → HaveRevisions (n + 1) (undone_outcome views found).views
+few_undone n views None few = few_more n views few
+few_undone n views (Some view) few = few_more n views few
 
-few_step : (plain : Option Document) (act : Act) → revisions_of (outcome plain act).document ≤ revisions_of plain + 1
-few_step None (NewView None) = few_opened
-few_step None (NewView (Some path)) = omega arith
-few_step (Some document) (NewView path) = omega arith
-few_step None (Edit view act) = omega arith
-few_step (Some document) (Edit view act) = few_view (is_first_view view) (is_done act) document act
-few_step plain (CloseView view) = few_undone (is_there plain view) plain
-few_step plain (Save view path) = few_undone (is_there plain view) plain
-few_step plain act = omega arith
+few_opened : (n : ℕ) → HaveRevisions (n + 1) opening_outcome.views
+few_opened n = (omega (arith, head-if (wants_update first_document first_document) first_document), tt)
 
-few_after : (plain : Option Document) (entries : List Entry) → revisions_of (document_after plain entries) ≤ revisions_of plain + length entries
-few_after plain [] = omega arith
-few_after plain (entry ∷ entries) =
-    omega (arith, few_step plain entry.command.act, few_after (step plain entry.command) entries)
+few_step : (n : ℕ) (views : List OpenView) (act : Act) → HaveRevisions n views → HaveRevisions (n + 1) (outcome views act).views
+few_step n [] (NewView None) few = few_opened n
+few_step n [] (NewView (Some path)) few = tt
+few_step n (view ∷ views) (NewView path) few = few_more n (view ∷ views) few
+few_step n views (Edit name act) few = few_edit n views (encode_utf8_all name) (named_view views name) act few refl
+few_step n views (CloseView name) few = few_undone n views (named_view views name) few
+few_step n views (Save name path) few = few_undone n views (named_view views name) few
+few_step n views act few = few_more n views few
 
-pub revisions_few : (journal : List Entry) → revisions_of (plain_of journal) ≤ length journal
-revisions_few journal = omega (arith, few_after None journal)
+few_after : (n : ℕ) (views : List OpenView) (entries : List Entry) → HaveRevisions n views → HaveRevisions (n + length entries) (views_after views entries)
+few_after n views [] few =
+    let At : ℕ → Type 0 = λ most. HaveRevisions most views in
+    let same : n ≡ n + 0 = omega arith in
+    subst At same few
+few_after n views (entry ∷ entries) few =
+    let At : ℕ → Type 0 = λ most. HaveRevisions most (views_after views (entry ∷ entries)) in
+    let same : n + 1 + length entries ≡ n + length (entry ∷ entries) = omega arith in
+    subst At same (few_after (n + 1) (step views entry.command) entries (few_step n views entry.command.act few))
+
+pub revisions_few : (journal : List Entry) → HaveRevisions (length journal) (views_of journal)
+revisions_few journal =
+    let At : ℕ → Type 0 = λ most. HaveRevisions most (views_of journal) in
+    let same : 0 + length journal ≡ length journal = omega arith in
+    subst At same (few_after 0 [] journal tt)

@@ -1,5 +1,5 @@
 -- Lemmas on the plain session: one more entry.
-use Rattle.std.proofs.Common.{take_all, length-drop, length, ◌-◌, ◌≡◌, ℕ, zero, suc, ◌+◌, arith, zero-add, take, drop, List, [], ◌∷◌, ◌++◌, map, Option, Some, None, refl, ap, sym, ◌∙◌, subst, append_assoc, append-nil}
+use Rattle.std.proofs.Common.{take_all, length-drop, length, ◌-◌, ◌≡◌, ℕ, zero, suc, ◌+◌, arith, zero-add, take, drop, List, [], ◌∷◌, ◌++◌, map, Some, None, refl, ap, sym, ◌∙◌, subst, append_assoc, append-nil}
 use Rattle.std.proofs.lemmas.List.{map-append}
 use Rattle.std.specs.List.{concat, AllByRecursion}
 use Rattle.std.specs.Str.{encode_utf8_all}
@@ -9,8 +9,7 @@ use Rattle.serde_json.specs.Data.{Data}
 use Rattle.json_rpc.specs.Line.{line_of, IsLineOf}
 use Rattle.xi_plain.specs.declared.command.Command.{Command}
 use Rattle.xi_plain.specs.declared.entry.Entry.{Entry}
-use Rattle.doc_session.specs.Document.{Document}
-use Rattle.core_session.specs.Session.{messages, step, document_after, lines_written, written, piece_of}
+use Rattle.core_session.specs.Session.{OpenView, messages, step, views_after, lines_written, written, piece_of}
 use Rattle.core_session.specs.Core.{IsOfLine, IsOpen, front_entry}
 use Rattle.core_session.specs.Inner.{AreLinesOf}
 use Rattle.std.proofs.Math.Seq.{take-nil}
@@ -23,59 +22,59 @@ use Rattle.front_wire.specs.Front.{command_of}
 use Rattle.front_wire.proofs.ForCallers.{closes-command_of}
 
 -- entries after entries
-pub document_after-append : (document : Option Document) (front back : List Entry) →
-    document_after document (front ++ back) ≡ document_after (document_after document front) back
-document_after-append document [] back = refl
-document_after-append document (entry ∷ front) back = document_after-append (step document entry.command) front back
+pub views_after-append : (views : List OpenView) (front back : List Entry) →
+    views_after views (front ++ back) ≡ views_after (views_after views front) back
+views_after-append views [] back = refl
+views_after-append views (entry ∷ front) back = views_after-append (step views entry.command) front back
 
 -- the messages of entries, one after the other
-pub all_messages : Option Document → List Entry → List Data
-all_messages document [] = []
-all_messages document (entry ∷ entries) = messages document entry.command ++ all_messages (step document entry.command) entries
+pub all_messages : List OpenView → List Entry → List Data
+all_messages views [] = []
+all_messages views (entry ∷ entries) = messages views entry.command ++ all_messages (step views entry.command) entries
 
-pub all_messages-append : (document : Option Document) (front back : List Entry) →
-    all_messages document (front ++ back) ≡ all_messages document front ++ all_messages (document_after document front) back
+pub all_messages-append : (views : List OpenView) (front back : List Entry) →
+    all_messages views (front ++ back) ≡ all_messages views front ++ all_messages (views_after views front) back
 unfolding all_messages
-all_messages-append document [] back = refl
-all_messages-append document (entry ∷ front) back =
-    ap (λ rest. messages document entry.command ++ rest) (all_messages-append (step document entry.command) front back) ∙
-    sym (append_assoc (messages document entry.command) (all_messages (step document entry.command) front)
-    (all_messages (document_after (step document entry.command) front) back))
+all_messages-append views [] back = refl
+all_messages-append views (entry ∷ front) back =
+    ap (λ rest. messages views entry.command ++ rest) (all_messages-append (step views entry.command) front back) ∙
+    sym (append_assoc (messages views entry.command) (all_messages (step views entry.command) front)
+    (all_messages (views_after (step views entry.command) front) back))
 
 -- one more entry
-pub document_after-push : (journal : List Entry) (entry : Entry) →
-    document_after None (journal ++ entry ∷ []) ≡ step (document_after None journal) entry.command
-document_after-push journal entry = document_after-append None journal (entry ∷ [])
+pub views_after-push : (journal : List Entry) (entry : Entry) →
+    views_after [] (journal ++ entry ∷ []) ≡ step (views_after [] journal) entry.command
+views_after-push journal entry = views_after-append [] journal (entry ∷ [])
 
 pub all_messages-push : (journal : List Entry) (entry : Entry) →
-    all_messages None (journal ++ entry ∷ []) ≡ all_messages None journal ++ messages (document_after None journal) entry.command
+    all_messages [] (journal ++ entry ∷ []) ≡ all_messages [] journal ++ messages (views_after [] journal) entry.command
 unfolding all_messages
 all_messages-push journal entry =
-    all_messages-append None journal (entry ∷ []) ∙
-    ap (λ rest. all_messages None journal ++ rest) (append-nil (messages (document_after None journal) entry.command))
+    all_messages-append [] journal (entry ∷ []) ∙
+    ap (λ rest. all_messages [] journal ++ rest) (append-nil (messages (views_after [] journal) entry.command))
 
 -- the lines of messages after messages
 pub lines_written-append : (front back : List Data) → lines_written (front ++ back) ≡ lines_written front ++ lines_written back
 lines_written-append front back = ap concat (map-append line_of front back) ∙ concat-append (map line_of front) (map line_of back)
 
 -- what entries write is the lines of their messages
-pub written-messages : (document : Option Document) (entries : List Entry) → written document entries ≡ lines_written (all_messages document entries)
+pub written-messages : (views : List OpenView) (entries : List Entry) → written views entries ≡ lines_written (all_messages views entries)
 unfolding all_messages
-written-messages document [] = refl
-written-messages document (entry ∷ entries) =
-    ap (λ rest. piece_of document entry.command ++ rest) (written-messages (step document entry.command) entries) ∙
-    sym (lines_written-append (messages document entry.command) (all_messages (step document entry.command) entries))
+written-messages views [] = refl
+written-messages views (entry ∷ entries) =
+    ap (λ rest. piece_of views entry.command ++ rest) (written-messages (step views entry.command) entries) ∙
+    sym (lines_written-append (messages views entry.command) (all_messages (step views entry.command) entries))
 
 -- one more entry writes its piece
 pub written-push : (journal : List Entry) (entry : Entry) →
-    written None (journal ++ entry ∷ []) ≡ written None journal ++ piece_of (document_after None journal) entry.command
+    written [] (journal ++ entry ∷ []) ≡ written [] journal ++ piece_of (views_after [] journal) entry.command
 written-push journal entry =
-    let said = messages (document_after None journal) entry.command in
-    written-messages None (journal ++ entry ∷ []) ∙ ap lines_written (all_messages-push journal entry) ∙
-    lines_written-append (all_messages None journal) said ∙ ap (λ front. front ++ lines_written said) (sym (written-messages None journal))
+    let said = messages (views_after [] journal) entry.command in
+    written-messages [] (journal ++ entry ∷ []) ∙ ap lines_written (all_messages-push journal entry) ∙
+    lines_written-append (all_messages [] journal) said ∙ ap (λ front. front ++ lines_written said) (sym (written-messages [] journal))
 
 -- texts of lines, one after the other
-all_append : {X : Type 0} (P : X → Type 0) (xs ys : List X) → AllByRecursion P xs → AllByRecursion P ys → AllByRecursion P (xs ++ ys)
+pub all_append : {X : Type 0} (P : X → Type 0) (xs ys : List X) → AllByRecursion P xs → AllByRecursion P ys → AllByRecursion P (xs ++ ys)
 all_append P [] ys front back = back
 all_append P (x ∷ xs) ys front back = (front.0, all_append P xs ys front.1 back)
 

@@ -1,6 +1,8 @@
 -- One more entry is shown, where those before it are.
 use Rattle.std.proofs.Common.{◌≡◌, ℕ, suc, ◌+◌, ◌-◌, ◌<◌, ◌≤◌, ◌||◌, length, arith, Bool, true, false, List, [], ◌∷◌, ◌++◌, map, Option, Some, None, refl, ap, sym, ◌∙◌, subst, append-nil, ◌⊎◌, inl, inr, unwrap_or}
-use Rattle.std.specs.Prelude.{if◌then◌else◌, ◌&&◌, ℤ, pos, codes, ◌^◌}
+use Rattle.std.specs.Prelude.{if◌then◌else◌, ℤ, pos, codes, ◌^◌}
+use Rattle.std.specs.Str.{bytes_eq, encode_utf8_all}
+use Rattle.std.proofs.lemmas.Slice.Eq.{bytes_eq-Decides}
 use Rattle.std.specs.List.{filter_map, cons_option, AllByRecursion}
 use Rattle.serde_json.specs.Data.{Data}
 use Rattle.json_rpc.specs.Line.{line_of, IsLineOf}
@@ -11,8 +13,6 @@ use Rattle.xi_plain.specs.declared.command.Fault.{Fault}
 use Rattle.xi_plain.specs.declared.command.Fault.TheVariants.{Parse, Invalid, NoMethod, BadParams}
 use Rattle.xi_plain.specs.declared.command.Command.{Command}
 use Rattle.xi_plain.specs.declared.entry.Entry.{Entry}
-use Rattle.plain_screen.specs.declared.screen.Update.{Update}
-use Rattle.doc_session.specs.Layout.{Position}
 use Rattle.plain_text.specs.declared.run.Run.{Run}
 use Rattle.plain_screen.specs.declared.screen.Line.{Line}
 use Rattle.plain_screen.specs.declared.screen.Op.{Op}
@@ -29,7 +29,7 @@ use Rattle.plain_screen.specs.Screen.{Screen, screen_after}
 use Rattle.json_rpc.specs.Response.{reply_data, error_data}
 use Rattle.view_update.specs.Notes.{scroll_data, alert_data}
 use Rattle.view_update.specs.Written.{update_data}
-use Rattle.view_update.specs.Reading.{ViewUpdate, line_update}
+use Rattle.view_update.specs.Reading.{ViewUpdate, Scroll, line_update}
 use Rattle.view_update.proofs.ForCallers.{others_are_no_updates}
 use Rattle.doc_session.specs.InMemory.{Doc}
 use Rattle.doc_session.specs.Document.{Document, layout_of, no_request}
@@ -39,13 +39,15 @@ use Rattle.doc_session.specs.Effects.{ops_of, update_of, updated, wants_update}
 use Rattle.doc_session.specs.Step.{edited_document, refusal_at, typed, typing_step}
 use Rattle.core_session.specs.Answer.{Reply, accepted, refused, spent, not_built, silent, answers, refusal, refused_by, spent_refusal, not_built_refusal}
 use Rattle.json_rpc.specs.Refusal.{code_of, message_of}
-use Rattle.core_session.specs.Session.{view_id, Outcome, outcome, opening_outcome, first_document, edit_came, spent_total, front_outcome, is_done, answer_undone, keeping, refusing, refusing_view, is_first_view, is_there, outcome_messages, update_notes, scroll_notes, messages, step, document_after, lines_written, written, piece_of}
-use Rattle.core_session.specs.Shows.{updates_in, screen_with, rebuilt_from, rebuilt, IsShown, SendsWithin, SendWindow, Shows}
+use Rattle.core_session.specs.Session.{OpenView, view_of, with_view, named_view, view_id, Outcome, outcome, opening_outcome, first_document, edit_came, edit_outcome, undone_outcome, spent_total, front_outcome, is_done, answer_undone, keeping, outcome_messages, update_notes, scroll_notes, updates_for, messages, step, views_after, lines_written, written, piece_of}
+use Rattle.core_session.specs.Shows.{updates_in, screen_with, rebuilt_from, rebuilt, IsShown, AreShown, SendsWithin, SendsTo, NotesSendTo, Shows}
 use Rattle.doc_session.proofs.ForCallers.{head-stands}
-use Rattle.core_session.specs.Core.{IsOfLine, IsOpen, Stands, screen_of, plain_of, IsShowing, front_entry}
-use Rattle.core_session.specs.Inner.{MayBeAsked, UpdateReadsBack, AreLinesOf}
-use Rattle.core_session.proofs.RevisionLemmas.{revisions_of, revisions_few}
-use Rattle.core_session.proofs.SessionLemmas.{document_after-push, all_messages, all_messages-push, written-messages, IsOpen-push}
+use Rattle.core_session.specs.Core.{IsOfLine, IsOpen, Stands, screen_of, views_of, IsShowing, front_entry}
+use Rattle.core_session.specs.Inner.{MayBeAsked, UpdatesReadBack, AreLinesOf}
+use Rattle.core_session.specs.Laws.{HaveRevisions}
+use Rattle.core_session.proofs.RevisionLemmas.{revisions_few}
+use Rattle.core_session.proofs.ViewLemmas.{same_id, other_way, finds_itself, only_view, view_of-with_view, view_of-with_other}
+use Rattle.core_session.proofs.SessionLemmas.{views_after-push, all_messages, all_messages-push, written-messages, IsOpen-push}
 
 -- the updates that messages say
 pub updates_of : List Data → List (Option ViewUpdate)
@@ -82,10 +84,10 @@ unfolding updates_of
 updates_of-nil = refl
 
 -- screens after updates after updates
-pub rebuilt_from-append : (screen : Option Screen) (front back : List (Option ViewUpdate)) →
-    rebuilt_from screen (front ++ back) ≡ rebuilt_from (rebuilt_from screen front) back
-rebuilt_from-append screen [] back = refl
-rebuilt_from-append screen (note ∷ front) back = rebuilt_from-append (screen_with screen note) front back
+pub rebuilt_from-append : (id : List ℕ) (screen : Option Screen) (front back : List (Option ViewUpdate)) →
+    rebuilt_from id screen (front ++ back) ≡ rebuilt_from id (rebuilt_from id screen front) back
+rebuilt_from-append id screen [] back = refl
+rebuilt_from-append id screen (note ∷ front) back = rebuilt_from-append id (screen_with id screen note) front back
 
 -- ---- the updates of an entry's messages
 
@@ -135,36 +137,39 @@ updates_of-answers id spent lines = updates_of-none (spent_refusal id) (refused_
 updates_of-answers id not_built lines = updates_of-none (not_built_refusal id) (refused_none id (pos 9) (codes "not built") lines.0)
 updates_of-answers id silent lines = updates_of-nil
 
--- the notes of an outcome
-pub note_list : Option Update → List (Option ViewUpdate)
-note_list None = []
-note_list (Some update) = Some (record { view = view_id; update = update }) ∷ []
+-- the notes of updates
+pub note_list : List ViewUpdate → List (Option ViewUpdate)
+note_list [] = []
+note_list (told ∷ updates) = Some told ∷ note_list updates
 
-updates_of-update_notes : (update : Option Update) → UpdateReadsBack update → updates_of (update_notes update) ≡ note_list update
+updates_of-update_notes : (updates : List ViewUpdate) → UpdatesReadBack updates → updates_of (update_notes updates) ≡ note_list updates
 unfolding note_list
-updates_of-update_notes None reads = updates_of-nil
-updates_of-update_notes (Some update) reads =
-    updates_of-some (update_data view_id update) (Some (record { view = view_id; update = update })) reads
+updates_of-update_notes [] reads = updates_of-nil
+updates_of-update_notes (told ∷ updates) reads =
+    let said = update_data told.view told.update in
+    updates_of-append (said ∷ []) (update_notes updates) ∙
+    ap (λ first. first ++ updates_of (update_notes updates)) (updates_of-some said (Some told) reads.0) ∙
+    ap (λ rest. Some told ∷ rest) (updates_of-update_notes updates reads.1)
 
-updates_of-scroll_notes : (scroll : Option Position) → AllByRecursion (λ m. IsLineOf m (line_of m)) (scroll_notes scroll) → updates_of (scroll_notes scroll) ≡ []
+updates_of-scroll_notes : (scroll : Option Scroll) → AllByRecursion (λ m. IsLineOf m (line_of m)) (scroll_notes scroll) → updates_of (scroll_notes scroll) ≡ []
 updates_of-scroll_notes None lines = updates_of-nil
-updates_of-scroll_notes (Some point) lines =
-    updates_of-none (scroll_data view_id point.line point.col)
-    (others_are_no_updates.scroll view_id point.line point.col (line_of (scroll_data view_id point.line point.col)) lines.0)
+updates_of-scroll_notes (Some place) lines =
+    updates_of-none (scroll_data place.view place.line place.col)
+    (others_are_no_updates.scroll place.view place.line place.col (line_of (scroll_data place.view place.line place.col)) lines.0)
 
 pub updates_of-outcome : (id : Id) (done : Outcome) → AllByRecursion (λ m. IsLineOf m (line_of m)) (outcome_messages id done) →
-    UpdateReadsBack done.update → updates_of (outcome_messages id done) ≡ note_list done.update
+    UpdatesReadBack done.updates → updates_of (outcome_messages id done) ≡ note_list done.updates
 updates_of-outcome id done lines reads =
     let P : Data → Type 0 = λ m. IsLineOf m (line_of m) in
-    let notes = back_all P (answers id done.reply) (update_notes done.update ++ scroll_notes done.scroll) lines in
-    let answered = updates_of-answers id done.reply (front_all P (answers id done.reply) (update_notes done.update ++ scroll_notes done.scroll) lines) in
-    let updated = updates_of-update_notes done.update reads in
-    let scrolled = updates_of-scroll_notes done.scroll (back_all P (update_notes done.update) (scroll_notes done.scroll) notes) in
-    updates_of-append (answers id done.reply) (update_notes done.update ++ scroll_notes done.scroll) ∙
-    ap (λ front. front ++ updates_of (update_notes done.update ++ scroll_notes done.scroll)) answered ∙
-    updates_of-append (update_notes done.update) (scroll_notes done.scroll) ∙
+    let notes = back_all P (answers id done.reply) (update_notes done.updates ++ scroll_notes done.scroll) lines in
+    let answered = updates_of-answers id done.reply (front_all P (answers id done.reply) (update_notes done.updates ++ scroll_notes done.scroll) lines) in
+    let updated = updates_of-update_notes done.updates reads in
+    let scrolled = updates_of-scroll_notes done.scroll (back_all P (update_notes done.updates) (scroll_notes done.scroll) notes) in
+    updates_of-append (answers id done.reply) (update_notes done.updates ++ scroll_notes done.scroll) ∙
+    ap (λ front. front ++ updates_of (update_notes done.updates ++ scroll_notes done.scroll)) answered ∙
+    updates_of-append (update_notes done.updates) (scroll_notes done.scroll) ∙
     ap (λ front. front ++ updates_of (scroll_notes done.scroll)) updated ∙
-    ap (λ back. note_list done.update ++ back) scrolled ∙ append-nil (note_list done.update)
+    ap (λ back. note_list done.updates ++ back) scrolled ∙ append-nil (note_list done.updates)
 
 -- ---- a journal with one more entry, in two parts
 
@@ -198,67 +203,112 @@ splits_push {X} (j ∷ journal) (x ∷ front) back entry is =
     let At : X → Type 0 = λ y. SplitsPush (j ∷ journal) entry (y ∷ front) back in
     subst At first (one_more j journal front back entry (splits_push journal front back entry rest))
 
--- ---- the screen after an entry
+-- ---- the screens after an entry
 
--- the screen after the updates of an outcome is that of its document
-pub Settles : Option Document → Outcome → Type 0
-Settles plain done = rebuilt_from (Some (screen_of plain)) (note_list done.update) ≡ Some (screen_of done.document)
+-- after the updates of an outcome each view has the screen of its document
+pub Settles : List OpenView → Outcome → Type 0
+Settles views done = (id : List ℕ) → rebuilt_from id (Some (screen_of (view_of views id))) (note_list done.updates) ≡ Some (screen_of (view_of done.views id))
 
 screen_after-ops_of : (document : Document) (screen : Screen) →
     screen_after screen (ops_of document) ≡ Some (shown_lines document.window no_request (layout_of document))
 screen_after-ops_of document screen = screen_after-plan_from document.window no_request (layout_of document) 0 0 screen
 
 -- an updated document has the screen that its update makes of the one before
-updated_screen : (before after : Document) → after.screen ≡ before.screen →
-    rebuilt_from (Some before.screen) (note_list (Some (update_of after))) ≡ Some (updated after).screen
-unfolding note_list
+updated_screen : (before : Screen) (after : Document) → after.screen ≡ before → screen_after before (ops_of after) ≡ Some (updated after).screen
 updated_screen before after same =
-    screen_after-ops_of after before.screen ∙ ap Some (sym (ap (λ o. unwrap_or o []) (screen_after-ops_of after after.screen)))
+    screen_after-ops_of after before ∙ ap Some (sym (ap (λ o. unwrap_or o []) (screen_after-ops_of after after.screen)))
 
-settles_if : (wants : Bool) (before after : Document) → after.screen ≡ before.screen →
-    rebuilt_from (Some before.screen) (note_list (if wants then Some (update_of after) else None)) ≡
+settles_here : (wants : Bool) (id : List ℕ) (before : Screen) (after : Document) → after.screen ≡ before →
+    rebuilt_from id (Some before) (note_list (updates_for id (if wants then Some (update_of after) else None))) ≡
     Some (if wants then updated after else after).screen
 unfolding note_list
-settles_if true before after same = updated_screen before after same
-settles_if false before after same = ap Some (sym same)
+settles_here true id before after same =
+    ap (λ b. if b then screen_after before (ops_of after) else Some before) (same_id id) ∙ updated_screen before after same
+settles_here false id before after same = ap Some (sym same)
 
-settles_came : (document : Document) (total : Option ℕ) (chars : List ℕ) → Settles (Some document) (edit_came document total (typing_step document chars))
+-- a note of another view is passed over
+settles_there : (wants : Bool) (id of : List ℕ) (screen : Screen) (after : Document) → bytes_eq of id ≡ false →
+    rebuilt_from id (Some screen) (note_list (updates_for of (if wants then Some (update_of after) else None))) ≡ Some screen
+unfolding note_list
+settles_there true id of screen after other = ap (λ b. if b then screen_after screen (ops_of after) else Some screen) other
+settles_there false id of screen after other = refl
+
+-- the view with its next document
+next_view : Bool → OpenView → Document → OpenView
+next_view wants view after = record view { document = if wants then updated after else after }
+
+settles_by : (b wants : Bool) (views : List OpenView) (view : OpenView) (after : Document) (id : List ℕ) → bytes_eq view.id id ≡ b →
+    view_of views view.id ≡ Some view → after.screen ≡ view.document.screen →
+    rebuilt_from id (Some (screen_of (view_of views id))) (note_list (updates_for view.id (if wants then Some (update_of after) else None))) ≡
+    Some (screen_of (view_of (with_view views (next_view wants view after)) id))
+unfolding next_view
+settles_by true wants views view after id is found same =
+    let At : List ℕ → Type 0 = λ x.
+    rebuilt_from x (Some (screen_of (view_of views x))) (note_list (updates_for view.id (if wants then Some (update_of after) else None))) ≡
+    Some (screen_of (view_of (with_view views (next_view wants view after)) x)) in
+    let here : At view.id =
+    ap (λ v. rebuilt_from view.id (Some (screen_of v)) (note_list (updates_for view.id (if wants then Some (update_of after) else None)))) found ∙
+    settles_here wants view.id view.document.screen after same ∙
+    ap (λ v. Some (screen_of v)) (sym (view_of-with_view views view (next_view wants view after) found)) in
+    subst At ((bytes_eq-Decides view.id id).0 is) here
+settles_by false wants views view after id is found same =
+    settles_there wants id view.id (screen_of (view_of views id)) after is ∙
+    ap (λ v. Some (screen_of v)) (sym (view_of-with_other views (next_view wants view after) id (other_way view.id id is)))
+
+settles_came : (views : List OpenView) (view : OpenView) (total : Option ℕ) (chars : List ℕ) → view_of views view.id ≡ Some view →
+    Settles views (edit_came views view total (typing_step view.document chars))
+unfolding Settles note_list next_view
+settles_came views view (Some total) chars found = λ id. refl
+settles_came views view None [] found = λ id.
+    settles_by (bytes_eq view.id id) (wants_update view.document view.document) views view view.document id refl found refl
+settles_came views view None (c ∷ chars) found = λ id.
+    let next = edited_document view.document (front_edit view.document (c ∷ chars)) (view.document.caret + length (c ∷ chars)) in
+    settles_by (bytes_eq view.id id) (wants_update view.document next) views view next id refl found refl
+
+settles_keeping : (views : List OpenView) (reply : Reply) → Settles views (keeping views reply)
 unfolding Settles note_list
-settles_came document (Some total) chars = refl
-settles_came document None [] = settles_if (wants_update document document) document document refl
-settles_came document None (c ∷ chars) =
-    let next = edited_document document (front_edit document (c ∷ chars)) (document.caret + length (c ∷ chars)) in
-    settles_if (wants_update document next) document next refl
+settles_keeping views reply = λ id. refl
 
-settles_keeping : (plain : Option Document) (reply : Reply) → Settles plain (keeping plain reply)
+-- the first view, before its front end was told anything
+first_view : OpenView
+first_view = record { id = view_id; document = first_document }
+
+no_screen : (b : Bool) → screen_of (if b then Some first_view else None) ≡ []
+unfolding first_view
+no_screen true = refl
+no_screen false = refl
+
+settles_opening : Settles [] opening_outcome
+unfolding Settles first_view next_view
+settles_opening = λ id.
+    let wants = wants_update first_document first_document in
+    let notes = note_list (updates_for view_id (if wants then Some (update_of first_document) else None)) in
+    ap (λ screen. rebuilt_from id (Some screen) notes) (sym (no_screen (bytes_eq id view_id))) ∙
+    settles_by (bytes_eq view_id id) wants (first_view ∷ []) first_view first_document id refl (only_view first_view) refl
+
+settles_done : (done : Bool) (views : List OpenView) (view : OpenView) (act : EditAct) → view_of views view.id ≡ Some view →
+    Settles views (if done then front_outcome views view act else keeping views (answer_undone act))
+settles_done true views view act found = settles_came views view (spent_total (refusal_at view.document (Front act))) (typed act) found
+settles_done false views view act found = settles_keeping views (answer_undone act)
+
+settles_edit : (views : List OpenView) (id : List ℕ) (found : Option OpenView) (act : EditAct) → view_of views id ≡ found →
+    Settles views (edit_outcome views found act)
+settles_edit views id None act is = settles_keeping views (refused (BadParams (codes "view_id")))
+settles_edit views id (Some view) act is = settles_done (is_done act) views view act (finds_itself views id view is)
+
+settles_undone : (views : List OpenView) (found : Option OpenView) → Settles views (undone_outcome views found)
+settles_undone views None = settles_keeping views (refused (BadParams (codes "view_id")))
+settles_undone views (Some view) = settles_keeping views not_built
+
+pub settles : (views : List OpenView) (act : Act) → Settles views (outcome views act)
 unfolding Settles note_list
-settles_keeping plain reply = refl
-
-settles_opening : Settles None opening_outcome
-unfolding Settles
-settles_opening = settles_if (wants_update first_document first_document) first_document first_document refl
-
-settles_view : (there taken : Bool) (document : Document) (act : EditAct) →
-    Settles (Some document) (if there then (if taken then front_outcome document act else keeping (Some document) (answer_undone act)) else
-    refusing_view (Some document))
-settles_view true true document act = settles_came document (spent_total (refusal_at document (Front act))) (typed act)
-settles_view true false document act = settles_keeping (Some document) (answer_undone act)
-settles_view false taken document act = settles_keeping (Some document) (refused (BadParams (codes "view_id")))
-
-settles_undone : (there : Bool) (plain : Option Document) → Settles plain (if there then keeping plain not_built else refusing_view plain)
-settles_undone true plain = settles_keeping plain not_built
-settles_undone false plain = settles_keeping plain (refused (BadParams (codes "view_id")))
-
-pub settles : (plain : Option Document) (act : Act) → Settles plain (outcome plain act)
-unfolding Settles note_list
-settles None (NewView None) = settles_opening
-settles None (NewView (Some path)) = refl
-settles (Some document) (NewView path) = refl
-settles None (Edit view act) = refl
-settles (Some document) (Edit view act) = settles_view (is_first_view view) (is_done act) document act
-settles plain (CloseView view) = settles_undone (is_there plain view) plain
-settles plain (Save view path) = settles_undone (is_there plain view) plain
-settles plain act = refl
+settles [] (NewView None) = settles_opening
+settles [] (NewView (Some path)) = λ id. refl
+settles (view ∷ views) (NewView path) = λ id. refl
+settles views (Edit name act) = settles_edit views (encode_utf8_all name) (named_view views name) act refl
+settles views (CloseView name) = settles_undone views (named_view views name)
+settles views (Save name path) = settles_undone views (named_view views name)
+settles views act = λ id. refl
 
 -- ---- the lines that an entry sends
 
@@ -312,160 +362,180 @@ sends-plan_from window (line ∷ lines) index at =
     (sends_one window index (is_within window index) line (plan_from window no_request (index + 1) at lines) refl
     (sends-plan_from window lines (index + 1) at))
 
--- the update of an outcome sends lines of its document's window alone
+-- the updates of an outcome are of its views, and send lines of their windows alone
 pub Sends : Outcome → Type 0
-Sends done = SendWindow done.document (note_list done.update)
+Sends done = NotesSendTo done.views (note_list done.updates)
 
-sends_if : (wants : Bool) (after : Document) →
-    SendWindow (Some (if wants then updated after else after)) (note_list (if wants then Some (update_of after) else None))
-unfolding note_list
-sends_if true after = (sends-plan_from after.window (layout_of after) 0 0, tt)
-sends_if false after = tt
+sends_by : (wants : Bool) (views : List OpenView) (view : OpenView) (after : Document) → view_of views view.id ≡ Some view →
+    NotesSendTo (with_view views (next_view wants view after)) (note_list (updates_for view.id (if wants then Some (update_of after) else None)))
+unfolding note_list next_view
+sends_by true views view after found =
+    let At : Option OpenView → Type 0 = λ v. SendsTo v (ops_of after) in
+    let next : view_of (with_view views (next_view true view after)) view.id ≡ Some (next_view true view after) =
+    view_of-with_view views view (next_view true view after) found in
+    let within : At (Some (next_view true view after)) = sends-plan_from after.window (layout_of after) 0 0 in
+    (subst At (sym next) within, tt)
+sends_by false views view after found = tt
 
-sends_came : (document : Document) (total : Option ℕ) (chars : List ℕ) → Sends (edit_came document total (typing_step document chars))
-unfolding Sends note_list
-sends_came document (Some total) chars = tt
-sends_came document None [] = sends_if (wants_update document document) document
-sends_came document None (c ∷ chars) =
-    let next = edited_document document (front_edit document (c ∷ chars)) (document.caret + length (c ∷ chars)) in
-    sends_if (wants_update document next) next
+sends_came : (views : List OpenView) (view : OpenView) (total : Option ℕ) (chars : List ℕ) → view_of views view.id ≡ Some view →
+    Sends (edit_came views view total (typing_step view.document chars))
+unfolding Sends note_list next_view
+sends_came views view (Some total) chars found = tt
+sends_came views view None [] found = sends_by (wants_update view.document view.document) views view view.document found
+sends_came views view None (c ∷ chars) found =
+    let next = edited_document view.document (front_edit view.document (c ∷ chars)) (view.document.caret + length (c ∷ chars)) in
+    sends_by (wants_update view.document next) views view next found
 
 -- what changes nothing tells nothing
-sends_still : (plain : Option Document) (reply : Reply) → Sends (record { reply = reply; document = plain; update = None; scroll = None })
+sends_keeping : (views : List OpenView) (reply : Reply) → Sends (keeping views reply)
 unfolding Sends note_list
-sends_still None reply = refl
-sends_still (Some document) reply = tt
+sends_keeping views reply = tt
 
-sends_view : (there taken : Bool) (document : Document) (act : EditAct) →
-    Sends (if there then (if taken then front_outcome document act else keeping (Some document) (answer_undone act)) else
-    refusing_view (Some document))
+sends_opening : Sends opening_outcome
+unfolding Sends first_view next_view
+sends_opening = sends_by (wants_update first_document first_document) (first_view ∷ []) first_view first_document (only_view first_view)
+
+sends_done : (done : Bool) (views : List OpenView) (view : OpenView) (act : EditAct) → view_of views view.id ≡ Some view →
+    Sends (if done then front_outcome views view act else keeping views (answer_undone act))
+sends_done true views view act found = sends_came views view (spent_total (refusal_at view.document (Front act))) (typed act) found
+sends_done false views view act found = sends_keeping views (answer_undone act)
+
+sends_edit : (views : List OpenView) (id : List ℕ) (found : Option OpenView) (act : EditAct) → view_of views id ≡ found →
+    Sends (edit_outcome views found act)
+sends_edit views id None act is = sends_keeping views (refused (BadParams (codes "view_id")))
+sends_edit views id (Some view) act is = sends_done (is_done act) views view act (finds_itself views id view is)
+
+sends_undone : (views : List OpenView) (found : Option OpenView) → Sends (undone_outcome views found)
+sends_undone views None = sends_keeping views (refused (BadParams (codes "view_id")))
+sends_undone views (Some view) = sends_keeping views not_built
+
+pub sends : (views : List OpenView) (act : Act) → Sends (outcome views act)
 unfolding Sends note_list
-sends_view true true document act = sends_came document (spent_total (refusal_at document (Front act))) (typed act)
-sends_view true false document act = tt
-sends_view false taken document act = tt
-
-sends_undone : (there : Bool) (plain : Option Document) → Sends (if there then keeping plain not_built else refusing_view plain)
-sends_undone true plain = sends_still plain not_built
-sends_undone false plain = sends_still plain (refused (BadParams (codes "view_id")))
-
-pub sends : (plain : Option Document) (act : Act) → Sends (outcome plain act)
-unfolding Sends note_list
-sends None (NewView None) = sends_if (wants_update first_document first_document) first_document
-sends None (NewView (Some path)) = refl
-sends (Some document) (NewView path) = tt
-sends None (Edit view act) = refl
-sends (Some document) (Edit view act) = sends_view (is_first_view view) (is_done act) document act
-sends plain (CloseView view) = sends_undone (is_there plain view) plain
-sends plain (Save view path) = sends_undone (is_there plain view) plain
-sends None act = refl
-sends (Some document) act = tt
+sends [] (NewView None) = sends_opening
+sends [] (NewView (Some path)) = tt
+sends (view ∷ views) (NewView path) = tt
+sends views (Edit name act) = sends_edit views (encode_utf8_all name) (named_view views name) act refl
+sends views (CloseView name) = sends_undone views (named_view views name)
+sends views (Save name path) = sends_undone views (named_view views name)
+sends views act = tt
 
 -- ---- one more entry is shown
 
--- the screen that is rebuilt after one more entry
-rebuilt_push : (journal : List Entry) (entry : Entry) → rebuilt (written None journal) ≡ Some (screen_of (plain_of journal)) →
-    updates_in (piece_of (plain_of journal) entry.command) ≡ note_list (outcome (plain_of journal) entry.command.act).update →
-    rebuilt (written None (journal ++ entry ∷ [])) ≡ Some (screen_of (plain_of (journal ++ entry ∷ [])))
-unfolding Settles
-rebuilt_push journal entry before said =
-    let plain = plain_of journal in
-    let all : updates_in (written None (journal ++ entry ∷ [])) ≡ updates_in (written None journal) ++ updates_in (piece_of plain entry.command) =
-    ap updates_in (written-messages None (journal ++ entry ∷ [])) ∙ updates_in-lines (all_messages None (journal ++ entry ∷ [])) ∙
-    ap updates_of (all_messages-push journal entry) ∙
-    updates_of-append (all_messages None journal) (messages plain entry.command) ∙
-    ap (λ xs. xs ++ updates_of (messages plain entry.command))
-    (sym (ap updates_in (written-messages None journal) ∙ updates_in-lines (all_messages None journal))) ∙
-    ap (λ ys. updates_in (written None journal) ++ ys) (sym (updates_in-lines (messages plain entry.command))) in
-    ap (rebuilt_from (Some [])) all ∙
-    rebuilt_from-append (Some []) (updates_in (written None journal)) (updates_in (piece_of plain entry.command)) ∙
-    ap (λ screen. rebuilt_from screen (updates_in (piece_of plain entry.command))) before ∙
-    ap (rebuilt_from (Some (screen_of plain))) said ∙ settles plain entry.command.act ∙
-    ap (λ document. Some (screen_of document)) (sym (document_after-push journal entry))
+-- the updates in what is written are those in the pieces
+pub updates_in-push : (journal : List Entry) (entry : Entry) →
+    updates_in (written [] (journal ++ entry ∷ [])) ≡ updates_in (written [] journal) ++ updates_in (piece_of (views_of journal) entry.command)
+updates_in-push journal entry =
+    let said = messages (views_of journal) entry.command in
+    ap updates_in (written-messages [] (journal ++ entry ∷ [])) ∙ updates_in-lines (all_messages [] (journal ++ entry ∷ [])) ∙
+    ap updates_of (all_messages-push journal entry) ∙ updates_of-append (all_messages [] journal) said ∙
+    ap (λ xs. xs ++ updates_of said) (sym (ap updates_in (written-messages [] journal) ∙ updates_in-lines (all_messages [] journal))) ∙
+    ap (λ ys. updates_in (written [] journal) ++ ys) (sym (updates_in-lines said))
+
+-- the screens that are rebuilt by what was written, and those of the views
+ScreensAre : List Entry → Type 0
+ScreensAre journal = (id : List ℕ) → rebuilt id (written [] journal) ≡ Some (screen_of (view_of (views_of journal) id))
+
+rebuilt_push : (journal : List Entry) (entry : Entry) → ScreensAre journal →
+    updates_in (piece_of (views_of journal) entry.command) ≡ note_list (outcome (views_of journal) entry.command.act).updates →
+    ScreensAre (journal ++ entry ∷ [])
+unfolding Settles ScreensAre
+rebuilt_push journal entry before said = λ id.
+    let views = views_of journal in
+    ap (rebuilt_from id (Some [])) (updates_in-push journal entry) ∙
+    rebuilt_from-append id (Some []) (updates_in (written [] journal)) (updates_in (piece_of views entry.command)) ∙
+    ap (λ screen. rebuilt_from id screen (updates_in (piece_of views entry.command))) (before id) ∙
+    ap (rebuilt_from id (Some (screen_of (view_of views id)))) said ∙ settles views entry.command.act id ∙
+    ap (λ after. Some (screen_of (view_of after id))) (sym (views_after-push journal entry))
 
 -- what a document in memory stands for is shown by its screen
-pub stands_shown : (doc : Option Doc) (plain : Option Document) → Stands doc plain → IsShown plain (Some (screen_of plain))
-stands_shown None None stands = refl
-stands_shown None (Some plain) stands = absurd stands
-stands_shown (Some doc) None stands = absurd stands
-stands_shown (Some doc) (Some plain) stands = stands.shown
+pub stands_shown : (doc : Option Doc) (views : List OpenView) (bytes : List ℕ) → Stands doc views →
+    ((id : List ℕ) → rebuilt id bytes ≡ Some (screen_of (view_of views id))) → AreShown views bytes
+stands_shown None [] bytes stands screens = tt
+stands_shown None (view ∷ views) bytes stands screens = absurd stands
+stands_shown (Some doc) [] bytes stands screens = absurd stands
+stands_shown (Some doc) (view ∷ next ∷ views) bytes stands screens = absurd stands
+stands_shown (Some doc) (view ∷ []) bytes stands screens =
+    let screen : rebuilt view.id bytes ≡ Some view.document.screen = screens view.id ∙ ap (λ v. Some (screen_of v)) (only_view view) in
+    (subst (IsShown view.document) (sym screen) stands.serves.shown, tt)
 
 -- a document that a session serves takes events, where it has fewer revisions than there are numbers
-MayBeAsked-few : (doc : Option Doc) (plain : Option Document) → Stands doc plain → revisions_of plain < 2 ^ 63 - 1 → MayBeAsked doc
-MayBeAsked-few None plain stands few = tt
-MayBeAsked-few (Some doc) None stands few = absurd stands
-MayBeAsked-few (Some doc) (Some plain) stands few =
-    ((stands.no_plugins, omega (arith, few, head-stands doc.engine plain.history stands.stands.parts.stands)), ∣ (plain, stands.stands) ∣₁)
+MayBeAsked-few : (doc : Option Doc) (n : ℕ) (views : List OpenView) → Stands doc views → HaveRevisions n views → n < 2 ^ 63 - 1 → MayBeAsked doc
+MayBeAsked-few None n views stands few small = tt
+MayBeAsked-few (Some doc) n [] stands few small = absurd stands
+MayBeAsked-few (Some doc) n (view ∷ next ∷ views) stands few small = absurd stands
+MayBeAsked-few (Some doc) n (view ∷ []) stands few small =
+    let plain = view.document in
+    let serves = stands.serves in
+    ((serves.no_plugins, omega (arith, few.0, small, head-stands doc.engine plain.history serves.stands.parts.stands)), ∣ (plain, serves.stands) ∣₁)
 
-pub MayBeAsked-stands : (doc : Option Doc) (journal : List Entry) → Stands doc (plain_of journal) → length journal < 2 ^ 63 - 1 → MayBeAsked doc
-MayBeAsked-stands doc journal stands few = MayBeAsked-few doc (plain_of journal) stands (omega (arith, few, revisions_few journal))
+pub MayBeAsked-stands : (doc : Option Doc) (journal : List Entry) → Stands doc (views_of journal) → length journal < 2 ^ 63 - 1 → MayBeAsked doc
+MayBeAsked-stands doc journal stands small = MayBeAsked-few doc (length journal) (views_of journal) stands (revisions_few journal) small
 
-screens_push : (journal : List Entry) (entry : Entry) (doc : Option Doc) → Stands doc (plain_of (journal ++ entry ∷ [])) → Shows journal (written None journal) →
-    rebuilt (written None (journal ++ entry ∷ [])) ≡ Some (screen_of (plain_of (journal ++ entry ∷ []))) →
-    (front back : List Entry) → SplitsPush journal entry front back → IsShown (document_after None front) (rebuilt (written None front))
-unfolding SplitsPush
-screens_push journal entry doc stands each screen front back (inl (none, all)) =
-    let At : List Entry → Type 0 = λ entries. IsShown (document_after None entries) (rebuilt (written None entries)) in
-    let Here : Option Screen → Type 0 = λ s. IsShown (plain_of (journal ++ entry ∷ [])) s in
-    subst At (sym all) (subst Here (sym screen) (stands_shown doc (plain_of (journal ++ entry ∷ [])) stands))
-screens_push journal entry doc stands each screen front back (inr (rest, is, last)) = each.screens front rest is
+screens_push : (journal : List Entry) (entry : Entry) (doc : Option Doc) → Stands doc (views_of (journal ++ entry ∷ [])) → Shows journal (written [] journal) →
+    ScreensAre (journal ++ entry ∷ []) →
+    (front back : List Entry) → SplitsPush journal entry front back → AreShown (views_after [] front) (written [] front)
+unfolding SplitsPush ScreensAre
+screens_push journal entry doc stands each screens front back (inl (none, all)) =
+    let At : List Entry → Type 0 = λ entries. AreShown (views_after [] entries) (written [] entries) in
+    subst At (sym all) (stands_shown doc (views_of (journal ++ entry ∷ [])) (written [] (journal ++ entry ∷ [])) stands screens)
+screens_push journal entry doc stands each screens front back (inr (rest, is, last)) = each.screens front rest is
 
 -- the entry at hand is the one that was added, or one before
-sends_push : (journal : List Entry) (entry : Entry) → Shows journal (written None journal) →
-    updates_in (piece_of (plain_of journal) entry.command) ≡ note_list (outcome (plain_of journal) entry.command.act).update →
+sends_push : (journal : List Entry) (entry : Entry) → Shows journal (written [] journal) →
+    updates_in (piece_of (views_of journal) entry.command) ≡ note_list (outcome (views_of journal) entry.command.act).updates →
     (front : List Entry) (last : Entry) (back : List Entry) → SplitsPush journal entry front (last ∷ back) →
-    SendWindow (document_after None (front ++ last ∷ [])) (updates_in (piece_of (document_after None front) last.command))
+    NotesSendTo (views_after [] (front ++ last ∷ [])) (updates_in (piece_of (views_after [] front) last.command))
 unfolding SplitsPush Sends
 sends_push journal entry each said front last back (inl (none, all)) = absurd cc
 sends_push journal entry each said front last back (inr ([], is, only)) =
     let At : List Entry → Entry → Type 0 =
-    λ entries e. SendWindow (document_after None (entries ++ e ∷ [])) (updates_in (piece_of (document_after None entries) e.command)) in
+    λ entries e. NotesSendTo (views_after [] (entries ++ e ∷ [])) (updates_in (piece_of (views_after [] entries) e.command)) in
     let added : last ≡ entry = cc in
     let whole : journal ≡ front = is ∙ append-nil front in
-    let Of : Option Document → Type 0 = λ d. SendWindow d (updates_in (piece_of (plain_of journal) entry.command)) in
-    let Notes : List (Option ViewUpdate) → Type 0 = λ notes. SendWindow (step (plain_of journal) entry.command) notes in
+    let Of : List OpenView → Type 0 = λ views. NotesSendTo views (updates_in (piece_of (views_of journal) entry.command)) in
+    let Notes : List (Option ViewUpdate) → Type 0 = λ notes. NotesSendTo (step (views_of journal) entry.command) notes in
     let here : At journal entry =
-    subst Of (sym (document_after-push journal entry)) (subst Notes (sym said) (sends (plain_of journal) entry.command.act)) in
+    subst Of (sym (views_after-push journal entry)) (subst Notes (sym said) (sends (views_of journal) entry.command.act)) in
     let To : Entry → Type 0 = λ e. At front e in
     let From : List Entry → Type 0 = λ entries. At entries entry in
     subst To (sym added) (subst From whole here)
 sends_push journal entry each said front last back (inr (r ∷ rest, is, only)) =
     let same : r ≡ last = cc in
-    let At : Entry → Type 0 = λ e. SendWindow (document_after None (front ++ e ∷ [])) (updates_in (piece_of (document_after None front) e.command)) in
+    let At : Entry → Type 0 = λ e. NotesSendTo (views_after [] (front ++ e ∷ [])) (updates_in (piece_of (views_after [] front) e.command)) in
     subst At same (each.sends front r rest is)
 
 -- what one more entry of a served session comes to
 pub shows_push : (journal : List Entry) (entry : Entry) (doc : Option Doc) →
-    Stands doc (plain_of (journal ++ entry ∷ [])) → IsShowing journal →
-    AreLines (messages (plain_of journal) entry.command) → UpdateReadsBack (outcome (plain_of journal) entry.command.act).update →
+    Stands doc (views_of (journal ++ entry ∷ [])) → IsShowing journal →
+    AreLines (messages (views_of journal) entry.command) → UpdatesReadBack (outcome (views_of journal) entry.command.act).updates →
     IsShowing (journal ++ entry ∷ [])
-unfolding AreLines
+unfolding AreLines ScreensAre
 shows_push journal entry doc stands showing lines reads =
-    let plain = plain_of journal in
-    let next : plain_of (journal ++ entry ∷ []) ≡ step plain entry.command = document_after-push journal entry in
-    let said : updates_in (piece_of plain entry.command) ≡ note_list (outcome plain entry.command.act).update =
-    updates_in-lines (messages plain entry.command) ∙ updates_of-outcome entry.command.id (outcome plain entry.command.act) lines reads in
-    let screen = rebuilt_push journal entry showing.screen said in
+    let views = views_of journal in
+    let said : updates_in (piece_of views entry.command) ≡ note_list (outcome views entry.command.act).updates =
+    updates_in-lines (messages views entry.command) ∙ updates_of-outcome entry.command.id (outcome views entry.command.act) lines reads in
+    let screens = rebuilt_push journal entry showing.screens said in
     record {
       shows = record {
         pieces = refl;
-        screens = λ front back split. screens_push journal entry doc stands showing.shows screen front back (splits_push journal front back entry split);
+        screens = λ front back split. screens_push journal entry doc stands showing.shows screens front back (splits_push journal front back entry split);
         sends = λ front last back split.
             sends_push journal entry showing.shows said front last back (splits_push journal front (last ∷ back) entry split);
       };
-      screen = screen;
+      screens = screens;
     }
 
 -- a command that was prepared is an entry that is served, with the document that it makes
 pub serves_push : (journal : List Entry) (command : Command) (next : Option Doc) (piece : List ℕ) →
     AllByRecursion IsOpen journal → IsShowing journal → IsOfLine command.act →
-    AreLinesOf (messages (plain_of journal) command) piece → UpdateReadsBack (outcome (plain_of journal) command.act).update →
-    Stands next (step (plain_of journal) command) →
+    AreLinesOf (messages (views_of journal) command) piece → UpdatesReadBack (outcome (views_of journal) command.act).updates →
+    Stands next (step (views_of journal) command) →
     AllByRecursion IsOpen (journal ++ front_entry command true ∷ []) × IsShowing (journal ++ front_entry command true ∷ []) ×
-    Stands next (plain_of (journal ++ front_entry command true ∷ []))
+    Stands next (views_of (journal ++ front_entry command true ∷ []))
 unfolding AreLines
 serves_push journal command next piece sent showing asks lines reads stands =
-    let after : Stands next (plain_of (journal ++ front_entry command true ∷ [])) =
-    subst (Stands next) (sym (document_after-push journal (front_entry command true))) stands in (
+    let after : Stands next (views_of (journal ++ front_entry command true ∷ [])) =
+    subst (Stands next) (sym (views_after-push journal (front_entry command true))) stands in (
       IsOpen-push journal command sent asks,
       shows_push journal (front_entry command true) next after showing lines.each reads,
       after,

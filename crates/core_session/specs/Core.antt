@@ -14,7 +14,7 @@ use Rattle.doc_session.specs.Document.{Document}
 use Rattle.doc_session.specs.ScreenOf.{IsUpToDate}
 use Rattle.doc_session.specs.Stands.{DocStandsFor}
 use Rattle.core_session.specs.declared.session.Core.{Core}
-use Rattle.core_session.specs.Session.{piece_of, document_after, written}
+use Rattle.core_session.specs.Session.{OpenView, view_id, view_of, piece_of, views_after, written}
 use Rattle.core_session.specs.Shows.{Shows, rebuilt}
 
 -- the document in memory stands for the plain one, has no plugins, and is shown on the front end's screen
@@ -34,12 +34,18 @@ pub record IsOpen (entry : Entry) : Type 0 where
   pub shelf : entry.shelf ≡ NoCall
   pub sent : entry.sent ≡ true
 
--- what the document in memory stands for, where there is one
-abbrev pub Stands : Option Doc → Option Document → Type 0
-Stands None None = ⊤
-Stands None (Some plain) = ⊥
-Stands (Some doc) None = ⊥
-Stands (Some doc) (Some plain) = ServesDocument doc plain
+-- the document in memory is that of the first view
+pub record ServesView (doc : Doc) (view : OpenView) : Type 0 where
+  pub id : view.id ≡ view_id
+  pub serves : ServesDocument doc view.document
+
+-- the document in memory, where there is one, is that of the only view that is open
+abbrev pub Stands : Option Doc → List OpenView → Type 0
+Stands None [] = ⊤
+Stands None (view ∷ views) = ⊥
+Stands (Some doc) [] = ⊥
+Stands (Some doc) (view ∷ []) = ServesView doc view
+Stands (Some doc) (view ∷ next ∷ views) = ⊥
 
 -- THE JOURNAL of a session
 abbrev pub journal_of : {K : Type 0} → Core K → List Entry
@@ -53,30 +59,30 @@ sink_of core = core.sink
 abbrev pub HasRoom : {K : Type 0} → Core K → Type 0
 HasRoom core = vec_len core.journal < vec_capacity core.journal
 
--- the document that the journal defines
-abbrev pub plain_of : List Entry → Option Document
-plain_of journal = document_after None journal
+-- the views that the journal defines
+abbrev pub views_of : List Entry → List OpenView
+views_of journal = views_after [] journal
 
--- the document in memory is the one that these entries define
-abbrev pub HasDocumentAfter : {K : Type 0} → Core K → List Entry → Type 0
-HasDocumentAfter core journal = Stands core.document (plain_of journal)
+-- the document in memory is that of the view that these entries define
+abbrev pub HasViewsAfter : {K : Type 0} → Core K → List Entry → Type 0
+HasViewsAfter core journal = Stands core.document (views_of journal)
 
--- the screen that the front end has of it
-abbrev pub screen_of : Option Document → Screen
+-- the screen that the front end has of a view; it is empty where none is open
+abbrev pub screen_of : Option OpenView → Screen
 screen_of None = []
-screen_of (Some document) = document.screen
+screen_of (Some view) = view.document.screen
 
--- what the entries write shows them, and its updates come to the screen that the front end has
+-- what the entries write shows them, and by its updates the front end has, of each view, the screen that the view's document says
 pub record IsShowing (journal : List Entry) : Type 0 where
-  pub shows : Shows journal (written None journal)
-  pub screen : rebuilt (written None journal) ≡ Some (screen_of (plain_of journal))
+  pub shows : Shows journal (written [] journal)
+  pub screens : (id : List ℕ) → rebuilt id (written [] journal) ≡ Some (screen_of (view_of (views_of journal) id))
 
--- THE SESSION TAKES LINES: all its entries were sent, what they wrote shows them, and its document is the one that they define
+-- THE SESSION TAKES LINES: all its entries were sent, what they wrote shows them, and its document is that of the view that they define
 pub record IsServing {K : Type 0} (core : Core K) : Type 0 where
   pub room : HasRoom core
   pub sent : AllByRecursion IsOpen (journal_of core)
   pub showing : IsShowing (journal_of core)
-  pub stands : Stands core.document (plain_of (journal_of core))
+  pub stands : Stands core.document (views_of (journal_of core))
 
 -- the entry of a command of the front end
 abbrev pub front_entry : Command → Bool → Entry
@@ -84,7 +90,7 @@ front_entry command sent = record { caller = 0; command = command; shelf = NoCal
 
 -- the piece that a command writes after these entries
 abbrev pub piece_after : List Entry → Command → List ℕ
-piece_after journal command = piece_of (plain_of journal) command
+piece_after journal command = piece_of (views_of journal) command
 
 -- the command is one more entry, which was sent: the sink gained its piece, and no call of it failed
 pub record AddsSentEntry {K : Type 0} (tell : K → SinkState) (old new : Core K) (command : Command) : Type 0 where

@@ -3,16 +3,15 @@ use Rattle.std.specs.Prelude.{◌≡◌, ℕ, ◌^◌, ◌-◌, ◌<◌, List, O
 use Rattle.std.specs.List.{AllByRecursion}
 use Rattle.std.specs.Str.{encode_utf8_all}
 use Rattle.serde_json.specs.Data.{Data, null}
-use Rattle.plain_screen.specs.declared.screen.Update.{Update}
 use Rattle.plain_edits.specs.History.{head}
 use Rattle.json_rpc.specs.Line.{line_of, IsLineOf}
 use Rattle.view_update.specs.Written.{update_data}
-use Rattle.view_update.specs.Reading.{line_update}
+use Rattle.view_update.specs.Reading.{ViewUpdate, line_update}
 use Rattle.doc_session.specs.InMemory.{Doc}
 use Rattle.doc_session.specs.Document.{Document}
 use Rattle.doc_session.specs.Stands.{DocStandsFor}
 use Rattle.core_session.specs.declared.session.Prepared.{Prepared}
-use Rattle.core_session.specs.Session.{view_id, outcome, messages, lines_written, step, Outcome}
+use Rattle.core_session.specs.Session.{OpenView, view_id, outcome, messages, lines_written, step, updates_for, scroll_for, Outcome}
 use Rattle.doc_session.specs.Fault.{DocRefuses}
 use Rattle.doc_session.specs.Step.{AreEffectsOf, event_step, refusal_at}
 use Rattle.doc_session.specs.declared.event.Effects.{Effects}
@@ -41,10 +40,12 @@ pub record AreLinesOf (messages : List Data) (bytes : List ℕ) : Type 0 where
   pub joined : bytes ≡ lines_written messages
   pub each : AllByRecursion (λ message. IsLineOf message (line_of message)) messages
 
--- the line of the update reads back as it, where there is one
-abbrev pub UpdateReadsBack : Option Update → Type 0
-UpdateReadsBack None = ⊤
-UpdateReadsBack (Some update) = line_update (line_of (update_data view_id update)) ≡ Some (Some (record { view = view_id; update = update }))
+-- the line of an update reads back as it, and that of each
+abbrev pub ReadsBack : ViewUpdate → Type 0
+ReadsBack told = line_update (line_of (update_data told.view told.update)) ≡ Some (Some told)
+
+abbrev pub UpdatesReadBack : List ViewUpdate → Type 0
+UpdatesReadBack updates = AllByRecursion ReadsBack updates
 
 -- the document that is in place then: the next one, where there is one
 abbrev pub document_then : Option Doc → Option Doc → Option Doc
@@ -59,10 +60,10 @@ pub record IsMade (old : Doc) (event : Event) (result : Result (Doc × Effects) 
   pub refused : (plain : Document) → DocStandsFor old plain → IfErr result (DocRefuses (refusal_at plain event))
 
 -- what a command comes to, before it is an entry: its piece and its document
-pub record IsPrepared (before : Option Doc) (plain : Option Document) (made : Prepared) : Type 0 where
-  pub lines : AreLinesOf (messages plain made.command) (encode_utf8_all made.piece)
-  pub reads_back : UpdateReadsBack (outcome plain made.command.act).update
-  pub stands : Stands (document_then made.next before) (step plain made.command)
+pub record IsPrepared (before : Option Doc) (views : List OpenView) (made : Prepared) : Type 0 where
+  pub lines : AreLinesOf (messages views made.command) (encode_utf8_all made.piece)
+  pub reads_back : UpdatesReadBack (outcome views made.command.act).updates
+  pub stands : Stands (document_then made.next before) (step views made.command)
 
 -- what a reply in memory is
 abbrev pub reply_of : ReplyInMemory → Reply
@@ -76,9 +77,9 @@ reply_of Silent = silent
 -- what came of an act in memory, beside the document before, is the outcome
 pub record IsOutcome (before : Option Doc) (outcome : Outcome) (effects : ActEffects) : Type 0 where
   pub reply : reply_of effects.reply ≡ outcome.reply
-  pub update : effects.update ≡ outcome.update
-  pub scroll : option_map position_view effects.scroll ≡ outcome.scroll
-  pub stands : Stands (document_then effects.next before) outcome.document
+  pub updates : updates_for view_id effects.update ≡ outcome.updates
+  pub scroll : scroll_for view_id (option_map position_view effects.scroll) ≡ outcome.scroll
+  pub stands : Stands (document_then effects.next before) outcome.views
 
 -- a fault of the front end's own edit: its characters are spent, or memory is wanting
 abbrev pub IsSpentOrLack : DocFault → Type 0

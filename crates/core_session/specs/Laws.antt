@@ -1,34 +1,67 @@
 -- Laws: what the definitions of a session come to, whatever its journal.
-use Rattle.std.specs.Prelude.{◌≡◌, ℕ, ◌≤◌, false, List, length, codes, Option, Some, None}
+use Rattle.std.specs.Prelude.{◌≡◌, ℕ, ◌≤◌, false, if◌then◌else◌, List, [], ◌∷◌, ◌++◌, length, codes, Option, Some, None}
+use Rattle.std.specs.List.{AllByRecursion}
 use Rattle.std.specs.Str.{bytes_eq}
 use Rattle.serde_json.specs.Data.{Data}
 use Rattle.xi_plain.specs.declared.entry.Entry.{Entry}
+use Rattle.plain_screen.specs.Screen.{Screen, screen_after}
 use Rattle.plain_screen.specs.declared.screen.Update.{Update}
 use Rattle.plain_edits.specs.History.{head}
 use Rattle.json_rpc.specs.Line.{line_of, IsLineOf}
 use Rattle.json_rpc.specs.Response.{note_data}
 use Rattle.view_update.specs.Fair.{IsFairUpdate}
-use Rattle.view_update.specs.Reading.{read_params}
+use Rattle.view_update.specs.Reading.{ViewUpdate, read_params}
 use Rattle.view_update.specs.Written.{update_data}
-use Rattle.doc_session.specs.Document.{Document}
-use Rattle.core_session.specs.Session.{view_id, document_after}
-use Rattle.core_session.specs.Shows.{rebuilt}
+use Rattle.core_session.specs.Session.{OpenView, view_id, views_after, written}
+use Rattle.core_session.specs.Shows.{updates_in, rebuilt, IsShown, Shows}
 
--- how many revisions a document has after its loading; none, where there is no document
-abbrev pub revisions_of : Option Document → ℕ
-revisions_of None = 0
-revisions_of (Some document) = head document.history
+-- the document of each of the views has at most so many revisions after its loading
+abbrev pub HaveRevisions : ℕ → List OpenView → Type 0
+HaveRevisions most views = AllByRecursion (λ view. head view.document.history ≤ most) views
 
 -- a document has at most as many revisions as its journal has entries
 abbrev pub RevisionsAreFew : Type 0
-RevisionsAreFew = (journal : List Entry) → revisions_of (document_after None journal) ≤ length journal
+RevisionsAreFew = (journal : List Entry) → HaveRevisions (length journal) (views_after [] journal)
 
--- bytes with a note `update` that can't be read show no screen, whatever stands in it
+-- bytes with a note `update` that can't be read show no screen of any view, whatever stands in it
 abbrev pub UnreadShowsNothing : Type 0
-UnreadShowsNothing = (params : Data) → IsLineOf (note_data (codes "update") params) (line_of (note_data (codes "update") params)) →
-    read_params params ≡ None → rebuilt (line_of (note_data (codes "update") params)) ≡ None
+UnreadShowsNothing = (id : List ℕ) (params : Data) → IsLineOf (note_data (codes "update") params) (line_of (note_data (codes "update") params)) →
+    read_params params ≡ None → rebuilt id (line_of (note_data (codes "update") params)) ≡ None
 
--- nor do bytes with an update of another view
+-- bytes with an update of another view leave a screen as it was
+abbrev pub OtherViewIsPassedOver : Type 0
+OtherViewIsPassedOver = (id view : List ℕ) (update : Update) → IsFairUpdate view update → bytes_eq view id ≡ false →
+    rebuilt id (line_of (update_data view update)) ≡ Some []
+
+-- ---- a front end that knows the first view alone, and for which a note of another one is not defined
+
+-- its screen after a note, and after notes
+abbrev pub only_screen_with : Option Screen → Option ViewUpdate → Option Screen
+only_screen_with None update = None
+only_screen_with (Some screen) None = None
+only_screen_with (Some screen) (Some note) = if bytes_eq note.view view_id then screen_after screen note.update.ops else None
+
+abbrev pub only_rebuilt_from : Option Screen → List (Option ViewUpdate) → Option Screen
+only_rebuilt_from screen [] = screen
+only_rebuilt_from screen (note ∷ notes) = only_rebuilt_from (only_screen_with screen note) notes
+
+-- the screen that it rebuilds from bytes
+abbrev pub only_rebuilt : List ℕ → Option Screen
+only_rebuilt bytes = only_rebuilt_from (Some []) (updates_in bytes)
+
+-- that screen is of the only view that is open; it is empty where none is
+abbrev pub IsOnlyShown : List OpenView → Option Screen → Type 0
+IsOnlyShown [] screen = screen ≡ Some []
+IsOnlyShown (view ∷ []) screen = IsShown view.document screen
+IsOnlyShown (view ∷ next ∷ views) screen = ⊥
+
+-- bytes with an update of another view show it nothing
 abbrev pub OtherViewShowsNothing : Type 0
 OtherViewShowsNothing = (view : List ℕ) (update : Update) → IsFairUpdate view update → bytes_eq view view_id ≡ false →
-    rebuilt (line_of (update_data view update)) ≡ None
+    only_rebuilt (line_of (update_data view update)) ≡ None
+
+-- while there is no second view, such a front end sees what the journal defines: no note is of another view, and none comes before it
+-- is open
+abbrev pub OnlyViewIsShown : Type 0
+OnlyViewIsShown = (journal front back : List Entry) (bytes : List ℕ) → Shows journal bytes → journal ≡ front ++ back →
+    IsOnlyShown (views_after [] front) (only_rebuilt (written [] front))

@@ -1,5 +1,5 @@
 -- Worked rows: what a session writes.
-use Rattle.std.specs.Prelude.{◌≡◌, ℕ, pos, List, [], ◌∷◌, ◌++◌, codes, true, None}
+use Rattle.std.specs.Prelude.{◌≡◌, ℕ, pos, List, [], ◌∷◌, ◌++◌, codes, true, Some, None}
 use Rattle.xi_plain.specs.declared.command.Id.{Id}
 use Rattle.xi_plain.specs.declared.command.Id.TheVariants.{NoId, Num}
 use Rattle.xi_plain.specs.declared.command.EditAct.TheVariants.{Insert}
@@ -8,8 +8,9 @@ use Rattle.xi_plain.specs.declared.command.Act.TheVariants.{NewView, Edit}
 use Rattle.xi_plain.specs.declared.entry.Entry.{Entry}
 use Rattle.xi_plain.specs.declared.entry.ShelfNote.TheVariants.{NoCall}
 use Rattle.xi_plain.specs.Journal.{closing_entry}
-use Rattle.core_session.specs.Session.{view_id, document_after, written}
+use Rattle.core_session.specs.Session.{view_id, views_after, written}
 use Rattle.core_session.specs.Shows.{rebuilt}
+use Rattle.core_session.specs.Laws.{only_rebuilt}
 
 -- an entry of the front end that was sent
 abbrev pub entry_of : Id → Act → Entry
@@ -50,18 +51,24 @@ third_bytes =
 
 -- the first view is answered, and has one empty line with the caret; the closing entry writes nothing
 abbrev pub FirstView : Type 0
-FirstView = written None (opening ∷ closing_entry ∷ []) ≡ opening_bytes
+FirstView = written [] (opening ∷ closing_entry ∷ []) ≡ opening_bytes
 
 -- an insertion after it tells its line, and where the caret is
 abbrev pub FirstInsertion : Type 0
-FirstInsertion = written None (opening ∷ insertion (97 ∷ []) ∷ []) ≡ opening_bytes ++ first_bytes
+FirstInsertion = written [] (opening ∷ insertion (97 ∷ []) ∷ []) ≡ opening_bytes ++ first_bytes
 
--- bytes with a note of unknown shape show no screen, nor do bytes with an update of another view
+-- an update of a second view
+abbrev pub second_view_bytes : List ℕ
+second_view_bytes = codes "{\"method\":\"update\",\"params\":{\"update\":{\"ops\":[],\"pristine\":true},\"view_id\":\"view-id-2\"}}\n"
+
+-- bytes with a note of unknown shape show no screen. An update of a second view leaves the first one's screen as it was, and shows a front
+-- end that knows the first alone nothing
 pub record StrangeNotes : Type 0 where
-  pub no_params : rebuilt (codes "{\"method\":\"update\",\"params\":{}}\n") ≡ None
-  pub other_view : rebuilt (codes "{\"method\":\"update\",\"params\":{\"update\":{\"ops\":[],\"pristine\":true},\"view_id\":\"view-id-2\"}}\n") ≡ None
+  pub no_params : rebuilt view_id (codes "{\"method\":\"update\",\"params\":{}}\n") ≡ None
+  pub other_view : rebuilt view_id second_view_bytes ≡ Some []
+  pub only_view : only_rebuilt second_view_bytes ≡ None
 
 -- each of three insertions tells its line and where the caret is; the last begins a line
 abbrev pub ThreeInsertions : Type 0
-ThreeInsertions = written (document_after None (opening ∷ [])) (insertion (97 ∷ []) ∷ insertion (233 ∷ []) ∷ insertion (10 ∷ []) ∷ []) ≡
+ThreeInsertions = written (views_after [] (opening ∷ [])) (insertion (97 ∷ []) ∷ insertion (233 ∷ []) ∷ insertion (10 ∷ []) ∷ []) ≡
     first_bytes ++ (second_bytes ++ third_bytes)

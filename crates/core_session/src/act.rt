@@ -1,13 +1,13 @@
-ghost use Rattle.std.specs.Prelude.{◌≡◌, ◌<◌, Option, Some, None, IfOk};
+ghost use Rattle.std.specs.Prelude.{◌≡◌, ◌<◌, List, [], ◌∷◌, Option, Some, None, IfOk};
+ghost use Rattle.std.specs.Str.{encode_utf8_all, bytes_eq};
 ghost use Rattle.plain_edits.specs.Edits.{Refusal};
 ghost use Rattle.xi_plain.specs.declared.command.Act.{Act};
-ghost use Rattle.doc_session.specs.Document.{Document};
 ghost use Rattle.doc_session.specs.Fault.{DocRefuses};
 ghost use Rattle.doc_session.specs.InMemory.{Doc};
 ghost use Rattle.doc_session.specs.Step.{EventStep, HasCaller};
-ghost use Rattle.core_session.specs.Core.{ServesDocument, Stands};
+ghost use Rattle.core_session.specs.Core.{ServesView, Stands};
 ghost use Rattle.core_session.specs.Inner.{IsMade, IsOutcome, IsSpentOrLack, MayBeAsked, TakesEvents, reply_of};
-ghost use Rattle.core_session.specs.Session.{outcome, edit_came, edit_outcome, view_outcome, undone_outcome, answer_undone, open_outcome, is_first_view, is_done, front_outcome, refusing, refusing_view, spent_total};
+ghost use Rattle.core_session.specs.Session.{OpenView, view_id, named_view, outcome, edit_came, edit_outcome, undone_outcome, answer_undone, open_outcome, is_done, front_outcome, refusing, refusing_view, spent_total};
 
 use doc_session::{Doc, DocFault, Effects, Event};
 use plain_screen::Update;
@@ -63,8 +63,8 @@ pub struct ActEffects {
 /// Does what a command asks, beside the present document.
 pub fn act_on(alloc: Global, document: &Option<Doc>, act: &Act) -> Result<ActEffects, NoMemory>
     requires { MayBeAsked document.now }
-    ensures { (plain : Option Document) → Stands document.now plain
-        → IfOk result (IsOutcome document.now (outcome plain act.now)) }
+    ensures { (views : List OpenView) → Stands document.now views
+        → IfOk result (IsOutcome document.now (outcome views act.now)) }
 {
     match act {
         Act::Bad(fault) => refused(alloc, fault),
@@ -90,35 +90,35 @@ fn changed_nothing(reply: Reply) -> ActEffects
 }
 
 fn refused(alloc: Global, fault: &Fault) -> Result<ActEffects, NoMemory>
-    ensures { (document : Option Document) (before : Option Doc) → Stands before document
-        → IfOk result (IsOutcome before (refusing document fault.now)) }
+    ensures { (views : List OpenView) (before : Option Doc) → Stands before views
+        → IfOk result (IsOutcome before (refusing views fault.now)) }
 {
     Ok(changed_nothing(Reply::Refused(fault.copy(alloc)?)))
 }
 
 /// The refusal of a view that is not there.
 fn refused_view(alloc: Global) -> Result<ActEffects, NoMemory>
-    ensures { (document : Option Document) (before : Option Doc) → Stands before document
-        → IfOk result (IsOutcome before (refusing_view document)) }
+    ensures { (views : List OpenView) (before : Option Doc) → Stands before views
+        → IfOk result (IsOutcome before (refusing_view views)) }
 {
     let member = Text::from_ascii(alloc, VIEW_MEMBER)?;
     Ok(changed_nothing(Reply::Refused(Fault::BadParams(member))))
 }
 
 /// What is not done yet of a view.
-fn undone(alloc: Global, document: &Option<Doc>, view: &Text) -> Result<ActEffects, NoMemory>
-    ensures { (plain : Option Document) → Stands document.now plain
-        → IfOk result (IsOutcome document.now (undone_outcome plain view.now)) }
+fn undone(alloc: Global, document: &Option<Doc>, name: &Text) -> Result<ActEffects, NoMemory>
+    ensures { (views : List OpenView) → Stands document.now views
+        → IfOk result (IsOutcome document.now (undone_outcome views (named_view views name.now))) }
 {
     match document {
-        Some(_) if is_first_view(view) => Ok(changed_nothing(Reply::NotBuilt)),
+        Some(_) if is_first_view(name) => Ok(changed_nothing(Reply::NotBuilt)),
         _ => refused_view(alloc),
     }
 }
 
 fn open(alloc: Global, document: &Option<Doc>, path: &Option<Text>) -> Result<ActEffects, NoMemory>
-    ensures { (plain : Option Document) → Stands document.now plain
-        → IfOk result (IsOutcome document.now (open_outcome plain path.now)) }
+    ensures { (views : List OpenView) → Stands document.now views
+        → IfOk result (IsOutcome document.now (open_outcome views path.now)) }
 {
     if document.is_some() || path.is_some() {
         return Ok(changed_nothing(Reply::NotBuilt));
@@ -133,15 +133,15 @@ fn open(alloc: Global, document: &Option<Doc>, path: &Option<Text>) -> Result<Ac
 fn edit(
     alloc: Global,
     document: &Option<Doc>,
-    view: &Text,
+    name: &Text,
     act: &EditAct,
 ) -> Result<ActEffects, NoMemory>
     requires { MayBeAsked document.now }
-    ensures { (plain : Option Document) → Stands document.now plain
-        → IfOk result (IsOutcome document.now (edit_outcome plain view.now act.now)) }
+    ensures { (views : List OpenView) → Stands document.now views
+        → IfOk result (IsOutcome document.now (edit_outcome views (named_view views name.now) act.now)) }
 {
     match document {
-        Some(doc) if is_first_view(view) => edit_view(alloc, doc, act),
+        Some(doc) if is_first_view(name) => edit_view(alloc, doc, act),
         _ => refused_view(alloc),
     }
 }
@@ -149,8 +149,8 @@ fn edit(
 /// Edits the view that is there.
 fn edit_view(alloc: Global, doc: &Doc, act: &EditAct) -> Result<ActEffects, NoMemory>
     requires { MayBeAsked (Some doc.now) }
-    ensures { (plain : Document) → ServesDocument doc.now plain
-        → IfOk result (IsOutcome (Some doc.now) (view_outcome plain act.now)) }
+    ensures { (view : OpenView) → ServesView doc.now view
+        → IfOk result (IsOutcome (Some doc.now) (edit_outcome (view ∷ []) (Some view) act.now)) }
 {
     if is_done(act) {
         edit_document(alloc, doc, act)
@@ -168,10 +168,10 @@ fn answer_undone(act: &EditAct) -> Reply
     }
 }
 
-fn is_first_view(view: &Text) -> bool
-    ensures { result ≡ is_first_view view.now }
+fn is_first_view(name: &Text) -> bool
+    ensures { result ≡ bytes_eq (encode_utf8_all name.now) view_id }
 {
-    view.as_str() == FIRST_VIEW
+    name.as_str() == FIRST_VIEW
 }
 
 /// Whether the edits of this kind are done yet.
@@ -183,8 +183,8 @@ fn is_done(act: &EditAct) -> bool
 
 fn edit_document(alloc: Global, doc: &Doc, act: &EditAct) -> Result<ActEffects, NoMemory>
     requires { MayBeAsked (Some doc.now) }
-    ensures { (plain : Document) → ServesDocument doc.now plain
-        → IfOk result (IsOutcome (Some doc.now) (front_outcome plain act.now)) }
+    ensures { (view : OpenView) → ServesView doc.now view
+        → IfOk result (IsOutcome (Some doc.now) (front_outcome (view ∷ []) view act.now)) }
 {
     match after_alone(alloc, doc, Event::Front(act.copy(alloc)?)) {
         Ok((next, effects)) => Ok(taken(Reply::Accepted, next, effects)),
@@ -195,9 +195,9 @@ fn edit_document(alloc: Global, doc: &Doc, act: &EditAct) -> Result<ActEffects, 
 /// What the fault of an insertion comes to. An insertion is against the head, and its delta fits.
 fn not_inserted(fault: DocFault) -> Result<ActEffects, NoMemory>
     requires { IsSpentOrLack fault }
-    ensures { (plain : Document) (before : Option Doc) (refusal : Option Refusal) (step : EventStep)
-        → Stands before (Some plain) → DocRefuses refusal fault
-        → IfOk result (IsOutcome before (edit_came plain (spent_total refusal) step)) }
+    ensures { (view : OpenView) (before : Option Doc) (refusal : Option Refusal) (step : EventStep)
+        → Stands before (view ∷ []) → DocRefuses refusal fault
+        → IfOk result (IsOutcome before (edit_came (view ∷ []) view (spent_total refusal) step)) }
 {
     match fault {
         DocFault::Spent(_) => Ok(changed_nothing(Reply::Spent)),

@@ -9,8 +9,8 @@ ghost use Rattle.serde_json.specs.Written.{has_float};
 ghost use Rattle.serde_json.specs.View.{view};
 ghost use Rattle.doc_session.specs.PositionView.{position_view};
 ghost use Rattle.core_session.specs.Answer.{answers, refusal, named_refusal, refused_by, result_messages};
-ghost use Rattle.core_session.specs.Session.{view_id, update_notes, scroll_notes};
-ghost use Rattle.core_session.specs.Inner.{AreLinesOf, UpdateReadsBack, reply_of};
+ghost use Rattle.core_session.specs.Session.{view_id, update_notes, scroll_notes, updates_for, scroll_for};
+ghost use Rattle.core_session.specs.Inner.{AreLinesOf, UpdatesReadBack, reply_of};
 
 use crate::act::{ActEffects, FIRST_VIEW, Reply};
 use json_rpc::{code_of, message_of, write_error, write_reply};
@@ -30,10 +30,10 @@ const NOT_BUILT: i64 = 9;
 /// The lines of an entry: its answer, and then what else the front end is told.
 pub fn piece_of(alloc: Global, id: &Id, effects: &ActEffects) -> Result<Text, NoMemory>
     requires { IsWireId id.now }
-    ensures reads_back { IfOk result (λ _. UpdateReadsBack effects.now.update) }
+    ensures reads_back { IfOk result (λ _. UpdatesReadBack (updates_for view_id effects.now.update)) }
     ensures lines { IfOk result (λ piece.
-        AreLinesOf (answers id.now (reply_of effects.now.reply) ++ (update_notes effects.now.update
-        ++ scroll_notes (option_map position_view effects.now.scroll))) (encode_utf8_all piece)) }
+        AreLinesOf (answers id.now (reply_of effects.now.reply) ++ (update_notes (updates_for view_id effects.now.update)
+        ++ scroll_notes (scroll_for view_id (option_map position_view effects.now.scroll)))) (encode_utf8_all piece)) }
 {
     let mut piece = answer(alloc, id, &effects.reply)?;
     piece.push_text(&update_note(alloc, &effects.update)?)?;
@@ -58,8 +58,8 @@ fn answer(alloc: Global, id: &Id, reply: &Reply) -> Result<Text, NoMemory>
 }
 
 fn update_note(alloc: Global, update: &Option<Update>) -> Result<Text, NoMemory>
-    ensures reads_back { IfOk result (λ _. UpdateReadsBack update.now) }
-    ensures lines { IfOk result (λ text. AreLinesOf (update_notes update.now) (encode_utf8_all text)) }
+    ensures reads_back { IfOk result (λ _. UpdatesReadBack (updates_for view_id update.now)) }
+    ensures lines { IfOk result (λ text. AreLinesOf (update_notes (updates_for view_id update.now)) (encode_utf8_all text)) }
 {
     match update {
         Some(update) => write_update(alloc, &first_view(alloc)?, update),
@@ -68,7 +68,8 @@ fn update_note(alloc: Global, update: &Option<Update>) -> Result<Text, NoMemory>
 }
 
 fn scroll_note(alloc: Global, scroll: Option<(u64, u64)>) -> Result<Text, NoMemory>
-    ensures { IfOk result (λ text. AreLinesOf (scroll_notes (option_map position_view scroll)) (encode_utf8_all text)) }
+    ensures { IfOk result (λ text.
+        AreLinesOf (scroll_notes (scroll_for view_id (option_map position_view scroll))) (encode_utf8_all text)) }
 {
     match scroll {
         Some((line, col)) => write_scroll(alloc, &first_view(alloc)?, line, col),

@@ -1,6 +1,6 @@
-ghost use Rattle.std.specs.Prelude.{◌≡◌, Option, IfOk};
+ghost use Rattle.std.specs.Prelude.{◌≡◌, List, IfOk};
 ghost use Rattle.front_wire.specs.Front.{command_of};
-ghost use Rattle.doc_session.specs.Document.{Document};
+ghost use Rattle.core_session.specs.Session.{OpenView};
 ghost use Rattle.core_session.specs.Core.{IsOfLine, Stands};
 ghost use Rattle.core_session.specs.Inner.{IsPrepared, MayBeAsked};
 
@@ -17,7 +17,7 @@ pub fn prepare(alloc: Global, document: &Option<Doc>, line: &[u8]) -> Result<Pre
     requires { MayBeAsked document.now }
     ensures command { IfOk result (λ made. made.command ≡ command_of line.now) }
     ensures asks { IfOk result (λ made. IsOfLine made.command.act) }
-    ensures prepared { (plain : Option Document) → Stands document.now plain → IfOk result (IsPrepared document.now plain) }
+    ensures prepared { (views : List OpenView) → Stands document.now views → IfOk result (IsPrepared document.now views) }
 {
     let command = command_of(alloc, line)?;
     let effects = act_on(alloc, document, &command.act)?;

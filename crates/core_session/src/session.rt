@@ -4,7 +4,6 @@ ghost use Rattle.outside.specs.Sink.{sink_state};
 ghost use Rattle.xi_plain.specs.declared.command.Command.{Command};
 ghost use Rattle.xi_plain.specs.declared.entry.ShelfNote.TheVariants.{NoCall};
 ghost use Rattle.front_wire.specs.Fair.{IsFair};
-ghost use Rattle.doc_session.specs.Document.{Document};
 ghost use Rattle.xi_plain.specs.Journal.{closing_entry};
 ghost use Rattle.core_session.specs.Inner.{document_then};
 ghost use Rattle.front_wire.specs.Front.{command_of};
@@ -46,7 +45,7 @@ pub struct Core<K> {
 }
 
 impl<K: Sink> Core<K> {
-    ghost use Rattle.core_session.specs.Core.{IsOfLine, IsServing, AddsSentEntry, AddsUnsentEntry, ChangesNothing, HasDocumentAfter, HasRoom, journal_of, sink_of, plain_of};
+    ghost use Rattle.core_session.specs.Core.{IsOfLine, IsServing, AddsSentEntry, AddsUnsentEntry, ChangesNothing, HasViewsAfter, HasRoom, journal_of, sink_of, views_of};
     ghost use Rattle.core_session.specs.Inner.{IsPrepared};
 
     /// A session without entries. For want of memory the sink is given back.
@@ -76,7 +75,7 @@ impl<K: Sink> Core<K> {
         ensures no_memory { result ≡ Entered.NoMemory → ChangesNothing self.old self.new }
         ensures complete { (Rose (K.faults (sink_of self.old)) (K.faults (sink_of self.new)) → ⊥)
             → (result ≡ Entered.Taken) ⊎ (result ≡ Entered.NoMemory) }
-        ensures dropped { result ≢ Entered.Taken → HasDocumentAfter self.new (journal_of self.old) }
+        ensures dropped { result ≢ Entered.Taken → HasViewsAfter self.new (journal_of self.old) }
     {
         let Ok(made) = prepare(alloc, &self.document, line) else {
             return Entered::NoMemory;
@@ -92,7 +91,7 @@ impl<K: Sink> Core<K> {
         requires serving { IsServing self.old }
         requires room { vec_len self.old.journal + 2 ≤ vec_capacity self.old.journal }
         requires asks { IsOfLine made.command.act }
-        requires prepared { IsPrepared self.old.document (plain_of (journal_of self.old)) made }
+        requires prepared { IsPrepared self.old.document (views_of (journal_of self.old)) made }
         ensures sent { result ≡ Entered.Taken
             → AddsSentEntry (sink_state K.held K.faults K.failures) self.old self.new made.command }
         ensures unsent { result ≡ Entered.SinkFault → (n : ℕ)

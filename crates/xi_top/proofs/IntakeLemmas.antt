@@ -88,7 +88,7 @@ sent_whole : {K : Type 0} (tell : K → SinkState) (start : SinkState) (core : C
 sent_whole tell start core whole = record {
   each = sent_front (journal_of core) (closing_entry ∷ []) whole.serving.sent (refl, tt);
   failures = whole.failures;
-  bytes = written None (journal_of core);
+  bytes = written [] (journal_of core);
   gains = whole.gains;
   shows = shows_closed core whole.serving;
 }
@@ -114,8 +114,8 @@ module _ {K : Type 0} (tell : K → SinkState) (start : SinkState) where
       record {
         serving = adds.serving;
         gains =
-            subst At (sym (ap (written None) adds.entry ∙ written-push (journal_of old) (front_entry command true)))
-            (Gains-append start.held (tell (sink_of old)).held (tell (sink_of new)).held (written None (journal_of old))
+            subst At (sym (ap (written []) adds.entry ∙ written-push (journal_of old) (front_entry command true)))
+            (Gains-append start.held (tell (sink_of old)).held (tell (sink_of new)).held (written [] (journal_of old))
             (piece_after (journal_of old) command) whole.gains adds.gains);
         stays = omega (arith, whole.stays, adds.faults_stay);
         failures = adds.failures_same ∙ whole.failures;
@@ -123,8 +123,8 @@ module _ {K : Type 0} (tell : K → SinkState) (start : SinkState) where
 
   whole_same : (old new : Core K) → IsWhole tell start old → ChangesNothing old new → IsWhole tell start new
   whole_same old new whole same =
-      let Gained : K → Type 0 = λ sink. Gains start.held (tell sink).held (written None (journal_of new)) in
-      let At : List Entry → Type 0 = λ entries. Gains start.held (tell (sink_of old)).held (written None entries) in
+      let Gained : K → Type 0 = λ sink. Gains start.held (tell sink).held (written [] (journal_of new)) in
+      let At : List Entry → Type 0 = λ entries. Gains start.held (tell (sink_of old)).held (written [] entries) in
       let Stays : K → Type 0 = λ sink. start.faults ≤ (tell sink).faults in
       record {
         serving = same.serving;
@@ -179,10 +179,10 @@ module _ {K : Type 0} (tell : K → SinkState) (start : SinkState) where
         unsent = refl;
         failures = subst (λ (n : ℕ). (tell (sink_of new)).failures ≡ counted n) whole.failures adds.failures_counted;
         rose = Rose-earlier start.faults (tell (sink_of old)).faults (tell (sink_of new)).faults whole.stays adds.rose;
-        bytes = written None (journal_of old);
+        bytes = written [] (journal_of old);
         part = take n (piece_after (journal_of old) (command_of line));
         gains =
-            Gains-append start.held (tell (sink_of old)).held (tell (sink_of new)).held (written None (journal_of old))
+            Gains-append start.held (tell (sink_of old)).held (tell (sink_of new)).held (written [] (journal_of old))
             (take n (piece_after (journal_of old) (command_of line))) whole.gains adds.gains;
         shows = whole.serving.showing.shows;
         proper = (n, adds.part, refl);
@@ -448,7 +448,7 @@ module _ {K : Type 0} (tell : K → SinkState) (start : SinkState) where
 pub at_first : {K : Type 0} (tell : K → SinkState) (core : Core K) (begun : Begun) → IsServing core → journal_of core ≡ [] → begun.bytes ≡ [] →
     begun.count ≡ 0 → IsAt tell (tell (sink_of core)) [] core begun
 at_first tell core begun serving empty none zero_of =
-    let At : List Entry → Type 0 = λ entries. Gains (tell (sink_of core)).held (tell (sink_of core)).held (written None entries) in
+    let At : List Entry → Type 0 = λ entries. Gains (tell (sink_of core)).held (tell (sink_of core)).held (written [] entries) in
     record {
       whole = record { serving = serving; gains = subst At (sym empty) (Gains-none (tell (sink_of core)).held); stays = omega arith; failures = refl };
       asked = ap commands empty;

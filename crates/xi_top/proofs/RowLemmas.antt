@@ -1,5 +1,5 @@
 -- Worked rows of runs.
-use Rattle.std.proofs.Common.{◌≡◌, ℕ, ◌+◌, ◌<◌, ◌≤◌, inl, inr, List, [], ◌∷◌, ◌++◌, length, map, drop, Option, Some, None, Ok, Err, refl, ap, sym, ◌∙◌, subst, length-append, arith}
+use Rattle.std.proofs.Common.{◌≡◌, ℕ, ◌+◌, ◌<◌, ◌≤◌, inl, inr, List, [], ◌∷◌, ◌++◌, length, map, drop, Option, Some, Ok, Err, refl, ap, sym, ◌∙◌, subst, length-append, arith}
 use Rattle.std.proofs.lemmas.List.{length-map, nil_from_length}
 use Rattle.std.specs.List.{concat}
 use Rattle.std.specs.Prelude.{IfSome}
@@ -66,7 +66,7 @@ two_before a b c d (x ∷ y ∷ z ∷ sent) last is =
 pub third_write_fails : ThirdWriteFails
 third_write_fails before after gained none some cut =
     let parts = two_before opening (insertion (97 ∷ [])) unsent_insertion closing_entry cut.sent cut.last cut.cut in
-    let bytes : cut.bytes ≡ opening_bytes ++ first_bytes = cut.shows.pieces ∙ ap (written None) parts.0 ∙ first_insertion in
+    let bytes : cut.bytes ≡ opening_bytes ++ first_bytes = cut.shows.pieces ∙ ap (written []) parts.0 ∙ first_insertion in
     let At : Option (List ℕ) → Option (List ℕ) → Type 0 = λ from to. Gains from to (cut.bytes ++ cut.part) in
     let all : gained ≡ cut.bytes ++ cut.part = subst (At (Some [])) some (subst (λ from. At from after.held) none cut.gains) in
     let Proper : List Entry → Entry → Type 0 = λ sent last. IsProperPart cut.part (piece_after sent last.command) in (

@@ -1,5 +1,5 @@
 -- What private functions say: where a run stands between two bytes, and how it stops.
-use Rattle.std.specs.Prelude.{◌≡◌, ℕ, ◌+◌, ◌*◌, ◌<◌, ◌≤◌, List, [], ◌∷◌, ◌++◌, length, map, None, IfSome, Ok, Err, ⊤}
+use Rattle.std.specs.Prelude.{◌≡◌, ℕ, ◌+◌, ◌*◌, ◌<◌, ◌≤◌, List, [], ◌∷◌, ◌++◌, length, map, IfSome, Ok, Err, ⊤}
 use Rattle.std.specs.List.{AllByRecursion}
 use Rattle.xi_plain.specs.declared.command.Command.{Command}
 use Rattle.plain_text.specs.InputLines.{ended_lines, unended}
@@ -38,7 +38,7 @@ weight begun = 16_777_216 * begun.count + length begun.bytes
 -- all entries were sent, and the sink gained their pieces
 pub record IsWhole {K : Type 0} (tell : K → SinkState) (start : SinkState) (core : Core K) : Type 0 where
   pub serving : IsServing core
-  pub gains : Gains start.held (tell (sink_of core)).held (written None (journal_of core))
+  pub gains : Gains start.held (tell (sink_of core)).held (written [] (journal_of core))
   pub stays : start.faults ≤ (tell (sink_of core)).faults
   pub failures : (tell (sink_of core)).failures ≡ start.failures
 

@@ -1,0 +1,185 @@
+-- A front end that knows the first view alone sees what the journal defines, while there is no second one.
+use Rattle.std.proofs.Common.{◌≡◌, ℕ, Bool, true, false, List, [], ◌∷◌, ◌++◌, Option, Some, None, refl, ap, sym, ◌∙◌, subst, append_assoc, append-nil}
+use Rattle.std.specs.Prelude.{if◌then◌else◌, ⊤}
+use Rattle.std.specs.List.{AllByRecursion}
+use Rattle.std.specs.Str.{bytes_eq}
+use Rattle.std.proofs.lemmas.Slice.Eq.{bytes_eq-Decides}
+use Rattle.xi_plain.specs.declared.command.EditAct.{EditAct}
+use Rattle.xi_plain.specs.declared.command.Act.{Act}
+use Rattle.xi_plain.specs.declared.command.Act.TheVariants.{NewView, CloseView, Save, Edit}
+use Rattle.xi_plain.specs.declared.entry.Entry.{Entry}
+use Rattle.plain_screen.specs.declared.screen.Op.{Op}
+use Rattle.plain_screen.specs.Screen.{Screen, screen_after}
+use Rattle.view_update.specs.Reading.{ViewUpdate}
+use Rattle.doc_session.specs.Step.{EventStep, event_step, refusal_at}
+use Rattle.doc_session.specs.declared.event.Event.TheVariants.{Front}
+use Rattle.core_session.specs.Session.{OpenView, view_id, named_view, Outcome, outcome, edit_came, edit_outcome, undone_outcome, spent_total, is_done, front_outcome, keeping, answer_undone, step, views_after, written, piece_of}
+use Rattle.core_session.specs.Shows.{updates_in, rebuilt_from, rebuilt, IsShown, AreShown, SendsTo, NotesSendTo}
+use Rattle.core_session.specs.Core.{views_of}
+use Rattle.core_session.specs.Laws.{only_rebuilt_from, only_rebuilt, IsOnlyShown, OnlyViewIsShown}
+use Rattle.core_session.proofs.SessionLemmas.{views_after-push, all_append}
+use Rattle.core_session.proofs.ShowsLemmas.{updates_in-push}
+
+-- at most the first view is open
+AtMostFirst : List OpenView → Type 0
+AtMostFirst [] = ⊤
+AtMostFirst (view ∷ []) = view.id ≡ view_id
+AtMostFirst (view ∷ next ∷ views) = ⊥
+
+-- the note is one of the first view, and that is open
+IsTold : List OpenView → Option ViewUpdate → Type 0
+IsTold [] update = ⊥
+IsTold (view ∷ views) None = ⊥
+IsTold (view ∷ views) (Some note) = bytes_eq note.view view_id ≡ true
+
+AreTold : List OpenView → List (Option ViewUpdate) → Type 0
+AreTold views notes = AllByRecursion (IsTold views) notes
+
+-- where a view is open, one is open after
+Stays : List OpenView → List OpenView → Type 0
+Stays [] after = ⊤
+Stays (view ∷ views) [] = ⊥
+Stays (view ∷ views) (next ∷ after) = ⊤
+
+stays_same : (views : List OpenView) → Stays views views
+unfolding Stays
+stays_same [] = tt
+stays_same (view ∷ views) = tt
+
+-- ---- an act
+
+FirstStays : List OpenView → Outcome → Type 0
+FirstStays views done = AtMostFirst done.views × Stays views done.views
+
+first_id : (b : Bool) (view first : OpenView) → bytes_eq view.id first.id ≡ b → first.id ≡ view_id → (if b then view else first).id ≡ view_id
+first_id true view first is same = (bytes_eq-Decides view.id first.id).0 is ∙ same
+first_id false view first is same = same
+
+first_keeping : (views : List OpenView) (done : Outcome) → done.views ≡ views → AtMostFirst views → FirstStays views done
+unfolding FirstStays
+first_keeping views done same first =
+    let At : List OpenView → Type 0 = λ after. AtMostFirst after × Stays views after in
+    subst At (sym same) (first, stays_same views)
+
+first_came : (views : List OpenView) (view : OpenView) (total : Option ℕ) (next : EventStep) → AtMostFirst views → FirstStays views (edit_came views view total next)
+unfolding AtMostFirst Stays FirstStays
+first_came views view (Some total) next first = (first, stays_same views)
+first_came [] view None next first = (tt, tt)
+first_came (old ∷ []) view None next first = (first_id (bytes_eq view.id old.id) (record view { document = next.document }) old refl first, tt)
+first_came (old ∷ more ∷ views) view None next first = absurd first
+
+first_done : (done : Bool) (views : List OpenView) (view : OpenView) (act : EditAct) → AtMostFirst views →
+    FirstStays views (if done then front_outcome views view act else keeping views (answer_undone act))
+first_done true views view act first =
+    first_came views view (spent_total (refusal_at view.document (Front act))) (event_step view.document (Front act)) first
+first_done false views view act first = first_keeping views _ refl first
+
+first_edit : (views : List OpenView) (found : Option OpenView) (act : EditAct) → AtMostFirst views → FirstStays views (edit_outcome views found act)
+first_edit views None act first = first_keeping views _ refl first
+first_edit views (Some view) act first = first_done (is_done act) views view act first
+
+first_undone : (views : List OpenView) (found : Option OpenView) → AtMostFirst views → FirstStays views (undone_outcome views found)
+first_undone views None first = first_keeping views _ refl first
+first_undone views (Some view) first = first_keeping views _ refl first
+
+first_stays : (views : List OpenView) (act : Act) → AtMostFirst views → FirstStays views (outcome views act)
+unfolding AtMostFirst Stays FirstStays
+first_stays [] (NewView None) first = (refl, tt)
+first_stays [] (NewView (Some path)) first = (first, tt)
+first_stays (view ∷ views) (NewView path) first = (first, tt)
+first_stays views (Edit name act) first = first_edit views (named_view views name) act first
+first_stays views (CloseView name) first = first_undone views (named_view views name) first
+first_stays views (Save name path) first = first_undone views (named_view views name) first
+first_stays views act first = (first, stays_same views)
+
+-- ---- the notes of an entry, and those before it
+
+sent_first : (b : Bool) (view : OpenView) (ops : List Op) → SendsTo (if b then Some view else None) ops → b ≡ true
+sent_first true view ops sends = refl
+sent_first false view ops sends = absurd sends
+
+sent_told : (views : List OpenView) (notes : List (Option ViewUpdate)) → AtMostFirst views → NotesSendTo views notes → AreTold views notes
+unfolding AtMostFirst IsTold AreTold
+sent_told views [] first sends = tt
+sent_told views (None ∷ notes) first sends = absurd sends.0
+sent_told [] (Some note ∷ notes) first sends = absurd sends.0
+sent_told (view ∷ next ∷ views) (Some note ∷ notes) first sends = absurd first
+sent_told (view ∷ []) (Some note ∷ notes) first sends =
+    (ap (bytes_eq note.view) (sym first) ∙ sent_first (bytes_eq note.view view.id) view note.update.ops sends.0, sent_told (view ∷ []) notes first sends.1)
+
+told_after : (views after : List OpenView) (notes : List (Option ViewUpdate)) → Stays views after → AreTold views notes → AreTold after notes
+unfolding Stays IsTold AreTold
+told_after views after [] stays told = tt
+told_after [] after (update ∷ notes) stays told = absurd told.0
+told_after (view ∷ views) [] (update ∷ notes) stays told = absurd stays
+told_after (view ∷ views) (next ∷ after) (None ∷ notes) stays told = absurd told.0
+told_after (view ∷ views) (next ∷ after) (Some note ∷ notes) stays told = (told.0, told_after (view ∷ views) (next ∷ after) notes stays told.1)
+
+-- after these entries at most the first view is open, and what was written tells of no other
+IsSoFar : List Entry → Type 0
+IsSoFar entries = AtMostFirst (views_of entries) × AreTold (views_of entries) (updates_in (written [] entries))
+
+so_far_push : (before : List Entry) (entry : Entry) → IsSoFar before →
+    NotesSendTo (views_of (before ++ entry ∷ [])) (updates_in (piece_of (views_of before) entry.command)) → IsSoFar (before ++ entry ∷ [])
+unfolding FirstStays AreTold IsSoFar
+so_far_push before entry so sends =
+    let views = views_of before in
+    let next = views_of (before ++ entry ∷ []) in
+    let is : step views entry.command ≡ next = sym (views_after-push before entry) in
+    let At : List OpenView → Type 0 = λ after. AtMostFirst after × Stays views after in
+    let stays : At next = subst At is (first_stays views entry.command.act so.0) in
+    let all : AreTold next (updates_in (written [] before) ++ updates_in (piece_of views entry.command)) =
+    all_append (IsTold next) (updates_in (written [] before)) (updates_in (piece_of views entry.command))
+    (told_after views next (updates_in (written [] before)) stays.1 so.1)
+    (sent_told next (updates_in (piece_of views entry.command)) stays.0 sends) in
+    (stays.0, subst (AreTold next) (sym (updates_in-push before entry)) all)
+
+-- each entry tells of the views that are open after it alone
+TellsEach : List Entry → Type 0
+TellsEach journal = (front : List Entry) (entry : Entry) (back : List Entry) → journal ≡ front ++ (entry ∷ back) →
+    NotesSendTo (views_after [] (front ++ entry ∷ [])) (updates_in (piece_of (views_after [] front) entry.command))
+
+so_far : (before entries : List Entry) → IsSoFar before → TellsEach (before ++ entries) → IsSoFar (before ++ entries)
+unfolding TellsEach
+so_far before [] so each = subst IsSoFar (sym (append-nil before)) so
+so_far before (entry ∷ entries) so each =
+    let whole : (before ++ entry ∷ []) ++ entries ≡ before ++ (entry ∷ entries) = append_assoc before (entry ∷ []) entries in
+    subst IsSoFar whole
+    (so_far (before ++ entry ∷ []) entries (so_far_push before entry so (each before entry entries refl))
+    (λ front last back is. each front last back (sym whole ∙ is)))
+
+-- ---- the screen
+
+only_same : (views : List OpenView) (screen : Option Screen) (notes : List (Option ViewUpdate)) → AreTold views notes →
+    only_rebuilt_from screen notes ≡ rebuilt_from view_id screen notes
+unfolding IsTold AreTold
+only_same views screen [] told = refl
+only_same [] screen (update ∷ notes) told = absurd told.0
+only_same (view ∷ views) screen (None ∷ notes) told = absurd told.0
+only_same (view ∷ views) None (Some note ∷ notes) told = only_same (view ∷ views) None notes told.1
+only_same (view ∷ views) (Some screen) (Some note ∷ notes) told =
+    let made = screen_after screen note.update.ops in
+    ap (λ b. only_rebuilt_from (if b then made else None) notes) told.0 ∙ only_same (view ∷ views) made notes told.1 ∙
+    sym (ap (λ b. rebuilt_from view_id (if b then made else Some screen) notes) told.0)
+
+none_told : (notes : List (Option ViewUpdate)) → AreTold [] notes → only_rebuilt_from (Some []) notes ≡ Some []
+unfolding IsTold AreTold
+none_told [] told = refl
+none_told (update ∷ notes) told = absurd told.0
+
+shown_only : (views : List OpenView) (bytes : List ℕ) → AtMostFirst views → AreTold views (updates_in bytes) → AreShown views bytes →
+    IsOnlyShown views (only_rebuilt bytes)
+unfolding AtMostFirst
+shown_only [] bytes first told shown = none_told (updates_in bytes) told
+shown_only (view ∷ next ∷ views) bytes first told shown = absurd first
+shown_only (view ∷ []) bytes first told shown =
+    let At : List ℕ → Type 0 = λ id. IsShown view.document (rebuilt id bytes) in
+    subst (IsShown view.document) (sym (only_same (view ∷ []) (Some []) (updates_in bytes) told)) (subst At first shown.0)
+
+pub only_view_is_shown : OnlyViewIsShown
+unfolding AtMostFirst AreTold IsSoFar TellsEach
+only_view_is_shown journal front back bytes shows is =
+    let each : TellsEach front =
+    λ before entry after cut. shows.sends before entry (after ++ back) (is ∙ ap (λ xs. xs ++ back) cut ∙ append_assoc before (entry ∷ after) back) in
+    let so : IsSoFar front = so_far [] front (tt, tt) each in
+    shown_only (views_of front) (written [] front) so.0 so.1 (shows.screens front back is)
