@@ -1,5 +1,5 @@
 -- An edit inside one node of a row, and the pieces of an edited leaf.
-use Rattle.std.proofs.Common.{◌≡◌, ℕ, zero, suc, ◌+◌, ◌-◌, ◌*◌, ◌^◌, ◌<◌, ◌≤◌, List, ◌++◌, length, max, take, drop, get_or, append_assoc, refl, sym, ap, ◌∙◌, arith, length-append, length-drop, Option, Some, None, IfSome}
+use Rattle.std.proofs.Common.{◌≡◌, ℕ, zero, suc, ◌+◌, ◌-◌, ◌*◌, ◌^◌, ◌<◌, ◌≤◌, List, ◌∷◌, ◌++◌, length, max, take, drop, get_or, append_assoc, refl, sym, ap, ◌∙◌, arith, length-append, length-drop, Option, Some, None, IfSome}
 use Rattle.std.proofs.Math.Nat.{mul-le-mul_right, pow-suc}
 use Rattle.std.proofs.lemmas.Grind.{common_steps}
 use Rattle.std.proofs.lemmas.List.{length-map}
@@ -9,11 +9,20 @@ use Rattle.shared_tree.specs.declared.leaf.Leaf.{Ghosts}
 use Rattle.shared_tree.specs.declared.leaf.Summary.{Ghosts as Sum}
 use Rattle.shared_tree.specs.Laws.{Adds, Sums}
 use Rattle.shared_tree.specs.Shape.{Shape}
-use Rattle.shared_tree.specs.Row.{items_in, items_of, leaves_of, shapes, IsBunch, IsFit, IsRow, IsRowOf}
+use Rattle.shared_tree.specs.Row.{items_in, items_of, leaves_of, shapes, IsBunch, IsFit, IsLevel, IsRow, IsRowOf}
 use Rattle.shared_tree.specs.Replaced.{replaced}
-use Rattle.shared_tree.proofs.RowLemmas.{back_levels, front_levels, items_in-append, row_full, row_many, IsRow-append}
-use Rattle.shared_tree.proofs.SumLemmas.{IsFit-between}
+use Rattle.shared_tree.proofs.RowLemmas.{back_levels, front_levels, items_in-append, row_full, row_many, IsRow-append, IsRow-cons}
+use Rattle.shared_tree.proofs.SumLemmas.{IsFit-between, IsFit-left, IsFit-right}
 use Rattle.shared_tree.proofs.CutLemmas.{drop-inside, items-cut, take-inside}
+
+-- a list that is parted anew on the left and then on the right of its middle
+pub parted-anew : {X : Type 0} (a b c front own both back : List X) → front ++ own ≡ a ++ b → both ++ back ≡ own ++ c → front ++ (both ++ back) ≡ a ++ (b ++ c)
+parted-anew a b c front own both back left right =
+    ap (λ xs. front ++ xs) right ∙ sym (append_assoc front own c) ∙ ap (λ xs. xs ++ c) left ∙ append_assoc a b c
+
+-- a front of a list is a front of itself
+pub taken : {X : Type 0} (n : ℕ) (xs : List X) → take n xs ≡ take n (take n xs)
+taken n xs = grind (arith, common_steps)
 
 regrouped-items : {X : Type 0} (a f o b c : List X) → a ++ ((f ++ (o ++ b)) ++ c) ≡ (a ++ f) ++ (o ++ (b ++ c))
 regrouped-items a f o b c = simp append_assoc
@@ -42,6 +51,19 @@ module _ {L Item I Z : Type 0} (leaf : Ghosts L Item I) (nodes : List (Arc (Shap
     pub patch-fits : (others : List Item) (from to start : ℕ) → start ≡ length (items_in leaf (shapes (take i nodes))) → start ≤ from → from ≤ to → to - start ≤ length (items_of leaf (arc_value node)) → IsFit leaf sum (replaced (items_in leaf (shapes nodes)) from to others) → IsFit leaf sum (replaced (items_of leaf (arc_value node)) (from - start) (to - start) others)
     patch-fits others from to start at low ordered high fit =
         IsFit-between leaf sum adds sums (items_in leaf (shapes (take i nodes))) (replaced (items_of leaf (arc_value node)) (from - start) (to - start) others) (items_in leaf (shapes (drop (i + 1) nodes))) (rw (patch-cut others from to start at low ordered high) fit)
+
+module _ {L Item I : Type 0} (leaf : Ghosts L Item I) (sum : Sum I) (adds : Adds sum.zero sum.plus sum.fits sum.count) (sums : Sums leaf.summed sum.zero sum.plus sum.count) where
+  -- what stands left of a part fits with it
+  pub fits_with_front : (a b c : List Item) → IsFit leaf sum (a ++ (b ++ c)) → IsFit leaf sum (a ++ b)
+  fits_with_front a b c fit =
+      let parted : a ++ (b ++ c) ≡ (a ++ b) ++ c = sym (append_assoc a b c) in
+      IsFit-left leaf sum adds sums (a ++ b) c (rw parted at fit)
+
+  -- and what stands right of it, where its front is parted anew
+  pub fits_with_back : (a b c front own : List Item) → front ++ own ≡ a ++ b → IsFit leaf sum (a ++ (b ++ c)) → IsFit leaf sum (own ++ c)
+  fits_with_back a b c front own left fit =
+      let parted : a ++ (b ++ c) ≡ front ++ (own ++ c) = sym (append_assoc a b c) ∙ ap (λ xs. xs ++ c) (sym left) ∙ append_assoc front own c in
+      IsFit-right leaf sum adds sums front (own ++ c) (rw parted at fit)
 
 module _ {L Item I : Type 0} (leaf : Ghosts L Item I) where
   -- what a row of two seams comes to
@@ -77,6 +99,29 @@ module _ {L Item I : Type 0} (leaf : Ghosts L Item I) where
     low = of.low;
     high = omega (arith, of.high);
   }
+
+  -- a node put between two rows
+  pub between_row : {Z : Type 0} (h : ℕ) (front back made : List (Arc (Shape L) Z)) (node : Arc (Shape L) Z) (items : List Item) → IsRow leaf h (shapes front) → IsLevel leaf h (arc_value node) → IsRow leaf h (shapes back) → length front + length back ≤ 15 → items_in leaf (shapes front) ++ (items_of leaf (arc_value node) ++ items_in leaf (shapes back)) ≡ items → shapes made ≡ shapes front ++ (arc_value node ∷ shapes back) → IsRowOf leaf h items 1 16 (shapes made)
+  between_row h front back made node items fronts own backs few same is =
+      let counted : length (shapes made) ≡ length (shapes front) + length (arc_value node ∷ shapes back) = ap length is ∙ length-append (shapes front) (arc_value node ∷ shapes back) in
+      record {
+        levels = rw is (IsRow-append leaf h _ _ fronts (IsRow-cons leaf h _ _ own backs));
+        same = rw is (items_in-append leaf (shapes front) (arc_value node ∷ shapes back) ∙ same);
+        low = omega (arith, counted);
+        high = omega (arith, counted, length-map front arc_value, length-map back arc_value);
+      }
+
+  -- the parts of a row beside one of its nodes are short
+  pub beside_short : {Z : Type 0} (i m n : ℕ) (nodes : List (Arc (Shape L) Z)) → i < length nodes → length nodes ≤ 8 → length (take m (take i nodes)) + length (drop n (drop (i + 1) nodes)) ≤ 15
+  beside_short i m n nodes inside few = grind (arith, common_steps)
+
+  -- the same of parts of a row beside one of its nodes
+  pub put_node : {Z : Type 0} (h i m n : ℕ) (nodes front back made : List (Arc (Shape L) Z)) (node : Arc (Shape L) Z) (items : List Item) → i < length nodes → length nodes ≤ 8 → IsRow leaf h (shapes nodes) → IsLevel leaf h (arc_value node) → front ≡ take m (take i nodes) → back ≡ drop n (drop (i + 1) nodes) → items_in leaf (shapes front) ++ (items_of leaf (arc_value node) ++ items_in leaf (shapes back)) ≡ items → shapes made ≡ shapes front ++ (arc_value node ∷ shapes back) → IsRowOf leaf h items 1 16 (shapes made)
+  put_node h i m n nodes front back made node items inside few levels own front_is back_is same is =
+      let fronts : IsRow leaf h (shapes front) = rw front_is (front_levels leaf h m (take i nodes) (front_levels leaf h i nodes levels)) in
+      let backs : IsRow leaf h (shapes back) = rw back_is (back_levels leaf h n (drop (i + 1) nodes) (back_levels leaf h (i + 1) nodes levels)) in
+      let short : length front + length back ≤ 15 = rw (front_is, back_is) (beside_short i m n nodes inside few) in
+      between_row h front back made node items fronts own backs short same is
 
   -- a row put between two others
   pub put_row : {Z : Type 0} (h i : ℕ) (nodes row front back made : List (Arc (Shape L) Z)) → i < length nodes → length nodes ≤ 8 → length row ≤ 3 → IsRow leaf h (shapes nodes) → IsRow leaf h (shapes row) → front ≡ take i nodes → back ≡ drop (i + 1) nodes → shapes made ≡ shapes front ++ (shapes row ++ shapes back) → IsRowOf leaf h (items_in leaf (shapes (take i nodes)) ++ (items_in leaf (shapes row) ++ items_in leaf (shapes (drop (i + 1) nodes)))) (length row) 16 (shapes made)

@@ -23,7 +23,7 @@ pub(crate) fn sum_of<L: Leaf>(row: &[Link<L>]) -> L::Sum
 }
 
 /// Two leaves as one, where they fit.
-fn glued<L: Leaf>(
+pub(crate) fn glued<L: Leaf>(
     alloc: Global,
     left: &Node<L>,
     right: &Node<L>,

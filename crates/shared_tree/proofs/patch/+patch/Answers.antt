@@ -1,4 +1,4 @@
-use Rattle.std.proofs.Common.{rules, ◌≡◌, ◌+◌, ◌-◌, ◌*◌, ◌<◌, ◌≤◌, length, ap, sym, refl, ◌∙◌, arith}
+use Rattle.std.proofs.Common.{rules, ◌≡◌, ◌+◌, ◌-◌, ◌*◌, ◌<◌, ◌≤◌, ◌∷◌, length, ap, sym, refl, ◌∙◌, arith}
 use Rattle.std.proofs.lemmas.Result.{IfOk-weaker}
 use Rattle.std.proofs.lemmas.List.{length-map}
 use Rattle.std.specs.Arc.{arc_value}
@@ -38,7 +38,7 @@ patched_in-returns-in-Some g t c =
     let high : c.node.inside.height ≡ c.args.node.now.height = ap (λ (s : Shape g.row.L.Denot). s.height) c.node.view_is in
     let row = rw c.in-Some.is at c.in_ok-row-in-Inner.ensures in
     let items = rw (c.deref.ensures.value, same) at row.same in
-    IfOk-weaker c.regrouped.result _ _ (λ made some. IfSome_weaker made _ _ (λ nodes of. same_row g.L.Leaf _ _ _ _ 1 2 3 (shapes nodes.items) high items (omega arith) of) some) c.regrouped.ensures
+    IfOk-weaker c.regrouped.result _ _ (λ made some. IfSome_weaker made _ _ (λ few of. same_row g.L.Leaf _ _ _ _ 1 2 3 (arc_value few.0 ∷ shapes few.1.items) high items (omega arith) of) some) c.regrouped.ensures
 
 pub patched_row-child_at-i-requires-clause-reached : goal.patched_row-child_at-i-requires-clause-reached
 patched_row-child_at-i-requires-clause-reached g t c =
@@ -60,35 +60,40 @@ patched_row-patched_in-requires g t c κs within =
     let fit : IsFit g.L.Leaf g.L.Sum.Summary (replaced (items_of g.L.Leaf c.deref-node.result.now) (c.args.from - start) (c.args.to - start) (items_in g.L.Leaf (shapes c.args.others.now))) = rw c.deref-node.ensures (patch-fits g.L.Leaf nodes i _ at.inside c.index-nodes-i.is g.L.Sum.Summary g.met.L.Sum.Summary.adds g.met.L.Leaf.sums (items_in g.L.Leaf (shapes c.args.others.now)) c.args.from c.args.to start at.start low c.requires.ordered high c.requires.fits) in
     search rules
 
-pub patched_row-within-requires-clause-row : goal.patched_row-within-requires-clause-row
-patched_row-within-requires-clause-row g t c =
+pub patched_row-placed-requires-clause-row : goal.patched_row-placed-requires-clause-row
+patched_row-placed-requires-clause-row g t c =
     let at = c.child_at-i.ensures in
     let level = level_at g.L.Leaf c.args.height c.args.nodes.now c.child_at-i.result.0 _ at.inside c.index-nodes-i.is c.requires.nodes.levels in
-    let row = rw (c.in-Some.is, c.deref-node.ensures, level.level) at c.in_ok-row.ensures in
-    rw c.deref.ensures.value row.levels
+    let row = rw (c.in-Some.is, c.deref-node.ensures, level.level) at c.in_ok-few.ensures in
+    row.levels
 
-pub patched_row-within-requires-clause-fits : goal.patched_row-within-requires-clause-fits
-patched_row-within-requires-clause-fits g t c =
+pub patched_row-placed-requires-clause-few : goal.patched_row-placed-requires-clause-few
+patched_row-placed-requires-clause-few g t c =
+    let row = rw c.in-Some.is at c.in_ok-few.ensures in
+    let high : length (arc_value c.in-Some.few.0 ∷ shapes c.in-Some.few.1.items) ≤ 3 = row.high in
+    omega (arith, length-map c.in-Some.few.1.items arc_value)
+
+pub patched_row-placed-requires-clause-fits : goal.patched_row-placed-requires-clause-fits
+patched_row-placed-requires-clause-fits g t c =
     let at = c.child_at-i.ensures in
     let nodes = c.args.nodes.now in
     let i = c.child_at-i.result.0 in
     let start = c.child_at-i.result.1 in
-    let row = rw (c.in-Some.is, c.deref-node.ensures) at c.in_ok-row.ensures in
+    let row = rw (c.in-Some.is, c.deref-node.ensures) at c.in_ok-few.ensures in
     let inside : c.args.to - start ≤ length (items_of g.L.Leaf c.deref-node.result.now) = omega arith in
     let low : start ≤ c.args.from = omega (arith, at.passed, c.passing.ensures.below) in
     let high = rw c.deref-node.ensures at inside in
-    rw (c.deref.ensures.value, row.same, patch-cut g.L.Leaf nodes i _ at.inside c.index-nodes-i.is (items_in g.L.Leaf (shapes c.args.others.now)) c.args.from c.args.to start at.start low c.requires.ordered high) c.requires.fits
+    rw (row.same, patch-cut g.L.Leaf nodes i _ at.inside c.index-nodes-i.is (items_in g.L.Leaf (shapes c.args.others.now)) c.args.from c.args.to start at.start low c.requires.ordered high) c.requires.fits
 
-pub patched_row-returns-in_ok-within-in-Some : goal.patched_row-returns-in_ok-within-in-Some
-patched_row-returns-in_ok-within-in-Some g t c =
+pub patched_row-returns-in_ok-placed-in-Some : goal.patched_row-returns-in_ok-placed-in-Some
+patched_row-returns-in_ok-placed-in-Some g t c =
     let at = c.child_at-i.ensures in
     let nodes = c.args.nodes.now in
     let i = c.child_at-i.result.0 in
     let start = c.child_at-i.result.1 in
-    let row = rw (c.in-Some.is, c.deref-node.ensures) at c.in_ok-row.ensures in
+    let row = rw (c.in-Some.is, c.deref-node.ensures) at c.in_ok-few.ensures in
     let inside : c.args.to - start ≤ length (items_of g.L.Leaf c.deref-node.result.now) = omega arith in
     let low : start ≤ c.args.from = omega (arith, at.passed, c.passing.ensures.below) in
     let high = rw c.deref-node.ensures at inside in
     let edit = patch-cut g.L.Leaf nodes i _ at.inside c.index-nodes-i.is (items_in g.L.Leaf (shapes c.args.others.now)) c.args.from c.args.to start at.start low c.requires.ordered high in
-    let made = rw (c.deref.ensures.value, row.same, edit) at c.in_ok-within-in-Some.ensures in
-    record { levels = made.levels; same = made.same; low = omega (arith, made.low, row.low, length-map c.in-Some.row.items arc_value, c.deref.ensures.len); high = made.high }
+    rw (row.same, edit) at c.in_ok-placed-in-Some.ensures
