@@ -1,27 +1,59 @@
-//! Runs many edits through the revision engine, in memory alone, and prints how many revisions and characters there are then.
+//! Runs many steps through the revision engine, in memory alone, and prints how many revisions and characters there are then.
 //!
 //! | words | means |
 //! |---|---|
 //! | `typing N` | N insertions of one character at the end of the text, all of one group |
-//! | `groups N` | the same, each of a group of its own |
+//! | `groups N` | the same, each of a group of its own; then the newest group is undone and redone 1,000 times |
+//! | `group N` | N insertions of one group, which is then undone and redone 100 times |
+//! | `sets N` | N groups of one insertion each; then 100 sets are undone, one after the other, each whole: a group is in one or not by a seed |
+//! | `cut N` | N times a group, its undo by difference and a new group, so that N groups stay undone |
 //! | `stale N` | N insertions of one character at the start, each against the revision 100 before the head, or the first |
+//! | `all N` | each of these in its turn |
 //!
-//! Nothing stands on it. It is for measuring: its output says only what was run.
+//! Nothing stands on it. It is for measuring: its output says only what was run, and its time is taken from outside.
 #![tactic(auto)]
 
-use anyhow::bail;
+use anyhow::{bail, ensure};
 use plain_edits::{Delta, El, Els};
 use plain_text::{NoMemory, Text};
-use rev_engine::{Edit, EditFault, Engine};
-use std::alloc::Global;
+use rand_core::{Rng, SeedableRng};
+use rand_pcg::Lcg64Xsh32;
+use rev_engine::{Edit, Engine};
+use std::alloc::{AllocError, Global};
+use std::collections::BTreeSet;
 use std::env;
 
-/// Which edits are run.
-#[derive(Clone, Copy)]
+/// Which steps are run.
+#[derive(Clone, Copy, PartialEq, Eq)]
 enum Load {
     Typing,
     Groups,
+    Group,
+    Sets,
+    Cut,
     Stale,
+}
+
+const ALL: [Load; 6] = [
+    Load::Typing,
+    Load::Groups,
+    Load::Group,
+    Load::Sets,
+    Load::Cut,
+    Load::Stale,
+];
+
+impl Load {
+    fn name(self) -> &'static str {
+        match self {
+            Load::Typing => "typing",
+            Load::Groups => "groups",
+            Load::Group => "group",
+            Load::Sets => "sets",
+            Load::Cut => "cut",
+            Load::Stale => "stale",
+        }
+    }
 }
 
 /// More characters than any load inserts.
@@ -30,67 +62,143 @@ const LIMIT: u64 = 1_099_511_627_776;
 /// How many revisions back the base of a stale edit is.
 const BACK: u64 = 100;
 
+/// How often the newest of many groups is undone and redone, how often a long one is, and how many sets are undone.
+const TURNS: u64 = 1_000;
+
+const LONG_TURNS: u64 = 100;
+
+const SETS: u64 = 100;
+
 fn main(rt: HostRuntime) -> anyhow::Result<()> {
     let mut words = env::args(&rt)?.skip(1);
     let (Some(kind), Some(count)) = (words.next(), words.next()) else {
-        bail!("usage: engine_load typing|groups|stale N");
-    };
-    let load = match kind.as_str() {
-        "typing" => Load::Typing,
-        "groups" => Load::Groups,
-        "stale" => Load::Stale,
-        _ => bail!("usage: engine_load typing|groups|stale N"),
+        bail!("usage: engine_load typing|groups|group|sets|cut|stale|all N");
     };
     let count: u64 = count.as_str().parse()?;
-    let engine = run(rt.alloc(), load, count)?;
-    let head = engine.head();
-    let kept = engine.kept();
-    let shown = engine.head_rope().len();
-    println!(rt; "revisions {head}, characters {kept}, shown {shown}")?;
+    let is_all = kind.as_str() == "all";
+    for load in ALL {
+        if is_all || kind.as_str() == load.name() {
+            let engine = run(rt.alloc(), load, count)?;
+            let name = load.name();
+            let head = engine.head();
+            let kept = engine.kept();
+            let shown = engine.head_rope().len();
+            println!(rt; "{name} {count}: revisions {head}, characters {kept}, shown {shown}")?;
+        }
+    }
     Ok(())
 }
 
-/// The engine after so many edits of an empty text.
-fn run(alloc: Global, load: Load, count: u64) -> Result<Engine, EditFault> {
+/// The engine of an empty text after such steps.
+fn run(alloc: Global, load: Load, count: u64) -> anyhow::Result<Engine> {
     let mut engine = Engine::of_text(alloc, Text::new(alloc), LIMIT)?;
     for _ in 0..count {
-        take(alloc, &mut engine, load)?;
+        insert(alloc, &mut engine, load)?;
+    }
+    let newest = engine.head();
+    match load {
+        Load::Groups => turn(alloc, &mut engine, newest, TURNS)?,
+        Load::Group => turn(alloc, &mut engine, 1, LONG_TURNS)?,
+        Load::Sets => undo_sets(alloc, &mut engine, newest)?,
+        _ => {}
     }
     Ok(engine)
 }
 
-/// Takes the next edit.
-fn take(alloc: Global, engine: &mut Engine, load: Load) -> Result<(), EditFault> {
-    let head = engine.head();
-    if LIMIT < head {
-        return Err(EditFault::NoMemory);
+/// The next insertion, and what a load does between two of them.
+fn insert(alloc: Global, engine: &mut Engine, load: Load) -> anyhow::Result<()> {
+    let next = engine.head().saturating_add(1);
+    match load {
+        Load::Typing | Load::Group => append(alloc, engine, 1),
+        Load::Groups | Load::Sets => append(alloc, engine, next),
+        Load::Cut => {
+            append(alloc, engine, next)?;
+            undo_by(alloc, engine, next)?;
+            append(alloc, engine, next.saturating_add(2))
+        }
+        Load::Stale => insert_back(alloc, engine),
     }
-    let edit = match load {
-        Load::Typing => insertion(alloc, head, head, 1)?,
-        Load::Groups => insertion(alloc, head, head, head + 1)?,
-        Load::Stale => insertion(alloc, head.saturating_sub(BACK), 0, 1)?,
-    };
-    if edit.group == 0 || engine.is_collected(edit.group) {
-        return Err(EditFault::NoMemory);
+}
+
+/// One character more at the end of the head text.
+fn append(alloc: Global, engine: &mut Engine, group: u64) -> anyhow::Result<()> {
+    let rev = engine.head();
+    let len = engine.head_rope().len();
+    let edit = insertion(alloc, rev, len, len, group)?;
+    take(alloc, engine, &edit)
+}
+
+/// One character more at the start of an older text, which has as many characters as the number of its revision.
+fn insert_back(alloc: Global, engine: &mut Engine) -> anyhow::Result<()> {
+    let rev = engine.head().saturating_sub(BACK);
+    let edit = insertion(alloc, rev, rev, 0, 1)?;
+    take(alloc, engine, &edit)
+}
+
+fn take(alloc: Global, engine: &mut Engine, edit: &Edit) -> anyhow::Result<()> {
+    if LIMIT < engine.head() || edit.group == 0 || engine.is_collected(edit.group) {
+        bail!("the edit cannot be asked for");
     }
-    engine.edit(alloc, &edit)?;
+    engine.edit(alloc, edit)?;
     Ok(())
 }
 
-/// One character more in the text of a revision, which has as many characters as its number.
-fn insertion(alloc: Global, rev: u64, at: u64, group: u64) -> Result<Edit, NoMemory> {
+/// One character more at a gap of the text of a revision.
+fn insertion(alloc: Global, rev: u64, len: u64, at: u64, group: u64) -> Result<Edit, NoMemory> {
     let mut els = Els::new(alloc);
     els.push(El::Copy { a: 0, b: at })?;
     els.push(El::Insert {
         text: Text::from_ascii(alloc, "x")?,
     })?;
-    els.push(El::Copy { a: at, b: rev })?;
+    els.push(El::Copy { a: at, b: len })?;
     Ok(Edit {
         rev,
-        delta: Delta { els, base_len: rev },
+        delta: Delta { els, base_len: len },
         priority: 0,
         after_cursor: false,
         author: 0,
         group,
     })
+}
+
+/// Undoes the group and redoes it, so often.
+fn turn(alloc: Global, engine: &mut Engine, group: u64, times: u64) -> anyhow::Result<()> {
+    for _ in 0..times {
+        undo_by(alloc, engine, group)?;
+        undo_by(alloc, engine, group)?;
+    }
+    Ok(())
+}
+
+/// Undoes the group, or redoes it where it is undone.
+fn undo_by(alloc: Global, engine: &mut Engine, group: u64) -> anyhow::Result<()> {
+    let groups = [group];
+    ensure!(engine.may_undo_by(&groups), "the group may not be undone");
+    engine.set_undone_by(alloc, &groups)?;
+    Ok(())
+}
+
+/// Undoes sets of the groups from 1 up to `last`, one after the other.
+fn undo_sets(alloc: Global, engine: &mut Engine, last: u64) -> anyhow::Result<()> {
+    let mut draws = Lcg64Xsh32::seed_from_u64(1);
+    for _ in 0..SETS {
+        let groups = drawn_set(alloc, &mut draws, last)?;
+        ensure!(engine.may_undo(&groups), "the set may not be undone");
+        engine.set_undone(alloc, &groups)?;
+    }
+    Ok(())
+}
+
+fn drawn_set(
+    alloc: Global,
+    draws: &mut Lcg64Xsh32,
+    last: u64,
+) -> Result<BTreeSet<u64>, AllocError> {
+    let mut set = BTreeSet::new(alloc);
+    for group in 1..=last {
+        if draws.next_u32() % 2 == 0 {
+            set.insert(group)?;
+        }
+    }
+    Ok(set)
 }
