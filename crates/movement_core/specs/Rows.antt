@@ -25,12 +25,18 @@ pub record Steps : Type 0 where
 abbrev pub words : List ℕ
 words = 97 ∷ 45 ∷ 98 ∷ 10 ∷ 32 ∷ 32 ∷ 99 ∷ 100 ∷ []
 
--- a word ends where the class changes, and the next one is found across an LF
+-- a hyphen, an accent on it, and `a`
+abbrev pub marked : List ℕ
+marked = 45 ∷ 769 ∷ 97 ∷ []
+
+-- a word ends where the class changes, and the next one is found across an LF; from inside a cluster it goes outward
 pub record Words : Type 0 where
   pub class : word_right words 0 ≡ 1
   pub across : word_right words 3 ≡ 8
   pub back : word_left words 6 ≡ 2
   pub within : word_left words 8 ≡ 6
+  pub outward_right : word_right marked 0 ≡ 2
+  pub outward_left : word_left marked 3 ≡ 0
 
 -- `abc`, LF, `x`, LF and `abc`
 abbrev pub three_lines : List ℕ

@@ -7,7 +7,7 @@ pub fn steps()
     ensures { Steps }
 {}
 
-/// Words across classes and lines.
+/// Words across classes and lines, and outward from inside a cluster.
 pub fn words()
     ensures { Words }
 {}

@@ -4,4 +4,4 @@ use Rattle.movement_core.proofs.rows.words.Goals as goal
 
 pub returns : goal.returns
 unfolding unicode_segmentation
-returns c = record { class = refl; across = refl; back = refl; within = refl }
+returns c = record { class = refl; across = refl; back = refl; within = refl; outward_right = refl; outward_left = refl }
