@@ -6,4 +6,5 @@ pub mod WireLaws
 pub mod UnitLemmas
 pub mod CarryLemmas
 pub mod SynthesisLemmas
+pub mod AppearLemmas
 pub mod ForCallers

@@ -1,5 +1,5 @@
 -- What private functions say: the steps of walks over deltas.
-use Rattle.std.specs.Prelude.{ℕ, ◌+◌, ◌≤◌, if◌then◌else◌, nat_lt, List, [], ◌∷◌, ◌++◌, ◌≡◌, ◌<◌, ◌⊎◌, Bool, true, false, length, replicate, ◌&&◌, ◌||◌, ◌==◌, None, IsTrue}
+use Rattle.std.specs.Prelude.{ℕ, ◌+◌, ◌≤◌, if◌then◌else◌, nat_lt, List, [], ◌∷◌, ◌++◌, ◌≡◌, ◌<◌, ◌⊎◌, Bool, true, false, not, length, take, drop, replicate, ◌&&◌, ◌||◌, ◌==◌, None, IsTrue}
 use Rattle.plain_text.specs.declared.run.Run.{Run}
 use Rattle.plain_edits.specs.declared.delta.Added.{Added}
 use Rattle.plain_edits.specs.UnitDelta.{AreAdds, AreApart, unit_keeps, unit_adds}
@@ -9,7 +9,7 @@ use Rattle.delta_core.specs.declared.carry.CarryStep.TheVariants.{Own, Other, Ba
 use Rattle.plain_edits.specs.declared.delta.UnitDelta.{UnitDelta}
 use Rattle.plain_edits.specs.declared.delta.El.{El}
 use Rattle.plain_text.specs.Text.{gap_of, is_place}
-use Rattle.plain_edits.specs.Delta.{keeps, adds, copies_misfit, is_in_runs, text_at_gap, kept_runs, insertions}
+use Rattle.plain_edits.specs.Delta.{adds, copies_misfit, is_in_runs, text_at_gap, kept_runs, insertions}
 use Rattle.delta_core.specs.Wire.{copy_before, text_before}
 use Rattle.delta_core.specs.Carry.{insertions_at, carried}
 use Rattle.delta_core.specs.UnitStep.{UnitStep, Kept, Dropped, New}
@@ -91,6 +91,18 @@ pub record GrowsByBlock (characters : List ℕ) (dead_before dead_after : Bool) 
       unit_adds new gap ++ appearing new.base union before after gap ≡
       unit_adds old gap ++ appearing old.base (characters ++ union) (replicate (length characters) dead_before ++ before)
       (replicate (length characters) dead_after ++ after) gap
+
+-- whether what is dead before or not, and dead after or not, appears
+abbrev pub appears : Bool → Bool → Bool
+appears dead_before dead_after = dead_before && not dead_after
+
+-- n characters that are alike alive or dead were put into a unit delta in the making: where they appear they are the first of `rest`, and
+-- the others are left
+pub record PutsBlock (rest : List ℕ) (n : ℕ) (dead_before dead_after : Bool) (old new : UnitDelta) (others : List ℕ) : Type 0 where
+  pub base : new.base ≡ old.base + (if dead_before then 0 else n)
+  pub grows : (characters : List ℕ) → length characters ≡ n → (appears dead_before dead_after ≡ true → characters ≡ take n rest) →
+      GrowsByBlock characters dead_before dead_after old new
+  pub left : others ≡ (if appears dead_before dead_after then drop n rest else rest)
 
 -- an element was put into a unit delta in the making, where the copy before it ends at `at`; now the last copy ends at `end`
 pub record PutsElement (text : List ℕ) (at : ℕ) (el : El) (old new : UnitDelta) (end : ℕ) : Type 0 where

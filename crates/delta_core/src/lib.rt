@@ -23,7 +23,7 @@ pub use carry::carry_ins;
 pub use factoring::factor;
 pub use misfits::fits;
 pub use part::Part;
-pub use synthesis::synthesize;
+pub use synthesis::{synthesize, synthesize_of};
 pub use unit_form::to_units;
 pub use unit_walk::UnitWalk;
 pub use wire_form::to_wire;

@@ -1,7 +1,8 @@
-ghost use Rattle.std.specs.Prelude.{◌≡◌, ◌≢◌, ◌+◌, ◌<◌, ◌^◌, [], ◌++◌, length, replicate, IfOk, OnOk};
-ghost use Rattle.std.specs.Str.{chars};
-ghost use Rattle.delta_core.specs.Synthesis.{IsBetween};
-ghost use Rattle.delta_core.specs.Inner.{GrowsByBlock};
+ghost use Rattle.std.specs.Prelude.{◌≡◌, ◌≢◌, ◌+◌, ◌<◌, ◌≤◌, ◌^◌, [], ◌++◌, length, replicate, true, false, IfOk, OnOk};
+ghost use Rattle.std.specs.Str.{chars, IsUtf8};
+ghost use Rattle.subset_runs.specs.Subset.{count, minus};
+ghost use Rattle.delta_core.specs.Synthesis.{IsBetween, IsBetweenWith};
+ghost use Rattle.delta_core.specs.Inner.{PutsBlock, appears};
 
 use crate::unit_builder::UnitBuilder;
 use plain_edits::UnitDelta;
@@ -36,8 +37,31 @@ pub fn synthesize(
     while !before.is_empty() {
         let block = next_block(&mut before, &mut after);
         let (front, back) = split_at_gap(rest, block.len);
-        put_characters(&mut units, front, block)?;
+        put_block(&mut units, front, block)?;
         rest = back;
+    }
+    Ok(units.into_units()?)
+}
+
+/// The same, where of the union only those characters are given that appear: those that are dead before and alive after, in order. This
+/// costs their bytes and the runs of the two subsets.
+pub fn synthesize_of(
+    alloc: Global,
+    appear: &Text,
+    dead_before: &Subset,
+    dead_after: &Subset,
+) -> Result<UnitDelta, NoMemory>
+    requires same_length { length dead_before.now ≡ length dead_after.now }
+    requires as_many { count (minus dead_before.now dead_after.now) ≡ length appear.now }
+    ensures { IfOk result (IsBetweenWith appear.now dead_before.now dead_after.now) }
+{
+    let mut units = UnitBuilder::new(alloc);
+    let mut rest = appear.as_str();
+    let mut before = dead_before.walk();
+    let mut after = dead_after.walk();
+    while !before.is_empty() {
+        let block = next_block(&mut before, &mut after);
+        rest = put_block(&mut units, rest, block)?;
     }
     Ok(units.into_units()?)
 }
@@ -61,25 +85,28 @@ fn next_block(before: &mut Walk, after: &mut Walk) -> Block
     }
 }
 
-// Goes over characters of the union that are alike alive or dead.
-fn put_characters(units: &mut UnitBuilder, characters: &str, block: Block) -> Result<(), NoMemory>
-    requires all { length (chars characters.now) ≡ block.len }
+// Goes over characters of a union that are alike alive or dead; those that appear are the first of `rest`. What is left of that.
+fn put_block<'a>(units: &mut UnitBuilder, rest: &'a str, block: Block) -> Result<&'a str, NoMemory>
+    requires as_many { appears block.dead_before block.dead_after ≡ true → block.len ≤ length (chars rest.now) }
     requires room { units.old.base + block.len < 2 ^ 64 }
-    ensures { OnOk result (GrowsByBlock (chars characters.now) block.dead_before block.dead_after units.old units.new) }
+    ensures puts { IfOk result (λ left. PutsBlock (chars rest.now) block.len block.dead_before block.dead_after
+        units.old units.new (chars left.now)) }
+    ensures utf8 { IfOk result (λ left. IsUtf8 left.now) }
 {
     match (block.dead_before, block.dead_after) {
         (false, false) => {
             units.keep(block.len)?;
-            Ok(())
+            Ok(rest)
         }
         (false, true) => {
             units.pass(block.len)?;
-            Ok(())
+            Ok(rest)
         }
         (true, false) => {
-            units.add(characters)?;
-            Ok(())
+            let (front, back) = split_at_gap(rest, block.len);
+            units.add(front)?;
+            Ok(back)
         }
-        (true, true) => Ok(()),
+        (true, true) => Ok(rest),
     }
 }

@@ -1,13 +1,13 @@
 -- A text or a rope beside flags of its positions, stretch by stretch.
 use Rattle.std.proofs.Common.{◌≡◌, ℕ, zero, suc, ◌+◌, ◌-◌, ◌≤◌, Bool, true, false, not, List, [], ◌∷◌, ◌++◌, length, take, drop, replicate, append-nil, append_assoc, length-append, length-take-le, take-append-drop, refl, ap, ap₂, sym, ◌∙◌, arith}
-use Rattle.std.proofs.lemmas.List.{length-drop, nil_from_length}
+use Rattle.std.proofs.lemmas.List.{drop-drop, length-drop, nil_from_length}
 use Rattle.std.proofs.Math.Seq.{take-append_seam, drop-append-add}
 use Rattle.plain_text.specs.Text.{byte_len}
 use Rattle.rope_node.specs.Lengths.{byte_len-append}
 use Rattle.shared_tree.specs.Replaced.{replaced}
 use Rattle.subset_runs.specs.declared.stretch.Stretch.{Stretch}
 use Rattle.subset_runs.specs.Stretch.{IsFront}
-use Rattle.subset_runs.specs.Subset.{count, items_outside}
+use Rattle.subset_runs.specs.Subset.{complement, count, items_outside}
 use Rattle.subset_runs.proofs.ForCallers.{count_le_length}
 use Rattle.subset_runs.proofs.ForCallers.{front_len, items_outside-gone, count_added_next, count_moved_next}
 use Rattle.rev_rebase.specs.Rebase.{put_in}
@@ -63,6 +63,25 @@ IsPicking-gone made rest all walk s is front member = record {
 
 pub IsPicking-end : (made rest all : List ℕ) (walk : List Bool) → IsPicking made rest walk all → walk ≡ [] → made ≡ all
 IsPicking-end made rest all walk is none = sym (append-nil made) ∙ (ap (λ by. made ++ items_outside by rest) (sym none) ∙ is.so_far)
+
+-- where the characters that are left are those of a list right of a gap
+pub IsPicking-taken : (made part all xs : List ℕ) (gap : ℕ) (walk : List Bool) (s : Stretch) → IsPicking made (drop gap xs) walk all → IsFront walk s →
+    s.member ≡ false → part ≡ take (gap + s.len - gap) (drop gap xs) → IsPicking (made ++ part) (drop (gap + s.len) xs) (drop s.len walk) all
+IsPicking-taken made part all xs gap walk s is front none part_is =
+    let width : gap + s.len - gap ≡ s.len = omega arith in
+    rw (part_is, width, ← drop-drop s.len gap xs) (IsPicking-kept made (drop gap xs) all walk s is front (ap not none))
+
+pub IsPicking-passed : (made all xs : List ℕ) (gap : ℕ) (walk : List Bool) (s : Stretch) → IsPicking made (drop gap xs) walk all → IsFront walk s →
+    s.member ≡ true → IsPicking made (drop (gap + s.len) xs) (drop s.len walk) all
+IsPicking-passed made all xs gap walk s is front member =
+    rw (← drop-drop s.len gap xs) (IsPicking-gone made (drop gap xs) all walk s is front (ap not member))
+
+-- as many as the members
+pub length-members : (flags : List Bool) (xs : List ℕ) → length xs ≡ length flags → count flags ≡ length (items_outside (complement flags) xs)
+length-members [] xs same = refl
+length-members (flag ∷ flags) [] same = absurd (omega (arith, same))
+length-members (true ∷ flags) (x ∷ xs) same = omega (arith, length-members flags xs (omega (arith, same)))
+length-members (false ∷ flags) (x ∷ xs) same = omega (arith, length-members flags xs (omega (arith, same)))
 
 -- ---- the characters put in
 

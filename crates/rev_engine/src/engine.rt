@@ -416,7 +416,8 @@ impl Engine {
     /// The same, by the groups in which the set differs from what is undone at the head, in rising order: those that are undone before
     /// and after are not walked over.
     ///
-    /// It costs what `recompute_by` of `rev_undo` does, and the text that was ever inserted once.
+    /// It costs what `recompute_by` of `rev_undo` does, the runs of what is dead before and after, and for each run of characters that
+    /// appear or go the height of the ropes, and those that appear. Neither rope is walked over or copied whole.
     pub fn set_undone_by(&mut self, alloc: Global, groups: &[u64]) -> Result<Change, UndoFault>
         requires rising { IsRising groups.now }
         requires may { MayAskUndo self.old.revisions (undone_by self.old.revisions groups.now) }

@@ -47,6 +47,26 @@ fn outside(alloc: Global, text: &Text, dead: &Subset) -> Result<Text, NoMemory>
     Ok(made)
 }
 
+// The characters of a union that are not gone: the height of the rope for each run of them.
+pub(crate) fn picked(alloc: Global, union: &Rope, gone: &Subset) -> Result<Text, NoMemory>
+    requires { length union.now ≡ length gone.now }
+    ensures { IfOk result (λ made. made ≡ items_outside gone.now union.now) }
+{
+    let mut made = Text::new(alloc);
+    let mut gap: u64 = 0;
+    let mut walk = gone.walk();
+    while !walk.is_empty() {
+        let next = walk.front();
+        let start = gap;
+        gap += next.len;
+        if !next.member {
+            made.push_text(&union.slice(alloc, start, gap)?)?;
+        }
+        walk.skip(next.len);
+    }
+    Ok(made)
+}
+
 // The union with a text put in at the positions `at`: the height of the rope for each of their runs.
 pub(crate) fn with_put_in(
     alloc: Global,

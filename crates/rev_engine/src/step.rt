@@ -10,8 +10,8 @@ ghost use Rattle.rev_engine.specs.Given.{MayAsk};
 ghost use Rattle.rev_engine.specs.Inner.{IsBasedOn, IsPutIn};
 
 use crate::UnitEdit;
-use crate::flat::{whole, with_put_in};
-use delta_core::synthesize;
+use crate::flat::{picked, with_put_in};
+use delta_core::synthesize_of;
 use plain_edits::UnitDelta;
 use plain_text::NoMemory;
 use rev_list::{RevEdit, RevList};
@@ -71,7 +71,8 @@ pub(crate) fn put_in(
     Ok(PutIn { union, revs })
 }
 
-// The delta from what revision `rev` shows to what the head shows, in the time of the union.
+// The delta from what revision `rev` shows to what the head shows, in the time of `RevList::dead_at`, and for each run of characters
+// that appear the height of the union and these characters.
 pub(crate) fn units_from(
     alloc: Global,
     union: &Rope,
@@ -85,8 +86,24 @@ pub(crate) fn units_from(
         (hidden_at revs.now (head revs.now))) }
 {
     let before = dead_at(alloc, revs, rev)?;
-    let text = whole(alloc, union)?;
-    synthesize(alloc, &text, &before, revs.dead())
+    units_between(alloc, union, &before, revs.dead())
+}
+
+// The delta from the characters that are alive before to those that are alive after; of the union those that appear are read alone.
+fn units_between(
+    alloc: Global,
+    union: &Rope,
+    before: &Subset,
+    after: &Subset,
+) -> Result<UnitDelta, NoMemory>
+    requires before { length union.now ≡ length before.now }
+    requires after { length union.now ≡ length after.now }
+    ensures { IfOk result (IsBetween union.now before.now after.now) }
+{
+    let appears = before.minus(alloc, after)?;
+    let gone = appears.complement(alloc)?;
+    let text = picked(alloc, union, &gone)?;
+    synthesize_of(alloc, &text, before, after)
 }
 
 // What of the union is not visible at a kept revision.

@@ -1,4 +1,5 @@
-use Rattle.delta_core.proofs.SynthesisLemmas.{IsReading-start, IsReading-next, IsBetween-all}
+use Rattle.delta_core.proofs.SynthesisLemmas.{IsReading-start, IsReading-next, IsBetween-all, reading_room}
+use Rattle.delta_core.proofs.AppearLemmas.{GrowsByBlock-whole}
 use Rattle.delta_core.proofs.synthesis.synthesize.Goals as goal
 
 pub loop-rest-init : goal.loop-rest-init
@@ -12,9 +13,13 @@ loop-rest-init c = record {
 pub loop-rest-preserved : goal.loop-rest-preserved
 loop-rest-preserved c = record {
   reading =
-      IsReading-next _ _ _ c.loop-rest.units c.put_characters.new.units _ _ _ c.loop-rest.before c.loop-rest.after _ _ c.next_block-block.result.len
+      IsReading-next _ _ _ c.loop-rest.units c.put_block.new.units _ _ _ c.loop-rest.before c.loop-rest.after _ _ c.next_block-block.result.len
       c.next_block-block.result.dead_before c.next_block-block.result.dead_after c.loop-rest.invariant.reading c.next_block-block.ensures.before
-      c.next_block-block.ensures.after c.split_at_gap.ensures.front c.split_at_gap.ensures.back c.in_ok-put_characters.ensures;
+      c.next_block-block.ensures.after c.split_at_gap.ensures.front c.split_at_gap.ensures.back
+      (GrowsByBlock-whole _ _ _ c.next_block-block.result.len c.next_block-block.result.dead_before c.next_block-block.result.dead_after _ _
+      c.in_ok-put_block.ensures.puts c.split_at_gap.ensures.front
+      (reading_room _ _ _ c.loop-rest.units _ c.loop-rest.before c.loop-rest.after _ c.next_block-block.result.len c.next_block-block.result.dead_before
+      c.loop-rest.invariant.reading c.next_block-block.ensures.before).0);
   utf8 = c.split_at_gap.ensures.utf8;
 }
 
