@@ -4,7 +4,7 @@ use Rattle.std.specs.Str.{chars, IsUtf8}
 use Rattle.std.specs.Char.{len_utf8}
 use Rattle.std.proofs.Math.Seq.{drop-append-add, take-append-add}
 use Rattle.std.proofs.lemmas.Grind.{common_steps}
-use Rattle.std.proofs.lemmas.List.{nil_from_length, drop-drop}
+use Rattle.std.proofs.lemmas.List.{nil_from_length, drop-drop, take-append-le}
 use Rattle.std.proofs.lemmas.Str.{chars_past_char, chars-nil, len_utf8_bounds}
 use lib.Utf8.{encode}
 use Rattle.plain_text.specs.Text.{byte_len}
@@ -55,6 +55,18 @@ taken-all text gap place bs none taken =
 -- a leaf more is made of the front of what is left
 pub made-more : (made rest text : List ℕ) (n : ℕ) → made ++ rest ≡ text → (made ++ take n rest) ++ drop n rest ≡ text
 made-more made rest text n whole = append_assoc made (take n rest) (drop n rest) ∙ ap (λ xs. made ++ xs) (take-append-drop n rest) ∙ whole
+
+-- the last characters of those that are wanted
+pub part-ended : (made own rest all wanted : List ℕ) (left start : ℕ) → all ≡ drop start own ++ rest → left ≤ length own - start → made ++ take left all ≡ wanted → made ++ take left (drop start own) ≡ wanted
+part-ended made own rest all wanted left start cut enough whole =
+    ap (λ xs. made ++ xs) (sym (take-append-le left (drop start own) rest (omega (arith, length-drop start own)))) ∙ rw cut at whole
+
+-- some characters more of those that are wanted
+pub part-more : (made own rest all wanted : List ℕ) (left start : ℕ) → all ≡ drop start own ++ rest → length own - start ≤ left → made ++ take left all ≡ wanted → (made ++ drop start own) ++ take (left - (length own - start)) rest ≡ wanted
+part-more made own rest all wanted left start cut few whole =
+    let count : length (drop start own) + (left - (length own - start)) ≡ left = omega (arith, length-drop start own) in
+    let parted = rw count at (take-append-add (drop start own) rest (left - (length own - start))) in
+    append_assoc made (drop start own) (take (left - (length own - start)) rest) ∙ ap (λ xs. made ++ xs) (sym parted) ∙ rw cut at whole
 
 pub no_characters : (text : List ℕ) → byte_len text ≡ 0 → text ≡ []
 no_characters text none = nil_from_length text (omega (arith, length-short text))

@@ -8,7 +8,7 @@ ghost use Rattle.shared_tree.specs.Replaced.{replaced};
 use crate::Chunks;
 use plain_text::{NoMemory, Text, TryClone, split_at_gap};
 use rope_node::{Chunk, Node};
-use shared_tree::Tree;
+use shared_tree::{Leaf, Tree};
 use std::alloc::Global;
 use std::marker::Model;
 
@@ -127,26 +127,35 @@ impl Rope {
         Ok(Chunks::new(self.node.tree().leaves()))
     }
 
-    /// The characters between two gaps, in O(height) and what it gives.
+    /// The characters between two gaps, in O(height) and what it gives: it copies them alone.
     pub fn slice(&self, alloc: Global, from: u64, to: u64) -> Result<Text, NoMemory>
         requires ordered { from ≤ to }
         requires inside { to ≤ length self.now }
         ensures { IfOk result (λ part. part ≡ take (to - from) (drop from self.now)) }
     {
-        let part = self.node.tree().back(alloc, from)?.front(alloc, to - from)?;
-        whole(alloc, &part)
+        between(alloc, self.node.tree(), from, to)
     }
 }
 
-/// The text of a tree, in one pass.
-fn whole(alloc: Global, tree: &Tree<Chunk>) -> Result<Text, NoMemory>
-    ensures { IfOk result (λ text. text ≡ text_of tree.now) }
+/// The characters of a tree between two gaps, in one walk over the leaves that hold them.
+fn between(alloc: Global, tree: &Tree<Chunk>, from: u64, to: u64) -> Result<Text, NoMemory>
+    requires ordered { from ≤ to }
+    requires inside { to ≤ length (text_of tree.now) }
+    ensures { IfOk result (λ part. part ≡ take (to - from) (drop from (text_of tree.now))) }
 {
     let mut text = Text::new(alloc);
-    let mut walk = tree.walk(0);
-    while let Some((chunk, from)) = walk.next() {
-        let (_, back) = split_at_gap(chunk.text().as_str(), from);
-        text.push_str(back)?;
+    let mut left = to - from;
+    let mut walk = tree.walk(from);
+    while let Some((chunk, start)) = walk.next() {
+        let (_, rest) = split_at_gap(chunk.text().as_str(), start);
+        let count = chunk.len() - start;
+        if left <= count {
+            let (part, _) = split_at_gap(rest, left);
+            text.push_str(part)?;
+            return Ok(text);
+        }
+        text.push_str(rest)?;
+        left -= count;
     }
     Ok(text)
 }
