@@ -6,6 +6,7 @@ pub mod SpannedLemmas
 pub mod MapLemmas
 pub mod StillLemmas
 pub mod ShowLemmas
+pub mod BackLemmas
 pub mod OrderLemmas
 pub mod PlaceLemmas
 pub mod TableLemmas

@@ -32,7 +32,7 @@ module _ (spanned : SpannedRange) where
   spanned_from-right index (style ∷ layer) past =
       ap₂ (λ s ss. s ∷ ss) (outside_right spanned.range spanned.spans index style past) (spanned_from-right (index + 1) layer (omega arith))
 
-  spanned_from-inside : (index : ℕ) (layer : Layer) → spanned.range.start ≤ index → index + length layer ≤ spanned.range.end →
+  pub spanned_from-inside : (index : ℕ) (layer : Layer) → spanned.range.start ≤ index → index + length layer ≤ spanned.range.end →
       spanned_from index layer spanned ≡ map (span_style spanned.spans) (range_with_len index (length layer))
   spanned_from-inside index [] low high = refl
   spanned_from-inside index (style ∷ layer) low high =
