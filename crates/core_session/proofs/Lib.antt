@@ -4,6 +4,7 @@ pub mod RevisionLemmas
 pub mod ShowsLemmas
 pub mod OpenLemmas
 pub mod InsertLemmas
+pub mod PrepareLemmas
 pub mod LawLemmas
 pub mod OnlyViewLemmas
 pub mod RowLemmas
