@@ -5,6 +5,7 @@ ghost use Rattle.plain_edits.specs.History.{loaded, text_at};
 ghost use Rattle.rev_engine.specs.Engine.{StandsFor};
 ghost use Rattle.history_cases.specs.Inner.{Answers, EachIs, IsLastChange, Matches};
 
+use crate::by_rev_list::set_of;
 use crate::case_run::MOST;
 use anyhow::{bail, ensure};
 use plain_collection::kept;
@@ -43,6 +44,23 @@ pub fn follow(
         Err(fault) if answer == Some(fault) => Ok(()),
         Err(fault) => bail!("the engine answers {fault:?}"),
     }
+}
+
+/// Has the engine take the last undo of the plain history, and compares the two after it.
+pub fn follow_undo(
+    alloc: Global,
+    plain: &PlainHistory,
+    engine: &mut Engine,
+    groups: &[u64],
+) -> anyhow::Result<()>
+    ensures { OnOk result (EachIs engine.new (Matches plain.now)) }
+{
+    let set = set_of(alloc, groups)?;
+    if !engine.may_undo(&set) {
+        bail!("the engine takes no undo that the plain history took");
+    }
+    let change = engine.set_undone(alloc, &set)?;
+    compare(alloc, plain, engine, change)
 }
 
 /// Whether the engine has the revisions of the plain history and shows the same at each, and the change is its last one.

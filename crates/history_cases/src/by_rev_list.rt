@@ -101,7 +101,8 @@ fn compare_set(
     Ok(())
 }
 
-fn set_of(alloc: Global, groups: &[u64]) -> Result<BTreeSet<u64>, AllocError>
+/// The groups as a set.
+pub fn set_of(alloc: Global, groups: &[u64]) -> Result<BTreeSet<u64>, AllocError>
     ensures { IfOk result (λ set. set.keys ≡ fold with_number [] groups.now) }
 {
     let mut set = BTreeSet::new(alloc);

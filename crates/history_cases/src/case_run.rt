@@ -34,7 +34,7 @@ pub struct CaseRun {
     pub plain: PlainHistory,
     /// It takes edits and undos, so there is none after a collection.
     list: Option<RevList>,
-    /// It takes edits alone, under the limit that it began with, so there is none after an undo either.
+    /// It takes the same, under the limit that it began with.
     engine: Option<Engine>,
     limit: u64,
     count: Count,
@@ -197,7 +197,7 @@ impl CaseRun {
             .saturating_add(u64::from(self.engine.is_some()));
     }
 
-    /// Says what is undone from now on, or the case says that it is refused. The engine cannot take it yet.
+    /// Says what is undone from now on, or the case says that it is refused.
     pub fn undo(
         &mut self,
         alloc: Global,
@@ -217,11 +217,13 @@ impl CaseRun {
         self.follow_undo(alloc, groups.as_slice())
     }
 
-    /// Has the list take the undo that the plain history took; the engine stops.
+    /// Has each other body take the undo that the plain history took, and compares it with the plain history after it.
     fn follow_undo(&mut self, alloc: Global, groups: &[u64]) -> anyhow::Result<()>
         ensures { OnOk result (self.new ≡ self.old) }
     {
-        self.engine = None;
+        if let Some(engine) = &mut self.engine {
+            by_engine::follow_undo(alloc, &self.plain, engine, groups)?;
+        }
         if let Some(list) = &mut self.list {
             by_rev_list::follow_undo(alloc, &self.plain, list, groups)?;
         }
