@@ -104,7 +104,3 @@ pub ended : (h : History) (most at least : ℕ) → at ≤ least → least ≤ m
 ended h most at least low within are above =
     let small : at ≤ most = omega (arith, low, within) in
     greatest_is h at most small (clean_least h most at least small are low) above
-
--- the loaded text is a clean floor
-pub clean_loaded : (revisions : List Revision) → is_clean revisions 0 ≡ true
-clean_loaded revisions = (greatest_clean_floor revisions 0).clean

@@ -6,6 +6,7 @@
 
 mod choice;
 mod floors;
+pub mod laws;
 mod rest;
 
 pub use choice::collectable;

@@ -1,18 +1,20 @@
 -- What revisions hide, from one to the next.
-use Rattle.std.proofs.Common.{◌≡◌, ℕ, ◌+◌, ◌-◌, ◌≤◌, Bool, true, false, not, ◌&&◌, List, [], ◌∷◌, ◌++◌, length, map, Some, refl, ap, ap₂, sym, ◌∙◌, subst, arith, length-append, take_all}
+use Rattle.std.proofs.Common.{◌≡◌, ℕ, ◌+◌, ◌-◌, ◌<◌, ◌≤◌, Bool, true, false, not, ◌&&◌, ◌||◌, nat_le, nat_lt, List, [], ◌∷◌, ◌++◌, length, map, Some, refl, ap, ap₂, sym, ◌∙◌, subst, arith, length-append, take_all}
 use Rattle.std.specs.Prelude.{◌==◌}
-use Rattle.std.specs.List.{AllByRecursion}
+use Rattle.std.specs.List.{list_all, AllByRecursion}
+use Rattle.std.proofs.lemmas.Bool.{leb-true, lt-ltb, ltb-false}
+use Rattle.std.proofs.lemmas.List.Folds.{list_all-append}
 use Rattle.std.proofs.Math.Bool.{and-true, and-false}
 use Rattle.std.proofs.lemmas.List.{length-map, take-append-le}
 use Rattle.subset_runs.specs.Subset.{count, union, expand_as}
 use Rattle.subset_runs.proofs.ForCallers.{count-replicate_false}
 use Rattle.plain_text.specs.Numbers.{has, flipped}
-use Rattle.plain_edits.specs.History.{Tagged, Revision, undo, History, head, revision_at, undone, is_visible, is_visible_under, IsTaggedBy, IsSound}
+use Rattle.plain_edits.specs.History.{Tagged, Revision, undo, History, head, group_of, revision_at, undone, is_visible, is_visible_under, IsTaggedBy, IsSound}
 use Rattle.plain_edits.specs.Edits.{with_deletion, undid}
 use Rattle.plain_edits.specs.Undo.{undone_now}
-use Rattle.plain_edits.proofs.callers.HistoryLemmas.{IsSound-undid, revision_at-append, revision_at-push, undone-append, undone-edit, undone-undo, is_visible-deleted_later, is_visible-later}
+use Rattle.plain_edits.proofs.callers.HistoryLemmas.{IsSound-undid, group_of-append, revision_at-append, revision_at-push, undone-append, undone-edit, undone-undo, is_visible-deleted_later, is_visible-later}
 use Rattle.plain_edits.proofs.callers.FirstLemmas.{is_visible-take}
-use Rattle.undo_laws.specs.Under.{hidden_under}
+use Rattle.undo_laws.specs.Under.{is_hidden_under, hidden_under}
 use Rattle.undo_laws.proofs.ForCallers.{map_where, is_visible_under-more, is_visible_under-new, is_visible_under-deletion, hidden_under-undid}
 use Rattle.rev_list.specs.declared.edit.RevEdit.{RevEdit}
 use Rattle.rev_list.specs.declared.step.RevStep.{RevStep}
@@ -85,7 +87,7 @@ hidden_at-later h (Edit e) n next within =
 hidden_at-later h (Undo groups) n next within = ap (λ f. map f h.characters) (hidden_then_same h (Undo groups) n within)
 
 -- what is said of the characters that were there
-union_same : (f : Tagged → Bool) (h : History) (e : RevEdit) (n : ℕ) → ((t : Tagged) → f (with_deletion (head h + 1) t) ≡ f t) → IsNext h e → n ≤ head h → map f (union_at (after_edit h e) n) ≡ map f (union_at h n)
+pub union_same : (f : Tagged → Bool) (h : History) (e : RevEdit) (n : ℕ) → ((t : Tagged) → f (with_deletion (head h + 1) t) ≡ f t) → IsNext h e → n ≤ head h → map f (union_at (after_edit h e) n) ≡ map f (union_at h n)
 union_same f h e n same next h_n =
     filter-with_deleted_same f (head h + 1) n same (with_new (new_by (head h + 1)) h.characters e.inserted) e.deleted
     ∙ ap (λ xs. map f xs) (filter-with_new (head h + 1) n h.characters e.inserted (omega arith) next.grown)
@@ -104,6 +106,46 @@ deletions_of-later : (h : History) (r : RevStep) (n : ℕ) → Follows h r → n
 deletions_of-later h (Edit e) n next within =
     union_same (λ t. has t.deleted n) h e n (λ t. has_deleted_before (head h + 1) n t (omega arith)) next within
 deletions_of-later h (Undo groups) n next within = refl
+
+-- nor does what a set hides there
+module _ (set : List ℕ) where
+  shown_under : (revisions : List Revision) (last : Revision) (n : ℕ) → n ≤ length revisions → (t : Tagged) →
+      is_visible_under (revisions ++ last ∷ []) set n t ≡ is_visible_under revisions set n t
+  shown_under revisions last n within t = ap₂ (λ a b. a && b) (come (nat_le t.inserted n) refl) (stays t.deleted)
+    where
+      same : (rev : ℕ) → rev ≤ n → has set (group_of (revisions ++ last ∷ []) rev) ≡ has set (group_of revisions rev)
+      same rev le = ap (has set) (group_of-append revisions (last ∷ []) rev (omega (arith, le, within)))
+
+      come : (b : Bool) → nat_le t.inserted n ≡ b →
+          (b && not (has set (group_of (revisions ++ last ∷ []) t.inserted))) ≡ (b && not (has set (group_of revisions t.inserted)))
+      come true is = ap (λ a. true && not a) (same t.inserted (leb-true t.inserted n is))
+      come false is = refl
+
+      stays_by : (rev : ℕ) (b : Bool) → nat_lt n rev ≡ b →
+          (b || has set (group_of (revisions ++ last ∷ []) rev)) ≡ (b || has set (group_of revisions rev))
+      stays_by rev true is = refl
+      stays_by rev false is = same rev (omega (arith, ltb-false n rev is))
+
+      stays : (deleted : List ℕ) → list_all (λ rev. nat_lt n rev || has set (group_of (revisions ++ last ∷ []) rev)) deleted ≡
+          list_all (λ rev. nat_lt n rev || has set (group_of revisions rev)) deleted
+      stays [] = refl
+      stays (rev ∷ deleted) = ap₂ (λ a b. a && b) (stays_by rev (nat_lt n rev) refl) (stays deleted)
+
+  deleted_under : (revisions : List Revision) (n rev : ℕ) (t : Tagged) → n < rev →
+      is_visible_under revisions set n (with_deletion rev t) ≡ is_visible_under revisions set n t
+  deleted_under revisions n rev t later =
+      let test : ℕ → Bool = λ r. nat_lt n r || has set (group_of revisions r) in
+      let spared : test rev ≡ true = ap (λ b. b || has set (group_of revisions rev)) (lt-ltb n rev later) in
+      ap (λ b. (nat_le t.inserted n && not (has set (group_of revisions t.inserted))) && b)
+      (list_all-append test t.deleted (rev ∷ []) ∙ ap (λ b. list_all test t.deleted && (b && true)) spared ∙ and-true (list_all test t.deleted))
+
+pub hidden_under_then-later : (h : History) (r : RevStep) (set : List ℕ) (n : ℕ) → Follows h r → n ≤ head h →
+    map (is_hidden_under (after_revision h r) set n) (union_at (after_revision h r) n) ≡ map (is_hidden_under h set n) (union_at h n)
+hidden_under_then-later h (Edit e) set n next within =
+    ap (λ f. map f (union_at (after_edit h e) n)) (λ i t. not (shown_under set h.revisions (edit_revision e) n within t i)) ∙
+    union_same (is_hidden_under h set n) h e n (λ t. ap not (deleted_under set h.revisions n (head h + 1) t (omega arith))) next within
+hidden_under_then-later h (Undo groups) set n next within =
+    ap (λ f. map f (union_at h n)) (λ i t. not (shown_under set h.revisions (undo (undone_by h groups)) n within t i))
 
 -- at the head the union of a revision is the present one
 pub hidden_then-head : (h : History) → IsSound h → hidden_then h (head h) ≡ dead_now h

@@ -3,6 +3,7 @@ pub mod TagLemmas
 pub mod StepLemmas
 pub mod HistoryLemmas
 pub mod FirstLemmas
+pub mod SettledLemmas
 pub mod RecordLemmas
 pub mod TextLemmas
 pub mod ForCallers

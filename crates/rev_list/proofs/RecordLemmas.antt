@@ -1,15 +1,16 @@
--- What the records of a list keep.
-use Rattle.std.proofs.Common.{◌≡◌, ℕ, ◌+◌, ◌<◌, ◌≤◌, Bool, true, false, ◌||◌, List, [], ◌∷◌, ◌++◌, length, take, drop, Some, slice_get, get_or, refl, ap, ap₂, sym, ◌∙◌, arith, suc-add, take_all}
+-- What a list keeps up to the floor, and in its records.
+use Rattle.std.proofs.Common.{◌≡◌, ℕ, ◌+◌, ◌-◌, ◌^◌, ◌<◌, ◌≤◌, Bool, true, false, ◌&&◌, ◌||◌, nat_le, List, [], ◌∷◌, ◌++◌, length, map, take, drop, Some, slice_get, get_or, refl, ap, ap₂, sym, ◌∙◌, arith, suc-add, take_all, length-append}
 use Rattle.std.specs.Prelude.{suc, zero, replicate}
-use Rattle.std.specs.List.{fold, list_any, AllByRecursion}
-use Rattle.std.proofs.lemmas.Bool.{ne_eqb}
-use Rattle.std.proofs.lemmas.List.{map-append, length-map, length-drop, length-take-le, take-append-drop}
+use Rattle.std.specs.List.{fold, list_all, list_any, range_with_len, AllByRecursion}
+use Rattle.std.proofs.lemmas.Bool.{and_from, and_parts, le-leb, ne_eqb}
+use Rattle.std.proofs.lemmas.List.{drop-append-le, map-append, length-map, length-drop, length-take-le, take-append-drop}
 use Rattle.std.proofs.lemmas.List.Sums.{fold-append}
 use Rattle.std.proofs.lemmas.Option.{slice_get_past, slice_get_read}
 use Rattle.subset_runs.specs.Subset.{expand, symmetric_difference}
 use Rattle.plain_text.specs.Numbers.{has, flipped, IsRising}
-use Rattle.plain_edits.specs.History.{Tagged, Revision, undo, History, head, loaded, IsTaggedBy, IsSound}
+use Rattle.plain_edits.specs.History.{Tagged, inserted_by, Revision, undo, History, head, loaded, IsTaggedBy, IsSound}
 use Rattle.plain_edits.specs.Edits.{is_edit_of, undid}
+use Rattle.plain_edits.specs.Collection.{is_based_from, is_clean}
 use Rattle.plain_edits.specs.HistorySteps.{HasRisingSet}
 use Rattle.plain_edits.specs.Undo.{undone_now}
 use Rattle.undo_laws.specs.Under.{is_hidden_under}
@@ -17,15 +18,18 @@ use Rattle.rev_list.specs.declared.edit.RevEdit.{RevEdit}
 use Rattle.rev_list.specs.declared.step.RevStep.{RevStep}
 use Rattle.rev_list.specs.declared.step.RevStep.TheVariants.{Edit, Undo}
 use Rattle.rev_list.specs.declared.records.RevRecord.{RevRecord}
+use Rattle.rev_list.specs.declared.settled.SettledGroup.{SettledGroup}
 use Rattle.rev_list.specs.Groups.{Firsts, AreFirstEdits, rev_of, first_after}
 use Rattle.rev_list.specs.Edit.{edit_revision, new_by, with_new, with_deleted, after_edit, undone_by, after_revision, MayPush, MayPushUndo}
-use Rattle.rev_list.specs.Hidden.{hidden_at, hidden_then, IsRevisionAt, AreRevisionsAfter, IsDeletedLater, AreDeletedLater}
+use Rattle.rev_list.specs.Hidden.{is_hidden, hidden_at, union_at, hidden_then, IsRevisionAt, AreRevisionsAfter, IsDeletedLater, AreDeletedLater, IsKeptAt}
+use Rattle.rev_list.specs.Settled.{Settled, AreInsertedApart, AreSettled, HasLengths, hidden_by_groups, without_first, settled_characters, settled_history, settled_loaded, settled_said, ending_at}
 use Rattle.rev_list.specs.Kept.{history_of, steps_of, dead_now, dead_after, turned_by, IsNext, Follows, GrowFrom, AreKept, HoldsRevisions}
 use Rattle.rev_list.specs.Inner.{dead_later}
 use Rattle.rev_list.proofs.FlagLemmas.{IsBack, IsTurn, IsTurn-edit, IsTurn-undo, length-steps_of, steps_of-at}
 use Rattle.rev_list.proofs.FirstLemmas.{IsFirstEdit-loaded, IsFirstEdit-edit, IsFirstEdit-undid}
-use Rattle.rev_list.proofs.StepLemmas.{tagged_later, tagged-with_new}
-use Rattle.rev_list.proofs.HistoryLemmas.{head-after, sound-after, length-after_edit, hidden_at-later, hidden_then-later, hidden_then-head, length-dead_now, dead_now-edit, dead_now-undid, undone_now-edit, undone_now-undid, IsRevisionAt-now, IsRevisionAt-later}
+use Rattle.rev_list.proofs.StepLemmas.{filter-there, tagged_later, tagged-with_new}
+use Rattle.rev_list.proofs.SettledLemmas.{hides_by_groups}
+use Rattle.rev_list.proofs.HistoryLemmas.{head-after, sound-after, length-after_edit, hidden_at-later, hidden_then-later, hidden_under_then-later, hidden_then-head, length-dead_now, dead_now-edit, dead_now-undid, undone_now-edit, undone_now-undid, IsRevisionAt-now, IsRevisionAt-later}
 
 -- the history after the first so many
 abbrev pub until_record : History → List RevRecord → ℕ → History
@@ -76,6 +80,15 @@ until_all h records i =
     ap (λ steps. fold after_revision (until_record h records i) steps) (steps_of-drop_all records i) ∙
     sym (fold-append after_revision h (take i (steps_of records)) (drop i (steps_of records))) ∙
     ap (λ steps. fold after_revision h steps) (take-append-drop i (steps_of records))
+
+-- what a set hides at an earlier revision
+hidden_under_then-fold : (h : History) (records : List RevRecord) (set : List ℕ) (n : ℕ) → AreKept h records → n ≤ head h →
+    map (is_hidden_under (fold after_revision h (steps_of records)) set n) (union_at (fold after_revision h (steps_of records)) n) ≡
+    map (is_hidden_under h set n) (union_at h n)
+hidden_under_then-fold h [] set n kept le = refl
+hidden_under_then-fold h (r ∷ records) set n kept le =
+    hidden_under_then-fold (after_revision h r.step) records set n kept.2 (omega (arith, head-after h r.step)) ∙
+    hidden_under_then-later h r.step set n kept.0 le
 
 -- ---- a walk from the head back
 
@@ -136,121 +149,180 @@ IsRevisionAt-fold_at h (r ∷ records) (suc i) d rev sound kept at is =
 
 -- ---- no deletion before the insertion
 
-later-with_deleted : (rev : ℕ) (xs : List Tagged) (at : List Bool) → AllByRecursion (IsTaggedBy rev) xs → AllByRecursion IsDeletedLater xs →
-    AllByRecursion IsDeletedLater (with_deleted rev xs at)
-later-with_deleted rev [] at by later = tt
-later-with_deleted rev (x ∷ xs) [] by later = later
-later-with_deleted rev (x ∷ xs) (true ∷ at) by later = (one_later x.deleted later.0, later-with_deleted rev xs at by.1 later.1)
+later-with_deleted : (floor rev : ℕ) (xs : List Tagged) (at : List Bool) → AllByRecursion (IsTaggedBy rev) xs → AllByRecursion (IsDeletedLater floor) xs →
+    AllByRecursion (IsDeletedLater floor) (with_deleted rev xs at)
+later-with_deleted floor rev [] at by later = tt
+later-with_deleted floor rev (x ∷ xs) [] by later = later
+later-with_deleted floor rev (x ∷ xs) (true ∷ at) by later = (λ over. one_later x.deleted (later.0 over), later-with_deleted floor rev xs at by.1 later.1)
   where
     one_later : (deleted : List ℕ) → AllByRecursion (λ k. x.inserted ≤ k) deleted → AllByRecursion (λ k. x.inserted ≤ k) (deleted ++ rev ∷ [])
     one_later [] all = (by.0.inserted, tt)
     one_later (k ∷ deleted) all = (all.0, one_later deleted all.1)
-later-with_deleted rev (x ∷ xs) (false ∷ at) by later = (later.0, later-with_deleted rev xs at by.1 later.1)
+later-with_deleted floor rev (x ∷ xs) (false ∷ at) by later = (later.0, later-with_deleted floor rev xs at by.1 later.1)
 
-later-with_new : (rev : ℕ) (xs : List Tagged) (by : List Bool) → AllByRecursion IsDeletedLater xs → AllByRecursion IsDeletedLater (with_new (new_by rev) xs by)
-later-with_new rev xs [] later = tt
-later-with_new rev xs (true ∷ by) later = (tt, later-with_new rev xs by later)
-later-with_new rev [] (false ∷ by) later = tt
-later-with_new rev (x ∷ xs) (false ∷ by) later = (later.0, later-with_new rev xs by later.1)
+later-with_new : (floor rev : ℕ) (xs : List Tagged) (by : List Bool) → AllByRecursion (IsDeletedLater floor) xs →
+    AllByRecursion (IsDeletedLater floor) (with_new (new_by rev) xs by)
+later-with_new floor rev xs [] later = tt
+later-with_new floor rev xs (true ∷ by) later = (λ over. tt, later-with_new floor rev xs by later)
+later-with_new floor rev [] (false ∷ by) later = tt
+later-with_new floor rev (x ∷ xs) (false ∷ by) later = (later.0, later-with_new floor rev xs by later.1)
 
 later-after : (h : History) (r : RevStep) → IsSound h → AreDeletedLater h → AreDeletedLater (after_revision h r)
 later-after h (Edit e) sound later =
-    later-with_deleted (head h + 1) (with_new (new_by (head h + 1)) h.characters e.inserted) e.deleted
+    later-with_deleted h.floor (head h + 1) (with_new (new_by (head h + 1)) h.characters e.inserted) e.deleted
     (tagged-with_new (head h + 1) h.characters e.inserted (tagged_later (head h) (head h + 1) h.characters (omega arith) sound))
-    (later-with_new (head h + 1) h.characters e.inserted later)
+    (later-with_new h.floor (head h + 1) h.characters e.inserted later)
 later-after h (Undo groups) sound later = later
 
 later-fold : (h : History) (steps : List RevStep) → IsSound h → AreDeletedLater h → AreDeletedLater (fold after_revision h steps)
 later-fold h [] sound later = later
 later-fold h (r ∷ steps) sound later = later-fold (after_revision h r) steps (sound-after h r sound) (later-after h r sound later)
 
-loaded_later : (len : ℕ) → AreDeletedLater (loaded (replicate len 0))
-loaded_later zero = tt
-loaded_later (suc len) = (tt, loaded_later len)
+-- ---- what is up to the floor
+
+length-range : (from n : ℕ) → length (range_with_len from n) ≡ n
+length-range from zero = refl
+length-range from (suc n) = ap suc (length-range (from + 1) n)
+
+pub head-settled : (settled : Settled) → head (settled_history settled) ≡ settled.floor
+head-settled settled =
+    length-map (range_with_len 1 settled.floor) (λ rev. settled_said settled.undone (ending_at settled.groups rev)) ∙ length-range 1 settled.floor
+
+-- nothing there came after the floor
+none_later : (floor : ℕ) (xs : List Tagged) → AllByRecursion (IsTaggedBy floor) xs → AllByRecursion (IsDeletedLater floor) xs
+none_later floor [] sound = tt
+none_later floor (x ∷ xs) sound = (λ over. absurd (omega (arith, over, sound.0.inserted)), none_later floor xs sound.1)
+
+settled_later : (settled : Settled) → IsSound (settled_history settled) → AreDeletedLater (settled_history settled)
+settled_later settled sound = none_later settled.floor (settled_history settled).characters (rw (head-settled settled) at sound)
+
+settled_characters-loaded : (len : ℕ) → settled_characters len [] ≡ map (inserted_by 0) (replicate len 0)
+settled_characters-loaded zero = refl
+settled_characters-loaded (suc len) = ap (λ rest. record { character = 0; inserted = 0; deleted = [] } ∷ rest) (settled_characters-loaded len)
+
+pub history-loaded : (len : ℕ) → settled_history (settled_loaded len) ≡ loaded (replicate len 0)
+history-loaded len = ap (λ characters. record { characters = characters; revisions = []; floor = 0; collected = [] }) (settled_characters-loaded len)
 
 -- ---- a list of revisions
 
-loaded_sound : (len : ℕ) → AllByRecursion (IsTaggedBy 0) (loaded (replicate len 0)).characters
+loaded_sound : (len : ℕ) → AllByRecursion (IsTaggedBy 0) (settled_characters len [])
 loaded_sound zero = tt
 loaded_sound (suc len) = (record { inserted = omega arith; deleted = tt }, loaded_sound len)
 
-pub sound-history_of : (len : ℕ) (steps : List RevStep) → IsSound (history_of len steps)
-sound-history_of len steps = sound-fold (loaded (replicate len 0)) steps (loaded_sound len)
+none_hidden : (h : History) (len : ℕ) → is_hidden h (head h) (record { character = 0; inserted = 0; deleted = [] }) ≡ false →
+    map (is_hidden h (head h)) (settled_characters len []) ≡ replicate len false
+none_hidden h zero shown = refl
+none_hidden h (suc len) shown = ap₂ (λ b flags. b ∷ flags) shown (none_hidden h len shown)
 
-pub later-history_of : (len : ℕ) (steps : List RevStep) → AreDeletedLater (history_of len steps)
-later-history_of len steps = later-fold (loaded (replicate len 0)) steps (loaded_sound len) (loaded_later len)
+apart_loaded : (len : ℕ) → AreInsertedApart len []
+apart_loaded zero = tt
+apart_loaded (suc len) = (tt, apart_loaded len)
 
-hidden-loaded : (len : ℕ) → dead_now (loaded (replicate len 0)) ≡ replicate len false
-hidden-loaded zero = refl
-hidden-loaded (suc len) = ap (λ rest. false ∷ rest) (hidden-loaded len)
-
-pub holds_loaded : (len : ℕ) → HoldsRevisions len [] (replicate len false) (record { groups = 0 ∷ []; revs = 0 ∷ [] }) []
+pub holds_loaded : (len : ℕ) → HoldsRevisions (settled_loaded len) [] (replicate len false) (record { groups = 0 ∷ []; revs = 0 ∷ [] }) []
 holds_loaded len = record {
+  parts = record { lengths = tt; ends = tt; apart = apart_loaded len };
+  sound = loaded_sound len;
   kept = tt;
-  dead = sym (hidden-loaded len);
+  numbers = omega arith;
+  dead = sym (none_hidden (settled_history (settled_loaded len)) len refl);
   first_edits = IsFirstEdit-loaded;
   undone = refl;
   rising = tt;
   sets = tt;
+  clean = refl;
+  none = refl;
 }
 
-pub head-history_of : (len : ℕ) (records : List RevRecord) → head (history_of len (steps_of records)) ≡ length records
-head-history_of len records = omega (arith, head-fold (loaded (replicate len 0)) (steps_of records), length-steps_of records)
+pub head-history_of : (settled : Settled) (records : List RevRecord) → head (history_of settled (steps_of records)) ≡ settled.floor + length records
+head-history_of settled records =
+    omega (arith, head-fold (settled_history settled) (steps_of records), length-steps_of records, head-settled settled)
 
-pub floor-history_of : (len : ℕ) (steps : List RevStep) → (history_of len steps).floor ≡ 0
-floor-history_of len steps = floor-fold (loaded (replicate len 0)) steps
+pub floor-history_of : (settled : Settled) (steps : List RevStep) → (history_of settled steps).floor ≡ settled.floor
+floor-history_of settled steps = floor-fold (settled_history settled) steps
 
-pub collected-history_of : (len : ℕ) (steps : List RevStep) → (history_of len steps).collected ≡ []
-collected-history_of len steps = collected-fold (loaded (replicate len 0)) steps
+pub collected-history_of : (settled : Settled) (steps : List RevStep) → (history_of settled steps).collected ≡ settled.collected
+collected-history_of settled steps = collected-fold (settled_history settled) steps
 
-module _ (len : ℕ) (records : List RevRecord) (kept : AreKept (loaded (replicate len 0)) records) where
+-- a revision from the floor to the head is so many after the floor
+pub record IsPlaced (settled : Settled) (records : List RevRecord) (rev : ℕ) : Type 0 where
+  pub from : settled.floor ≤ rev
+  pub within : rev - settled.floor ≤ length records
+  pub is : rev ≡ settled.floor + (rev - settled.floor)
+
+pub placed : (settled : Settled) (records : List RevRecord) (rev : ℕ) → IsKeptAt (history_of settled (steps_of records)) rev → IsPlaced settled records rev
+placed settled records rev kept =
+    let from : settled.floor ≤ rev = rw (floor-history_of settled (steps_of records)) at kept.0 in
+    record {
+      from = from;
+      within = omega (arith, kept.1, head-history_of settled records);
+      is = omega (arith, from);
+    }
+
+module _ (settled : Settled) (records : List RevRecord) (sound : IsSound (settled_history settled)) (kept : AreKept (settled_history settled) records) where
+  abbrev start : History
+  start = settled_history settled
+
+  pub sound-history_of : IsSound (history_of settled (steps_of records))
+  sound-history_of = sound-fold start (steps_of records) sound
+
+  pub later-history_of : AreDeletedLater (history_of settled (steps_of records))
+  later-history_of = later-fold start (steps_of records) sound (settled_later settled sound)
+
   abbrev then_of : ℕ → History
-  then_of rev = until_record (loaded (replicate len 0)) records rev
+  then_of i = until_record start records i
 
-  head-then_of : (rev : ℕ) → rev ≤ length records → head (then_of rev) ≡ rev
-  head-then_of rev le = head-fold (loaded (replicate len 0)) (take rev (steps_of records)) ∙ omega (arith, length-take-steps)
+  head-then_of : (i : ℕ) → i ≤ length records → head (then_of i) ≡ settled.floor + i
+  head-then_of i le = omega (arith, head-fold start (take i (steps_of records)), length-take-steps, head-settled settled)
     where
-      length-take-steps : length (take rev (steps_of records)) ≡ rev
-      length-take-steps = length-take-le rev (steps_of records) (omega (arith, le, length-steps_of records))
+      length-take-steps : length (take i (steps_of records)) ≡ i
+      length-take-steps = length-take-le i (steps_of records) (omega (arith, le, length-steps_of records))
 
-  pub hidden_then-history_of : (rev : ℕ) → rev ≤ length records → hidden_then (history_of len (steps_of records)) rev ≡ dead_now (then_of rev)
-  hidden_then-history_of rev le =
-      ap (λ h. hidden_then h rev) (sym (until_all (loaded (replicate len 0)) records rev)) ∙
-      hidden_then-fold (then_of rev) (drop rev records) rev (AreKept-drop (loaded (replicate len 0)) records rev kept) (omega (arith, head-then_of rev le)) ∙
-      ap (λ n. hidden_then (then_of rev) n) (sym (head-then_of rev le)) ∙
-      hidden_then-head (then_of rev) (sound-fold (loaded (replicate len 0)) (take rev (steps_of records)) (loaded_sound len))
+  -- a revision that is so many after the floor
+  pub hidden_then-history_of : (i rev : ℕ) → i ≤ length records → rev ≡ settled.floor + i → hidden_then (history_of settled (steps_of records)) rev ≡ dead_now (then_of i)
+  hidden_then-history_of i rev le is =
+      let here : rev ≡ head (then_of i) = omega (arith, is, head-then_of i le) in
+      ap (λ h. hidden_then h rev) (sym (until_all start records i)) ∙
+      hidden_then-fold (then_of i) (drop i records) rev (AreKept-drop start records i kept) (omega (arith, here)) ∙
+      ap (λ n. hidden_then (then_of i) n) here ∙
+      hidden_then-head (then_of i) (sound-fold start (take i (steps_of records)) sound)
 
-  pub hidden_at-history_of : (rev : ℕ) → rev ≤ length records →
-      hidden_at (history_of len (steps_of records)) rev ≡ fold dead_later (dead_now (then_of rev)) (drop rev (steps_of records))
-  hidden_at-history_of rev le =
-      ap (λ h. hidden_at h rev) (sym (until_all (loaded (replicate len 0)) records rev)) ∙
-      hidden_at-fold (then_of rev) (drop rev records) rev (AreKept-drop (loaded (replicate len 0)) records rev kept) (omega (arith, head-then_of rev le)) ∙
-      ap₂ (λ n steps. fold dead_later (hidden_at (then_of rev) n) steps) (sym (head-then_of rev le)) (steps_of-drop_all records rev)
+  pub hidden_at-history_of : (i rev : ℕ) → i ≤ length records → rev ≡ settled.floor + i →
+      hidden_at (history_of settled (steps_of records)) rev ≡ fold dead_later (dead_now (then_of i)) (drop i (steps_of records))
+  hidden_at-history_of i rev le is =
+      let here : rev ≡ head (then_of i) = omega (arith, is, head-then_of i le) in
+      ap (λ h. hidden_at h rev) (sym (until_all start records i)) ∙
+      hidden_at-fold (then_of i) (drop i records) rev (AreKept-drop start records i kept) (omega (arith, here)) ∙
+      ap₂ (λ n steps. fold dead_later (hidden_at (then_of i) n) steps) here (steps_of-drop_all records i)
 
-  pub grow_from-history_of : (rev : ℕ) → rev ≤ length records → GrowFrom (length (dead_now (then_of rev))) (drop rev (steps_of records))
-  grow_from-history_of rev le =
-      rw (length-dead_now (then_of rev), ← steps_of-drop_all records rev)
-      (grow_from (then_of rev) (drop rev records) (AreKept-drop (loaded (replicate len 0)) records rev kept))
+  pub grow_from-history_of : (i : ℕ) → i ≤ length records → GrowFrom (length (dead_now (then_of i))) (drop i (steps_of records))
+  grow_from-history_of i le =
+      rw (length-dead_now (then_of i), ← steps_of-drop_all records i)
+      (grow_from (then_of i) (drop i records) (AreKept-drop start records i kept))
 
   pub back_at-history_of : (i : ℕ) (r : RevRecord) → i < length records → r ≡ get_or records i r → IsBack (dead_now (then_of (suc i))) r (dead_now (then_of i))
-  back_at-history_of i r lt is = back_at (loaded (replicate len 0)) records i r (loaded_sound len) kept lt is
+  back_at-history_of i r lt is = back_at start records i r sound kept lt is
 
-  pub then_of-all : (rev : ℕ) → length records ≤ rev → then_of rev ≡ history_of len (steps_of records)
-  then_of-all rev le = ap (λ steps. fold after_revision (loaded (replicate len 0)) steps) (take_all rev (steps_of records) (omega (arith, le, length-steps_of records)))
+  pub then_of-all : (i : ℕ) → length records ≤ i → then_of i ≡ history_of settled (steps_of records)
+  then_of-all i le = ap (λ steps. fold after_revision start steps) (take_all i (steps_of records) (omega (arith, le, length-steps_of records)))
 
-  pub IsRevisionAt-history_of : (i : ℕ) (d : RevStep) (rev : ℕ) → slice_get (steps_of records) i ≡ Some d → rev ≡ 1 + i → IsRevisionAt (history_of len (steps_of records)) rev d
-  IsRevisionAt-history_of i d rev at is = IsRevisionAt-fold_at (loaded (replicate len 0)) records i d rev (loaded_sound len) kept at (omega arith)
+  pub IsRevisionAt-history_of : (i : ℕ) (d : RevStep) (rev : ℕ) → slice_get (steps_of records) i ≡ Some d → rev ≡ settled.floor + 1 + i →
+      IsRevisionAt (history_of settled (steps_of records)) rev d
+  IsRevisionAt-history_of i d rev at is = IsRevisionAt-fold_at start records i d rev sound kept at (omega (arith, is, head-settled settled))
 
   -- a record that is read
-  pub IsRevisionAt-read : (i : ℕ) (r : RevRecord) (rev : ℕ) → i < length records → r ≡ get_or records i r → rev ≡ 1 + i → IsRevisionAt (history_of len (steps_of records)) rev r.step
+  pub IsRevisionAt-read : (i : ℕ) (r : RevRecord) (rev : ℕ) → i < length records → r ≡ get_or records i r → rev ≡ settled.floor + 1 + i →
+      IsRevisionAt (history_of settled (steps_of records)) rev r.step
   IsRevisionAt-read i r rev lt is e =
       IsRevisionAt-history_of i r.step rev
       (slice_get_read (steps_of records) (length (steps_of records)) i r.step (omega arith) (omega (arith, lt, length-steps_of records)) (steps_of-at records i r lt is)) e
 
-  pub AreRevisionsAfter-history_of : (after : List RevStep) (base : ℕ) → base ≤ length records → after ≡ drop base (steps_of records) → AreRevisionsAfter (history_of len (steps_of records)) base after
-  AreRevisionsAfter-history_of after base le is = record {
-    len = omega (arith, ap length is, length-drop base (steps_of records), head-history_of len records, length-steps_of records);
-    each = λ k e at. IsRevisionAt-history_of (base + k) e (base + 1 + k) (sym (slice_get-drop (steps_of records) base k) ∙ (ap (λ xs. slice_get xs k) (sym is) ∙ at)) (omega arith);
+  pub AreRevisionsAfter-history_of : (after : List RevStep) (i base : ℕ) → i ≤ length records → base ≡ settled.floor + i → after ≡ drop i (steps_of records) →
+      AreRevisionsAfter (history_of settled (steps_of records)) base after
+  AreRevisionsAfter-history_of after i base le here is = record {
+    len = omega (arith, here, le, ap length is, length-drop i (steps_of records), head-history_of settled records, length-steps_of records);
+    each = λ k e at.
+        IsRevisionAt-history_of (i + k) e (base + 1 + k) (sym (slice_get-drop (steps_of records) i k) ∙ (ap (λ xs. slice_get xs k) (sym is) ∙ at))
+        (omega (arith, here));
   }
     where
       slice_get-drop : {X : Type 0} (xs : List X) (n i : ℕ) → slice_get (drop n xs) i ≡ slice_get xs (n + i)
@@ -258,33 +330,89 @@ module _ (len : ℕ) (records : List RevRecord) (kept : AreKept (loaded (replica
       slice_get-drop [] (suc n) i = sym (slice_get_past [] (suc n + i) (omega arith))
       slice_get-drop (x ∷ xs) (suc n) i = slice_get-drop xs n i ∙ sym (ap (λ k. slice_get (x ∷ xs) k) (suc-add n i))
 
+-- ---- what a set hides at the floor
+
+length-settled_characters : (len : ℕ) (groups : List SettledGroup) → length (settled_characters len groups) ≡ len
+length-settled_characters zero groups = refl
+length-settled_characters (suc len) groups = ap suc (length-settled_characters len (map without_first groups))
+
+module _ (settled : Settled) (records : List RevRecord) (parts : AreSettled settled) (sound : IsSound (settled_history settled)) (kept : AreKept (settled_history settled) records) where
+  abbrev whole : History
+  whole = history_of settled (steps_of records)
+
+  abbrev floor_is : whole.floor ≡ settled.floor
+  floor_is = floor-history_of settled (steps_of records)
+
+  shown : (set : List ℕ) → map (is_hidden_under whole set settled.floor) (union_at whole settled.floor) ≡ hidden_by_groups set settled.len settled.groups
+  shown set =
+      let there = filter-there settled.floor (settled_history settled).characters (rw (head-settled settled) at sound) in
+      hidden_under_then-fold (settled_history settled) records set settled.floor kept (omega (arith, head-settled settled)) ∙
+      ap (λ xs. map (is_hidden_under (settled_history settled) set settled.floor) xs) there ∙
+      hides_by_groups (settled_history settled).revisions set settled.floor settled.len settled.groups parts.lengths parts.ends parts.apart
+
+  pub len_is : length (union_at whole whole.floor) ≡ settled.len
+  len_is =
+      let there = filter-there settled.floor (settled_history settled).characters (rw (head-settled settled) at sound) in
+      let flags = hidden_under_then-fold (settled_history settled) records [] settled.floor kept (omega (arith, head-settled settled)) in
+      ap (λ n. length (union_at whole n)) floor_is ∙
+      sym (length-map (union_at whole settled.floor) (is_hidden_under whole [] settled.floor)) ∙ ap length flags ∙
+      length-map (union_at (settled_history settled) settled.floor) (is_hidden_under (settled_history settled) [] settled.floor) ∙
+      ap length there ∙ length-settled_characters settled.len settled.groups
+
+  pub settled_lengths : AllByRecursion (HasLengths (length (union_at whole whole.floor))) settled.groups
+  settled_lengths = rw len_is parts.lengths
+
+  pub settled_hides : (set : List ℕ) →
+      map (is_hidden_under whole set whole.floor) (union_at whole whole.floor) ≡ hidden_by_groups set (length (union_at whole whole.floor)) settled.groups
+  settled_hides set =
+      ap (λ n. map (is_hidden_under whole set n) (union_at whole n)) floor_is ∙ shown set ∙ ap (λ n. hidden_by_groups set n settled.groups) (sym len_is)
+
 -- ---- the next revision
 
-steps_of-push : (records : List RevRecord) (newest : RevRecord) (len : ℕ) → history_of len (steps_of (records ++ newest ∷ [])) ≡ after_revision (history_of len (steps_of records)) newest.step
-steps_of-push records newest len =
-    ap (λ steps. history_of len steps) (map-append (λ r. r.step) records (newest ∷ [])) ∙
-    fold-append after_revision (loaded (replicate len 0)) (steps_of records) (newest.step ∷ [])
+steps_of-push : (records : List RevRecord) (newest : RevRecord) (settled : Settled) →
+    history_of settled (steps_of (records ++ newest ∷ [])) ≡ after_revision (history_of settled (steps_of records)) newest.step
+steps_of-push records newest settled =
+    ap (λ steps. history_of settled steps) (map-append (λ r. r.step) records (newest ∷ [])) ∙
+    fold-append after_revision (settled_history settled) (steps_of records) (newest.step ∷ [])
 
-HoldsRevisions-push : (len : ℕ) (records : List RevRecord) (newest : RevRecord) (dead : List Bool) (first : Firsts) (groups : List ℕ) → AreKept (loaded (replicate len 0)) records →
-    Follows (history_of len (steps_of records)) newest.step → newest.turned ≡ turned_by (history_of len (steps_of records)) newest.step →
-    dead ≡ dead_now (after_revision (history_of len (steps_of records)) newest.step) →
-    AreFirstEdits (after_revision (history_of len (steps_of records)) newest.step).revisions first →
-    groups ≡ undone_now (after_revision (history_of len (steps_of records)) newest.step) → IsRising groups →
-    AllByRecursion HasRisingSet (after_revision (history_of len (steps_of records)) newest.step).revisions →
-    HoldsRevisions len (records ++ newest ∷ []) dead first groups
-HoldsRevisions-push len records newest dead first groups kept next turned_is dead_is first_edits groups_are rising sets = record {
-  kept = AreKept-append (loaded (replicate len 0)) records (newest ∷ []) kept (next, turned_is, tt);
-  dead = dead_is ∙ ap dead_now (sym (steps_of-push records newest len));
-  first_edits = rw (steps_of-push records newest len) first_edits;
-  undone = groups_are ∙ ap undone_now (sym (steps_of-push records newest len));
+clean-push : (revisions : List Revision) (last : Revision) (floor : ℕ) → floor ≤ length revisions → is_clean revisions floor ≡ true → is_based_from floor last ≡ true →
+    is_clean (revisions ++ last ∷ []) floor ≡ true
+clean-push revisions last floor within clean from =
+    ap (list_all (is_based_from floor)) (drop-append-le floor revisions (last ∷ []) within) ∙ more (drop floor revisions) clean
+  where
+    more : (rs : List Revision) → list_all (is_based_from floor) rs ≡ true → list_all (is_based_from floor) (rs ++ last ∷ []) ≡ true
+    more [] all = ap (λ b. b && true) from
+    more (r ∷ rs) all =
+        let parts = and_parts (is_based_from floor r) (list_all (is_based_from floor) rs) all in
+        and_from (is_based_from floor r) (list_all (is_based_from floor) (rs ++ last ∷ [])) parts.0 (more rs parts.1)
+
+HoldsRevisions-push : (settled : Settled) (records : List RevRecord) (newest : RevRecord) (gone dead : List Bool) (first more : Firsts) (groups after : List ℕ) →
+    HoldsRevisions settled records gone first groups → head (history_of settled (steps_of records)) < 2 ^ 63 - 1 →
+    Follows (history_of settled (steps_of records)) newest.step → newest.turned ≡ turned_by (history_of settled (steps_of records)) newest.step →
+    dead ≡ dead_now (after_revision (history_of settled (steps_of records)) newest.step) →
+    AreFirstEdits (after_revision (history_of settled (steps_of records)) newest.step).revisions more →
+    after ≡ undone_now (after_revision (history_of settled (steps_of records)) newest.step) → IsRising after →
+    AllByRecursion HasRisingSet (after_revision (history_of settled (steps_of records)) newest.step).revisions →
+    is_clean (after_revision (history_of settled (steps_of records)) newest.step).revisions settled.floor ≡ true →
+    HoldsRevisions settled (records ++ newest ∷ []) dead more after
+HoldsRevisions-push settled records newest gone dead first more groups after was has_number next turned_is dead_is first_edits groups_are rising sets clean = record {
+  parts = was.parts;
+  sound = was.sound;
+  kept = AreKept-append (settled_history settled) records (newest ∷ []) was.kept (next, turned_is, tt);
+  numbers = omega (arith, has_number, head-history_of settled records, length-append records (newest ∷ []));
+  dead = dead_is ∙ ap dead_now (sym (steps_of-push records newest settled));
+  first_edits = rw (steps_of-push records newest settled) first_edits;
+  undone = groups_are ∙ ap undone_now (sym (steps_of-push records newest settled));
   rising = rising;
-  sets = rw (steps_of-push records newest len) sets;
+  sets = rw (steps_of-push records newest settled) sets;
+  clean = rw (steps_of-push records newest settled) clean;
+  none = was.none;
 }
 
 -- what a list is and keeps after one more record
-pub record IsPushed (len : ℕ) (records : List RevRecord) (dead : List Bool) (first : Firsts) (groups : List ℕ) (after : History) : Type 0 where
-  pub holds : HoldsRevisions len records dead first groups
-  pub history : history_of len (steps_of records) ≡ after
+pub record IsPushed (settled : Settled) (records : List RevRecord) (dead : List Bool) (first : Firsts) (groups : List ℕ) (after : History) : Type 0 where
+  pub holds : HoldsRevisions settled records dead first groups
+  pub history : history_of settled (steps_of records) ≡ after
 
 -- the first edits after one more edit, where the kept ones are known group by group
 AreFirstEdits-edit : (h : History) (e : RevEdit) (first more : Firsts) → AreFirstEdits h.revisions first →
@@ -304,55 +432,60 @@ without_loaded h [] known = refl
 without_loaded h (group ∷ groups) known =
     ap₂ (λ a b. a || b) (ne_eqb group 0 (λ is. omega (arith, is, known.0.0))) (without_loaded h groups known.1)
 
-pub push_edit : (len : ℕ) (records : List RevRecord) (newest : RevRecord) (e : RevEdit) (gone dead : List Bool) (first more : Firsts) (groups : List ℕ) →
-    HoldsRevisions len records gone first groups → MayPush (history_of len (steps_of records)) e → newest.step ≡ Edit e →
+pub push_edit : (settled : Settled) (records : List RevRecord) (newest : RevRecord) (e : RevEdit) (gone dead : List Bool) (first more : Firsts) (groups : List ℕ) →
+    HoldsRevisions settled records gone first groups → MayPush (history_of settled (steps_of records)) e → newest.step ≡ Edit e →
     newest.turned ≡ symmetric_difference (expand gone e.inserted) (dead_after (has groups e.group) gone e) → dead ≡ dead_after (has groups e.group) gone e →
-    ((group : ℕ) → rev_of more.groups more.revs group ≡ first_after (rev_of first.groups first.revs group) e.group (length records + 1) group) →
-    IsPushed len (records ++ newest ∷ []) dead more groups (after_edit (history_of len (steps_of records)) e)
-push_edit len records newest e gone dead first more groups holds may step_is turned_is dead_is made =
-    let h : History = history_of len (steps_of records) in
+    ((group : ℕ) → rev_of more.groups more.revs group ≡ first_after (rev_of first.groups first.revs group) e.group (settled.floor + length records + 1) group) →
+    IsPushed settled (records ++ newest ∷ []) dead more groups (after_edit (history_of settled (steps_of records)) e)
+push_edit settled records newest e gone dead first more groups holds may step_is turned_is dead_is made =
+    let h : History = history_of settled (steps_of records) in
+    let within : settled.floor ≤ head h = omega (arith, head-history_of settled records) in
+    let from : nat_le settled.floor e.base ≡ true = le-leb settled.floor e.base (rw (floor-history_of settled (steps_of records)) at may.base_kept) in
     let next : IsNext h e = record { grown = may.grown; same_length = may.same_length } in
     let now : dead_after (has groups e.group) gone e ≡ dead_now (after_edit h e) =
-    ap₂ (λ set flags. dead_after (has set e.group) flags e) holds.undone holds.dead ∙ sym (dead_now-edit h e (sound-history_of len (steps_of records)) next) in
+    ap₂ (λ set flags. dead_after (has set e.group) flags e) holds.undone holds.dead ∙ sym (dead_now-edit h e (sound-history_of settled records holds.sound holds.kept) next) in
     let before : symmetric_difference (expand gone e.inserted) (dead_after (has groups e.group) gone e) ≡ turned_by h (Edit e) =
     ap₂ (λ flags after. symmetric_difference (expand flags e.inserted) after) holds.dead now in
     let firsts : AreFirstEdits (after_edit h e).revisions more =
     AreFirstEdits-edit h e first more holds.first_edits
-    (λ group. made group ∙ ap (λ n. first_after (rev_of first.groups first.revs group) e.group (n + 1) group) (sym (head-history_of len records))) in
+    (λ group. made group ∙ ap (λ n. first_after (rev_of first.groups first.revs group) e.group (n + 1) group) (sym (head-history_of settled records))) in
     record {
-      holds = HoldsRevisions-push len records newest dead more groups holds.kept (rw step_is next) (turned_is ∙ before ∙ ap (turned_by h) (sym step_is))
+      holds = HoldsRevisions-push settled records newest gone dead first more groups groups holds may.has_number (rw step_is next) (turned_is ∙ before ∙ ap (turned_by h) (sym step_is))
           (dead_is ∙ now ∙ ap (λ step. dead_now (after_revision h step)) (sym step_is))
           (rw step_is firsts)
           (holds.undone ∙ sym (undone_now-edit h e) ∙ ap (λ step. undone_now (after_revision h step)) (sym step_is)) holds.rising
-          (rw step_is (HasRisingSet-push h.revisions (edit_revision e) holds.sets tt));
-      history = steps_of-push records newest len ∙ ap (after_revision h) step_is;
+          (rw step_is (HasRisingSet-push h.revisions (edit_revision e) holds.sets tt))
+          (rw step_is (clean-push h.revisions (edit_revision e) settled.floor within holds.clean from));
+      history = steps_of-push records newest settled ∙ ap (after_revision h) step_is;
     }
 
-pub push_undo : (len : ℕ) (records : List RevRecord) (newest : RevRecord) (differ : List ℕ) (gone dead : List Bool) (first : Firsts) (groups after : List ℕ) →
-    HoldsRevisions len records gone first groups →
-    MayPushUndo (history_of len (steps_of records)) (undone_by (history_of len (steps_of records)) differ) dead → newest.step ≡ Undo differ →
+pub push_undo : (settled : Settled) (records : List RevRecord) (newest : RevRecord) (differ : List ℕ) (gone dead : List Bool) (first : Firsts) (groups after : List ℕ) →
+    HoldsRevisions settled records gone first groups →
+    MayPushUndo (history_of settled (steps_of records)) (undone_by (history_of settled (steps_of records)) differ) dead → newest.step ≡ Undo differ →
     newest.turned ≡ symmetric_difference gone dead → after ≡ flipped groups differ →
-    IsPushed len (records ++ newest ∷ []) dead first after (undid (history_of len (steps_of records)) (undone_by (history_of len (steps_of records)) differ))
-push_undo len records newest differ gone dead first groups after holds may step_is turned_is after_is =
-    let h : History = history_of len (steps_of records) in
+    IsPushed settled (records ++ newest ∷ []) dead first after (undid (history_of settled (steps_of records)) (undone_by (history_of settled (steps_of records)) differ))
+push_undo settled records newest differ gone dead first groups after holds may step_is turned_is after_is =
+    let h : History = history_of settled (steps_of records) in
+    let within : settled.floor ≤ head h = omega (arith, head-history_of settled records) in
     let set : List ℕ = undone_by h differ in
-    let now : dead ≡ dead_now (undid h set) = may.hidden ∙ sym (dead_now-undid h set (sound-history_of len (steps_of records))) in
+    let now : dead ≡ dead_now (undid h set) = may.hidden ∙ sym (dead_now-undid h set (sound-history_of settled records holds.sound holds.kept)) in
     let before : symmetric_difference gone dead ≡ turned_by h (Undo differ) = ap₂ (λ flags later. symmetric_difference flags later) holds.dead now in
     let groups_are : after ≡ set = after_is ∙ ap (λ xs. flipped xs differ) holds.undone in
     let firsts : AreFirstEdits (undid h set).revisions first =
     λ group. IsFirstEdit-undid h set group (rev_of first.groups first.revs group) (holds.first_edits group) in
     record {
-      holds = HoldsRevisions-push len records newest dead first after holds.kept (rw step_is tt) (turned_is ∙ before ∙ ap (turned_by h) (sym step_is))
+      holds = HoldsRevisions-push settled records newest gone dead first first groups after holds may.has_number (rw step_is tt) (turned_is ∙ before ∙ ap (turned_by h) (sym step_is))
           (now ∙ ap (λ step. dead_now (after_revision h step)) (sym step_is))
           (rw step_is firsts)
           (groups_are ∙ sym (undone_now-undid h set) ∙ ap (λ step. undone_now (after_revision h step)) (sym step_is)) (rw groups_are may.allowed.rising)
-          (rw step_is (HasRisingSet-push h.revisions (undo set) holds.sets (may.allowed.rising, without_loaded h set may.allowed.allowed.known)));
-      history = steps_of-push records newest len ∙ ap (after_revision h) step_is;
+          (rw step_is (HasRisingSet-push h.revisions (undo set) holds.sets (may.allowed.rising, without_loaded h set may.allowed.allowed.known)))
+          (rw step_is (clean-push h.revisions (undo set) settled.floor within holds.clean refl));
+      history = steps_of-push records newest settled ∙ ap (after_revision h) step_is;
     }
 
 -- the two sets of positions of an undo have one length
-pub undo_lengths : (len : ℕ) (records : List RevRecord) (set : List ℕ) (gone dead : List Bool) (first : Firsts) (groups : List ℕ) → HoldsRevisions len records gone first groups →
-    MayPushUndo (history_of len (steps_of records)) set dead → length gone ≡ length dead
-undo_lengths len records set gone dead first groups holds may =
-    let h : History = history_of len (steps_of records) in
+pub undo_lengths : (settled : Settled) (records : List RevRecord) (set : List ℕ) (gone dead : List Bool) (first : Firsts) (groups : List ℕ) → HoldsRevisions settled records gone first groups →
+    MayPushUndo (history_of settled (steps_of records)) set dead → length gone ≡ length dead
+undo_lengths settled records set gone dead first groups holds may =
+    let h : History = history_of settled (steps_of records) in
     ap length holds.dead ∙ length-dead_now h ∙ sym (length-map h.characters (is_hidden_under h set (head h))) ∙ sym (ap length may.hidden)

@@ -56,13 +56,13 @@ pub record AreRevisionsAfter (history : History) (base : ℕ) (revisions : List 
   pub len : length revisions + base ≡ head history
   pub each : (k : ℕ) (revision : RevStep) → slice_get revisions k ≡ Some revision → IsRevisionAt history (base + 1 + k) revision
 
--- no revision deletes the character before the one that inserted it
-abbrev pub IsDeletedLater : Tagged → Type 0
-IsDeletedLater tagged = AllByRecursion (λ rev. tagged.inserted ≤ rev) tagged.deleted
+-- no revision deletes a character that came after the floor before the one that inserted it
+abbrev pub IsDeletedLater : ℕ → Tagged → Type 0
+IsDeletedLater floor tagged = floor < tagged.inserted → AllByRecursion (λ rev. tagged.inserted ≤ rev) tagged.deleted
 
 -- and so it is of all characters
 abbrev pub AreDeletedLater : History → Type 0
-AreDeletedLater history = AllByRecursion IsDeletedLater history.characters
+AreDeletedLater history = AllByRecursion (IsDeletedLater history.floor) history.characters
 
 -- the revision is from the floor to the head
 abbrev pub IsKeptAt : History → ℕ → Type 0

@@ -1,9 +1,10 @@
--- What a list of revisions keeps: its edits, each in the positions of its own union, and its undos.
-use Rattle.std.specs.Prelude.{◌≡◌, ℕ, ◌+◌, Bool, true, false, List, [], ◌∷◌, length, map, replicate}
+-- What a list of revisions keeps: what is up to the floor, and after it the edits, each in the positions of its own union, and the undos.
+use Rattle.std.specs.Prelude.{◌≡◌, ℕ, ◌+◌, ◌^◌, ◌<◌, Bool, true, false, List, [], ◌∷◌, length, map}
 use Rattle.std.specs.List.{fold, AllByRecursion}
 use Rattle.subset_runs.specs.Subset.{count, expand, expand_in, shrink, union, symmetric_difference}
 use Rattle.plain_text.specs.Numbers.{IsRising}
-use Rattle.plain_edits.specs.History.{History, head, loaded}
+use Rattle.plain_edits.specs.History.{History, IsSound, head}
+use Rattle.plain_edits.specs.Collection.{is_clean}
 use Rattle.plain_edits.specs.HistorySteps.{HasRisingSet}
 use Rattle.plain_edits.specs.Undo.{undone_now}
 use Rattle.rev_list.specs.declared.edit.RevEdit.{RevEdit}
@@ -13,10 +14,11 @@ use Rattle.rev_list.specs.declared.records.RevRecord.{RevRecord}
 use Rattle.rev_list.specs.Edit.{after_revision}
 use Rattle.rev_list.specs.Groups.{Firsts, AreFirstEdits}
 use Rattle.rev_list.specs.Hidden.{hidden_at}
+use Rattle.rev_list.specs.Settled.{Settled, AreSettled, settled_history}
 
--- the history of revisions over a loaded text of this length
-abbrev pub history_of : ℕ → List RevStep → History
-history_of len revisions = fold after_revision (loaded (replicate len 0)) revisions
+-- the history of revisions after what is up to the floor
+abbrev pub history_of : Settled → List RevStep → History
+history_of settled revisions = fold after_revision (settled_history settled) revisions
 
 -- the revisions of the records
 abbrev pub steps_of : List RevRecord → List RevStep
@@ -76,12 +78,18 @@ AreKept history [] = Unit {0}
 AreKept history (r ∷ records) =
     Follows history r.step × (r.turned ≡ turned_by history r.step) × AreKept (after_revision history r.step) records
 
--- what a list keeps: each revision with what it turned, what is dead at the head, the first edit of each group, and which groups are
--- undone at the head; each undo has a rising set
-pub record HoldsRevisions (len : ℕ) (records : List RevRecord) (gone : List Bool) (first : Firsts) (groups : List ℕ) : Type 0 where
-  pub kept : AreKept (loaded (replicate len 0)) records
-  pub dead : gone ≡ dead_now (history_of len (steps_of records))
-  pub first_edits : AreFirstEdits (history_of len (steps_of records)).revisions first
-  pub undone : groups ≡ undone_now (history_of len (steps_of records))
+-- what a list keeps: what is up to the floor, each later revision with what it turned, what is dead at the head, the first edit of each
+-- group, and which groups are undone at the head; each undo has a rising set, and no later edit has its base below the floor
+pub record HoldsRevisions (settled : Settled) (records : List RevRecord) (gone : List Bool) (first : Firsts) (groups : List ℕ) : Type 0 where
+  pub parts : AreSettled settled
+  pub sound : IsSound (settled_history settled)
+  pub kept : AreKept (settled_history settled) records
+  pub numbers : settled.floor + length records < 2 ^ 63
+  pub dead : gone ≡ dead_now (history_of settled (steps_of records))
+  pub first_edits : AreFirstEdits (history_of settled (steps_of records)).revisions first
+  pub undone : groups ≡ undone_now (history_of settled (steps_of records))
   pub rising : IsRising groups
-  pub sets : AllByRecursion HasRisingSet (history_of len (steps_of records)).revisions
+  pub sets : AllByRecursion HasRisingSet (history_of settled (steps_of records)).revisions
+  pub clean : is_clean (history_of settled (steps_of records)).revisions settled.floor ≡ true
+  -- no group is collected yet
+  pub none : settled.collected ≡ []

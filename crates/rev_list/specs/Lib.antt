@@ -1,4 +1,5 @@
 pub mod Edit
+pub mod Settled
 pub mod RevFault
 pub mod Groups
 pub mod Hidden

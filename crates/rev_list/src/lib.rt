@@ -24,6 +24,7 @@ mod groups;
 pub mod laws;
 mod list;
 mod records;
+mod settled;
 mod step;
 mod walk;
 
@@ -31,5 +32,6 @@ pub use edit::RevEdit;
 pub use fault::RevFault;
 pub use groups::Groups;
 pub use list::RevList;
+pub use settled::SettledGroup;
 pub use step::RevStep;
 pub use walk::RevisionsAfter;

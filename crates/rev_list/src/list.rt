@@ -1,18 +1,22 @@
-ghost use Rattle.std.specs.Prelude.{◌≡◌, ◌≢◌, ℕ, ◌+◌, ◌-◌, ◌<◌, ◌≤◌, ◌↔◌, false, length, replicate, IfOk, IfSome, IfNone, OnOk, OnErr};
+ghost use Rattle.std.specs.Prelude.{◌≡◌, ◌≢◌, ℕ, ◌+◌, ◌-◌, ◌<◌, ◌≤◌, ◌↔◌, true, false, List, length, map, replicate, IfOk, IfSome, IfNone, OnOk, OnErr};
 ghost use Rattle.std.specs.List.{AllByRecursion};
 ghost use Rattle.plain_text.specs.Numbers.{has, IsRising};
 ghost use Rattle.plain_edits.specs.History.{IsSound, head, loaded, revision_at};
 ghost use Rattle.plain_edits.specs.Edits.{undid};
+ghost use Rattle.plain_edits.specs.Collection.{is_clean};
 ghost use Rattle.plain_edits.specs.HistorySteps.{HasRisingSet};
 ghost use Rattle.plain_edits.specs.Undo.{undone_now};
 ghost use Rattle.rev_list.specs.Groups.{IsFirstEdit};
 ghost use Rattle.rev_list.specs.Edit.{after_edit, undone_by, MayPush, MayPushUndo};
-ghost use Rattle.rev_list.specs.Hidden.{AreDeletedLater, AreRevisionsAfter, IsCollected, IsEditAt, IsKeptAt, IsRevisionAt, IsUnknown, hidden_at, hidden_then, is_edit};
+ghost use Rattle.rev_list.specs.Hidden.{AreDeletedLater, AreRevisionsAfter, IsCollected, IsEditAt, IsKeptAt, IsRevisionAt, IsUnknown, hidden_at, hidden_then, is_edit, union_at};
+ghost use Rattle.rev_list.specs.Settled.{HasLengths, hidden_by_groups};
+ghost use Rattle.undo_laws.specs.Under.{is_hidden_under};
 
 use crate::carry::{before, carried, recorded_edit, recorded_undo};
 use crate::firsts::FirstEdits;
 use crate::records::Records;
-use crate::{Groups, RevEdit, RevFault, RevStep, RevisionsAfter};
+use crate::settled::UpToFloor;
+use crate::{Groups, RevEdit, RevFault, RevStep, RevisionsAfter, SettledGroup};
 use number_set::NumberSet;
 use plain_text::NoMemory;
 use std::alloc::{AllocError, Global};
@@ -24,9 +28,9 @@ use subset_runs::Subset;
 /// The revisions from the floor to the head, over the present union. Copies share all their revisions.
 #[derive(Drop)]
 pub struct RevList {
-    /// The length of the loaded text.
-    len: u64,
-    /// The record of revision n stands at n - 1.
+    /// What is up to the floor.
+    settled: Arc<UpToFloor, Global>,
+    /// The record of revision n stands at n - floor - 1.
     records: Records,
     /// What is dead at the head.
     dead: Arc<Subset, Global>,
@@ -44,19 +48,18 @@ impl Model for RevList {
 
     ghost use Rattle.rev_list.specs.Kept.{HoldsRevisions, history_of, steps_of};
 
-    ghost view = { λ s. history_of s.len (steps_of s.records) };
+    ghost view = { λ s. history_of (arc_value s.settled) (steps_of s.records) };
 
-    ghost invariant = { λ s. HoldsRevisions s.len s.records (arc_value s.dead) s.firsts s.undone };
+    ghost invariant = { λ s. HoldsRevisions (arc_value s.settled) s.records (arc_value s.dead) s.firsts s.undone };
 }
 
 impl RevList {
     /// The list of a text that was just loaded, with this many characters.
-    #[tactic(auto, using(crate::proofs::RecordLemmas::holds_loaded))]
     pub fn start(alloc: Global, len: u64) -> Result<RevList, NoMemory>
         ensures { IfOk result (λ made. made ≡ loaded (replicate len 0)) }
     {
         Ok(RevList {
-            len,
+            settled: Arc::new(alloc, UpToFloor::loaded(alloc, len))?,
             records: Records::new(alloc),
             dead: Arc::new(alloc, Subset::none(alloc, len))?,
             firsts: FirstEdits::start(alloc)?,
@@ -68,26 +71,43 @@ impl RevList {
     pub fn head(&self) -> u64
         ensures { result ≡ head self.now }
     {
-        self.records.len()
+        self.settled.floor() + self.records.len()
     }
 
-    /// The first revision that may still be asked for, in O(1). No group is collected yet, so it is the loaded text.
+    /// The first revision that may still be asked for, in O(1). It is clean: no edit after it has a base below it.
     pub fn floor(&self) -> u64
         ensures floor { result ≡ self.now.floor }
-        ensures first { result ≡ 0 }
+        ensures clean { is_clean self.now.revisions self.now.floor ≡ true }
+        ensures known { self.now.floor ≤ head self.now }
     {
-        let _records = &self.records;
-        0
+        self.settled.floor()
     }
 
-    /// Whether the group is collected, in O(1). None is yet.
-    pub fn is_collected(&self, _group: u64) -> bool
-        ensures collected { result ≡ has self.now.collected _group }
+    /// Whether the group is collected, in the logarithm of the number of collected groups. None is yet.
+    pub fn is_collected(&self, group: u64) -> bool
+        ensures collected { result ≡ has self.now.collected group }
         ensures none { result ≡ false }
         ensures all { (group : ℕ) → has self.now.collected group ≡ false }
     {
-        let _records = &self.records;
-        false
+        self.settled.has_collected(group)
+    }
+
+    /// The length of the union as it was at the floor, in O(1).
+    pub fn floor_len(&self) -> u64
+        ensures { result ≡ length (union_at self.now self.now.floor) }
+    {
+        self.settled.len()
+    }
+
+    /// What is up to the floor, said once for each group that has an edit by then and is not collected, in O(1): with each group what
+    /// its edits by the floor inserted and deleted of the union as it was there.
+    pub fn settled_groups(&self) -> &[SettledGroup]
+        ensures lengths { AllByRecursion (HasLengths (length (union_at self.now self.now.floor))) result.now }
+        ensures hides { (set : List ℕ)
+            → map (is_hidden_under self.now set self.now.floor) (union_at self.now self.now.floor)
+            ≡ hidden_by_groups set (length (union_at self.now self.now.floor)) result.now }
+    {
+        self.settled.groups()
     }
 
     /// The length of the present union, in O(1).
@@ -104,7 +124,7 @@ impl RevList {
         &self.dead
     }
 
-    /// The place of the revision among the kept ones, from 0, in O(1). `Collected` does not come while the floor is 0.
+    /// The place of the revision among the kept ones, from 0, in O(1).
     pub fn position(&self, rev: u64) -> Result<u64, RevFault>
         ensures found { IfOk result (λ place. place ≡ rev - self.now.floor) }
         ensures unknown { (n : ℕ) → (result ≡ Err (RevFault.Unknown n)) ↔ IsUnknown self.now rev n }
@@ -116,6 +136,9 @@ impl RevList {
         let head = self.head();
         if head < rev {
             return Err(RevFault::Unknown(head));
+        }
+        if rev < floor {
+            return Err(RevFault::Collected(floor));
         }
         Ok(rev - floor)
     }
@@ -137,25 +160,25 @@ impl RevList {
         self.firsts.get(group)
     }
 
-    /// A revision after the loaded text, in O(height). The subsets of an edit are in the positions of the union after it.
+    /// A revision after the floor, in O(height). The subsets of an edit are in the positions of the union after it.
     pub fn revision(&self, rev: u64) -> &RevStep
-        requires counts { 1 ≤ rev }
+        requires after { self.now.floor < rev }
         requires known { rev ≤ head self.now }
         ensures { IsRevisionAt self.now rev result.now }
     {
-        &self.records.get(rev - 1).step
+        &self.records.get(rev - self.floor() - 1).step
     }
 
-    /// The edit of a revision, in O(height); none for the loaded text, for an undo and above the head. Its subsets are in the
-    /// positions of the union after it.
+    /// The edit of a revision after the floor, in O(height); none for an undo, and where the revision is not after the floor or is above
+    /// the head. Its subsets are in the positions of the union after it.
     pub fn edit(&self, rev: u64) -> Option<&RevEdit>
         ensures some { IfSome result (λ edit. IsEditAt self.now rev edit.now) }
-        ensures none { IfNone result (is_edit (revision_at self.now.revisions rev) ≡ false) }
+        ensures none { IfNone result (self.now.floor < rev → is_edit (revision_at self.now.revisions rev) ≡ false) }
     {
-        if rev == 0 || self.head() < rev {
+        if rev <= self.floor() || self.head() < rev {
             return None;
         }
-        match &self.records.get(rev - 1).step {
+        match self.revision(rev) {
             RevStep::Edit(edit) => Some(edit),
             RevStep::Undo(_) => None,
         }
@@ -165,12 +188,13 @@ impl RevList {
     /// positions of the union after it, so that a set of positions is carried over one revision after the other, passes an undo by,
     /// and ends in the present union: each character of that is of a revision which is there.
     pub fn revisions_after(&self, base: u64) -> RevisionsAfter<'_>
-        requires { base ≤ head self.now }
+        requires kept { self.now.floor ≤ base }
+        requires known { base ≤ head self.now }
         ensures revisions { AreRevisionsAfter self.now base result }
         ensures sound { IsSound self.now }
         ensures later { AreDeletedLater self.now }
     {
-        RevisionsAfter::new(&self.records, base)
+        RevisionsAfter::new(&self.records, base - self.floor())
     }
 
     /// What of the present union is not visible at the revision. With d revisions after it and r runs in what is dead, O(d · r): at
@@ -200,21 +224,26 @@ impl RevList {
 
     // From the revision's own union to the present one.
     fn dead_forward(&self, alloc: Global, rev: u64) -> Result<Subset, AllocError>
-        requires { rev ≤ head self.now }
+        requires { IsKeptAt self.now rev }
         ensures { IfOk result (λ s. s ≡ hidden_at self.now rev) }
     {
         let dead = self.dead_back(alloc, rev)?;
-        carried(alloc, dead, RevisionsAfter::new(&self.records, rev))
+        carried(
+            alloc,
+            dead,
+            RevisionsAfter::new(&self.records, rev - self.floor()),
+        )
     }
 
     // From the head back to the revision: what each revision turned is turned back, and its insertions go.
     fn dead_back(&self, alloc: Global, rev: u64) -> Result<Subset, AllocError>
-        requires { rev ≤ head self.now }
+        requires { IsKeptAt self.now rev }
         ensures { IfOk result (λ s. s ≡ hidden_then self.now rev) }
     {
+        let first = rev - self.floor();
         let mut dead = self.dead.copy(alloc)?;
         let mut at = self.records.len();
-        while rev < at {
+        while first < at {
             at -= 1;
             dead = before(alloc, &dead, self.records.get(at))?;
         }
@@ -234,11 +263,12 @@ impl RevList {
         let undone = self.undone.has(group);
         let (newest, dead) = recorded_edit(alloc, &self.dead, undone, edit)?;
         let dead = Arc::new(alloc, dead)?;
-        let firsts = self.firsts.with(alloc, group, self.records.len() + 1)?;
+        let next = self.head() + 1;
+        let firsts = self.firsts.with(alloc, group, next)?;
         self.records.push(alloc, newest)?;
         self.dead = dead;
         self.firsts = firsts;
-        Ok(self.records.len())
+        Ok(next)
     }
 
     /// Makes an undo the next revision and gives its number: from it on exactly these groups are undone. `dead` is what of the union
@@ -278,10 +308,11 @@ impl RevList {
         let newest = recorded_undo(alloc, &self.dead, &dead, differ)?;
         let undone = self.undone.flipped(alloc, groups)?;
         let dead = Arc::new(alloc, dead)?;
+        let next = self.head() + 1;
         self.records.push(alloc, newest)?;
         self.dead = dead;
         self.undone = undone;
-        Ok(self.records.len())
+        Ok(next)
     }
 
     /// The same revisions, which are shared with this list, in O(1).
@@ -289,7 +320,7 @@ impl RevList {
         ensures { IfOk result (λ made. made ≡ self.now) }
     {
         Ok(RevList {
-            len: self.len,
+            settled: Arc::try_clone(&self.settled)?,
             records: self.records.copy(alloc)?,
             dead: Arc::try_clone(&self.dead)?,
             firsts: self.firsts.copy(alloc)?,

@@ -1,3 +1,4 @@
+pub mod FloorLemmas
 pub mod FlagLemmas
 pub mod ItemLemmas
 pub mod StepLemmas

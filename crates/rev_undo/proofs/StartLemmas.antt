@@ -162,15 +162,13 @@ agree_where_none h groups firsts at all none = record {
         agrees_where (has groups group) (has (undone h.revisions at) group)
         (sym (all group found.first found.is) ∙ none found.first found.by)
 
-pub is_start : (h : History) (groups firsts : List ℕ) (at : ℕ) → at ≤ head h → AreOpen h groups at firsts → NoneBy firsts at → IsStart h groups at
-is_start h groups firsts at known all none = record {
+pub is_start : (h : History) (groups firsts : List ℕ) (at : ℕ) → h.floor ≤ at → at ≤ head h → AreOpen h groups at firsts → NoneBy h.floor firsts at →
+    IsStart h groups at
+is_start h groups firsts at kept known all none = record {
+  kept = kept;
   known = known;
   agrees = elim none [ inl first ↦ inl first | inr later ↦ inr (agree_where_none h groups firsts at all later) ];
 }
-
--- at the loaded text a set without group 0 agrees with what was undone there, nothing
-pub agree_at_loaded : (h : History) (groups : List ℕ) → has groups 0 ≡ false → AgreeBy h 0 groups (undone h.revisions 0)
-agree_at_loaded h groups none = record { loaded = none; edited = λ group there. absurd cc }
 
 -- the least number of a rising list is above the revision
 pub none_by_least : (numbers : List ℕ) (least at : ℕ) → IsRising numbers → least ≡ get_or numbers 0 least → at < least → (n : ℕ) → n ≤ at → has numbers n ≡ false

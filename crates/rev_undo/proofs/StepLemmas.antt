@@ -19,7 +19,7 @@ use Rattle.rev_undo.specs.Start.{IsStart}
 use Rattle.rev_undo.proofs.FlagLemmas.{dead_over, dead_over-edit, dead_over-nothing, dead_over-new, dead_over-old, dead_over-none}
 use Rattle.rev_undo.proofs.ItemLemmas.{is_in, is_hidden_under-old, is_hidden_under-new}
 
-module _ (history : History) (groups : List ℕ) (m : ℕ) where
+module _ (history : History) (groups : List ℕ) (m : ℕ) (kept : history.floor ≤ m) where
   abbrev hid_now : Tagged → Bool
   hid_now = is_hidden_under history groups (m + 1)
 
@@ -35,7 +35,7 @@ module _ (history : History) (groups : List ℕ) (m : ℕ) where
   abbrev in_set : Bool
   in_set = is_in history groups m (m + 1)
 
-  hidden-next : (characters : List Tagged) → AllByRecursion IsDeletedLater characters →
+  hidden-next : (characters : List Tagged) → AllByRecursion (IsDeletedLater history.floor) characters →
       map hid_now (filter (is_there (m + 1)) characters) ≡
       dead_over in_set (map hid_then (filter (is_there m) characters)) (map is_new (filter (is_there (m + 1)) characters))
       (map is_deleted (filter (is_there (m + 1)) characters))
@@ -55,7 +55,7 @@ module _ (history : History) (groups : List ℕ) (m : ℕ) where
       by true false there before longer shorter rest =
           let new : t.inserted ≡ m + 1 = omega (arith, leb-true t.inserted (m + 1) there, leb-false t.inserted m before) in
           dead_over-new in_set (hid_now t) (is_new t) (is_deleted t) (map hid_now longer) (map hid_then shorter) (map is_new longer)
-          (map is_deleted longer) (eq-eqb t.inserted (m + 1) new) (is_hidden_under-new history groups m t new later.0) rest
+          (map is_deleted longer) (eq-eqb t.inserted (m + 1) new) (is_hidden_under-new history groups m t new (later.0 (omega (arith, new, kept)))) rest
       by false true there before longer shorter rest = absurd (omega (arith, leb-false t.inserted (m + 1) there, leb-true t.inserted m before))
       by false false there before longer shorter rest = rest
 
@@ -133,33 +133,33 @@ other_revisions h m r revisions after = record {
       rw here at (after.each (suc k) f at);
 }
 
-pub hidden_after-fold : (h : History) (groups : List ℕ) (m : ℕ) (revisions : List RevStep) → AreDeletedLater h → AreRevisionsAfter h m revisions →
+pub hidden_after-fold : (h : History) (groups : List ℕ) (m : ℕ) (revisions : List RevStep) → h.floor ≤ m → AreDeletedLater h → AreRevisionsAfter h m revisions →
     fold (hidden_after groups) (hidden_then_under h groups m) revisions ≡ hidden_then_under h groups (head h)
-hidden_after-fold h groups m [] later after = ap (hidden_then_under h groups) (omega (arith, after.len))
-hidden_after-fold h groups m (r ∷ revisions) later after =
+hidden_after-fold h groups m [] kept later after = ap (hidden_then_under h groups) (omega (arith, after.len))
+hidden_after-fold h groups m (r ∷ revisions) kept later after =
     ap (λ dead. fold (hidden_after groups) dead revisions)
-    (sym (hidden_then_under-next h groups m r later (first_revision h m r revisions after))) ∙
-    hidden_after-fold h groups (m + 1) revisions later (other_revisions h m r revisions after)
+    (sym (hidden_then_under-next h groups m kept r later (first_revision h m r revisions after))) ∙
+    hidden_after-fold h groups (m + 1) revisions (omega (arith, kept)) later (other_revisions h m r revisions after)
 
 -- at the head the union of a revision is the present one
 pub hidden_then_under-head : (h : History) (groups : List ℕ) → IsSound h → hidden_then_under h groups (head h) ≡ hidden_under h groups (head h)
 hidden_then_under-head h groups sound = ap (λ xs. map (is_hidden_under h groups (head h)) xs) (filter-there (head h) h.characters sound)
 
-pub SpeakFrom-revisions : (h : History) (m len : ℕ) (revisions : List RevStep) → AreRevisionsAfter h m revisions → len ≡ length (union_at h m) → SpeakFrom len revisions
-SpeakFrom-revisions h m len [] after is = tt
-SpeakFrom-revisions h m len (Undo groups ∷ revisions) after is =
+pub SpeakFrom-revisions : (h : History) (m len : ℕ) (revisions : List RevStep) → h.floor ≤ m → AreRevisionsAfter h m revisions → len ≡ length (union_at h m) → SpeakFrom len revisions
+SpeakFrom-revisions h m len [] kept after is = tt
+SpeakFrom-revisions h m len (Undo groups ∷ revisions) kept after is =
     let undoes : IsUndoAt h (m + 1) groups = first_revision h m (Undo groups) revisions after in
-    SpeakFrom-revisions h (m + 1) len revisions (other_revisions h m (Undo groups) revisions after)
-    (omega (arith, is, union_grown h [] m, undoes.inserts_none))
-SpeakFrom-revisions h m len (Edit e ∷ revisions) after is =
+    SpeakFrom-revisions h (m + 1) len revisions (omega (arith, kept)) (other_revisions h m (Undo groups) revisions after)
+    (omega (arith, is, union_grown h [] m kept, undoes.inserts_none))
+SpeakFrom-revisions h m len (Edit e ∷ revisions) kept after is =
     let edits : IsEditAt h (m + 1) e = first_revision h m (Edit e) revisions after in
     let long : length e.inserted ≡ length (union_at h (m + 1)) = ap length edits.inserted ∙ length-map (union_at h (m + 1)) (λ t. t.inserted == m + 1) in
     let gone : length e.deleted ≡ length (union_at h (m + 1)) = ap length edits.deleted ∙ length-map (union_at h (m + 1)) (λ t. has t.deleted (m + 1)) in
     let grown : length (union_at h (m + 1)) ≡ length (union_at h m) + count e.inserted =
-    union_grown h [] m ∙ ap (λ flags. length (union_at h m) + count flags) (sym edits.inserted) in (
+    union_grown h [] m kept ∙ ap (λ flags. length (union_at h m) + count flags) (sym edits.inserted) in (
       omega (arith, long, grown, is),
       omega (arith, long, gone),
-      SpeakFrom-revisions h (m + 1) (length e.inserted) revisions (other_revisions h m (Edit e) revisions after) long,
+      SpeakFrom-revisions h (m + 1) (length e.inserted) revisions (omega (arith, kept)) (other_revisions h m (Edit e) revisions after) long,
     )
 
 -- ---- where the walk begins
@@ -170,52 +170,16 @@ pub hidden_then_under-agree : (h : History) (groups : List ℕ) (rev : ℕ) → 
 hidden_then_under-agree h groups rev agree =
     ap (λ f. map f (union_at h rev)) (λ i t. not (is_visible_under-agree h rev groups (undone h.revisions rev) agree t i))
 
-hides_all : (there rest : Bool) → not ((there && false) && rest) ≡ true
-hides_all true rest = refl
-hides_all false rest = refl
-
--- and a set with group 0 hides all of the loaded text
-hides_loaded : (h : History) (groups : List ℕ) → has groups 0 ≡ true → (t : Tagged) → is_there 0 t ≡ true → is_hidden_under h groups 0 t ≡ true
-hides_loaded h groups in_it t there =
-    let first : t.inserted ≡ 0 = omega (arith, leb-true t.inserted 0 there) in
-    ap (λ b. not ((is_there 0 t && not b) && list_all (λ rev. nat_lt 0 rev || has groups (group_of h.revisions rev)) t.deleted))
-    (ap (λ n. has groups (group_of h.revisions n)) first ∙ in_it) ∙
-    hides_all (is_there 0 t) (list_all (λ rev. nat_lt 0 rev || has groups (group_of h.revisions rev)) t.deleted)
-
-all_loaded : (h : History) (groups : List ℕ) → has groups 0 ≡ true → (characters : List Tagged) →
-    map (is_hidden_under h groups 0) (filter (is_there 0) characters) ≡ replicate (length (filter (is_there 0) characters)) true
-all_loaded h groups in_it [] = refl
-all_loaded h groups in_it (t ∷ characters) = by (is_there 0 t) refl (filter (is_there 0) characters) (all_loaded h groups in_it characters)
-  where
-    by : (there : Bool) → is_there 0 t ≡ there → (rest : List Tagged) → map (is_hidden_under h groups 0) rest ≡ replicate (length rest) true →
-        map (is_hidden_under h groups 0) (cond there (t ∷ rest) rest) ≡ replicate (length (cond there (t ∷ rest) rest)) true
-    by true there rest same = ap₂ (λ b flags. b ∷ flags) (hides_loaded h groups in_it t there) same
-    by false there rest same = same
-
-pub hidden_then_under-loaded : (h : History) (groups : List ℕ) → has groups 0 ≡ true →
-    hidden_then_under h groups 0 ≡ replicate (length (union_at h 0)) true
-hidden_then_under-loaded h groups in_it = all_loaded h groups in_it h.characters
-
--- the same, as the functions ask it
-pub loaded_all : (h : History) (groups : List ℕ) (dead all : List Bool) → has groups 0 ≡ true → dead ≡ hidden_then h 0 →
-    all ≡ replicate (length dead) true → all ≡ hidden_then_under h groups 0
-loaded_all h groups dead all in_it is made =
-    made ∙ ap (λ n. replicate n true) (ap length is ∙ length-map (union_at h 0) (is_hidden h 0)) ∙ sym (hidden_then_under-loaded h groups in_it)
-
-pub loaded_agreed : (h : History) (groups : List ℕ) (dead : List Bool) → has groups 0 ≡ false → dead ≡ hidden_then h 0 → dead ≡ hidden_then_under h groups 0
-loaded_agreed h groups dead none is =
-    is ∙ sym (hidden_then_under-agree h groups 0 (record { loaded = none; edited = λ group there. absurd cc }))
-
-pub agreed : (h : History) (groups : List ℕ) (at : ℕ) (dead : List Bool) → IsStart h groups at → 0 < at → dead ≡ hidden_then h at →
+pub agreed : (h : History) (groups : List ℕ) (at floor : ℕ) (dead : List Bool) → IsStart h groups at → floor ≡ h.floor → (at ≡ floor → ⊥) → dead ≡ hidden_then h at →
     dead ≡ hidden_then_under h groups at
-agreed h groups at dead start counts is =
+agreed h groups at floor dead start floor_is other is =
     elim start.agrees [
-      | inl first ↦ absurd (omega (arith, first, counts))
+      | inl first ↦ absurd (other (omega (arith, first, start.kept, floor_is)))
       | inr agree ↦ is ∙ sym (hidden_then_under-agree h groups at agree)
     ]
 
 -- from where the set and what was undone agree, over all later revisions
-pub recomputed : (h : History) (groups : List ℕ) (m : ℕ) (dead : List Bool) (revisions : List RevStep) → AreDeletedLater h → IsSound h →
+pub recomputed : (h : History) (groups : List ℕ) (m : ℕ) (dead : List Bool) (revisions : List RevStep) → h.floor ≤ m → AreDeletedLater h → IsSound h →
     AreRevisionsAfter h m revisions → dead ≡ hidden_then_under h groups m → fold (hidden_after groups) dead revisions ≡ hidden_under h groups (head h)
-recomputed h groups m dead revisions later sound after is =
-    ap (λ flags. fold (hidden_after groups) flags revisions) is ∙ hidden_after-fold h groups m revisions later after ∙ hidden_then_under-head h groups sound
+recomputed h groups m dead revisions kept later sound after is =
+    ap (λ flags. fold (hidden_after groups) flags revisions) is ∙ hidden_after-fold h groups m revisions kept later after ∙ hidden_then_under-head h groups sound

@@ -5,11 +5,12 @@ use Rattle.plain_edits.specs.History.{History, head, undone}
 use Rattle.undo_laws.specs.Under.{AgreeBy}
 use Rattle.rev_list.specs.Groups.{IsFirstEdit}
 
--- a walk may begin at the revision: it is the loaded text, or what was undone there agrees with the set on all groups that have an
--- edit by then
+-- a walk may begin at the revision: it is the floor, or what was undone there agrees with the set on all groups that have an edit by
+-- then
 pub record IsStart (history : History) (groups : List ℕ) (at : ℕ) : Type 0 where
+  pub kept : history.floor ≤ at
   pub known : at ≤ head history
-  pub agrees : (at ≡ 0) ⊎ AgreeBy history at groups (undone history.revisions at)
+  pub agrees : (at ≤ history.floor) ⊎ AgreeBy history at groups (undone history.revisions at)
 
 -- whether something is turned to the other way
 abbrev pub turned_if : Bool → Bool → Bool
@@ -27,6 +28,6 @@ abbrev pub TurnsFirst : History → List ℕ → List ℕ → List ℕ → Type 
 TurnsFirst history groups before after =
     (group first : ℕ) → IsFirstEdit history.revisions group (Some first) → has after first ≡ turned_if (has groups group) (has before first)
 
--- none of these is by the revision, or it is the loaded text
-abbrev pub NoneBy : List ℕ → ℕ → Type 0
-NoneBy numbers at = (at ≡ 0) ⊎ ((n : ℕ) → n ≤ at → has numbers n ≡ false)
+-- none of these is by the revision, or it is the floor
+abbrev pub NoneBy : ℕ → List ℕ → ℕ → Type 0
+NoneBy floor numbers at = (at ≤ floor) ⊎ ((n : ℕ) → n ≤ at → has numbers n ≡ false)

@@ -8,6 +8,7 @@
 
 mod allowed;
 mod carry;
+mod floor;
 mod hidden;
 mod start;
 

@@ -1,5 +1,5 @@
 // From where on what a set hides is worked out. The set is what is undone at the head, with the groups of `differ` turned.
-ghost use Rattle.std.specs.Prelude.{◌≡◌, ℕ, ◌-◌, ◌<◌, ◌≤◌, [], ◌∷◌, true, false, replicate, IfOk, List};
+ghost use Rattle.std.specs.Prelude.{◌≡◌, ℕ, ◌-◌, ◌<◌, ◌≤◌, [], ◌∷◌, true, false, IfOk, List};
 ghost use Rattle.plain_text.specs.Numbers.{flipped, IsRising};
 ghost use Rattle.plain_edits.specs.History.{head};
 ghost use Rattle.plain_edits.specs.Undo.{undone_now};
@@ -7,7 +7,7 @@ ghost use Rattle.rev_list.specs.Hidden.{hidden_then};
 ghost use Rattle.rev_undo.specs.Start.{AreOpen, IsStart, NoneBy, TurnsFirst};
 ghost use Rattle.rev_undo.specs.Under.{hidden_then_under};
 
-use crate::carry::is_in;
+use crate::floor::hidden_at_floor;
 use number_set::NumberSet;
 use plain_text::NoMemory;
 use rev_list::{RevList, RevStep};
@@ -20,21 +20,22 @@ pub(crate) fn start_of(alloc: Global, revs: &RevList, differ: &NumberSet) -> Res
     ensures { IfOk result (IsStart revs.now (flipped (undone_now revs.now) differ.now)) }
 {
     let mut firsts = first_edits(alloc, revs, differ)?;
+    let floor = revs.floor();
     let mut at = revs.head();
-    while is_reached(&firsts, at) {
+    while is_reached(floor, &firsts, at) {
         firsts = firsts_before(alloc, revs, firsts, at)?;
         at -= 1;
     }
     Ok(at)
 }
 
-// Whether one of these first edits is by the revision, and that is not the loaded text.
-fn is_reached(firsts: &NumberSet, at: u64) -> bool
-    ensures counts { result ≡ true → 0 < at }
-    ensures none { result ≡ false → NoneBy firsts.now at }
+// Whether one of these first edits is by the revision, and that is not the floor.
+fn is_reached(floor: u64, firsts: &NumberSet, at: u64) -> bool
+    ensures after { result ≡ true → floor < at }
+    ensures none { result ≡ false → NoneBy floor firsts.now at }
 {
     let count = firsts.len();
-    at > 0 && count > 0 && firsts.at(0) <= at
+    at > floor && count > 0 && firsts.at(0) <= at
 }
 
 // The first edits of the groups.
@@ -56,7 +57,7 @@ fn firsts_before(
     firsts: NumberSet,
     at: u64,
 ) -> Result<NumberSet, NoMemory>
-    requires counts { 1 ≤ at }
+    requires after { revs.now.floor < at }
     requires known { at ≤ head revs.now }
     ensures { IfOk result (λ made. (groups : List ℕ) → AreOpen revs.now groups at firsts
         → AreOpen revs.now groups (at - 1) made) }
@@ -112,32 +113,13 @@ pub(crate) fn hidden_from(
     ensures { IfOk result (λ dead. dead
         ≡ hidden_then_under revs.now (flipped (undone_now revs.now) differ.now) at) }
 {
-    let dead = dead_then(alloc, revs, at)?;
-    if at == 0 {
-        return hidden_first(alloc, revs, differ, dead);
+    if at == revs.floor() {
+        return hidden_at_floor(alloc, revs, differ);
     }
-    Ok(dead)
+    dead_then(alloc, revs, at)
 }
 
-// What it hides of the loaded text, where `dead` is dead there: all of it where the set has group 0.
-#[tactic(auto, using(crate::proofs::StepLemmas::loaded_all, crate::proofs::StepLemmas::loaded_agreed))]
-fn hidden_first(
-    alloc: Global,
-    revs: &RevList,
-    differ: &NumberSet,
-    dead: Subset,
-) -> Result<Subset, NoMemory>
-    requires { dead ≡ hidden_then revs.now 0 }
-    ensures { IfOk result (λ made. made
-        ≡ hidden_then_under revs.now (flipped (undone_now revs.now) differ.now) 0) }
-{
-    if is_in(revs.undone(), differ, 0) {
-        return all_of(alloc, dead.len());
-    }
-    Ok(dead)
-}
-
-// A revision that is there has no other fault than want of memory.
+// A revision that is kept has no other fault than want of memory.
 fn dead_then(alloc: Global, revs: &RevList, at: u64) -> Result<Subset, NoMemory>
     ensures { IfOk result (λ dead. dead ≡ hidden_then revs.now at) }
 {
@@ -145,12 +127,4 @@ fn dead_then(alloc: Global, revs: &RevList, at: u64) -> Result<Subset, NoMemory>
         Ok(dead) => Ok(dead),
         Err(_) => Err(NoMemory),
     }
-}
-
-fn all_of(alloc: Global, len: u64) -> Result<Subset, NoMemory>
-    ensures { IfOk result (λ all. all ≡ replicate len true) }
-{
-    let mut all = Subset::none(alloc, 0);
-    all.append(len, true)?;
-    Ok(all)
 }

@@ -94,7 +94,7 @@ fn each_revision_has_its_dead(rt: HostRuntime) -> Result<(), Fail> {
 // The bases of the edits after a revision.
 fn bases_after(alloc: Global, revs: &RevList, rev: u64) -> Result<Vec<u64>, AllocError> {
     let mut bases = Vec::new(alloc);
-    if rev <= revs.head() {
+    if revs.floor() <= rev && rev <= revs.head() {
         for revision in revs.revisions_after(rev) {
             if let RevStep::Edit(edit) = revision {
                 bases.push(edit.base)?;

@@ -1,6 +1,6 @@
 use Rattle.std.proofs.Common.{◌≡◌, ◌<◌, ◌≤◌, ap, ◌∙◌, arith}
 use Rattle.plain_edits.specs.Collection.{is_clean}
-use Rattle.rev_collect.proofs.FloorLemmas.{from_head, least_within, from_before, unclean_before, greatest_is, ended, clean_loaded}
+use Rattle.rev_collect.proofs.FloorLemmas.{from_head, least_within, from_before, unclean_before, greatest_is, ended}
 use Rattle.rev_collect.proofs.floors.clean_floor.Goals as goal
 
 pub loop-at-init : goal.loop-at-init
@@ -31,10 +31,10 @@ returns-else-least-at-clause-found c =
     let low : c.loop-at.at ≤ c.loop-at.least = omega (arith, c.if-least-at.false) in
     ended c.args.revs.now c.args.most c.loop-at.at c.loop-at.least low was.within was.bases was.above
 
--- the walk ends at the floor of the list, which is the loaded text
+-- the walk ends at the floor of the list, which is clean
 pub returns-after-loop-at-clause-found : goal.returns-after-loop-at-clause-found
 returns-after-loop-at-clause-found c =
     let was = c.loop-at.invariant in
-    let first : c.loop-at.at ≡ 0 = omega (arith, c.loop-at-test.false, c.floor-floor.ensures.first) in
-    greatest_is c.args.revs.now c.loop-at.at c.args.most (omega (arith, first))
-    (ap (is_clean c.args.revs.now.revisions) first ∙ clean_loaded c.args.revs.now.revisions) was.above
+    let here : c.loop-at.at ≡ c.args.revs.now.floor = omega (arith, c.loop-at-test.false, c.floor-floor.ensures.floor, was.reached) in
+    greatest_is c.args.revs.now c.loop-at.at c.args.most (omega (arith, here, c.requires.reached))
+    (ap (is_clean c.args.revs.now.revisions) here ∙ c.floor-floor.ensures.clean) was.above

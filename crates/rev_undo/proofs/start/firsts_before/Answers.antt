@@ -1,4 +1,4 @@
-use Rattle.std.proofs.Common.{ℕ, List, ◌-◌, subst, sym}
+use Rattle.std.proofs.Common.{ℕ, List, ◌-◌, subst, sym, arith}
 use Rattle.std.proofs.lemmas.Result.{IfOk-weaker}
 use Rattle.rev_list.specs.Hidden.{IsUndoAt}
 use Rattle.rev_undo.specs.Start.{AreOpen, TurnsFirst}
@@ -7,7 +7,7 @@ use Rattle.rev_undo.proofs.start.firsts_before.Goals as goal
 
 pub returns-in-Edit : goal.returns-in-Edit
 returns-in-Edit c = λ groups all.
-    firsts_over_edit c.args.revs.now groups c.args.firsts _ c.args.at c.requires.counts (rw c.in-Edit.is at c.revision.ensures) all
+    firsts_over_edit c.args.revs.now groups c.args.firsts _ c.args.at (omega (arith, c.requires.after)) (rw c.in-Edit.is at c.revision.ensures) all
 
 pub returns-in-Undo : goal.returns-in-Undo
 returns-in-Undo c =

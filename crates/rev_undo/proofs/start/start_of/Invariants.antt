@@ -7,6 +7,7 @@ use Rattle.rev_undo.proofs.start.start_of.Given as goal
 
 abbrev pub invariant-loop-alloc : goal.invariant-loop-alloc
 invariant-loop-alloc l = record {
+  kept : l.revs.floor ≤ l.at;
   known : l.at ≤ head l.revs;
   firsts : AreOpen l.revs (flipped (undone_now l.revs) l.differ) l.at l.firsts;
 }

@@ -1,0 +1,34 @@
+-- What is left of a history at its head, said once for each group.
+use Rattle.std.specs.Prelude.{◌≡◌, ℕ, ◌<◌, ◌==◌, true, false, List, length, map}
+use Rattle.std.specs.List.{filter, list_any, AllByRecursion}
+use Rattle.plain_text.specs.Numbers.{has}
+use Rattle.plain_edits.specs.History.{Tagged, History, head, revision_at, group_of, undone}
+use Rattle.plain_edits.specs.Collection.{is_collected}
+use Rattle.plain_edits.specs.HistorySteps.{is_edit}
+use Rattle.collection_laws.specs.Left.{is_kept, edits_group, last_edit}
+use Rattle.rev_list.specs.declared.settled.SettledGroup.{SettledGroup}
+use Rattle.rev_list.specs.Settled.{Settled}
+
+-- a group that is not collected: its last edit, and what its edits inserted and deleted of these characters
+pub record IsGroup (history : History) (characters : List Tagged) (g : SettledGroup) : Type 0 where
+  pub kept : has history.collected g.group ≡ false
+  pub counts : 0 < g.last
+  pub last : g.last ≡ last_edit history.revisions g.group (head history)
+  pub inserted : g.inserted ≡ map (λ tagged. edits_group history.revisions g.group tagged.inserted) characters
+  pub deleted : g.deleted ≡ map (λ tagged. list_any (edits_group history.revisions g.group) tagged.deleted) characters
+
+-- these are groups that are not collected, and each that has an edit is among them
+pub record AreGroups (history : History) (characters : List Tagged) (groups : List SettledGroup) : Type 0 where
+  pub each : AllByRecursion (IsGroup history characters) groups
+  pub all : (rev : ℕ) → is_edit (revision_at history.revisions rev) ≡ true → is_collected history rev ≡ false →
+      list_any (λ g. g.group == group_of history.revisions rev) groups ≡ true
+
+-- what a list keeps of the history, where its floor is its head, and these are its groups over the characters that are kept
+abbrev pub settled_of : History → List SettledGroup → Settled
+settled_of history groups = record {
+  floor = history.floor;
+  len = length (filter (is_kept history) history.characters);
+  groups = groups;
+  undone = undone history.revisions history.floor;
+  collected = history.collected;
+}
