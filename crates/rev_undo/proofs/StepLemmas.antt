@@ -1,18 +1,18 @@
 -- What a set hides of a union, from a revision to the next, and over all of them.
-use Rattle.std.proofs.Common.{◌≡◌, ℕ, suc, ◌+◌, ◌<◌, ◌≤◌, Bool, true, false, cond, inl, inr, List, [], ◌∷◌, length, map, filter, refl, ap, ap₂, sym, ◌∙◌, arith}
-use Rattle.std.specs.Prelude.{◌==◌, if◌then◌else◌, replicate, not, ◌&&◌, ◌||◌, nat_lt}
-use Rattle.std.specs.List.{fold, list_all, AllByRecursion}
+use Rattle.std.proofs.Common.{◌≡◌, ℕ, suc, ◌+◌, ◌≤◌, Bool, true, false, cond, inl, inr, List, [], ◌∷◌, length, map, filter, refl, ap, ap₂, sym, ◌∙◌, arith}
+use Rattle.std.specs.Prelude.{◌==◌, if◌then◌else◌, not}
+use Rattle.std.specs.List.{fold, AllByRecursion}
 use Rattle.std.proofs.lemmas.List.{length-map}
 use Rattle.std.proofs.lemmas.Bool.{leb-true, leb-false, eq-eqb, ne_eqb}
 use Rattle.subset_runs.specs.Subset.{count}
 use Rattle.plain_text.specs.Numbers.{has}
-use Rattle.plain_edits.specs.History.{Tagged, History, head, group_of, edit_group, undone, is_there, IsSound}
+use Rattle.plain_edits.specs.History.{Tagged, History, head, edit_group, undone, is_there, IsSound}
 use Rattle.undo_laws.specs.Under.{is_hidden_under, hidden_under, AgreeBy}
 use Rattle.undo_laws.proofs.ForCallers.{is_visible_under-agree}
 use Rattle.rev_list.specs.declared.edit.RevEdit.{RevEdit}
 use Rattle.rev_list.specs.declared.step.RevStep.{RevStep}
 use Rattle.rev_list.specs.declared.step.RevStep.TheVariants.{Edit, Undo}
-use Rattle.rev_list.specs.Hidden.{is_hidden, union_at, hidden_then, insertions_of, deletions_of, IsEditAt, IsUndoAt, IsRevisionAt, AreRevisionsAfter, IsDeletedLater, AreDeletedLater}
+use Rattle.rev_list.specs.Hidden.{union_at, hidden_then, insertions_of, deletions_of, IsEditAt, IsUndoAt, IsRevisionAt, AreRevisionsAfter, IsDeletedLater, AreDeletedLater}
 use Rattle.rev_list.proofs.ForCallers.{filter-there}
 use Rattle.rev_undo.specs.Under.{hidden_then_under, hidden_after, SpeakFrom}
 use Rattle.rev_undo.specs.Start.{IsStart}

@@ -1,6 +1,4 @@
-use Rattle.std.proofs.Common.{◌≡◌, length, ap, sym, ◌∙◌}
-use Rattle.std.specs.List.{AllByRecursion}
-use Rattle.rev_list.specs.Settled.{HasLengths}
+use Rattle.std.proofs.Common.{◌≡◌, length, ap, ◌∙◌}
 use Rattle.rev_undo.proofs.FloorLemmas.{length-loaded_in}
 use Rattle.rev_undo.proofs.floor.hidden_at_floor.Goals as goal
 
