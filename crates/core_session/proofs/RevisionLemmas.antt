@@ -8,11 +8,10 @@ use Rattle.xi_plain.specs.declared.command.Act.TheVariants.{NewView, CloseView, 
 use Rattle.xi_plain.specs.declared.entry.Entry.{Entry}
 use Rattle.plain_edits.specs.History.{head}
 use Rattle.doc_session.specs.declared.event.Event.TheVariants.{Front}
-use Rattle.doc_session.specs.Asking.{front_edit}
 use Rattle.doc_session.specs.Document.{Document}
 use Rattle.doc_session.specs.Effects.{updated, wants_update}
-use Rattle.doc_session.specs.Step.{edited_document, refusal_at, typed, typing_step}
-use Rattle.doc_session.proofs.ForCallers.{head-after}
+use Rattle.doc_session.specs.Step.{act_step, going_on, refusal_at}
+use Rattle.doc_session.proofs.ForCallers.{by_front}
 use Rattle.core_session.specs.Laws.{HaveRevisions}
 use Rattle.core_session.specs.Session.{OpenView, view_of, with_view, named_view, outcome, opening_outcome, first_document, edit_came, edit_outcome, undone_outcome, spent_total, front_outcome, is_done, answer_undone, keeping, step, views_after}
 use Rattle.core_session.specs.Core.{views_of}
@@ -49,20 +48,19 @@ few_with n [] view few one = tt
 few_with n (first ∷ views) view few one = (few_either n (bytes_eq view.id first.id) view first one few.0, few_with n views view few.1 one)
 
 -- an act adds one revision at most
-few_came : (n : ℕ) (views : List OpenView) (view : OpenView) (total : Option ℕ) (chars : List ℕ) → HaveRevisions n views → head view.document.history ≤ n →
-    HaveRevisions (n + 1) (edit_came views view total (typing_step view.document chars)).views
-few_came n views view (Some total) chars few one = few_more n views few
-few_came n views view None [] few one =
-    few_with (n + 1) views _ (few_more n views few) (omega (arith, one, head-if (wants_update view.document view.document) view.document))
-few_came n views view None (c ∷ chars) few one =
-    let asked = front_edit view.document (c ∷ chars) in
-    let next = edited_document view.document asked (view.document.caret + length (c ∷ chars)) in
-    few_with (n + 1) views _ (few_more n views few)
-    (omega (arith, one, head-if (wants_update view.document next) next, head-after view.document.history asked))
+few_came : (n : ℕ) (views : List OpenView) (view : OpenView) (total : Option ℕ) (act : EditAct) → HaveRevisions n views → head view.document.history ≤ n →
+    HaveRevisions (n + 1) (edit_came views view total (act_step view.document act)).views
+few_came n views view (Some total) act few one = few_more n views few
+few_came n views view None act few one =
+    by_front (λ step. HaveRevisions (n + 1) (edit_came views view None step).views) view.document
+    (λ kind. let next = going_on view.document kind in
+    few_with (n + 1) views _ (few_more n views few) (omega (arith, one, head-if (wants_update next next) next)))
+    (λ next one_more screen window. few_with (n + 1) views _ (few_more n views few)
+    (omega (arith, one, head-if (wants_update view.document next) next, one_more))) act
 
 few_view : (n : ℕ) (views : List OpenView) (done : Bool) (view : OpenView) (act : EditAct) → HaveRevisions n views → head view.document.history ≤ n →
     HaveRevisions (n + 1) (if done then front_outcome views view act else keeping views (answer_undone act)).views
-few_view n views true view act few one = few_came n views view (spent_total (refusal_at view.document (Front act))) (typed act) few one
+few_view n views true view act few one = few_came n views view (spent_total (refusal_at view.document (Front act))) act few one
 few_view n views false view act few one = few_more n views few
 
 few_edit : (n : ℕ) (views : List OpenView) (id : List ℕ) (found : Option OpenView) (act : EditAct) → HaveRevisions n views → view_of views id ≡ found →
@@ -75,7 +73,7 @@ few_undone n views None few = few_more n views few
 few_undone n views (Some view) few = few_more n views few
 
 few_opened : (n : ℕ) → HaveRevisions (n + 1) opening_outcome.views
-few_opened n = (omega (arith, head-if (wants_update first_document first_document) first_document), tt)
+few_opened n = (let next = going_on first_document None in omega (arith, head-if (wants_update next next) next), tt)
 
 few_step : (n : ℕ) (views : List OpenView) (act : Act) → HaveRevisions n views → HaveRevisions (n + 1) (outcome views act).views
 few_step n [] (NewView None) few = few_opened n

@@ -34,14 +34,13 @@ use Rattle.view_update.proofs.ForCallers.{others_are_no_updates}
 use Rattle.doc_session.specs.InMemory.{Doc}
 use Rattle.doc_session.specs.Document.{Document, layout_of, no_request}
 use Rattle.doc_session.specs.declared.event.Event.TheVariants.{Front}
-use Rattle.doc_session.specs.Asking.{front_edit}
 use Rattle.doc_session.specs.Effects.{ops_of, update_of, updated, wants_update}
-use Rattle.doc_session.specs.Step.{edited_document, refusal_at, typed, typing_step}
+use Rattle.doc_session.specs.Step.{act_step, going_on, refusal_at}
 use Rattle.core_session.specs.Answer.{Reply, accepted, refused, spent, not_built, silent, answers, refusal, refused_by, spent_refusal, not_built_refusal}
 use Rattle.json_rpc.specs.Refusal.{code_of, message_of}
 use Rattle.core_session.specs.Session.{OpenView, view_of, with_view, named_view, view_id, Outcome, outcome, opening_outcome, first_document, edit_came, edit_outcome, undone_outcome, spent_total, front_outcome, is_done, answer_undone, keeping, outcome_messages, update_notes, scroll_notes, updates_for, messages, step, views_after, lines_written, written, piece_of}
 use Rattle.core_session.specs.Shows.{updates_in, screen_with, rebuilt_from, rebuilt, IsShown, AreShown, SendsWithin, SendsTo, NotesSendTo, Shows}
-use Rattle.doc_session.proofs.ForCallers.{head-stands}
+use Rattle.doc_session.proofs.ForCallers.{by_front, head-stands}
 use Rattle.core_session.specs.Core.{IsOfLine, IsOpen, Stands, screen_of, views_of, IsShowing, front_entry}
 use Rattle.core_session.specs.Inner.{MayBeAsked, UpdatesReadBack, AreLinesOf}
 use Rattle.core_session.specs.Laws.{HaveRevisions}
@@ -255,15 +254,15 @@ settles_by false wants views view after id is found same =
     settles_there wants id view.id (screen_of (view_of views id)) after is ∙
     ap (λ v. Some (screen_of v)) (sym (view_of-with_other views (next_view wants view after) id (other_way view.id id is)))
 
-settles_came : (views : List OpenView) (view : OpenView) (total : Option ℕ) (chars : List ℕ) → view_of views view.id ≡ Some view →
-    Settles views (edit_came views view total (typing_step view.document chars))
+settles_came : (views : List OpenView) (view : OpenView) (total : Option ℕ) (act : EditAct) → view_of views view.id ≡ Some view →
+    Settles views (edit_came views view total (act_step view.document act))
 unfolding Settles note_list next_view
-settles_came views view (Some total) chars found = λ id. refl
-settles_came views view None [] found = λ id.
-    settles_by (bytes_eq view.id id) (wants_update view.document view.document) views view view.document id refl found refl
-settles_came views view None (c ∷ chars) found = λ id.
-    let next = edited_document view.document (front_edit view.document (c ∷ chars)) (view.document.caret + length (c ∷ chars)) in
-    settles_by (bytes_eq view.id id) (wants_update view.document next) views view next id refl found refl
+settles_came views view (Some total) act found = λ id. refl
+settles_came views view None act found =
+    by_front (λ step. Settles views (edit_came views view None step)) view.document
+    (λ kind. let next = going_on view.document kind in
+    λ id. settles_by (bytes_eq view.id id) (wants_update next next) views view next id refl found refl)
+    (λ next one_more screen window. λ id. settles_by (bytes_eq view.id id) (wants_update view.document next) views view next id refl found screen) act
 
 settles_keeping : (views : List OpenView) (reply : Reply) → Settles views (keeping views reply)
 unfolding Settles note_list
@@ -281,14 +280,15 @@ no_screen false = refl
 settles_opening : Settles [] opening_outcome
 unfolding Settles first_view next_view
 settles_opening = λ id.
-    let wants = wants_update first_document first_document in
-    let notes = note_list (updates_for view_id (if wants then Some (update_of first_document) else None)) in
+    let next = going_on first_document None in
+    let wants = wants_update next next in
+    let notes = note_list (updates_for view_id (if wants then Some (update_of next) else None)) in
     ap (λ screen. rebuilt_from id (Some screen) notes) (sym (no_screen (bytes_eq id view_id))) ∙
-    settles_by (bytes_eq view_id id) wants (first_view ∷ []) first_view first_document id refl (only_view first_view) refl
+    settles_by (bytes_eq view_id id) wants (first_view ∷ []) first_view next id refl (only_view first_view) refl
 
 settles_done : (done : Bool) (views : List OpenView) (view : OpenView) (act : EditAct) → view_of views view.id ≡ Some view →
     Settles views (if done then front_outcome views view act else keeping views (answer_undone act))
-settles_done true views view act found = settles_came views view (spent_total (refusal_at view.document (Front act))) (typed act) found
+settles_done true views view act found = settles_came views view (spent_total (refusal_at view.document (Front act))) act found
 settles_done false views view act found = settles_keeping views (answer_undone act)
 
 settles_edit : (views : List OpenView) (id : List ℕ) (found : Option OpenView) (act : EditAct) → view_of views id ≡ found →
@@ -377,14 +377,14 @@ sends_by true views view after found =
     (subst At (sym next) within, tt)
 sends_by false views view after found = tt
 
-sends_came : (views : List OpenView) (view : OpenView) (total : Option ℕ) (chars : List ℕ) → view_of views view.id ≡ Some view →
-    Sends (edit_came views view total (typing_step view.document chars))
+sends_came : (views : List OpenView) (view : OpenView) (total : Option ℕ) (act : EditAct) → view_of views view.id ≡ Some view →
+    Sends (edit_came views view total (act_step view.document act))
 unfolding Sends note_list next_view
-sends_came views view (Some total) chars found = tt
-sends_came views view None [] found = sends_by (wants_update view.document view.document) views view view.document found
-sends_came views view None (c ∷ chars) found =
-    let next = edited_document view.document (front_edit view.document (c ∷ chars)) (view.document.caret + length (c ∷ chars)) in
-    sends_by (wants_update view.document next) views view next found
+sends_came views view (Some total) act found = tt
+sends_came views view None act found =
+    by_front (λ step. Sends (edit_came views view None step)) view.document
+    (λ kind. let next = going_on view.document kind in sends_by (wants_update next next) views view next found)
+    (λ next one_more screen window. sends_by (wants_update view.document next) views view next found) act
 
 -- what changes nothing tells nothing
 sends_keeping : (views : List OpenView) (reply : Reply) → Sends (keeping views reply)
@@ -393,11 +393,13 @@ sends_keeping views reply = tt
 
 sends_opening : Sends opening_outcome
 unfolding Sends first_view next_view
-sends_opening = sends_by (wants_update first_document first_document) (first_view ∷ []) first_view first_document (only_view first_view)
+sends_opening =
+    let next = going_on first_document None in
+    sends_by (wants_update next next) (first_view ∷ []) first_view next (only_view first_view)
 
 sends_done : (done : Bool) (views : List OpenView) (view : OpenView) (act : EditAct) → view_of views view.id ≡ Some view →
     Sends (if done then front_outcome views view act else keeping views (answer_undone act))
-sends_done true views view act found = sends_came views view (spent_total (refusal_at view.document (Front act))) (typed act) found
+sends_done true views view act found = sends_came views view (spent_total (refusal_at view.document (Front act))) act found
 sends_done false views view act found = sends_keeping views (answer_undone act)
 
 sends_edit : (views : List OpenView) (id : List ℕ) (found : Option OpenView) (act : EditAct) → view_of views id ≡ found →

@@ -26,7 +26,7 @@ pub typing_fits : (doc : Doc) (plain : Document) (chars : List ℕ) → DocStand
 typing_fits doc plain [] stands = tt
 typing_fits doc plain (c ∷ chars) stands =
     let h = plain.history in
-    let delta = (front_edit plain (c ∷ chars)).delta in
+    let delta = (front_edit plain None (c ∷ chars)).delta in
     let total = inserted_count h + inserted_len delta.els in
     let low : h.floor ≤ head h = (IsOfEngine-given doc.engine.limit h stands.parts.stands.given).formed.floor in
     let high : head h ≤ head h = omega arith in

@@ -1,7 +1,7 @@
 -- What the head of an engine shows is the head text of each history that the engine stands for.
-use Rattle.std.proofs.Common.{◌≡◌, ℕ, ◌≤◌, Bool, true, false, cond, List, [], ◌∷◌, length, map, filter, refl, ap, ap₂, ◌∙◌, arith}
+use Rattle.std.proofs.Common.{◌≡◌, ℕ, ◌≤◌, Bool, true, false, cond, List, [], ◌∷◌, length, map, filter, Option, refl, ap, ap₂, ◌∙◌, arith}
 use Rattle.std.proofs.Math.Logic.{∥∥₁_elim, ∥∥₁_map}
-use Rattle.std.specs.Coded.{Coded-set, coded_list, coded_ℕ, le_prop}
+use Rattle.std.specs.Coded.{le_prop}
 use Rattle.std.specs.Prelude.{not}
 use Rattle.subset_runs.specs.Subset.{items_outside}
 use Rattle.plain_edits.specs.History.{History, Tagged, head, is_visible, text_at}
@@ -11,7 +11,9 @@ use Rattle.rev_rebase.specs.Rebase.{characters_of}
 use Rattle.rev_engine.specs.State.{State, shown_at}
 use Rattle.rev_engine.specs.Engine.{StandsFor}
 use Rattle.doc_session.specs.Inner.{StandsForSome, head_shown}
-use Rattle.doc_session.specs.Whole.{IsOfEdits, IsStateOf, IsStateOfSome}
+use Rattle.undo_groups.specs.Groups.{Groups}
+use Rattle.doc_session.specs.declared.typing.Typing.{Typing}
+use Rattle.doc_session.specs.Whole.{IsStateOf, IsStateOfSome, IsWhole, IsWholeOf}
 
 outside_visible : (p : Tagged → Bool) (xs : List Tagged) →
     items_outside (map (λ t. not (p t)) xs) (map (λ t. t.character) xs) ≡ map (λ t. t.character) (filter p xs)
@@ -38,6 +40,10 @@ head_shown-stands engine h stands =
 
 -- ---- what is whole
 
+pub state-whole : (engine : State) (groups : Groups) (typing : Option Typing) (caret : ℕ) → IsWhole engine groups typing caret → IsStateOfSome engine caret
+state-whole engine groups typing caret whole =
+    ∥∥₁_map whole (λ (s : (h : History) × IsWholeOf h engine groups typing caret). (s.0, s.1.state))
+
 pub some-whole : (engine : State) (caret : ℕ) → IsStateOfSome engine caret → StandsForSome engine
 some-whole engine caret whole = ∥∥₁_map whole (λ (s : (h : History) × IsStateOf h engine caret). (s.0, s.1.stands))
 
@@ -45,13 +51,6 @@ pub inside-whole : (engine : State) (caret : ℕ) → IsStateOfSome engine caret
 inside-whole engine caret whole =
     ∥∥₁_elim whole le_prop (λ (s : (h : History) × IsStateOf h engine caret).
     omega (arith, s.1.inside, ap length (head_shown-stands engine s.0 s.1.stands)))
-
--- nothing is undone or collected
-pub of_edits-whole : (engine : State) (caret : ℕ) → IsStateOfSome engine caret → IsOfEdits engine.revisions
-of_edits-whole engine caret whole = record {
-  live = ∥∥₁_elim whole (Coded-set (coded_list coded_ℕ) _ _) (λ (s : (h : History) × IsStateOf h engine caret). s.1.of_edits.live);
-  kept = ∥∥₁_elim whole (Coded-set (coded_list coded_ℕ) _ _) (λ (s : (h : History) × IsStateOf h engine caret). s.1.of_edits.kept);
-}
 
 -- what is whole is that of each history that it stands for
 pub IsStateOf-whole : (h : History) (engine : State) (caret : ℕ) → IsStateOfSome engine caret → StandsFor engine h → IsStateOf h engine caret
@@ -61,5 +60,4 @@ IsStateOf-whole h engine caret whole stands = record {
   within = ∥∥₁_elim whole le_prop (λ (s : (h : History) × IsStateOf h engine caret).
       omega (arith, s.1.within, s.1.stands.spent, stands.spent));
   bound = ∥∥₁_elim whole le_prop (λ (s : (h : History) × IsStateOf h engine caret). s.1.bound);
-  of_edits = of_edits-whole engine caret whole;
 }

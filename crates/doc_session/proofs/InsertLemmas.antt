@@ -26,8 +26,8 @@ use Rattle.plain_edits.specs.Undo.{undone_now}
 use Rattle.doc_session.specs.declared.taken.Taken.{Taken}
 use Rattle.doc_session.specs.InMemory.{Doc}
 use Rattle.doc_session.specs.Asking.{front_priority, insertion_delta}
-use Rattle.doc_session.specs.Inner.{IsAfter, IsHeadEdit, all_kept, head_shown, insertion_in, insertion_units}
-use Rattle.doc_session.specs.Whole.{IsOfEdits, IsStateOf, IsStateOfSome}
+use Rattle.doc_session.specs.Inner.{IsAfterEdit, IsHeadEdit, all_kept, head_shown, insertion_in, insertion_units}
+use Rattle.doc_session.specs.Whole.{IsStateOf, IsStateOfSome}
 use Rattle.doc_session.proofs.HeadLemmas.{head_shown-stands}
 use Rattle.doc_session.proofs.MoveLemmas.{head-after, sound-given}
 
@@ -149,15 +149,15 @@ module _ (text : List ℕ) (gap : ℕ) (chars : List ℕ) (inside : gap ≤ leng
 -- an edit that puts characters in at a gap says the insertion
 pub IsSaidBy-insertion : (h : History) (edit : UnitEdit) (len gap : ℕ) (chars : List ℕ) → len ≡ length (text_at h (head h)) →
     gap ≤ length (text_at h (head h)) → chars ≢ [] → edit.units ≡ insertion_units len gap chars → edit.priority ≡ front_priority → edit.author ≡ 0 →
-    edit.group ≡ head h + 1 → IsSaidBy h edit (insertion_in h gap chars)
-IsSaidBy-insertion h edit len gap chars len_is inside some units priority author group =
+    IsSaidBy h edit (insertion_in edit.group h gap chars)
+IsSaidBy-insertion h edit len gap chars len_is inside some units priority author =
     let text = text_at h (head h) in
     let Says : UnitDelta → Type 0 = λ u. IsUnitsOf text (insertion_delta text gap chars) u in
     record {
       base = refl;
       fits = Fits-insertion text gap chars inside;
       units = subst Says (sym (units ∙ ap (λ n. insertion_units n gap chars) len_is)) (IsUnitsOf-insertion text gap chars inside some);
-      group = sym group;
+      group = refl;
       priority = sym priority;
       author = sym author;
     }
@@ -172,33 +172,35 @@ IsHeadEdit-insertion engine edit text len gap chars text_is len_is inside some u
       base = ap (λ (u : UnitDelta). u.base) is;
     }
 
--- the head text after an insertion at a gap
-pub text_at-inserted : (h : History) (engine : State) (gap : ℕ) (chars : List ℕ) → StandsFor engine h → IsOfEdits engine.revisions →
-    gap ≤ length (text_at h (head h)) →
-    text_at (after h (insertion_in h gap chars)) (head (after h (insertion_in h gap chars))) ≡ put_in gap chars (text_at h (head h))
-text_at-inserted h engine gap chars stands of_edits inside =
+-- the head text after an insertion at a gap, in a group that is not undone
+pub text_at-inserted : (h : History) (engine : State) (group gap : ℕ) (chars : List ℕ) → StandsFor engine h →
+    has (undone_now engine.revisions) group ≡ false → gap ≤ length (text_at h (head h)) →
+    text_at (after h (insertion_in group h gap chars)) (head (after h (insertion_in group h gap chars))) ≡ put_in gap chars (text_at h (head h))
+text_at-inserted h engine group gap chars stands shown inside =
     let text = text_at h (head h) in
-    let asked : AskedEdit = insertion_in h gap chars in
+    let asked : AskedEdit = insertion_in group h gap chars in
     ap (text_at (after h asked)) (head-after h asked) ∙
     text_at-edited_at_head h (meant h asked) (sound-given engine h stands) refl
-    (ap (λ groups. has groups asked.group) (sym (ap undone_now stands.revisions) ∙ of_edits.live)) ∙
+    (ap (λ groups. has groups group) (sym (ap undone_now stands.revisions)) ∙ shown) ∙
     applied-insertion text gap chars inside
 
 -- so many characters has the text after an insertion at the caret
-pub length-inserted : (engine : State) (caret : ℕ) (chars : List ℕ) (taken : Taken) → IsStateOfSome engine caret →
-    ((h : History) → StandsFor engine h → IsAfter h (insertion_in h caret chars) taken) →
+pub length-inserted : (engine : State) (group caret : ℕ) (chars : List ℕ) (taken : Taken) → IsStateOfSome engine caret →
+    has (undone_now engine.revisions) group ≡ false →
+    ((h : History) → StandsFor engine h → IsAfterEdit h (insertion_in group h caret chars) taken) →
     length (head_shown taken.engine) ≡ length (head_shown engine) + length chars
-length-inserted engine caret chars taken whole each =
+length-inserted engine group caret chars taken whole shown each =
     ∥∥₁_elim whole (ℕ_set _ _) (λ (s : (h : History) × IsStateOf h engine caret).
     let h = s.0 in
     let is = each h s.1.stands in
-    ap length (head_shown-stands taken.engine (after h (insertion_in h caret chars)) is.stands ∙ text_at-inserted h engine caret chars s.1.stands s.1.of_edits s.1.inside) ∙
+    ap length (head_shown-stands taken.engine (after h (insertion_in group h caret chars)) is.stands ∙
+    text_at-inserted h engine group caret chars s.1.stands shown s.1.inside) ∙
     length-put_in caret chars (text_at h (head h)) s.1.inside ∙
     ap (λ n. n + length chars) (sym (ap length (head_shown-stands engine h s.1.stands))))
 
 -- what holds of a document beside its parts holds of the parts
-pub each-inside : (inside now : Doc) (chars : List ℕ) (taken : Taken) → inside ≡ now →
-    ((h : History) → StandsFor now.engine h → IsAfter h (insertion_in h now.caret chars) taken) →
-    (h : History) → StandsFor inside.engine h → IsAfter h (insertion_in h inside.caret chars) taken
-each-inside inside now chars taken is each =
-    subst (λ (d : Doc). (h : History) → StandsFor d.engine h → IsAfter h (insertion_in h d.caret chars) taken) (sym is) each
+pub each-inside : (inside now : Doc) (group : ℕ) (chars : List ℕ) (taken : Taken) → inside ≡ now →
+    ((h : History) → StandsFor now.engine h → IsAfterEdit h (insertion_in group h now.caret chars) taken) →
+    (h : History) → StandsFor inside.engine h → IsAfterEdit h (insertion_in group h inside.caret chars) taken
+each-inside inside now group chars taken is each =
+    subst (λ (d : Doc). (h : History) → StandsFor d.engine h → IsAfterEdit h (insertion_in group h d.caret chars) taken) (sym is) each

@@ -1,3 +1,6 @@
+pub mod AgreeLemmas
+pub mod ActLemmas
+pub mod GroupLemmas
 pub mod HeadLemmas
 pub mod MoveLemmas
 pub mod LoadLemmas

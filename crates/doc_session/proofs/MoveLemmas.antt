@@ -1,5 +1,5 @@
 -- What an edit that was taken leaves: the texts on both sides of its change, where it takes gaps, and its notice.
-use Rattle.std.proofs.Common.{◌≡◌, ℕ, zero, suc, ◌+◌, ◌<◌, ◌≤◌, Bool, true, false, cond, List, [], ◌∷◌, length, take, filter, Option, Some, None, ap, ap₂, sym, ◌∙◌, subst, arith, inl, inr}
+use Rattle.std.proofs.Common.{◌≡◌, ℕ, zero, suc, ◌+◌, ◌<◌, ◌≤◌, Bool, true, false, cond, List, [], ◌∷◌, length, take, filter, Option, Some, None, refl, ap, ap₂, sym, ◌∙◌, subst, arith, inl, inr}
 use Rattle.std.proofs.Math.Nat.{ℕ_set}
 use Rattle.std.proofs.Math.Path.{fun_ext}
 use Rattle.std.proofs.Math.Logic.{∥∥₁_elim, ∥∥₁_map}
@@ -17,28 +17,31 @@ use Rattle.plain_text.specs.declared.run.Run.{Run}
 use Rattle.plain_edits.specs.declared.delta.Added.{Added}
 use Rattle.plain_edits.specs.declared.delta.UnitDelta.{UnitDelta}
 use Rattle.plain_edits.specs.Caret.{moved_caret}
-use Rattle.plain_edits.specs.HistorySteps.{edits}
+use Rattle.plain_edits.specs.HistorySteps.{Step, edits, undoes, collects, after_step}
 use Rattle.plain_edits.specs.Delta.{misfit_of}
-use Rattle.plain_edits.specs.Edits.{Refusal, unknown, collected, spent, edit_refusal, misfit_or_spent}
+use Rattle.plain_edits.specs.Edits.{undid, Refusal, unknown, collected, spent, edit_refusal, misfit_or_spent}
 use Rattle.plain_edits.specs.Delta.{inserted_len}
 use Rattle.plain_edits.specs.History.{Tagged, History, head, is_visible, visible_at, text_at, inserted_count, IsSound}
 use Rattle.plain_text.specs.Text.{byte_len}
 use Rattle.plain_edits.specs.UnitDelta.{AreRuns, AreAdds, IsUnitDelta}
-use Rattle.plain_edits.proofs.callers.HistoryLemmas.{text_at-edited}
+use Rattle.plain_edits.proofs.callers.HistoryLemmas.{text_at-edited, text_at-undid}
 use Rattle.delta_core.specs.Wire.{wire_from, wire_of}
 use Rattle.rev_engine.specs.declared.edit.Change.{Change}
-use Rattle.plain_edits.specs.Undo.{undone_now}
 use Rattle.rev_engine.specs.State.{State}
 use Rattle.rev_engine.specs.declared.edit.UnitEdit.{UnitEdit}
 use Rattle.rev_engine.specs.Engine.{StandsFor, IsChange, IsSaidBy}
-use Rattle.rev_engine.specs.Given.{AskedEdit, after, meant}
-use Rattle.rev_engine.proofs.ForCallers.{IsOfEngine-given, inserted_count-plain, undone_now-edited}
+use Rattle.rev_engine.specs.Given.{AskedEdit, after}
+use Rattle.rev_engine.proofs.ForCallers.{IsOfEngine-given, inserted_count-plain}
 use Rattle.selection_core.specs.Mapped.{new_gap}
 use Rattle.selection_core.proofs.ForCallers.{new_gap-after_step}
+use Rattle.undo_groups.specs.Groups.{Groups}
+use Rattle.doc_session.specs.declared.left.Left.{Left}
 use Rattle.doc_session.specs.declared.taken.Taken.{Taken}
+use Rattle.doc_session.specs.declared.typing.Typing.{Typing}
 use Rattle.doc_session.specs.Effects.{notice_of, change_delta}
 use Rattle.doc_session.specs.Inner.{IsAfter, IsChangeOf, IsNoticed, IsSaidOfSome, IsTakenFrom, SaysSome, StandsForSome, head_shown}
-use Rattle.doc_session.specs.Whole.{IsOfEdits, IsStateOf, IsStateOfSome}
+use Rattle.doc_session.specs.Agree.{Agree}
+use Rattle.doc_session.specs.Whole.{IsStateOf, IsWhole, IsWholeOf}
 use Rattle.doc_session.proofs.HeadLemmas.{head_shown-stands}
 
 pub head-after : (h : History) (asked : AskedEdit) → head (after h asked) ≡ head h + 1
@@ -47,13 +50,15 @@ head-after h asked = length_push h.revisions _
 pub sound-given : (engine : State) (h : History) → StandsFor engine h → IsSound h
 sound-given engine h stands = (IsOfEngine-given engine.limit h stands.given).formed.sound
 
--- and so it is after an edit
-of_edits-after : (engine now : State) (h : History) (asked : AskedEdit) → StandsFor engine h → StandsFor now (after h asked) → IsOfEdits engine.revisions →
-    IsOfEdits now.revisions
-of_edits-after engine now h asked was is of_edits = record {
-  live = ap undone_now is.revisions ∙ undone_now-edited h (meant h asked) ∙ sym (ap undone_now was.revisions) ∙ of_edits.live;
-  kept = ap (λ (g : History). g.collected) is.revisions ∙ sym (ap (λ (g : History). g.collected) was.revisions) ∙ of_edits.kept;
-}
+-- an undo makes a revision too
+pub head-undid : (h : History) (groups : List ℕ) → head (undid h groups) ≡ head h + 1
+head-undid h groups = length_push h.revisions _
+
+-- no step changes the text before it
+text_at-step : (h : History) (step : Step) → IsSound h → text_at (after_step h step) (head h) ≡ text_at h (head h)
+text_at-step h (edits e) sound = text_at-edited h e (head h) sound (omega arith)
+text_at-step h (undoes groups) sound = text_at-undid h groups (head h) sound (omega arith)
+text_at-step h (collects floor groups) sound = refl
 
 -- the caret rule gives a gap of the text
 count_by-take-le : (q : Tagged → Bool) (n : ℕ) (xs : List Tagged) → count_by q (take n xs) ≤ length (filter q xs)
@@ -70,37 +75,38 @@ moved_caret-le before after false gap = count_by-take-le (is_visible after.revis
 moved_caret-le before after true zero = omega arith
 moved_caret-le before after true (suc gap) = count_by-take-le (is_visible after.revisions (head after)) _ after.characters
 
-module _ (h : History) (sound : IsSound h) (asked : AskedEdit) (change : Change) (is : IsChange h (after h asked) change) where
+pub IsChangeOf-taken : (h next : History) (change : Change) → IsChange h next change →
+    IsChangeOf (text_at h (head h)) (text_at next (head next)) change.units
+IsChangeOf-taken h next change is = record { well_formed = is.canonical.well_formed; base = is.base; leads = sym is.leads }
+
+module _ (h : History) (sound : IsSound h) (step : Step) (change : Change) (is : IsChange h (after_step h step) change) where
   abbrev next : History
-  next = after h asked
+  next = after_step h step
 
   abbrev text : List ℕ
   text = text_at h (head h)
 
-  pub IsChangeOf-taken : IsChangeOf text (text_at next (head next)) change.units
-  IsChangeOf-taken = record { well_formed = is.canonical.well_formed; base = is.base; leads = sym is.leads }
-
   -- it takes a gap where the caret rule takes a caret
   pub new_gap-moved : (right : Bool) (gap : ℕ) → new_gap change.units right gap ≡ moved_caret h next right gap
-  new_gap-moved right gap = new_gap-after_step h (edits (meant h asked)) change.units right sound is.kept is.added gap
+  new_gap-moved right gap = new_gap-after_step h step change.units right sound is.kept is.added gap
 
   pub new_gap-le : (right : Bool) (gap : ℕ) → new_gap change.units right gap ≤ length (text_at next (head next))
   new_gap-le right gap =
       omega (arith, new_gap-moved right gap, moved_caret-le h next right gap, length-map (visible_at next (head next)) (λ (t : Tagged). t.character))
 
   -- the notice of the change
-  pub notice-taken : (notice : Notice) → notice.view ≡ [] → notice.author ≡ asked.author → notice.rev ≡ change.rev →
-      notice.new_len ≡ byte_len (text_at next (head next)) → notice.delta ≡ wire_of text change.units → notice ≡ notice_of h next asked.author
-  notice-taken notice view author rev_is len delta =
+  pub notice-taken : (author : ℕ) (notice : Notice) → notice.view ≡ [] → notice.author ≡ author → notice.rev ≡ change.rev →
+      notice.new_len ≡ byte_len (text_at next (head next)) → notice.delta ≡ wire_of text change.units → notice ≡ notice_of h next author
+  notice-taken author notice view author_is rev_is len delta =
       ap (λ v. record notice { view = v }) view ∙
-      ap (λ a. record notice { view = []; author = a }) author ∙
-      ap (λ r. record notice { view = []; author = asked.author; rev = r }) (rev_is ∙ is.rev) ∙
-      ap (λ n. record notice { view = []; author = asked.author; rev = head next; new_len = n }) len ∙
-      ap (λ (d : Delta). record { view = []; author = asked.author; rev = head next; new_len = byte_len (text_at next (head next)); delta = d })
+      ap (λ a. record notice { view = []; author = a }) author_is ∙
+      ap (λ r. record notice { view = []; author = author; rev = r }) (rev_is ∙ is.rev) ∙
+      ap (λ n. record notice { view = []; author = author; rev = head next; new_len = n }) len ∙
+      ap (λ (d : Delta). record { view = []; author = author; rev = head next; new_len = byte_len (text_at next (head next)); delta = d })
       (delta ∙ delta-is)
     where
       same : text ≡ text_at next (head h)
-      same = sym (text_at-edited h (meant h asked) (head h) sound (omega arith))
+      same = sym (text_at-step h step sound)
 
       delta-is : wire_of text change.units ≡ change_delta next (head h) (head next)
       delta-is =
@@ -151,22 +157,21 @@ length-byte_len [] = omega arith
 length-byte_len (c ∷ text) = omega (arith, length-byte_len text, len_utf8_bounds c)
 
 -- a change from what the one engine shows to what the other shows, by a history
-pub IsChangeOf-stands : (h : History) (engine now : State) (asked : AskedEdit) (change : Change) → StandsFor engine h → StandsFor now (after h asked) →
-    IsChange h (after h asked) change → IsChangeOf (head_shown engine) (head_shown now) change.units
-IsChangeOf-stands h engine now asked change was stands is =
+pub IsChangeOf-stands : (h next : History) (engine now : State) (change : Change) → StandsFor engine h → StandsFor now next →
+    IsChange h next change → IsChangeOf (head_shown engine) (head_shown now) change.units
+IsChangeOf-stands h next engine now change was stands is =
     let From : List ℕ → Type 0 = λ t. IsChangeOf t (head_shown now) change.units in
     let To : List ℕ → Type 0 = λ t. IsChangeOf (text_at h (head h)) t change.units in
-    subst From (sym (head_shown-stands engine h was))
-    (subst To (sym (head_shown-stands now (after h asked) stands)) (IsChangeOf-taken h (sound-given engine h was) asked change is))
+    subst From (sym (head_shown-stands engine h was)) (subst To (sym (head_shown-stands now next stands)) (IsChangeOf-taken h next change is))
 
 -- whatever the history
-pub IsChangeOf-shown : (engine copied now : State) (asked : AskedEdit) (change : Change) → copied ≡ engine → StandsForSome engine →
-    ((h : History) → StandsFor copied h → StandsFor now (after h asked)) → ((h : History) → StandsFor copied h → IsChange h (after h asked) change) →
+pub IsChangeOf-shown : (engine copied now : State) (next : History → History) (change : Change) → copied ≡ engine → StandsForSome engine →
+    ((h : History) → StandsFor copied h → StandsFor now (next h)) → ((h : History) → StandsFor copied h → IsChange h (next h) change) →
     IsChangeOf (head_shown engine) (head_shown now) change.units
-IsChangeOf-shown engine copied now asked change same some leaves each =
+IsChangeOf-shown engine copied now next change same some leaves each =
     let one : (s : (h : History) × StandsFor engine h) → IsChangeOf (head_shown engine) (head_shown now) change.units =
     λ s. let was = subst (λ (e : State). StandsFor e s.0) (sym same) s.1 in
-    IsChangeOf-stands s.0 engine now asked change s.1 (leaves s.0 was) (each s.0 was) in
+    IsChangeOf-stands s.0 (next s.0) engine now change s.1 (leaves s.0 was) (each s.0 was) in
     record {
       well_formed = ∥∥₁_elim some (IsUnitDelta-prop change.units) (λ s. (one s).well_formed);
       base = ∥∥₁_elim some (ℕ_set _ _) (λ s. (one s).base);
@@ -183,7 +188,7 @@ IsChangeOf-said engine copied now edit change same some leaves each =
     λ s. let stands = s.2.stands in
     let said = s.2.said in
     let was = subst (λ (e : State). StandsFor e s.0) (sym same) stands in
-    IsChangeOf-stands s.0 engine now s.1 change stands (leaves s.0 s.1 was said) (each s.0 s.1 was said) in
+    IsChangeOf-stands s.0 (after s.0 s.1) engine now change stands (leaves s.0 s.1 was said) (each s.0 s.1 was said) in
     record {
       well_formed = ∥∥₁_elim some (IsUnitDelta-prop change.units) (λ s. (one s).well_formed);
       base = ∥∥₁_elim some (ℕ_set _ _) (λ s. (one s).base);
@@ -202,47 +207,58 @@ IsTakenFrom-noticed engine now before change author taken noticed changes counte
       limit = ap (λ (e : State). e.limit) noticed.engine_is ∙ limit;
     }
 
--- what the edit makes
-pub IsAfter-noticed : (h : History) (engine : State) (asked : AskedEdit) (now : State) (change : Change) (author : ℕ) (taken : Taken) →
-    StandsFor engine h → StandsFor now (after h asked) → inserted_count (after h asked) ≤ now.limit →
-    IsChange h (after h asked) change → author ≡ asked.author → IsNoticed (head_shown engine) now change author taken →
-    IsAfter h asked taken
-IsAfter-noticed h engine asked now change author taken was stands within changes by noticed =
-    let At : State → Type 0 = λ e. StandsFor e (after h asked) in
-    let Few : State → Type 0 = λ e. inserted_count (after h asked) ≤ e.limit in
+-- what the revision makes
+pub IsAfter-noticed : (h : History) (engine : State) (step : Step) (now : State) (change : Change) (author : ℕ) (taken : Taken) →
+    StandsFor engine h → head (after_step h step) ≡ head h + 1 → StandsFor now (after_step h step) → inserted_count (after_step h step) ≤ now.limit →
+    IsChange h (after_step h step) change → IsNoticed (head_shown engine) now change author taken →
+    IsAfter h (after_step h step) author taken
+IsAfter-noticed h engine step now change author taken was one_more stands within changes noticed =
+    let next = after_step h step in
+    let At : State → Type 0 = λ e. StandsFor e next in
+    let Few : State → Type 0 = λ e. inserted_count next ≤ e.limit in
     record {
+      one_more = one_more;
       stands = subst At (sym noticed.engine_is) stands;
       within = subst Few (sym noticed.engine_is) within;
-      changes = subst (IsChange h (after h asked)) (sym noticed.change_is) changes;
+      changes = subst (IsChange h next) (sym noticed.change_is) changes;
       notice =
-          notice-taken h (sound-given engine h was) asked change changes taken.notice noticed.view (noticed.author_is ∙ by) noticed.rev
-          (noticed.new_len ∙ ap byte_len (head_shown-stands now (after h asked) stands)) (noticed.delta ∙ ap (λ t. wire_of t change.units) (head_shown-stands engine h was));
+          notice-taken h (sound-given engine h was) step change changes author taken.notice noticed.view noticed.author_is noticed.rev
+          (noticed.new_len ∙ ap byte_len (head_shown-stands now next stands)) (noticed.delta ∙ ap (λ t. wire_of t change.units) (head_shown-stands engine h was));
     }
 
--- ---- what an edit that was taken leaves, whatever the history
+-- ---- what a revision leaves, whatever the history
 
-module _ (engine : State) (caret : ℕ) (asked : History → AskedEdit) (taken : Taken) (whole : IsStateOfSome engine caret)
-    (each : (h : History) → StandsFor engine h → IsAfter h (asked h) taken) where
+module _ (engine : State) (groups : Groups) (typing : Option Typing) (caret : ℕ) (step : History → Step) (author : ℕ) (taken : Taken)
+    (whole : IsWhole engine groups typing caret)
+    (each : (h : History) → IsStateOf h engine caret → IsAfter h (after_step h (step h)) author taken) where
   pub new_gap-taken : (right : Bool) (gap : ℕ) → new_gap taken.change.units right gap ≤ length (head_shown taken.engine)
   new_gap-taken right gap =
-      ∥∥₁_elim whole le_prop (λ (s : (h : History) × IsStateOf h engine caret).
-      let is = each s.0 s.1.stands in
+      ∥∥₁_elim whole le_prop (λ (s : (h : History) × IsWholeOf h engine groups typing caret).
+      let h = s.0 in
+      let is = each h s.1.state in
       omega (
         arith,
-        new_gap-le s.0 (sound-given engine s.0 s.1.stands) (asked s.0) taken.change is.changes right gap,
-        ap length (head_shown-stands taken.engine (after s.0 (asked s.0)) is.stands),
+        new_gap-le h (sound-given engine h s.1.state.stands) (step h) taken.change is.changes right gap,
+        ap length (head_shown-stands taken.engine (after_step h (step h)) is.stands),
       ))
 
-  pub whole-taken : (gap : ℕ) → taken.engine.limit ≡ engine.limit → gap ≤ length (head_shown taken.engine) → IsStateOfSome taken.engine gap
-  whole-taken gap same inside =
-      ∥∥₁_map whole (λ (s : (h : History) × IsStateOf h engine caret).
-      let is = each s.0 s.1.stands in (
-        after s.0 (asked s.0),
+  pub whole-taken : (left : Left) → taken.engine.limit ≡ engine.limit → left.caret ≤ length (head_shown taken.engine) →
+      ((h : History) → Agree h.revisions h.collected groups typing →
+      Agree (after_step h (step h)).revisions (after_step h (step h)).collected left.stack left.typing) →
+      IsWhole taken.engine left.stack left.typing left.caret
+  whole-taken left same inside agree =
+      ∥∥₁_map whole (λ (s : (h : History) × IsWholeOf h engine groups typing caret).
+      let h = s.0 in
+      let was = s.1.state in
+      let is = each h was in (
+        after_step h (step h),
         record {
-          stands = is.stands;
-          inside = omega (arith, inside, ap length (head_shown-stands taken.engine (after s.0 (asked s.0)) is.stands));
-          within = is.within;
-          bound = omega (arith, s.1.bound, same);
-          of_edits = of_edits-after engine taken.engine s.0 (asked s.0) s.1.stands is.stands s.1.of_edits;
+          state = record {
+            stands = is.stands;
+            inside = omega (arith, inside, ap length (head_shown-stands taken.engine (after_step h (step h)) is.stands));
+            within = is.within;
+            bound = omega (arith, was.bound, same);
+          };
+          agree = agree h s.1.agree;
         },
       ))

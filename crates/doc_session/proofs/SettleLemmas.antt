@@ -9,7 +9,7 @@ use Rattle.std.proofs.lemmas.Bool.{ne_eqb, eqb-true, true≢false}
 use Rattle.plain_text.specs.declared.run.Run.{Run}
 use Rattle.plain_screen.specs.declared.screen.Line.{Line}
 use Rattle.plain_screen.specs.declared.screen.Update.{Update}
-use Rattle.plain_edits.specs.History.{head}
+use Rattle.plain_edits.specs.History.{History, head}
 use Rattle.doc_session.specs.Layout.{layout, layout_from, Position, position_of}
 use Rattle.plain_text.specs.Lines.{logical_lines}
 use Rattle.plain_screen.specs.Screen.{Screen, screen_after}
@@ -17,18 +17,21 @@ use Rattle.plain_screen.specs.Plan.{is_within, update_plan}
 use Rattle.plain_screen.specs.Plan.{shown_lines}
 use Rattle.plain_screen.proofs.callers.PlanLemmas.{screen_after-plan_from}
 use Rattle.rev_engine.specs.State.{State}
-use Rattle.rev_engine.specs.Given.{AskedEdit, after}
 use Rattle.doc_session.specs.InMemory.{Doc}
+use Rattle.doc_session.specs.declared.left.Left.{Left}
 use Rattle.doc_session.specs.declared.taken.Taken.{Taken}
+use Rattle.doc_session.specs.declared.typing.Kind.{Kind}
+use Rattle.doc_session.specs.Agree.{Agree}
 use Rattle.doc_session.specs.Document.{Document, text_of, layout_of, is_pristine, no_request}
 use Rattle.doc_session.specs.Effects.{ops_of, update_of, updated, differ, are_valid, is_window_valid, wants_update, update_after, settled, scroll_after}
-use Rattle.doc_session.specs.Inner.{IsAfter, head_shown, is_lacking, is_same_after, planned, scroll_between, told_of}
+use Rattle.doc_session.specs.Inner.{IsAfter, head_shown, is_lacking, is_same_after, next_document, planned, scroll_between, told_of}
 use Rattle.doc_session.specs.Stands.{DocStandsFor}
-use Rattle.doc_session.specs.Step.{edited_document}
+use Rattle.doc_session.specs.Step.{going_on}
+use Rattle.doc_session.specs.Typing.{run_on}
 use Rattle.doc_session.specs.Whole.{IsStateOf, IsStateOfSome}
 use Rattle.doc_session.specs.SameLayout.{is_same_layout}
 use Rattle.doc_session.proofs.HeadLemmas.{IsStateOf-whole, head-stands, head_shown-stands}
-use Rattle.doc_session.proofs.MoveLemmas.{head-after}
+use Rattle.doc_session.proofs.AgreeLemmas.{Agree-still}
 use Rattle.plain_screen.proofs.callers.SameLemmas.{is_same_layout-Decides}
 use Rattle.doc_session.proofs.TellLemmas.{layout_tells}
 
@@ -113,9 +116,12 @@ module _ (doc : Doc) (plain : Document) (stands : DocStandsFor doc plain) where
       ((is_same_layout-Decides (layout_of plain) (layout_of plain)).1 refl) ∙
       ap₂ (λ pristine valid. pristine || not valid) (differ-same (is_pristine plain)) (screen_valid doc.view.valid stands.screen)
 
-  module _ (asked : AskedEdit) (gap : ℕ) where
+  module _ (history : History) (left : Left) (one_more : head history ≡ head plain.history + 1) where
     abbrev next : Document
-    next = edited_document plain asked gap
+    next = next_document plain history left
+
+    abbrev gap : ℕ
+    gap = left.caret
 
     window_lacks : (valid : Bool) → plain.screen ≡ screen_by valid plain → valid ≡ false → is_window_valid next ≡ false
     window_lacks true is none = absurd cc
@@ -135,7 +141,7 @@ module _ (doc : Doc) (plain : Document) (stands : DocStandsFor doc plain) where
 
     pristine_next : is_pristine next ≡ false
     pristine_next =
-        ap (λ now. now == plain.saved) (head-after plain.history asked) ∙
+        ap (λ now. now == plain.saved) one_more ∙
         ne_eqb (head plain.history + 1) plain.saved (λ is. omega (arith, is, stands.saved_before))
 
     pristine_plain : is_pristine plain ≡ (head doc.engine.revisions == doc.saved)
@@ -193,41 +199,45 @@ module _ (doc : Doc) (plain : Document) (stands : DocStandsFor doc plain) where
             stands.screen ∙ valid_by doc.view.valid stands.screen flags.1 ∙
             ap (shown_lines plain.window no_request) ((is_same_layout-Decides (layout_of plain) (layout_of next)).0 flags.0)
 
--- ---- a document in memory after an edit
+-- ---- a document in memory after a revision
 
-pub DocStandsFor-settled : (doc made : Doc) (plain : Document) (asked : AskedEdit) (taken : Taken) (text : List ℕ) → DocStandsFor doc plain →
-    IsAfter plain.history asked taken → taken.engine.limit ≡ doc.engine.limit → IsStateOfSome taken.engine made.caret →
-    made.engine ≡ taken.engine → text ≡ head_shown taken.engine → made.view.lines ≡ layout text (made.caret ∷ []) →
+pub DocStandsFor-settled : (doc made : Doc) (plain : Document) (history : History) (author : ℕ) (taken : Taken) (left : Left) (text : List ℕ) →
+    DocStandsFor doc plain → IsAfter plain.history history author taken → Agree history.revisions history.collected left.stack left.typing →
+    taken.engine.limit ≡ doc.engine.limit → IsStateOfSome taken.engine left.caret → made.engine ≡ taken.engine → made.groups ≡ left.stack →
+    made.typing ≡ left.typing → made.caret ≡ left.caret → text ≡ head_shown taken.engine → made.view.lines ≡ layout text (left.caret ∷ []) →
     made.view.window ≡ doc.view.window → made.plugins ≡ doc.plugins → made.saved ≡ doc.saved → made.view.valid ≡ true →
-    DocStandsFor made (settled plain (edited_document plain asked made.caret))
-DocStandsFor-settled doc made plain asked taken text stands is limit_is whole engine_is text_is lines_is window_is plugins_is saved_is valid_is =
+    DocStandsFor made (settled plain (next_document plain history left))
+DocStandsFor-settled doc made plain history author taken left text stands is agree limit_is whole engine_is groups_is typing_is caret_is text_is lines_is window_is plugins_is saved_is valid_is =
     by (wants_update plain next) refl
   where
     next : Document
-    next = edited_document plain asked made.caret
+    next = next_document plain history left
 
-    parts : IsStateOf (after plain.history asked) made.engine made.caret
-    parts = rw engine_is (IsStateOf-whole (after plain.history asked) taken.engine made.caret whole is.stands)
+    parts : IsStateOf history made.engine made.caret
+    parts = rw (engine_is, caret_is) (IsStateOf-whole history taken.engine left.caret whole is.stands)
 
-    before : plain.saved ≤ head (after plain.history asked)
-    before = omega (arith, stands.saved_before, head-after plain.history asked)
+    before : plain.saved ≤ head history
+    before = omega (arith, stands.saved_before, is.one_more)
 
     laid_out : made.view.lines ≡ layout_of next
-    laid_out = lines_is ∙ ap (λ t. layout t (made.caret ∷ [])) (text_is ∙ head_shown-stands taken.engine (after plain.history asked) is.stands)
+    laid_out = lines_is ∙ ap (λ t. layout t (left.caret ∷ [])) (text_is ∙ head_shown-stands taken.engine history is.stands)
 
     shown_by : (valid : Bool) → valid ≡ true → shown_lines plain.window no_request (layout_of next) ≡ screen_by valid next
     shown_by true is = refl
     shown_by false is = absurd cc
 
     screen_is : (settled plain next).screen ≡ screen_by made.view.valid next
-    screen_is = screen-settled doc plain stands asked made.caret ∙ shown_by made.view.valid valid_is
+    screen_is = screen-settled doc plain stands history left is.one_more ∙ shown_by made.view.valid valid_is
 
     by : (b : Bool) → wants_update plain next ≡ b → DocStandsFor made (if b then updated next else next)
     by true wants = record {
       parts = parts;
       limit = ap (λ (e : State). e.limit) engine_is ∙ limit_is ∙ stands.limit;
       plugins = plugins_is ∙ stands.plugins;
-      caret = refl;
+      groups = groups_is;
+      typing = typing_is;
+      agree = agree;
+      caret = caret_is;
       saved = saved_is ∙ stands.saved;
       saved_before = before;
       lines = laid_out;
@@ -239,7 +249,10 @@ DocStandsFor-settled doc made plain asked taken text stands is limit_is whole en
       parts = parts;
       limit = ap (λ (e : State). e.limit) engine_is ∙ limit_is ∙ stands.limit;
       plugins = plugins_is ∙ stands.plugins;
-      caret = refl;
+      groups = groups_is;
+      typing = typing_is;
+      agree = agree;
+      caret = caret_is;
       saved = saved_is ∙ stands.saved;
       saved_before = before;
       lines = laid_out;
@@ -248,30 +261,31 @@ DocStandsFor-settled doc made plain asked taken text stands is limit_is whole en
       screen = ap (λ b. (if b then updated next else next).screen) (sym wants) ∙ screen_is;
     }
 
--- the update of an edit
-pub update-settled : (doc : Doc) (plain : Document) (asked : AskedEdit) (taken : Taken) (gap : ℕ) (lines : List Line) (update : Option Update) →
-    DocStandsFor doc plain → IsAfter plain.history asked taken → gap ≤ length (head_shown taken.engine) → lines ≡ layout (head_shown taken.engine) (gap ∷ []) →
-    update ≡ told_of doc taken.engine lines gap → update ≡ update_after plain (edited_document plain asked gap)
-update-settled doc plain asked taken gap lines update stands is inside lines_is update_is =
+-- the update of a revision
+pub update-settled : (doc : Doc) (plain : Document) (history : History) (author : ℕ) (taken : Taken) (left : Left) (lines : List Line) (update : Option Update) →
+    DocStandsFor doc plain → IsAfter plain.history history author taken → left.caret ≤ length (head_shown taken.engine) →
+    lines ≡ layout (head_shown taken.engine) (left.caret ∷ []) → update ≡ told_of doc taken.engine lines left.caret →
+    update ≡ update_after plain (next_document plain history left)
+update-settled doc plain history author taken left lines update stands is inside lines_is update_is =
     update_is ∙
     ap₂ (λ b u. if b then Some u else None)
-    (wants_update-edited doc plain stands asked gap (is_same_after doc taken.engine gap) same_by (omega (arith, inside, ap length shown_is))) planned_is
+    (wants_update-edited doc plain stands history left is.one_more (is_same_after doc taken.engine left.caret) same_by (omega (arith, inside, ap length shown_is))) planned_is
   where
     next : Document
-    next = edited_document plain asked gap
+    next = next_document plain history left
 
     shown_is : head_shown taken.engine ≡ text_of next
-    shown_is = head_shown-stands taken.engine (after plain.history asked) is.stands
+    shown_is = head_shown-stands taken.engine history is.stands
 
-    same_by : is_same_after doc taken.engine gap ≡ (if doc.caret == gap then bytes_eq (text_of plain) (text_of next) else false)
+    same_by : is_same_after doc taken.engine left.caret ≡ (if doc.caret == left.caret then bytes_eq (text_of plain) (text_of next) else false)
     same_by =
-        ap₂ (λ t u. if doc.caret == gap then bytes_eq t u else false) (head_shown-stands doc.engine plain.history stands.parts.stands) shown_is
+        ap₂ (λ t u. if doc.caret == left.caret then bytes_eq t u else false) (head_shown-stands doc.engine plain.history stands.parts.stands) shown_is
 
     planned_is : planned doc.view.window lines false ≡ update_of next
     planned_is =
-        ap (λ l. planned doc.view.window l false) (lines_is ∙ ap (λ t. layout t (gap ∷ [])) shown_is) ∙
+        ap (λ l. planned doc.view.window l false) (lines_is ∙ ap (λ t. layout t (left.caret ∷ [])) shown_is) ∙
         ap₂ (λ window pristine. record { ops = update_plan window no_request (layout_of next) []; pristine = pristine }) (sym stands.window)
-        (sym (pristine_next doc plain stands asked gap))
+        (sym (pristine_next doc plain stands history left is.one_more))
 
 -- whether the text is the same, where the parts of the document are at hand
 pub same-inside : (inside doc : Doc) (engine : State) (before now : List ℕ) (gap : ℕ) (same : Bool) → inside ≡ doc → before ≡ head_shown inside.engine →
@@ -280,41 +294,57 @@ same-inside inside doc engine before now gap same is before_is now_is same_is =
     same_is ∙ ap₂ (λ t u. if inside.caret == gap then bytes_eq t u else false) before_is now_is ∙
     ap (λ (d : Doc). is_same_after d engine gap) is
 
--- the scroll of an edit
-pub scroll-settled : (doc : Doc) (plain : Document) (asked : AskedEdit) (taken : Taken) (gap : ℕ) (scroll : Option Position) → DocStandsFor doc plain →
-    IsAfter plain.history asked taken →
-    scroll ≡ scroll_between (position_of (head_shown doc.engine) doc.caret) (position_of (head_shown taken.engine) gap) →
-    scroll ≡ scroll_after plain (edited_document plain asked gap)
-scroll-settled doc plain asked taken gap scroll stands is scroll_is =
+-- the scroll of a revision
+pub scroll-settled : (doc : Doc) (plain : Document) (history : History) (author : ℕ) (taken : Taken) (left : Left) (scroll : Option Position) →
+    DocStandsFor doc plain → IsAfter plain.history history author taken →
+    scroll ≡ scroll_between (position_of (head_shown doc.engine) doc.caret) (position_of (head_shown taken.engine) left.caret) →
+    scroll ≡ scroll_after plain (next_document plain history left)
+scroll-settled doc plain history author taken left scroll stands is scroll_is =
     scroll_is ∙
     ap₂ scroll_between (ap₂ position_of (head_shown-stands doc.engine plain.history stands.parts.stands) stands.caret)
-    (ap (λ t. position_of t gap) (head_shown-stands taken.engine (after plain.history asked) is.stands))
+    (ap (λ t. position_of t left.caret) (head_shown-stands taken.engine history is.stands))
 
 -- the same, where the parts of the document are at hand
 pub scroll-inside : (inside doc : Doc) (next : State) (before now : List ℕ) (gap : ℕ) (was is : Position) → inside ≡ doc → before ≡ head_shown inside.engine →
     now ≡ head_shown next → was ≡ position_of before inside.caret → is ≡ position_of now gap →
     scroll_between was is ≡ scroll_between (position_of (head_shown doc.engine) doc.caret) (position_of (head_shown next) gap)
-scroll-inside inside doc next before now gap was is same before_is now_is was_is is_is =
+scroll-inside inside doc later before now gap was is same before_is now_is was_is is_is =
     ap₂ scroll_between
     (was_is ∙ ap (λ t. position_of t inside.caret) before_is ∙ ap (λ (d : Doc). position_of (head_shown d.engine) d.caret) same)
     (is_is ∙ ap (λ t. position_of t gap) now_is)
 
--- ---- a document in memory where nothing changed
+-- ---- a document in memory where no revision was made
 
-pub DocStandsFor-still : (doc made : Doc) (plain : Document) → DocStandsFor doc plain → made ≡ record doc { view = record doc.view { valid = true } } →
-    DocStandsFor made (settled plain plain)
-DocStandsFor-still doc made plain stands is = subst (λ d. DocStandsFor d (settled plain plain)) (sym is) (by (wants_update plain plain) refl)
+-- what is left of its run, and a view whose front end has the window
+abbrev pub still_doc : Doc → Option Kind → Doc
+still_doc doc kind = record doc { typing = run_on doc.typing kind; view = record doc.view { valid = true } }
+
+pub DocStandsFor-still : (doc made : Doc) (plain : Document) (kind : Option Kind) → DocStandsFor doc plain → made ≡ still_doc doc kind →
+    DocStandsFor made (settled (going_on plain kind) (going_on plain kind))
+DocStandsFor-still doc made plain kind stands is =
+    subst (λ d. DocStandsFor d (settled next next)) (sym is) (by (wants_update plain plain) refl)
   where
+    next : Document
+    next = going_on plain kind
+
     valid_by : (valid : Bool) → not valid ≡ false → screen_by valid plain ≡ shown_lines plain.window no_request (layout_of plain)
     valid_by true is = refl
     valid_by false is = absurd cc
 
-    by : (b : Bool) → wants_update plain plain ≡ b →
-        DocStandsFor (record doc { view = record doc.view { valid = true } }) (if b then updated plain else plain)
+    run_is : run_on doc.typing kind ≡ run_on plain.typing kind
+    run_is = ap (λ typing. run_on typing kind) stands.typing
+
+    agree : Agree plain.history.revisions plain.history.collected plain.groups (run_on plain.typing kind)
+    agree = Agree-still plain.history.revisions plain.history.collected plain.groups plain.typing stands.agree kind
+
+    by : (b : Bool) → wants_update plain plain ≡ b → DocStandsFor (still_doc doc kind) (if b then updated next else next)
     by true wants = record {
       parts = stands.parts;
       limit = stands.limit;
       plugins = stands.plugins;
+      groups = stands.groups;
+      typing = run_is;
+      agree = agree;
       caret = stands.caret;
       saved = stands.saved;
       saved_before = stands.saved_before;
@@ -327,6 +357,9 @@ DocStandsFor-still doc made plain stands is = subst (λ d. DocStandsFor d (settl
       parts = stands.parts;
       limit = stands.limit;
       plugins = stands.plugins;
+      groups = stands.groups;
+      typing = run_is;
+      agree = agree;
       caret = stands.caret;
       saved = stands.saved;
       saved_before = stands.saved_before;

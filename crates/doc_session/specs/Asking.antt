@@ -1,5 +1,5 @@
 -- The edits that a document is asked for, and why one is refused.
-use Rattle.std.specs.Prelude.{ℕ, ◌+◌, List, [], ◌∷◌, Option}
+use Rattle.std.specs.Prelude.{ℕ, List, [], ◌∷◌, Option}
 use Rattle.plain_edits.specs.declared.delta.Delta.{Delta}
 use Rattle.plain_edits.specs.declared.delta.El.TheVariants.{Copy, Insert}
 use Rattle.plain_text.specs.Text.{byte_len, place_of}
@@ -8,6 +8,7 @@ use Rattle.plain_edits.specs.Edits.{Refusal, edit_refusal}
 use Rattle.rev_engine.specs.declared.edit.Edit.{Edit}
 use Rattle.rev_engine.specs.Given.{AskedEdit}
 use Rattle.doc_session.specs.Document.{Document, text_of}
+use Rattle.doc_session.specs.Grouping.{group_by}
 
 -- the priority of the front end's edits
 abbrev pub front_priority : ℕ
@@ -20,26 +21,27 @@ insertion_delta text gap chars = record {
   base_len = byte_len text;
 }
 
--- the insertion of characters at a gap of the head text, against the head; the group of an edit is its revision number
-abbrev pub insertion_at : ℕ → List ℕ → ℕ → List ℕ → AskedEdit
-insertion_at head text gap chars = record {
+-- the insertion of characters at a gap of the head text, against the head, in this group
+abbrev pub insertion_at : ℕ → ℕ → List ℕ → ℕ → List ℕ → AskedEdit
+insertion_at group head text gap chars = record {
   base = head;
   delta = insertion_delta text gap chars;
-  group = head + 1;
+  group = group;
   priority = front_priority;
   author = 0;
 }
 
--- that of the front end, at the caret
-abbrev pub front_edit : Document → List ℕ → AskedEdit
-front_edit document chars = insertion_at (head document.history) (text_of document) document.caret chars
+-- that of the front end, at the caret, which joins a group or opens the next
+abbrev pub front_edit : Document → Option ℕ → List ℕ → AskedEdit
+front_edit document joined chars =
+    insertion_at (group_by document.groups joined) (head document.history) (text_of document) document.caret chars
 
 -- the edit of a plugin, which says itself its base, its delta and its priority
-abbrev pub plugin_edit : Document → ℕ → Edit → AskedEdit
-plugin_edit document caller edit = record {
+abbrev pub plugin_edit : Document → ℕ → Edit → Option ℕ → AskedEdit
+plugin_edit document caller edit joined = record {
   base = edit.rev;
   delta = edit.delta;
-  group = head document.history + 1;
+  group = group_by document.groups joined;
   priority = edit.priority;
   author = caller;
 }

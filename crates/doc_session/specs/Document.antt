@@ -1,17 +1,22 @@
 -- THE PLAIN DOCUMENT: what a document with one view is, by the history of its text.
-use Rattle.std.specs.Prelude.{ℕ, Bool, ◌==◌, List, [], ◌∷◌}
+use Rattle.std.specs.Prelude.{ℕ, Bool, ◌==◌, List, [], ◌∷◌, Option, None}
 use Rattle.plain_text.specs.declared.run.Run.{Run}
 use Rattle.plain_screen.specs.declared.screen.Line.{Line}
 use Rattle.plain_edits.specs.History.{History, head, loaded, text_at}
 use Rattle.doc_session.specs.Layout.{layout, Position, position_of}
 use Rattle.plain_screen.specs.Screen.{Screen}
+use Rattle.undo_groups.specs.Groups.{Groups, no_groups}
+use Rattle.doc_session.specs.declared.typing.Typing.{Typing}
 
--- a document: its history, the most characters that may be inserted after loading, how many plugins there are, its caret as a gap of
--- the head text, the lines that its view shows, the revision that was loaded or last saved, and the screen that its front end has
+-- a document: its history, the most characters that may be inserted after loading, how many plugins there are, its undo groups and its
+-- run of typing, if there is one, its caret as a gap of the head text, the lines that its view shows, the revision that was loaded or
+-- last saved, and the screen that its front end has
 pub record Document : Type 0 where
   pub history : History
   pub limit : ℕ
   pub plugins : ℕ
+  pub groups : Groups
+  pub typing : Option Typing
   pub caret : ℕ
   pub window : Run
   pub saved : ℕ
@@ -43,6 +48,8 @@ loaded_document text plugins limit = record {
   history = loaded text;
   limit = limit;
   plugins = plugins;
+  groups = no_groups;
+  typing = None;
   caret = 0;
   window = first_window;
   saved = 0;

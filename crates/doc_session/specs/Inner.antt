@@ -1,11 +1,13 @@
 -- What private functions say: the steps of an event.
-use Rattle.std.specs.Prelude.{◌≡◌, ℕ, zero, suc, ◌+◌, ◌^◌, ◌<◌, ◌≤◌, Bool, not, false, ◌||◌, if◌then◌else◌, nat_lt, ◌==◌, List, [], ◌∷◌, ◌++◌, length, Option, Some, None}
+use Rattle.std.specs.Prelude.{◌≡◌, ℕ, zero, suc, ◌+◌, ◌^◌, ◌<◌, ◌≤◌, Bool, not, true, false, ◌||◌, if◌then◌else◌, nat_lt, ◌==◌, List, [], ◌∷◌, ◌++◌, length, Option, Some, None, ⊤}
 use Rattle.std.specs.Str.{bytes_eq}
 use Rattle.plain_text.specs.declared.run.Run.{Run}
 use Rattle.plain_text.specs.Lines.{logical_lines}
 use Rattle.plain_text.specs.Text.{byte_len}
+use Rattle.plain_text.specs.Numbers.{has, turned}
 use Rattle.plain_edits.specs.declared.delta.UnitDelta.{UnitDelta}
 use Rattle.plain_edits.specs.History.{History, head, text_at, inserted_count}
+use Rattle.plain_edits.specs.Undo.{undone_now}
 use Rattle.plain_edits.specs.UnitDelta.{IsCanonical, IsUnitDelta}
 use Rattle.plain_screen.specs.declared.screen.Line.{Line}
 use Rattle.plain_screen.specs.declared.screen.Op.{Op}
@@ -19,11 +21,14 @@ use Rattle.rev_engine.specs.declared.edit.UnitEdit.{UnitEdit}
 use Rattle.rev_engine.specs.State.{State, shown_at}
 use Rattle.rev_engine.specs.Engine.{IsChange, IsSaidBy, StandsFor}
 use Rattle.rev_engine.specs.Given.{AskedEdit, MayAsk, after}
+use Rattle.undo_groups.specs.Groups.{Groups, IsStack, is_known}
 use Rattle.doc_session.specs.declared.event.Effects.{Effects}
 use Rattle.doc_session.specs.declared.layout.LayoutWalk.{LayoutWalk}
+use Rattle.doc_session.specs.declared.left.Left.{Left}
 use Rattle.doc_session.specs.declared.taken.Taken.{Taken}
+use Rattle.doc_session.specs.declared.typing.Typing.{Typing}
 use Rattle.doc_session.specs.Asking.{insertion_at}
-use Rattle.doc_session.specs.Document.{no_request}
+use Rattle.doc_session.specs.Document.{Document, no_request}
 use Rattle.doc_session.specs.Effects.{is_same_point, notice_of}
 use Rattle.doc_session.specs.InMemory.{Doc}
 use Rattle.doc_session.specs.Layout.{Position, layout_from}
@@ -71,9 +76,9 @@ pub record IsNoticed (text : List ℕ) (engine : State) (change : Change) (autho
   pub new_len : taken.notice.new_len ≡ byte_len (head_shown engine)
   pub delta : taken.notice.delta ≡ wire_of text change.units
 
--- the insertion of characters at a gap of what the head of a history shows
-abbrev pub insertion_in : History → ℕ → List ℕ → AskedEdit
-insertion_in history gap chars = insertion_at (head history) (text_at history (head history)) gap chars
+-- the insertion of characters at a gap of what the head of a history shows, in this group
+abbrev pub insertion_in : ℕ → History → ℕ → List ℕ → AskedEdit
+insertion_in group history gap chars = insertion_at group (head history) (text_at history (head history)) gap chars
 
 -- what every edit makes of an engine, whatever the history: a change of the head text, and 64 bits count the characters after it
 pub record IsTakenFrom (engine : State) (taken : Taken) : Type 0 where
@@ -81,12 +86,54 @@ pub record IsTakenFrom (engine : State) (taken : Taken) : Type 0 where
   pub counted : length (head_shown taken.engine) < 2 ^ 64
   pub limit : taken.engine.limit ≡ engine.limit
 
--- what an edit makes is that of the history after it: the engine, the change, and the notice of it
-pub record IsAfter (history : History) (asked : AskedEdit) (taken : Taken) : Type 0 where
-  pub stands : StandsFor taken.engine (after history asked)
-  pub within : inserted_count (after history asked) ≤ taken.engine.limit
-  pub changes : IsChange history (after history asked) taken.change
-  pub notice : taken.notice ≡ notice_of history (after history asked) asked.author
+-- what a revision makes is that of the history after it: the engine, the change, and the notice of it
+pub record IsAfter (history next : History) (author : ℕ) (taken : Taken) : Type 0 where
+  pub one_more : head next ≡ head history + 1
+  pub stands : StandsFor taken.engine next
+  pub within : inserted_count next ≤ taken.engine.limit
+  pub changes : IsChange history next taken.change
+  pub notice : taken.notice ≡ notice_of history next author
+
+-- the same of an edit that is asked for
+abbrev pub IsAfterEdit : History → AskedEdit → Taken → Type 0
+IsAfterEdit history asked taken = IsAfter history (after history asked) asked.author taken
+
+-- ---- undo groups
+
+-- the group is named, and the stack knows it
+abbrev pub known_group : Groups → Option ℕ → Option ℕ
+known_group groups None = None
+known_group groups (Some group) = if is_known groups group then Some group else None
+
+-- a live group is undone or given back, and nothing else changes
+pub record IsTurned (before next : Groups) (group : ℕ) : Type 0 where
+  pub sound : IsStack next
+  pub is_live : has before.live group ≡ true
+  pub undone : next.undone ≡ turned before.undone group
+  pub live : next.live ≡ before.live
+  pub retired : next.retired ≡ before.retired
+  pub given : next.given ≡ before.given
+
+-- so it is with the group that an undo or a redo takes, where there is one
+abbrev pub IsMoved : Groups → Groups → Option ℕ → Type 0
+IsMoved before next None = ⊤
+IsMoved before next (Some group) = IsTurned before next group
+
+-- a revision may be made in this group: it counts from 1 and is not collected; and it is not undone
+pub record IsOpenGroup (revisions : History) (group : ℕ) : Type 0 where
+  pub counts : 1 ≤ group
+  pub kept : has revisions.collected group ≡ false
+  pub shown : has (undone_now revisions) group ≡ false
+
+-- what is left of a run: all of it, or nothing
+abbrev pub IsLeftOf : Option Typing → Option Typing → Type 0
+IsLeftOf typing None = ⊤
+IsLeftOf typing (Some run) = typing ≡ Some run
+
+-- the document with this history, and its groups, run and caret as they were left
+abbrev pub next_document : Document → History → Left → Document
+next_document document history left =
+    record document { history = history; groups = left.stack; typing = left.typing; caret = left.caret }
 
 -- the whole text is kept, where there is any
 abbrev pub all_kept : ℕ → List Run

@@ -1,4 +1,6 @@
 pub mod Layout
+pub mod Typing
+pub mod Grouping
 pub mod Document
 pub mod Asking
 pub mod SameLayout
@@ -6,6 +8,7 @@ pub mod Effects
 pub mod PositionView
 pub mod Step
 pub mod Fault
+pub mod Agree
 pub mod Whole
 pub mod InMemory
 pub mod Stands

@@ -4,14 +4,19 @@ use Rattle.plain_edits.specs.History.{head}
 use Rattle.plain_screen.specs.Plan.{is_within, shown_lines}
 use Rattle.doc_session.specs.InMemory.{Doc}
 use Rattle.doc_session.specs.Document.{Document, layout_of, no_request}
+use Rattle.doc_session.specs.Agree.{Agree}
 use Rattle.doc_session.specs.Whole.{IsStateOf}
 
--- the document in memory stands for the plain one: they have the same history, limit, plugins, caret, saved revision, layout and window,
--- which shows the first line, and the front end's screen is as the last update left it, or empty where there was none
+-- the document in memory stands for the plain one: they have the same history, limit, plugins, undo groups, which agree with the history,
+-- run of typing, caret, saved revision, layout and window, which shows the first line, and the front end's screen is as the last update
+-- left it, or empty where there was none
 pub record DocStandsFor (doc : Doc) (plain : Document) : Type 0 where
   pub parts : IsStateOf plain.history doc.engine doc.caret
   pub limit : doc.engine.limit ≡ plain.limit
   pub plugins : doc.plugins ≡ plain.plugins
+  pub groups : doc.groups ≡ plain.groups
+  pub typing : doc.typing ≡ plain.typing
+  pub agree : Agree plain.history.revisions plain.history.collected plain.groups plain.typing
   pub caret : doc.caret ≡ plain.caret
   pub saved : doc.saved ≡ plain.saved
   pub saved_before : plain.saved ≤ head plain.history

@@ -5,16 +5,16 @@ use xi_plain::{EditAct, Notice};
 /// What happens to a document.
 #[derive(Drop)]
 pub enum Event {
-    /// The front end edits its view.
+    /// The front end edits its view, or undoes or redoes a group.
     Front(EditAct),
-    /// The plugin with this number, from 1, edits the text. The edit's group and author are those that the document gives it, and
-    /// the group that the plugin names is passed over.
+    /// The plugin with this number, from 1, edits the text. The edit's group and author are those that the document gives it: it
+    /// joins the group that the plugin names, where that counts from 1, has an edit and is not collected, and else opens the next.
     Edit {
         caller: u32,
         edit: Edit,
         named: Option<u64>,
     },
-    /// A line that changes nothing, as the one that opens the view.
+    /// A line of the front end that is none of this document's, or the one that opens its view: it ends the run of typing.
     Other,
 }
 

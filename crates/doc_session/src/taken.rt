@@ -1,17 +1,20 @@
 // What an edit makes, on a copy of the engine.
-ghost use Rattle.std.specs.Prelude.{◌≡◌, ◌^◌, ◌<◌, None, IfOk, IfErr, OnOk, length};
-ghost use Rattle.plain_edits.specs.Edits.{edit_refusal};
-ghost use Rattle.plain_edits.specs.History.{History};
+ghost use Rattle.std.specs.Prelude.{◌≡◌, ◌^◌, ◌<◌, ◌≤◌, [], ◌∷◌, None, IfOk, IfErr, OnOk, length};
+ghost use Rattle.plain_edits.specs.Edits.{edit_refusal, undid};
+ghost use Rattle.plain_edits.specs.History.{History, inserted_count};
 ghost use Rattle.plain_edits.specs.UnitDelta.{IsCanonical};
-ghost use Rattle.rev_engine.specs.Engine.{IsSaidBy, StandsFor, asked_by};
+ghost use Rattle.rev_list.specs.Edit.{undone_by};
+ghost use Rattle.rev_engine.specs.Asked.{MayAskUndo};
+ghost use Rattle.rev_undo.specs.Under.{AgreesOnCollected};
+ghost use Rattle.rev_engine.specs.Engine.{IsChange, IsSaidBy, StandsFor, asked_by};
 ghost use Rattle.rev_engine.specs.Given.{AskedEdit, MayAsk};
 ghost use Rattle.doc_session.specs.Fault.{DocRefuses};
-ghost use Rattle.doc_session.specs.Inner.{IsAfter, IsChangeOf, IsNoticed, IsSaidOfSome, IsTakenFrom, StandsForSome, head_shown};
+ghost use Rattle.doc_session.specs.Inner.{IsAfter, IsAfterEdit, IsChangeOf, IsNoticed, IsSaidOfSome, IsTakenFrom, StandsForSome, head_shown};
 
 use crate::fault::DocFault;
 use crate::wire::to_wire;
 use plain_text::{NoMemory, Text};
-use rev_engine::{Change, Edit, Engine, UnitEdit};
+use rev_engine::{Change, Edit, Engine, UndoFault, UnitEdit};
 use rope_tree::Rope;
 use std::alloc::Global;
 use xi_plain::Notice;
@@ -28,7 +31,7 @@ pub(crate) struct Taken {
 pub(crate) fn taken_by(alloc: Global, engine: &Engine, edit: &Edit) -> Result<Taken, DocFault>
     requires may { MayAsk engine.now.revisions edit.now.group }
     requires some { StandsForSome engine.now }
-    ensures taken { (history : History) → StandsFor engine.now history → IfOk result (IsAfter history (asked_by edit.now)) }
+    ensures taken { (history : History) → StandsFor engine.now history → IfOk result (IsAfterEdit history (asked_by edit.now)) }
     ensures made { IfOk result (IsTakenFrom engine.now) }
     ensures accepted { (history : History) → StandsFor engine.now history
         → OnOk result (edit_refusal history engine.now.limit edit.now.rev edit.now.delta ≡ None) }
@@ -47,7 +50,7 @@ pub(crate) fn taken_head(alloc: Global, engine: &Engine, edit: UnitEdit) -> Resu
     requires base { edit.units.base ≡ length (head_shown engine.now) }
     requires some { IsSaidOfSome engine.now edit }
     ensures taken { (history : History) (asked : AskedEdit) → StandsFor engine.now history → IsSaidBy history edit asked
-        → IfOk result (IsAfter history asked) }
+        → IfOk result (IsAfterEdit history asked) }
     ensures made { IfOk result (IsTakenFrom engine.now) }
     ensures accepted { (history : History) (asked : AskedEdit) → StandsFor engine.now history → IsSaidBy history edit asked
         → OnOk result (edit_refusal history engine.now.limit asked.base asked.delta ≡ None) }
@@ -58,6 +61,36 @@ pub(crate) fn taken_head(alloc: Global, engine: &Engine, edit: UnitEdit) -> Resu
     let mut next = engine.copy(alloc)?;
     let change = next.edit_head(alloc, edit)?;
     Ok(noticed(alloc, engine.head_rope(), next, change, author)?)
+}
+
+/// Undoes a group, or gives it back where it is undone. No group may be collected at which that would differ from the head.
+pub(crate) fn taken_turn(alloc: Global, engine: &Engine, group: u64) -> Result<Taken, NoMemory>
+    requires may { MayAskUndo engine.now.revisions (undone_by engine.now.revisions (group ∷ [])) }
+    requires agrees { AgreesOnCollected engine.now.revisions (undone_by engine.now.revisions (group ∷ [])) }
+    requires some { StandsForSome engine.now }
+    ensures taken { (history : History) → StandsFor engine.now history → inserted_count history ≤ engine.now.limit
+        → IfOk result (IsAfter history (undid history (undone_by history (group ∷ []))) 0) }
+    ensures made { IfOk result (IsTakenFrom engine.now) }
+{
+    let mut next = engine.copy(alloc)?;
+    let change = turn(alloc, &mut next, group)?;
+    Ok(noticed(alloc, engine.head_rope(), next, change, 0)?)
+}
+
+fn turn(alloc: Global, engine: &mut Engine, group: u64) -> Result<Change, NoMemory>
+    requires may { MayAskUndo engine.old.revisions (undone_by engine.old.revisions (group ∷ [])) }
+    requires agrees { AgreesOnCollected engine.old.revisions (undone_by engine.old.revisions (group ∷ [])) }
+    ensures stands { (history : History) → StandsFor engine.old history
+        → OnOk result (StandsFor engine.new (undid history (undone_by history (group ∷ [])))) }
+    ensures change { (history : History) → StandsFor engine.old history
+        → IfOk result (IsChange history (undid history (undone_by history (group ∷ [])))) }
+    ensures limit { engine.new.limit ≡ engine.old.limit }
+{
+    match engine.set_undone_by(alloc, &[group]) {
+        Ok(change) => Ok(change),
+        Err(UndoFault::NoMemory) => Err(NoMemory),
+        Err(UndoFault::Frozen(_)) => unreachable!(),
+    }
 }
 
 // The engine after a change of this text, and the notice of it.

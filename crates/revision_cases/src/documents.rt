@@ -15,7 +15,7 @@ use std::marker::Brand;
 use std::sync::ledger::{Blank, Ledger};
 use xi_plain::{Config, EditAct, Notice};
 
-const CONFIG: Config = Config {
+pub(crate) const CONFIG: Config = Config {
     tab: 4,
     width: 0,
     spaces: false,
@@ -93,7 +93,7 @@ fn counted<L: Ledger>(
     doc.apply(alloc, event, &mut steps)
 }
 
-fn take(alloc: Global, doc: &mut Doc, event: Event) -> Result<Effects, DocFault>
+pub(crate) fn take(alloc: Global, doc: &mut Doc, event: Event) -> Result<Effects, DocFault>
     requires { HasCaller doc.old.plugins event }
     ensures { doc.new.plugins ≡ doc.old.plugins }
 {

@@ -17,4 +17,6 @@ mod revisions;
 #[cfg(test)]
 mod stacks;
 #[cfg(test)]
+mod steps;
+#[cfg(test)]
 mod undos;

@@ -1,11 +1,12 @@
-use Rattle.std.proofs.Common.{◌≡◌, ◌≤◌, List, ℕ, None, refl, ap, sym, ◌∙◌, subst, arith}
+use Rattle.std.proofs.Common.{◌≡◌, ◌≤◌, List, ℕ, None, ap, sym, ◌∙◌, subst, arith}
 use Rattle.plain_edits.specs.Edits.{edit_refusal}
 use Rattle.plain_edits.specs.History.{History, inserted_count}
 use Rattle.rev_engine.specs.Engine.{StandsFor, asked_by}
-use Rattle.rev_engine.specs.Given.{MayAsk, after}
+use Rattle.plain_edits.specs.HistorySteps.{edits}
+use Rattle.rev_engine.specs.Given.{MayAsk, after, meant}
 use Rattle.rev_engine.specs.State.{State}
 use Rattle.doc_session.specs.Inner.{IsChangeOf, IsNoticed, head_shown}
-use Rattle.doc_session.proofs.MoveLemmas.{IsAfter-noticed, IsChangeOf-shown, IsTakenFrom-noticed, spent-within}
+use Rattle.doc_session.proofs.MoveLemmas.{IsAfter-noticed, IsChangeOf-shown, head-after, IsTakenFrom-noticed, spent-within}
 use Rattle.doc_session.proofs.taken.taken_by.Goals as goal
 
 pub edit-requires : goal.edit-requires
@@ -16,7 +17,7 @@ pub noticed-requires : goal.noticed-requires
 noticed-requires c =
     let At : List ℕ → Type 0 = λ text. IsChangeOf text (head_shown c.edit.new.self) c.in_ok-change.change.units in
     subst At (sym c.head_rope.ensures.shown)
-    (IsChangeOf-shown c.args.engine.now c.in_ok-next.next c.edit.new.self (asked_by c.args.edit.now) c.in_ok-change.change c.in_ok-next.ensures c.requires.some
+    (IsChangeOf-shown c.args.engine.now c.in_ok-next.next c.edit.new.self (λ h. after h (asked_by c.args.edit.now)) c.in_ok-change.change c.in_ok-next.ensures c.requires.some
     c.in_ok-change.ensures.stands c.in_ok-change.ensures.change)
 
 pub returns-clause-taken : goal.returns-clause-taken
@@ -26,14 +27,14 @@ returns-clause-taken c = λ history stands.
     let within : inserted_count (after history asked) ≤ c.edit.new.self.limit =
     omega (arith, spent-within history c.in_ok-next.next.limit asked (c.in_ok-change.ensures.accepted history was), c.in_ok-change.ensures.limit) in
     let Noticed : List ℕ → Type 0 = λ text. IsNoticed text c.edit.new.self c.in_ok-change.change c.args.edit.now.author c.in_ok-noticed.field-0 in
-    IsAfter-noticed history c.args.engine.now asked c.edit.new.self c.in_ok-change.change c.args.edit.now.author c.in_ok-noticed.field-0 stands
-    (c.in_ok-change.ensures.stands history was) within (c.in_ok-change.ensures.change history was) refl
+    IsAfter-noticed history c.args.engine.now (edits (meant history asked)) c.edit.new.self c.in_ok-change.change c.args.edit.now.author c.in_ok-noticed.field-0 stands
+    (head-after history asked) (c.in_ok-change.ensures.stands history was) within (c.in_ok-change.ensures.change history was)
     (subst Noticed c.head_rope.ensures.shown c.in_ok-noticed.ensures.noticed)
 
 pub returns-clause-made : goal.returns-clause-made
 returns-clause-made c =
     let changes =
-    IsChangeOf-shown c.args.engine.now c.in_ok-next.next c.edit.new.self (asked_by c.args.edit.now) c.in_ok-change.change c.in_ok-next.ensures c.requires.some
+    IsChangeOf-shown c.args.engine.now c.in_ok-next.next c.edit.new.self (λ h. after h (asked_by c.args.edit.now)) c.in_ok-change.change c.in_ok-next.ensures c.requires.some
     c.in_ok-change.ensures.stands c.in_ok-change.ensures.change in
     IsTakenFrom-noticed c.args.engine.now c.edit.new.self c.head_rope.result.now c.in_ok-change.change c.args.edit.now.author c.in_ok-noticed.field-0
     c.in_ok-noticed.ensures.noticed changes c.in_ok-noticed.ensures.counted (c.in_ok-change.ensures.limit ∙ ap (λ (e : State). e.limit) c.in_ok-next.ensures)

@@ -1,10 +1,11 @@
 use Rattle.std.proofs.Common.{◌≤◌, List, ℕ, length, ap, sym, ◌∙◌, subst, arith}
 use Rattle.plain_edits.specs.History.{History, inserted_count}
 use Rattle.rev_engine.specs.Engine.{StandsFor}
-use Rattle.rev_engine.specs.Given.{MayAsk, after}
+use Rattle.plain_edits.specs.HistorySteps.{edits}
+use Rattle.rev_engine.specs.Given.{MayAsk, after, meant}
 use Rattle.rev_engine.specs.State.{State}
 use Rattle.doc_session.specs.Inner.{IsChangeOf, IsNoticed, head_shown}
-use Rattle.doc_session.proofs.MoveLemmas.{IsAfter-noticed, IsChangeOf-said, IsTakenFrom-noticed, spent-within}
+use Rattle.doc_session.proofs.MoveLemmas.{IsAfter-noticed, IsChangeOf-said, head-after, IsTakenFrom-noticed, spent-within}
 use Rattle.doc_session.proofs.taken.taken_head.Goals as goal
 
 pub edit_head-requires-clause-may : goal.edit_head-requires-clause-may
@@ -26,10 +27,12 @@ returns-clause-taken c = λ history asked stands said.
     let was = subst (λ (e : State). StandsFor e history) (sym c.in_ok-next.ensures) stands in
     let within : inserted_count (after history asked) ≤ c.edit_head.new.self.limit =
     omega (arith, spent-within history c.in_ok-next.next.limit asked (c.in_ok-change.ensures.accepted history asked was said), c.in_ok-change.ensures.limit) in
-    let Noticed : List ℕ → Type 0 = λ text. IsNoticed text c.edit_head.new.self c.in_ok-change.change c.args.edit.author c.in_ok-noticed.field-0 in
-    IsAfter-noticed history c.args.engine.now asked c.edit_head.new.self c.in_ok-change.change c.args.edit.author c.in_ok-noticed.field-0 stands
-    (c.in_ok-change.ensures.stands history asked was said) within (c.in_ok-change.ensures.change history asked was said) (sym said.author)
-    (subst Noticed c.head_rope.ensures.shown c.in_ok-noticed.ensures.noticed)
+    let Noticed : List ℕ → Type 0 = λ text. IsNoticed text c.edit_head.new.self c.in_ok-change.change asked.author c.in_ok-noticed.field-0 in
+    IsAfter-noticed history c.args.engine.now (edits (meant history asked)) c.edit_head.new.self c.in_ok-change.change asked.author c.in_ok-noticed.field-0 stands
+    (head-after history asked) (c.in_ok-change.ensures.stands history asked was said) within (c.in_ok-change.ensures.change history asked was said)
+    (subst Noticed c.head_rope.ensures.shown
+    (subst (λ author. IsNoticed c.head_rope.result.now c.edit_head.new.self c.in_ok-change.change author c.in_ok-noticed.field-0) (sym said.author)
+    c.in_ok-noticed.ensures.noticed))
 
 pub returns-clause-made : goal.returns-clause-made
 returns-clause-made c =

@@ -1,0 +1,61 @@
+-- What an undo and a redo make of the groups of a document, and what a step leaves beside the screen.
+use Rattle.std.proofs.Common.{◌≡◌, ℕ, ◌+◌, ◌-◌, ◌<◌, ◌≤◌, Bool, true, false, if◌then◌else◌, ◌==◌, List, length, Some, None, refl, ap, ◌∙◌, arith}
+use Rattle.std.specs.Prelude.{slice_index}
+use Rattle.std.proofs.lemmas.Bool.{eq-eqb, ne_eqb}
+use Rattle.std.proofs.lemmas.List.{length_push}
+use Rattle.plain_text.specs.Numbers.{with_number}
+use Rattle.plain_edits.specs.Edits.{undid}
+use Rattle.plain_edits.specs.History.{History, head, undo, undone}
+use Rattle.plain_edits.specs.Undo.{undone_now}
+use Rattle.plain_edits.proofs.callers.HistoryLemmas.{undone-undo}
+use Rattle.undo_groups.specs.Groups.{Groups, after_opening, next_redo, next_undo, undone_one, groups_of}
+use Rattle.doc_session.specs.Document.{Document}
+use Rattle.doc_session.specs.Effects.{settled, updated, wants_update}
+
+-- ---- what is told leaves everything but the screen
+
+pub part-settled : {X : Type 0} (f : Document → X) (before after : Document) → f (updated after) ≡ f after → f (settled before after) ≡ f after
+part-settled {X} f before after same = by (wants_update before after)
+  where
+    by : (b : Bool) → f (if b then updated after else after) ≡ f after
+    by true = same
+    by false = refl
+
+-- ---- undid
+
+pub head-undid : (h : History) (groups : List ℕ) → head (undid h groups) ≡ head h + 1
+head-undid h groups = length_push h.revisions (undo groups)
+
+pub undone_now-undid : (h : History) (groups : List ℕ) → undone_now (undid h groups) ≡ groups
+undone_now-undid h groups = ap (undone (undid h groups).revisions) (head-undid h groups) ∙ undone-undo h.revisions groups
+
+-- ---- the groups
+
+pub some_undo : (s : Groups) → 0 < s.index → next_undo s ≡ Some (slice_index s.live (s.index - 1))
+some_undo s some =
+    ap (λ b. if b then None else Some (slice_index s.live (s.index - 1))) (ne_eqb s.index 0 (λ none. omega (arith, none, some)))
+
+pub undone_one-some : (s : Groups) → 0 < s.index →
+    undone_one s ≡ groups_of s.live (s.index - 1) s.retired (with_number s.undone (slice_index s.live (s.index - 1))) s.given
+undone_one-some s some =
+    ap (λ b. if b then s else groups_of s.live (s.index - 1) s.retired (with_number s.undone (slice_index s.live (s.index - 1))) s.given)
+    (ne_eqb s.index 0 (λ none. omega (arith, none, some)))
+
+pub undone-undone_one : (s : Groups) (group : ℕ) → next_undo s ≡ Some group → (undone_one s).undone ≡ with_number s.undone group
+undone-undone_one s group is = by (s.index == 0) is
+  where
+    by : (none : Bool) → (if none then None else Some (slice_index s.live (s.index - 1))) ≡ Some group →
+        (if none then s else groups_of s.live (s.index - 1) s.retired (with_number s.undone (slice_index s.live (s.index - 1))) s.given).undone ≡
+        with_number s.undone group
+    by true is = absurd cc
+    by false is = let same : slice_index s.live (s.index - 1) ≡ group = cc in ap (with_number s.undone) same
+
+pub next_redo-undone : (s : Groups) → 0 < s.index → s.index ≤ length s.live → next_redo (undone_one s) ≡ Some (slice_index s.live (s.index - 1))
+next_redo-undone s some reached =
+    ap next_redo (undone_one-some s some) ∙
+    ap (λ b. if b then None else Some (slice_index s.live (s.index - 1))) (ne_eqb (s.index - 1) (length s.live) (λ all. omega (arith, all, some, reached)))
+
+pub next_redo-opened : (s : Groups) → next_redo (after_opening s) ≡ None
+next_redo-opened s =
+    let after = after_opening s in
+    ap (λ b. if b then None else Some (slice_index after.live after.index)) (eq-eqb after.index (length after.live) refl)

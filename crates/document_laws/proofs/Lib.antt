@@ -1,0 +1,4 @@
+pub mod GroupLemmas
+pub mod RunLemmas
+pub mod TypingLemmas
+pub mod RedoLemmas

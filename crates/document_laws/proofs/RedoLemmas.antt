@@ -1,0 +1,135 @@
+-- Undo and redo after one another, and how many undos there are.
+use Rattle.std.proofs.Common.{◌≡◌, ℕ, zero, suc, ◌+◌, ◌-◌, ◌<◌, ◌≤◌, true, false, if◌then◌else◌, [], ◌∷◌, ◌++◌, length, take, drop, Some, None, refl, ap, ap₂, sym, ◌∙◌, inl, inr, arith}
+use Rattle.std.specs.Prelude.{slice_index}
+use Rattle.std.proofs.lemmas.Bool.{cases_lt, or_cases, eq-eqb}
+use Rattle.std.proofs.lemmas.List.{take-append-drop, take_more, drop_more}
+use Rattle.plain_text.specs.Numbers.{has, with_number}
+use Rattle.number_set.proofs.ForCallers.{has-append, has-one, has-own, has-take, no, parted}
+use Rattle.plain_edits.specs.Edits.{undid}
+use Rattle.plain_edits.specs.History.{head, text_at, IsSound}
+use Rattle.plain_edits.specs.Undo.{undone_now}
+use Rattle.plain_edits.proofs.callers.HistoryLemmas.{text_at-undid_back}
+use Rattle.undo_groups.specs.Groups.{Groups, IsStack, next_redo, next_undo, redone_one, undone_one}
+use Rattle.undo_groups.specs.Laws.{RedoTakesUndoBack as StackLaw}
+use Rattle.doc_session.specs.Document.{Document, text_of}
+use Rattle.doc_session.specs.Effects.{settled}
+use Rattle.doc_session.specs.Step.{going_on, history_step, undone_document}
+use Rattle.doc_session.proofs.ForCallers.{IsLast-next_undo, has-next_undo}
+use Rattle.document_laws.specs.Laws.{IsNewestLeft, NewGroupEndsRedo, after_event, after_redo, after_undo, after_undos}
+use Rattle.document_laws.proofs.GroupLemmas.{head-undid, next_redo-opened, next_redo-undone, part-settled, some_undo, undone-undone_one, undone_now-undid, undone_one-some}
+
+-- the document after an undo, where there is one
+after_undo-some : (d : Document) (group : ℕ) → next_undo d.groups ≡ Some group → after_undo d ≡ settled d (undone_document d (undone_one d.groups))
+after_undo-some d group found = ap (λ o. (history_step d o (undone_one d.groups)).document) found
+
+after_redo-some : (d : Document) (group : ℕ) → next_redo d.groups ≡ Some group → after_redo d ≡ settled d (undone_document d (redone_one d.groups))
+after_redo-some d group found = ap (λ o. (history_step d o (redone_one d.groups)).document) found
+
+pub redo_after_undo : (d : Document) → StackLaw → IsSound d.history → undone_now d.history ≡ d.groups.undone → IsStack d.groups → 0 < d.groups.index →
+    (text_of (after_redo (after_undo d)) ≡ text_of d) × ((after_redo (after_undo d)).groups ≡ d.groups)
+redo_after_undo d law sound undone stack some =
+    let s = d.groups in
+    let group = slice_index s.live (s.index - 1) in
+    let next = undone_document d (undone_one s) in
+    let d1 = after_undo d in
+    let is1 : d1 ≡ settled d next = after_undo-some d group (some_undo s some) in
+    let groups1 : d1.groups ≡ undone_one s = ap (λ (x : Document). x.groups) is1 ∙ part-settled (λ (x : Document). x.groups) d next refl in
+    let history1 : d1.history ≡ undid d.history (undone_one s).undone = ap (λ (x : Document). x.history) is1 ∙ part-settled (λ (x : Document). x.history) d next refl in
+    let found : next_redo d1.groups ≡ Some group = ap next_redo groups1 ∙ next_redo-undone s some stack.reached in
+    let next2 = undone_document d1 (redone_one d1.groups) in
+    let is2 : after_redo d1 ≡ settled d1 next2 = after_redo-some d1 group found in
+    let back : redone_one d1.groups ≡ s = ap redone_one groups1 ∙ law s stack some in
+    let history2 : (after_redo d1).history ≡ undid (undid d.history (undone_one s).undone) (undone_now d.history) =
+    ap (λ (x : Document). x.history) is2 ∙ part-settled (λ (x : Document). x.history) d1 next2 refl ∙
+    ap₂ (λ h (g : Groups). undid h g.undone) history1 back ∙ ap (undid (undid d.history (undone_one s).undone)) (sym undone) in
+    let once = undid d.history (undone_one s).undone in
+    let heads : head (undid once (undone_now d.history)) ≡ head d.history + 2 =
+    omega (arith, head-undid once (undone_now d.history), head-undid d.history (undone_one s).undone) in (
+      ap (λ h. text_at h (head h)) history2 ∙ ap (text_at (undid once (undone_now d.history))) heads ∙ text_at-undid_back d.history (undone_one s).undone sound,
+      ap (λ (x : Document). x.groups) is2 ∙ part-settled (λ (x : Document). x.groups) d1 next2 refl ∙ back,
+    )
+
+pub new_group_ends_redo : NewGroupEndsRedo
+new_group_ends_redo plain event opened =
+    let d = after_event plain event in
+    let none : next_redo d.groups ≡ None = ap next_redo opened ∙ next_redo-opened plain.groups in (
+      none,
+      ap (λ o. (history_step d o (redone_one d.groups)).document.history) none ∙
+          part-settled (λ (x : Document). x.history) (going_on d None) (going_on d None) refl,
+    )
+
+-- the newest that is left
+pub newest_left : (d : Document) (group : ℕ) → undone_now d.history ≡ d.groups.undone → IsStack d.groups → next_undo d.groups ≡ Some group → IsNewestLeft d group
+newest_left d group undone stack found = record {
+  is_live = has-take s.index s.live group there;
+  is_done = ap (λ us. has us group) undone ∙ stack.done group there;
+  is_last = λ other live done. last other live (ap (λ us. has us other) (sym undone) ∙ done);
+}
+  where
+    s : Groups
+    s = d.groups
+
+    there : has (take s.index s.live) group ≡ true
+    there = has-next_undo s group stack found
+
+    last : (other : ℕ) → has s.live other ≡ true → has s.undone other ≡ false → other ≤ group
+    last other live done =
+        let is = IsLast-next_undo s group found in
+        let some = is.some in
+        let back : s.index - 1 + 1 ≡ s.index = omega (arith, some) in
+        let inside : s.index - 1 < length s.live = omega (arith, some, stack.reached) in
+        let front : take s.index s.live ≡ take (s.index - 1) s.live ++ group ∷ [] =
+        ap (λ i. take i s.live) (sym back) ∙ take_more s.live (s.index - 1) 0 inside ∙ ap (λ g. take (s.index - 1) s.live ++ g ∷ []) is.is in
+        let rest : drop (s.index - 1) s.live ≡ group ∷ drop (s.index - 1 + 1) s.live =
+        drop_more s.live (s.index - 1) 0 inside ∙ ap (λ g. g ∷ drop (s.index - 1 + 1) s.live) is.is in
+        let own : has (drop (s.index - 1) s.live) group ≡ true = ap (λ xs. has xs group) rest ∙ has-own group (drop (s.index - 1 + 1) s.live) in
+        elim (or_cases (has (take s.index s.live) other) (has (drop s.index s.live) other)
+        (sym (has-append (take s.index s.live) (drop s.index s.live) other) ∙ ap (λ xs. has xs other) (take-append-drop s.index s.live) ∙ live)) [
+          | inl before ↦ elim (or_cases (has (take (s.index - 1) s.live) other) (has (group ∷ []) other)
+              (sym (has-append (take (s.index - 1) s.live) (group ∷ []) other) ∙ ap (λ xs. has xs other) (sym front) ∙ before)) [
+                | inl earlier ↦ omega (arith, parted (s.index - 1) s.live other group stack.live_rise earlier own)
+                | inr same ↦ omega (arith, has-one group other same)
+              ]
+          | inr undone_there ↦ no (has s.undone other) (stack.taken_back other undone_there) done
+        ]
+
+pub undone_newest : (d : Document) (group : ℕ) → undone_now d.history ≡ d.groups.undone → next_undo d.groups ≡ Some group →
+    undone_now (after_undo d).history ≡ with_number (undone_now d.history) group
+undone_newest d group undone found =
+    let next = undone_document d (undone_one d.groups) in
+    ap (λ (x : Document). undone_now x.history) (after_undo-some d group found) ∙ part-settled (λ (x : Document). undone_now x.history) d next refl ∙
+    undone_now-undid d.history (undone_one d.groups).undone ∙ undone-undone_one d.groups group found ∙ ap (λ us. with_number us group) (sym undone)
+
+-- ---- how many undos there are
+
+-- each makes a revision and leaves one fewer, or does neither
+measure : (d : Document) → head (after_undo d).history + (after_undo d).groups.index ≡ head d.history + d.groups.index
+measure d =
+    elim (cases_lt 0 d.groups.index) [
+      | inl some ↦ taken some
+      | inr none ↦ at_end (omega (arith, none))
+    ]
+  where
+    taken : 0 < d.groups.index → head (after_undo d).history + (after_undo d).groups.index ≡ head d.history + d.groups.index
+    taken some =
+        let s = d.groups in
+        let next = undone_document d (undone_one s) in
+        let is = after_undo-some d (slice_index s.live (s.index - 1)) (some_undo s some) in
+        let heads : head (after_undo d).history ≡ head d.history + 1 =
+        ap (λ (x : Document). head x.history) is ∙ part-settled (λ (x : Document). head x.history) d next refl ∙ head-undid d.history (undone_one s).undone in
+        let index : (after_undo d).groups.index ≡ s.index - 1 =
+        ap (λ (x : Document). x.groups.index) is ∙ part-settled (λ (x : Document). x.groups.index) d next refl ∙ ap (λ (g : Groups). g.index) (undone_one-some s some) in
+        omega (arith, heads, index, some)
+
+    at_end : d.groups.index ≡ 0 → head (after_undo d).history + (after_undo d).groups.index ≡ head d.history + d.groups.index
+    at_end none =
+        let still = going_on d None in
+        let found : next_undo d.groups ≡ None =
+        ap (λ b. if b then None else Some (slice_index d.groups.live (d.groups.index - 1))) (eq-eqb d.groups.index 0 none) in
+        let is : after_undo d ≡ settled still still = ap (λ o. (history_step d o (undone_one d.groups)).document) found in
+        ap₂ (λ a b. a + b) (ap (λ (x : Document). head x.history) is ∙ part-settled (λ (x : Document). head x.history) still still refl)
+        (ap (λ (x : Document). x.groups.index) is ∙ part-settled (λ (x : Document). x.groups.index) still still refl)
+
+pub head-undos : (n : ℕ) (d : Document) → head (after_undos n d).history ≤ head d.history + d.groups.index
+head-undos zero d = omega arith
+head-undos (suc n) d = omega (arith, head-undos n (after_undo d), measure d)

@@ -1,0 +1,67 @@
+-- Laws of undo and redo, over the steps of a plain document.
+use Rattle.std.specs.Prelude.{◌≡◌, ◌≢◌, ℕ, zero, suc, ◌+◌, ◌<◌, ◌≤◌, true, false, List, [], ◌∷◌, Some, None}
+use Rattle.std.specs.List.{concat}
+use Rattle.plain_text.specs.Numbers.{has, with_number}
+use Rattle.plain_edits.specs.History.{head}
+use Rattle.plain_edits.specs.Undo.{undone_now}
+use Rattle.xi_plain.specs.declared.command.EditAct.TheVariants.{Insert, Undo, Redo}
+use Rattle.undo_groups.specs.Groups.{after_opening, next_redo, next_undo}
+use Rattle.doc_session.specs.declared.event.Event.{Event}
+use Rattle.doc_session.specs.declared.event.Event.TheVariants.{Front}
+use Rattle.doc_session.specs.declared.typing.Kind.TheVariants as Kinds
+use Rattle.doc_session.specs.Document.{Document, text_of}
+use Rattle.doc_session.specs.InMemory.{Doc}
+use Rattle.doc_session.specs.Stands.{DocStandsFor}
+use Rattle.doc_session.specs.Step.{event_step}
+use Rattle.doc_session.specs.Typing.{run_on}
+
+-- the document after an event, after an undo, and after a redo
+abbrev pub after_event : Document → Event → Document
+after_event document event = (event_step document event).document
+
+abbrev pub after_undo : Document → Document
+after_undo document = after_event document (Front Undo)
+
+abbrev pub after_redo : Document → Document
+after_redo document = after_event document (Front Redo)
+
+-- after insertions of the front end, one after the other
+abbrev pub after_typing : Document → List (List ℕ) → Document
+after_typing document [] = document
+after_typing document (chars ∷ texts) = after_typing (after_event document (Front (Insert chars))) texts
+
+-- after so many undos
+abbrev pub after_undos : ℕ → Document → Document
+after_undos zero document = document
+after_undos (suc n) document = after_undos n (after_undo document)
+
+-- an undo takes back whole what the front end typed, where no insertion went before: some characters at least, in however many insertions
+abbrev pub UndoTakesRunBack : Type 0
+UndoTakesRunBack = (doc : Doc) (plain : Document) (texts : List (List ℕ)) → DocStandsFor doc plain →
+    run_on plain.typing (Some Kinds.Insert) ≡ None → concat texts ≢ [] → text_of (after_undo (after_typing plain texts)) ≡ text_of plain
+
+-- a redo directly after an undo, where there is one, gives text and groups back
+abbrev pub RedoTakesUndoBack : Type 0
+RedoTakesUndoBack = (doc : Doc) (plain : Document) → DocStandsFor doc plain → 0 < plain.groups.index →
+    (text_of (after_redo (after_undo plain)) ≡ text_of plain) × ((after_redo (after_undo plain)).groups ≡ plain.groups)
+
+-- after an event that opens a group there is nothing to redo, and a redo makes no revision
+abbrev pub NewGroupEndsRedo : Type 0
+NewGroupEndsRedo = (plain : Document) (event : Event) → (after_event plain event).groups ≡ after_opening plain.groups →
+    (next_redo (after_event plain event).groups ≡ None) × ((after_redo (after_event plain event)).history ≡ (after_event plain event).history)
+
+-- the group is live and not undone, and no such group is newer
+pub record IsNewestLeft (document : Document) (group : ℕ) : Type 0 where
+  pub is_live : has document.groups.live group ≡ true
+  pub is_done : has (undone_now document.history) group ≡ false
+  pub is_last : (other : ℕ) → has document.groups.live other ≡ true → has (undone_now document.history) other ≡ false → other ≤ group
+
+-- the group that an undo takes is the newest that is left; it is undone then, and no other besides what was
+abbrev pub UndoTakesNewest : Type 0
+UndoTakesNewest = (doc : Doc) (plain : Document) (group : ℕ) → DocStandsFor doc plain → next_undo plain.groups ≡ Some group →
+    IsNewestLeft plain group × (undone_now (after_undo plain).history ≡ with_number (undone_now plain.history) group)
+
+-- however many undos come, at most twenty make a revision
+abbrev pub StepsAreFew : Type 0
+StepsAreFew = (doc : Doc) (plain : Document) (n : ℕ) → DocStandsFor doc plain →
+    head (after_undos n plain).history ≤ head plain.history + 20

@@ -1,0 +1,30 @@
+//! Laws of the steps of a document. The functions do nothing: their clauses are the laws.
+
+ghost use Rattle.document_laws.specs.Laws.{NewGroupEndsRedo, RedoTakesUndoBack, StepsAreFew, UndoTakesNewest, UndoTakesRunBack};
+
+/// An undo takes a run of typing back whole: however many insertions it has, the text is the one before the first.
+pub fn undo_takes_run_back()
+    ensures { UndoTakesRunBack }
+{}
+
+/// A redo directly after an undo gives the text and the undo groups back.
+pub fn redo_takes_undo_back()
+    ensures { RedoTakesUndoBack }
+{
+    undo_groups::redo_takes_undo_back();
+}
+
+/// After a new group there is nothing to redo.
+pub fn new_group_ends_redo()
+    ensures { NewGroupEndsRedo }
+{}
+
+/// An undo takes the newest group that is left, and no other.
+pub fn undo_takes_newest()
+    ensures { UndoTakesNewest }
+{}
+
+/// However many undos come, at most twenty of them make a revision.
+pub fn steps_are_few()
+    ensures { StepsAreFew }
+{}

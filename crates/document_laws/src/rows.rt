@@ -1,0 +1,13 @@
+//! Worked rows, each the contract of a function: what the definitions give in small cases.
+
+ghost use Rattle.document_laws.specs.Rows.{JoinsUndone, Steps};
+
+/// Insertions that follow each other are one step, and a new line is another.
+pub fn steps()
+    ensures { Steps }
+{}
+
+/// An edit that joins an undone group is hidden on arrival.
+pub fn hidden_on_arrival()
+    ensures { JoinsUndone }
+{}
