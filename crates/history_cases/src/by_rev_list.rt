@@ -22,6 +22,9 @@ use std::alloc::{AllocError, Global};
 use std::collections::BTreeSet;
 use subset_runs::Subset;
 
+/// The groups of which every set is compared.
+const FIRST_GROUPS: [u64; 4] = [1, 2, 3, 4];
+
 /// Takes the last edit of the plain history into the list, where `rebase` puts it, and compares both with the plain history.
 pub fn follow(
     alloc: Global,
@@ -54,15 +57,10 @@ pub fn follow_undo(
     compare(alloc, plain, list)
 }
 
-/// Whether `rev_undo` hides under every set of these groups, four at most, what the plain history does.
-pub fn compare_sets(
-    alloc: Global,
-    plain: &PlainHistory,
-    list: &RevList,
-    groups: &[u64],
-) -> anyhow::Result<()> {
+/// Whether `rev_undo` hides under every set of the first groups what the plain history does.
+fn compare_sets(alloc: Global, plain: &PlainHistory, list: &RevList) -> anyhow::Result<()> {
     for chosen in 0..16_u64 {
-        let some = chosen_of(alloc, groups, chosen)?;
+        let some = chosen_of(alloc, &FIRST_GROUPS, chosen)?;
         compare_set(alloc, plain, list, some.as_slice())?;
     }
     Ok(())
@@ -80,7 +78,7 @@ fn chosen_of(alloc: Global, groups: &[u64], chosen: u64) -> Result<List<u64>, No
 }
 
 /// Whether it hides under this set what the plain history does.
-fn compare_set(
+pub fn compare_set(
     alloc: Global,
     plain: &PlainHistory,
     list: &RevList,
@@ -172,10 +170,11 @@ fn compare_places(alloc: Global, plain: &PlainHistory, made: &Rebased) -> anyhow
     Ok(())
 }
 
-/// Whether the list hides at each revision what the plain history does.
+/// Whether the list hides at each revision, and under every set of the first groups, what the plain history does.
 fn compare(alloc: Global, plain: &PlainHistory, list: &RevList) -> anyhow::Result<()>
     ensures { OnOk result (AgreeUpTo (head plain.now) plain.now list.now) }
 {
+    compare_sets(alloc, plain, list)?;
     let head = plain.head();
     for rev in 0..head {
         compare_at(alloc, plain, list, rev)?;

@@ -231,14 +231,6 @@ impl CaseRun {
         Ok(())
     }
 
-    /// Compares what every set of up to four groups hides at the head.
-    pub fn compare_sets(&self, alloc: Global, groups: &[u64]) -> anyhow::Result<()> {
-        match &self.list {
-            Some(list) => by_rev_list::compare_sets(alloc, &self.plain, list, groups),
-            None => Ok(()),
-        }
-    }
-
     /// Collects groups, or the case says that it is refused. No other body can take it yet.
     pub fn collect(
         &mut self,
@@ -290,7 +282,15 @@ impl CaseRun {
         if shown.as_str() != wanted.as_str() {
             bail!("it would show {shown:?}");
         }
-        Ok(())
+        self.compare_set(alloc, groups.as_slice())
+    }
+
+    /// Compares what the groups hide at the head, where the list is still there.
+    fn compare_set(&self, alloc: Global, groups: &[u64]) -> anyhow::Result<()> {
+        match &self.list {
+            Some(list) => by_rev_list::compare_set(alloc, &self.plain, list, groups),
+            None => Ok(()),
+        }
     }
 }
 

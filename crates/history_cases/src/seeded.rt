@@ -70,8 +70,6 @@ pub fn run_seed(alloc: Global, seed: u64, drawn: &mut Drawn) -> anyhow::Result<C
             _ => list.take_collection(alloc, drawn),
         }
         .context(format_args!("step {number}"))?;
-        list.compare_sets(alloc)
-            .context(format_args!("after step {number}"))?;
     }
     Ok(list.run.count())
 }
@@ -93,16 +91,6 @@ impl Drawing {
             rise(&mut drawn.further_edits, is_further);
         }
         Ok(())
-    }
-
-    /// What every set of the groups hides of which edits are drawn.
-    fn compare_sets(&self, alloc: Global) -> anyhow::Result<()> {
-        let last = last_group(&self.run.plain);
-        let mut groups = List::new(alloc);
-        for group in last.saturating_sub(3)..=last {
-            groups.push(group)?;
-        }
-        self.run.compare_sets(alloc, groups.as_slice())
     }
 
     /// An undo of any set: a group that is not collected is in it or not.
