@@ -40,10 +40,11 @@ pub record AreLinesOf (messages : List Data) (bytes : List ℕ) : Type 0 where
   pub joined : bytes ≡ lines_written messages
   pub each : AllByRecursion (λ message. IsLineOf message (line_of message)) messages
 
--- the line of an update reads back as it, and that of each
+-- the line of an update reads back as it
 abbrev pub ReadsBack : ViewUpdate → Type 0
 ReadsBack told = line_update (line_of (update_data told.view told.update)) ≡ Some (Some told)
 
+-- the line of each of them does
 abbrev pub UpdatesReadBack : List ViewUpdate → Type 0
 UpdatesReadBack updates = AllByRecursion ReadsBack updates
 
