@@ -173,6 +173,7 @@ module _ (engine : State) (text : List ℕ) (rev : ℕ) (fitting : Fitting) (hel
           ap head put.revisions_is,
           head-next engine.revisions (in_positions engine.revisions (in_characters rev fitting.edit)),
         );
+    uncollected = ap (λ (g : History). g.collected) put.revisions_is ∙ held.uncollected;
     shown = shown;
     known = known-after;
     within = is.room.within;

@@ -46,19 +46,11 @@ kept-all h none = count_by-all (λ tagged. not (is_dropped h tagged)) h.characte
     each [] = tt
     each (x ∷ xs) = (ap not (dropped_none h x none), each xs)
 
-none_in : (numbers : List ℕ) → ((n : ℕ) → has numbers n ≡ false) → numbers ≡ []
-none_in [] none = refl
-none_in (n ∷ numbers) none = absurd (both_ways (n == n) (or_first (n == n) (has numbers n) (none n)) (eq-eqb n n refl))
-  where
-    or_first : (a b : Bool) → (a || b) ≡ false → a ≡ false
-    or_first true b is = absurd cc
-    or_first false b is = refl
-
-pub kept-stands : (engine : State) (h : History) (n : ℕ) → StandsFor engine h → ((group : ℕ) → has engine.revisions.collected group ≡ false) →
+pub kept-stands : (engine : State) (h : History) (n : ℕ) → StandsFor engine h → engine.revisions.collected ≡ [] →
     n ≡ length engine.revisions.characters → n ≡ kept h
 kept-stands engine h n stands none is =
     is ∙ (ap (λ g. length g.characters) stands.revisions ∙
-    (length-map h.characters _ ∙ sym (kept-all h (ap (λ (g : History). g.collected) (sym stands.revisions) ∙ none_in engine.revisions.collected none))))
+    (length-map h.characters _ ∙ sym (kept-all h (ap (λ (g : History). g.collected) (sym stands.revisions) ∙ none))))
 
 -- ---- what is shown
 
@@ -234,6 +226,7 @@ IsHeld-loaded text union head_text revisions limit union_is head_is revisions_is
       some = ∣ (loaded text, is) ∣₁;
       positions = sym (length-map (loaded text).characters _ ∙ length-map text _);
       floor = omega arith;
+      uncollected = refl;
       shown = sym (shown_at-start ∙ text_at-loaded text);
       known = tt;
       within = omega arith;

@@ -31,13 +31,13 @@ or_none false true none some = absurd cc
 or_none false false none some = some
 
 -- where no group is collected
-pub MayUndoSet-known : (h : History) (groups : List ℕ) → ((group : ℕ) → has h.collected group ≡ false) → AllByRecursion (IsKnown h) groups →
+pub MayUndoSet-known : (h : History) (groups : List ℕ) → h.collected ≡ [] → AllByRecursion (IsKnown h) groups →
     AgreesOnCollected h groups → IsRising groups → MayUndoSet h groups
 MayUndoSet-known h groups none known agrees rising = record {
   allowed = record {
     known =
         AllByRecursion-weaker (IsKnown h) (HasEdit h)
-        (λ group is. (is.0, or_none (list_any (is_edit_of group) h.revisions) (has h.collected group) (none group) is.1)) groups known;
+        (λ group is. (is.0, or_none (list_any (is_edit_of group) h.revisions) (has h.collected group) (ap (λ collected. has collected group) none) is.1)) groups known;
     frozen = agrees;
   };
   rising = rising;
@@ -74,6 +74,7 @@ module _ (union : List ℕ) (revisions : History) (groups : List ℕ) where
       some = some-after union union revisions (undid revisions groups) (λ h. undid h groups) IsHistoryOf-undid held.some;
       positions = held.positions;
       floor = omega (arith, held.floor, head-undid revisions groups);
+      uncollected = held.uncollected;
       shown = shown;
       known =
           subst (λ (set : List ℕ). AllByRecursion (IsKnown (undid revisions groups)) set) (sym (undone_now-undid revisions groups))
@@ -119,7 +120,7 @@ StandsFor-undid_by engine new h groups stands may numbered is =
 -- ---- the same, of what the calls give
 
 -- the set may be undone
-pub may_undo_by : (state now : State) (groups : List ℕ) → state ≡ now → ((group : ℕ) → has state.revisions.collected group ≡ false) →
+pub may_undo_by : (state now : State) (groups : List ℕ) → state ≡ now → state.revisions.collected ≡ [] →
     IsRising (undone_now state.revisions) → MayAskUndo now.revisions (undone_by now.revisions groups) →
     AgreesOnCollected now.revisions (undone_by now.revisions groups) → MayUndoSet state.revisions (undone_by state.revisions groups)
 may_undo_by state now groups view none up may agrees =

@@ -1,4 +1,4 @@
-use Rattle.std.specs.Prelude.{◌≡◌, ℕ, ◌+◌, ◌*◌, ◌^◌, ◌<◌, ◌≤◌, List, length}
+use Rattle.std.specs.Prelude.{◌≡◌, ℕ, ◌+◌, ◌*◌, ◌^◌, ◌<◌, ◌≤◌, List, [], length}
 use Rattle.std.specs.List.{AllByRecursion}
 use Rattle.subset_runs.specs.Subset.{items_outside}
 use Rattle.plain_text.specs.Text.{byte_len}
@@ -29,12 +29,13 @@ pub record IsHistoryOf (union : List ℕ) (revisions history : History) : Type 0
   pub union_is : union ≡ characters_of history
   pub revisions_is : revisions ≡ without_text history
 
--- the parts go together: they are those of some history, the text is what the head shows, what is undone is known, and there are
--- numbers for all characters that may still come, of at most four bytes each
+-- the parts go together: they are those of some history, no group is collected yet, the text is what the head shows, what is undone
+-- is known, and there are numbers for all characters that may still come, of at most four bytes each
 pub record IsHeld (union text : List ℕ) (revisions : History) (limit spent : ℕ) : Type 0 where
   pub some : ∥ ((history : History) × IsHistoryOf union revisions history) ∥₁
   pub positions : length union ≡ length revisions.characters
   pub floor : revisions.floor ≤ head revisions
+  pub uncollected : revisions.collected ≡ []
   pub shown : text ≡ shown_at union revisions (head revisions)
   pub known : AllByRecursion (IsKnown revisions) (undone_now revisions)
   pub within : spent ≤ limit

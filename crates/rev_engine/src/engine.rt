@@ -114,7 +114,6 @@ impl Engine {
     pub fn kept(&self) -> u64
         ensures { (history : History) → StandsFor self.now history → result ≡ kept history }
     {
-        let _none = self.revs.is_collected(0);
         self.revs.union_len()
     }
 
@@ -451,7 +450,6 @@ impl Engine {
         ensures change { (history : History) → IsHistoryOf self.now.union self.now.revisions history
             → IfOk result (λ next. IsChange history (undid history (undone_by self.now.revisions groups.now)) next.change) }
     {
-        let _none = self.revs.is_collected(0);
         let _undone = self.revs.undone();
         let dead = recompute_by(alloc, &self.revs, groups)?;
         let mut revs = self.revs.copy(alloc)?;

@@ -9,7 +9,7 @@ use Rattle.rev_engine.proofs.engine.Engine.next_undo.Goals as goal
 pub push_undo_by-requires-clause-may : goal.push_undo_by-requires-clause-may
 push_undo_by-requires-clause-may c =
     let may =
-    may_undo_by _ c.args.self.now c.args.groups.now c.self.view_is c.is_collected-none.ensures.all
+    may_undo_by _ c.args.self.now c.args.groups.now c.self.view_is c.self.invariant.uncollected
     (rw c.undone-undone.ensures.groups at c.undone-undone.ensures.rising) c.requires.may c.requires.agrees in
     subst (λ (h : History). MayPushUndo h (undone_by h c.args.groups.now) c.in_ok-dead.dead) (sym c.in_ok-revs.ensures)
     (record {
@@ -37,7 +37,7 @@ invariant_of-result c =
 pub returns-clause-may : goal.returns-clause-may
 returns-clause-may c =
     subst (λ (s : State). MayUndoSet s.revisions (undone_by s.revisions c.args.groups.now)) c.self.view_is
-    (may_undo_by _ c.args.self.now c.args.groups.now c.self.view_is c.is_collected-none.ensures.all
+    (may_undo_by _ c.args.self.now c.args.groups.now c.self.view_is c.self.invariant.uncollected
     (rw c.undone-undone.ensures.groups at c.undone-undone.ensures.rising) c.requires.may c.requires.agrees)
 
 pub returns-clause-change : goal.returns-clause-change
