@@ -3,6 +3,8 @@ pub mod WalkLemmas
 pub mod StepLemmas
 pub mod WireLemmas
 pub mod WireLaws
+pub mod ElementsLemmas
+pub mod ElementsLaws
 pub mod UnitLemmas
 pub mod CarryLemmas
 pub mod SynthesisLemmas

@@ -37,7 +37,7 @@ CopyFits-to text end a b els good rest =
     rw (one, two, three, good.start, good.stop) rest
 
 -- the elements fit after a copy that ends at this place or left of it
-abbrev FitFrom : List ℕ → ℕ → List El → Type 0
+abbrev pub FitFrom : List ℕ → ℕ → List El → Type 0
 FitFrom text at els = (end : ℕ) → end ≤ at → copies_misfit text end els ≡ None
 
 FitFrom-text : (text more : List ℕ) (at : ℕ) (els : List El) → FitFrom text at els → FitFrom text at (text_before more els)
@@ -84,19 +84,19 @@ pub record IsCut (text front back : List ℕ) (at : ℕ) : Type 0 where
   pub whole : text ≡ front ++ back
   pub reached : at ≡ byte_len front
 
-place_of-cut : (text front back : List ℕ) (at : ℕ) → IsCut text front back at → is_place text at ≡ true
+pub place_of-cut : (text front back : List ℕ) (at : ℕ) → IsCut text front back at → is_place text at ≡ true
 place_of-cut text front back at cut = rw (cut.whole, cut.reached) (is_place-seam front back)
 
-gap_of-cut : (text front back : List ℕ) (at : ℕ) → IsCut text front back at → gap_of text at ≡ length front
+pub gap_of-cut : (text front back : List ℕ) (at : ℕ) → IsCut text front back at → gap_of text at ≡ length front
 gap_of-cut text front back at cut = rw (cut.whole, cut.reached) (gap_of-seam front back)
 
-IsCut-next : (text front back : List ℕ) (c at : ℕ) → IsCut text front (c ∷ back) at → IsCut text (front ++ c ∷ []) back (at + len_utf8 c)
+pub IsCut-next : (text front back : List ℕ) (c at : ℕ) → IsCut text front (c ∷ back) at → IsCut text (front ++ c ∷ []) back (at + len_utf8 c)
 IsCut-next text front back c at cut = record {
   whole = cut.whole ∙ sym (append_assoc front (c ∷ []) back);
   reached = omega (arith, cut.reached, byte_len-append front (c ∷ []));
 }
 
-CopyFits-cut : (text front back : List ℕ) (c at : ℕ) → IsCut text front (c ∷ back) at → CopyFits text at at (at + len_utf8 c)
+pub CopyFits-cut : (text front back : List ℕ) (c at : ℕ) → IsCut text front (c ∷ back) at → CopyFits text at at (at + len_utf8 c)
 CopyFits-cut text front back c at cut =
     let next = IsCut-next text front back c at cut in
     record {
@@ -107,7 +107,7 @@ CopyFits-cut text front back c at cut =
       stop = place_of-cut text (front ++ c ∷ []) back (at + len_utf8 c) next;
     }
 
-FitFrom-either : (b : Bool) (text : List ℕ) (at next : ℕ) (els : List El) → at < next → CopyFits text at at next → FitFrom text next els →
+pub FitFrom-either : (b : Bool) (text : List ℕ) (at next : ℕ) (els : List El) → at < next → CopyFits text at at next → FitFrom text next els →
     FitFrom text at (if b then copy_before at next els else els)
 FitFrom-either true text at next els less good fit = FitFrom-copy text at next els (omega arith) good fit
 FitFrom-either false text at next els less good fit = λ end low. fit end (omega arith)
@@ -120,7 +120,7 @@ FitFrom-wire k f text front (c ∷ back) gap at cut =
     FitFrom-text text (f gap) at _
     (FitFrom-either (k gap) text at (at + len_utf8 c) (wire_from k f (gap + 1) (at + len_utf8 c) back) (omega arith) (CopyFits-cut text front back c at cut) rest)
 
-IsCut-start : (text : List ℕ) → IsCut text [] text 0
+pub IsCut-start : (text : List ℕ) → IsCut text [] text 0
 IsCut-start text = record { whole = refl; reached = refl }
 
 pub Fits-wire : (k : ℕ → Bool) (f : ℕ → List ℕ) (text : List ℕ) → Fits text (record { els = wire_from k f 0 0 text; base_len = byte_len text })
@@ -162,7 +162,7 @@ placed text at is =
     let found = IsPlaced-from text at is in
     subst (λ (g : ℕ). IsPlaced text at g) (sym found.1.of) found.1
 
-rises : (text : List ℕ) (a b : ℕ) → is_place text a ≡ true → is_place text b ≡ true → a ≤ b → gap_of text a ≤ gap_of text b
+pub rises : (text : List ℕ) (a b : ℕ) → is_place text a ≡ true → is_place text b ≡ true → a ≤ b → gap_of text a ≤ gap_of text b
 rises text a b one two low = gaps_rise text a b (gap_of text a) (gap_of text b) (placed text a one) (placed text b two) low
 
 shown-copy : (text : List ℕ) (a b : ℕ) (els : List El) → a ≢ b → CopyFits text a a b → FitFrom text b els →
@@ -232,18 +232,18 @@ all_dropped gap n text all =
     ap (λ s. text_of_steps s text) (steps_stretch (is_in_runs []) (text_at_gap []) false gap n n (gap + n) 0 (omega arith) refl (λ j low high. refl) (λ j low high. refl)) ∙
     text_of_steps-dropped n [] text (omega arith)
 
-in_run : (from to index : ℕ) (runs : List Run) → from ≤ index → index < to → is_in_runs (run_to from to ∷ runs) index ≡ true
+pub in_run : (from to index : ℕ) (runs : List Run) → from ≤ index → index < to → is_in_runs (run_to from to ∷ runs) index ≡ true
 in_run from to index runs low high =
     let one : nat_le from index ≡ true = grind (arith, nat_tests) in
     let two : nat_lt index to ≡ true = grind (arith, nat_tests) in
     rw (one, two) refl
 
-left_of_run : (from to index : ℕ) (runs : List Run) → index < from → is_in_runs (run_to from to ∷ runs) index ≡ is_in_runs runs index
+pub left_of_run : (from to index : ℕ) (runs : List Run) → index < from → is_in_runs (run_to from to ∷ runs) index ≡ is_in_runs runs index
 left_of_run from to index runs low =
     let one : nat_le from index ≡ false = grind (arith, nat_tests) in
     rw one refl
 
-right_of_run : (from to index : ℕ) (runs : List Run) → to ≤ index → is_in_runs (run_to from to ∷ runs) index ≡ is_in_runs runs index
+pub right_of_run : (from to index : ℕ) (runs : List Run) → to ≤ index → is_in_runs (run_to from to ∷ runs) index ≡ is_in_runs runs index
 right_of_run from to index runs high =
     let two : nat_lt index to ≡ false = grind (arith, nat_tests) in
     rw two (and_false (nat_le from index) (is_in_runs runs index))

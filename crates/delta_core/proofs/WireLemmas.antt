@@ -121,7 +121,7 @@ wire_steps-from k f gap at (c ∷ text) =
 
 -- ---- the delta of the notices, as far as the unit delta was walked
 
-place_split : (text : List ℕ) (n : ℕ) → place_of text n + byte_len (drop n text) ≡ byte_len text
+pub place_split : (text : List ℕ) (n : ℕ) → place_of text n + byte_len (drop n text) ≡ byte_len text
 place_split text zero = omega arith
 place_split [] (suc n) = refl
 place_split (c ∷ text) (suc n) = omega (arith, place_split text n)

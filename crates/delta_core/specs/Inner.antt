@@ -155,6 +155,10 @@ pub record Gathered : Type 0 where
   pub to : ℕ
   pub text : List ℕ
 
+-- the elements and the copy after them, where these are ahead
+abbrev pub with_copy : Gathered → List El → List El
+with_copy w ahead = w.els ++ copy_before w.from w.to ahead
+
 -- all elements, where these are ahead
 abbrev pub whole : Gathered → List El → List El
 whole w ahead = w.els ++ copy_before w.from w.to (text_before w.text ahead)

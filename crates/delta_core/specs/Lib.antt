@@ -1,7 +1,9 @@
 pub mod Units
 pub mod UnitStep
 pub mod Wire
+pub mod Elements
 pub mod Factor
 pub mod Synthesis
 pub mod Carry
 pub mod Inner
+pub mod Rows

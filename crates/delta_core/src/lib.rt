@@ -8,9 +8,12 @@
 
 mod application;
 mod carry;
+mod delta_builder;
+mod delta_form;
 mod factoring;
 mod misfits;
 mod part;
+mod rows;
 mod synthesis;
 mod unit_builder;
 mod unit_form;
@@ -20,6 +23,7 @@ mod wire_form;
 
 pub use application::apply;
 pub use carry::carry_ins;
+pub use delta_form::to_delta;
 pub use factoring::factor;
 pub use misfits::fits;
 pub use part::Part;

@@ -85,7 +85,7 @@ impl WireBuilder {
 }
 
 // Puts a copy at the end, unless it is empty.
-fn put_copy(els: &mut Els, from: u64, to: u64) -> Result<(), NoMemory>
+pub(crate) fn put_copy(els: &mut Els, from: u64, to: u64) -> Result<(), NoMemory>
     requires { from ≤ to }
     ensures put { OnOk result (els.new ≡ els.old ++ copy_before from to []) }
     ensures unchanged { OnErr result (els.new ≡ els.old) }

@@ -3,7 +3,7 @@
 ghost use Rattle.std.specs.Prelude.{◌≡◌, IfOk};
 ghost use Rattle.text_cases.specs.Edit.{edit_of_abc};
 
-use delta_core::{apply, carry_ins, factor, fits, synthesize, to_units, to_wire};
+use delta_core::{apply, carry_ins, factor, fits, synthesize, to_delta, to_units, to_wire};
 use plain_edits::{Added, Adds, Delta, El, Els, Misfit, UnitDelta};
 use plain_text::{NoMemory, Run, Runs, Text};
 use std::alloc::Global;
@@ -63,13 +63,15 @@ fn units(
     Ok(UnitDelta { base, kept, added })
 }
 
-// A delta over a text: its elements, what they are in characters and on the wire again, and the text after it.
+// A delta over a text: its elements, what they are in characters, on the wire again, gap by gap and as in notices, and the text after
+// it.
 #[derive(Clone, Copy)]
 struct Form<'a> {
     text: &'a str,
     els: &'a [Row<'a>],
     runs: &'a [(u64, u64)],
     additions: &'a [(u64, &'a str)],
+    by_gaps: &'a [Row<'a>],
     wire: &'a [Row<'a>],
     after: &'a str,
 }
@@ -82,10 +84,27 @@ fn holds(alloc: Global, form: Form<'_>) -> Result<bool, NoMemory> {
         return Ok(false);
     }
     let in_units = to_units(alloc, &text, &given)?;
-    let wire = to_wire(alloc, &text, &in_units)?;
     let after = apply(alloc, &text, &in_units)?;
-    let wanted = delta(alloc, text.byte_len(), form.wire)?;
-    Ok(after.as_str() == form.after && wire == wanted && are_units(alloc, &in_units, form)?)
+    Ok(
+        after.as_str() == form.after
+            && are_units(alloc, &in_units, form)?
+            && is_written(alloc, &text, &in_units, form)?,
+    )
+}
+
+// Whether the unit delta is on the wire as the form has it.
+fn is_written(
+    alloc: Global,
+    text: &Text,
+    in_units: &UnitDelta,
+    form: Form<'_>,
+) -> Result<bool, NoMemory> {
+    let by_gaps = to_delta(alloc, text, in_units)?;
+    let wire = to_wire(alloc, text, in_units)?;
+    Ok(
+        by_gaps == delta(alloc, text.byte_len(), form.by_gaps)?
+            && wire == delta(alloc, text.byte_len(), form.wire)?,
+    )
 }
 
 // Whether these are the runs and the additions of the form.
@@ -99,6 +118,7 @@ const REPLACED: Form<'static> = Form {
     els: &[Copy(0, 1), Insert("X"), Copy(2, 3)],
     runs: &[(0, 1), (2, 3)],
     additions: &[(1, "X")],
+    by_gaps: &[Copy(0, 1), Insert("X"), Copy(2, 3)],
     wire: &[Copy(0, 1), Insert("X"), Copy(2, 3)],
     after: "aXc",
 };
@@ -108,16 +128,18 @@ const NOTHING: Form<'static> = Form {
     els: &[],
     runs: &[],
     additions: &[],
+    by_gaps: &[],
     wire: &[],
     after: "",
 };
 
-// An empty copy fixes a gap inside a deleted range; the wire has no trace of it.
+// An empty copy fixes a gap inside a deleted range; a notice has no trace of it.
 const EMPTY_COPY: Form<'static> = Form {
     text: "aébc",
     els: &[Copy(0, 1), Copy(3, 3), Insert("X"), Copy(4, 5)],
     runs: &[(0, 1), (3, 4)],
     additions: &[(2, "X")],
+    by_gaps: &[Copy(0, 1), Copy(3, 3), Insert("X"), Copy(4, 5)],
     wire: &[Copy(0, 1), Insert("X"), Copy(4, 5)],
     after: "aXc",
 };
@@ -136,11 +158,12 @@ const SEVERAL: Form<'static> = Form {
     ],
     runs: &[(0, 2)],
     additions: &[(0, "XY"), (2, "Z")],
+    by_gaps: &[Copy(0, 0), Insert("XY"), Copy(0, 5), Insert("Z")],
     wire: &[Insert("XY"), Copy(0, 5), Insert("Z")],
     after: "XYa𝄞Z",
 };
 
-// An insertion between two kept neighbours parts them on the wire, and insertions round a dropped character are one.
+// An insertion between two kept neighbours parts them on the wire, and insertions round a dropped character are one in a notice.
 const PARTED: Form<'static> = Form {
     text: "abcd",
     els: &[
@@ -154,6 +177,15 @@ const PARTED: Form<'static> = Form {
     ],
     runs: &[(0, 2), (3, 4)],
     additions: &[(1, "X"), (2, "Y"), (3, "Z")],
+    by_gaps: &[
+        Copy(0, 1),
+        Insert("X"),
+        Copy(1, 2),
+        Insert("Y"),
+        Copy(3, 3),
+        Insert("Z"),
+        Copy(3, 4),
+    ],
     wire: &[
         Copy(0, 1),
         Insert("X"),
