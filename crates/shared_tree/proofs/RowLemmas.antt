@@ -1,9 +1,11 @@
 -- Rows: how they are cut and joined, and what a node above a row is.
 use Rattle.std.proofs.Common.{◌≡◌, ℕ, zero, suc, ◌+◌, ◌-◌, ◌*◌, ◌^◌, ◌<◌, ◌≤◌, List, [], ◌∷◌, ◌++◌, length, max, take, drop, get_or, refl, sym, ap, subst, ◌∙◌, append_assoc, add-one, arith, length-append, take-append-drop}
+use Rattle.std.specs.Prelude.{◌==◌, true, false}
 use Rattle.std.specs.List.{flat_map}
 use Rattle.std.specs.Arc.{arc_value}
 use Rattle.std.specs.declared.sync.Arc.{Arc}
 use Rattle.std.proofs.Math.Nat.{mul-le-mul_right}
+use Rattle.std.proofs.lemmas.Bool.Decides.{nat_tests}
 use Rattle.std.proofs.lemmas.Grind.{common_steps, flat_map-append, pow_more}
 use Rattle.std.proofs.lemmas.List.{append-nil, length-map, map-append, take_more}
 use Rattle.std.proofs.lemmas.List.Elements.{All-append, All-cons, All-head, All-tail, All-nil}
@@ -11,6 +13,12 @@ use Rattle.shared_tree.specs.declared.leaf.Leaf.{Ghosts}
 use Rattle.shared_tree.specs.Shape.{Shape}
 use Rattle.shared_tree.specs.Row.{height_over, items_in, items_of, leaves_of, shapes, AreFull, IsBunch, IsLevel, IsRow, IsRowOf}
 use Rattle.shared_tree.specs.Node.{AreKids}
+
+pub is_some : (n : ℕ) → false ≡ (n == 0) → 0 < n
+is_some n is = grind (arith, nat_tests)
+
+pub is_none : (n : ℕ) → true ≡ (n == 0) → n ≡ 0
+is_none n is = grind (arith, nat_tests)
 
 -- a row cut at one of its nodes
 pub shapes-cut : {L Z : Type 0} (row : List (Arc (Shape L) Z)) (i : ℕ) (node : Arc (Shape L) Z) → i < length row → node ≡ get_or row i node → shapes row ≡ shapes (take i row) ++ (arc_value node ∷ shapes (drop (i + 1) row))
@@ -297,3 +305,39 @@ module _ {L Item I : Type 0} (leaf : Ghosts L Item I) where
     pub items-last : (nodes : List (Arc (Shape L) Z)) (last : Arc (Shape L) Z) (others : List Item) → 0 < length nodes → last ≡ get_or nodes (length nodes - 1) last → items_in leaf (shapes (take (length nodes - 1) nodes)) ++ (items_of leaf (arc_value last) ++ others) ≡ items_in leaf (shapes nodes) ++ others
     items-last nodes last others some at_last =
         rw (shapes-last nodes last some at_last) (last_items (shapes (take (length nodes - 1) nodes)) (arc_value last) others)
+
+    -- two rows of at most eight nodes, seamed
+    pub seamed_most : (h a b least : ℕ) (items : List Item) (row : List (Arc (Shape L) Z)) → a ≤ 8 → b ≤ 8 → least ≤ max a b → IsRowOf leaf h items (max a b) (a + b) (shapes row) → IsRowOf leaf h items least 16 (shapes row)
+    seamed_most h a b least items row few others less of = record { levels = of.levels; same = of.same; low = omega (arith, of.low); high = omega (arith, of.high) }
+
+    -- a row of some nodes and few
+    pub bunch_of : (h : ℕ) (row : List (Arc (Shape L) Z)) → IsRow leaf h (shapes row) → 0 < length row → length (shapes row) ≤ 8 → IsBunch leaf h (shapes row)
+    bunch_of h row levels some few = record { levels = levels; some = omega (arith, length-map row arc_value); few = few }
+
+    pub copied_few : (row made : List (Arc (Shape L) Z)) → shapes made ≡ shapes row → length (shapes row) ≤ 8 → length made ≤ 16
+    copied_few row made is few = omega (arith, length-map made arc_value, ap length is)
+
+    pub items_none : (row : List (Arc (Shape L) Z)) → length row ≡ 0 → items_in leaf (shapes row) ≡ []
+    items_none [] none = refl
+    items_none (node ∷ row) none = absurd (omega arith)
+
+    -- the items of a node with no other beside it
+    pub alone_items : (node : Shape L) (others : List (Arc (Shape L) Z)) → length others ≡ 0 → items_in leaf (node ∷ shapes others) ≡ items_of leaf node
+    alone_items node [] none = append-nil (items_of leaf node)
+    alone_items node (other ∷ others) none = absurd (omega arith)
+
+    pub cons_length : (others made : List (Arc (Shape L) Z)) (node : Shape L) → shapes made ≡ node ∷ shapes others → length made ≡ length others + 1
+    cons_length others made node is = omega (arith, length-map made arc_value, length-map others arc_value, ap length is, add-one (length (shapes others)))
+
+    -- nodes, and one or two more after them
+    pub with_more : (h : ℕ) (front grown made : List (Arc (Shape L) Z)) (items : List Item) → IsRow leaf h (shapes front) → length front ≤ 7 → IsRowOf leaf h items 1 2 (shapes grown) → shapes made ≡ shapes front ++ shapes grown → IsRowOf leaf h (items_in leaf (shapes front) ++ items) (length front + 1) 16 (shapes made)
+    with_more h front grown made items levels few row is =
+        let counted : length (shapes made) ≡ length (shapes front) + length (shapes grown) = ap length is ∙ length-append (shapes front) (shapes grown) in
+        let low : 1 ≤ length (shapes grown) = row.low in
+        let high : length (shapes grown) ≤ 2 = row.high in
+        record {
+          levels = rw is (IsRow-append h (shapes front) (shapes grown) levels row.levels);
+          same = rw is (items_in-append (shapes front) (shapes grown) ∙ ap (λ xs. items_in leaf (shapes front) ++ xs) row.same);
+          low = omega (arith, length-map front arc_value);
+          high = omega (arith, length-map front arc_value);
+        }

@@ -105,3 +105,12 @@ module _ {L Item I : Type 0} (leaf : Ghosts L Item I) (sum : Sum I) (adds : Adds
       let small : length (items_in leaf row) < 4 ^ 32 = IsFit-small (items_in leaf row) fit in
       let wide : 1 * 4 ^ h ≤ length row * 4 ^ h = mul-le-mul_right (4 ^ h) some in
       power_rises h 32 (omega arith)
+
+  -- the nodes before an index, and those from it on, fit where all of a row fit
+  pub row_front_fits : {Z : Type 0} (row : List (Arc (Shape L) Z)) (n : ℕ) → IsFit leaf sum (items_in leaf (shapes row)) → IsFit leaf sum (items_in leaf (shapes (take n row)))
+  row_front_fits row n fit =
+      IsFit-left _ (items_in leaf (shapes (drop n row))) (rw (shapes-split row n, items_in-append leaf (shapes (take n row)) (shapes (drop n row))) at fit)
+
+  pub row_back_fits : {Z : Type 0} (row : List (Arc (Shape L) Z)) (n : ℕ) → IsFit leaf sum (items_in leaf (shapes row)) → IsFit leaf sum (items_in leaf (shapes (drop n row)))
+  row_back_fits row n fit =
+      IsFit-right (items_in leaf (shapes (take n row))) _ (rw (shapes-split row n, items_in-append leaf (shapes (take n row)) (shapes (drop n row))) at fit)

@@ -1,7 +1,9 @@
 use Rattle.std.proofs.Common.{rules, ◌-◌, ◌<◌, ◌≤◌, ◌++◌, length, arith}
+use Rattle.std.proofs.lemmas.List.{length-map}
 use Rattle.std.proofs.lemmas.Result.{IfOk-weaker}
+use Rattle.std.specs.Arc.{arc_value}
 use Rattle.shared_tree.specs.Row.{items_in, shapes, IsBunch, IsFit}
-use Rattle.shared_tree.proofs.RowLemmas.{bunch_some, front_levels, items-last, bunch_of_kids, level_at}
+use Rattle.shared_tree.proofs.RowLemmas.{seamed_most, bunch_few, bunch_some, front_levels, items-last, bunch_of_kids, level_at}
 use Rattle.shared_tree.proofs.SumLemmas.{last_fits}
 use Rattle.shared_tree.proofs.beside.+after.Goals as goal
 
@@ -40,3 +42,33 @@ with_kids-requires-clause-fits g t c =
     let kids = rw (c.kids.ensures.same, c.deref.ensures) at c.in_ok-kids.ensures.same in
     let items = items-last g.L.Leaf c.args.nodes.now _ (items_in g.L.Leaf (shapes c.args.row.now)) some c.index-nodes-last.is in
     rw (c.split_at.ensures.front, kids, items) c.requires.fits
+
+pub with_kids-requires-clause-few : goal.with_kids-requires-clause-few
+with_kids-requires-clause-few g t c =
+    omega (arith, c.split_at.ensures.front_len, bunch_few g.L.Leaf c.args.height c.args.nodes.now c.requires.nodes, bunch_some g.L.Leaf c.args.height c.args.nodes.now c.requires.nodes)
+
+pub with_kids-requires-clause-above : goal.with_kids-requires-clause-above
+with_kids-requires-clause-above g t c = omega arith
+
+pub with_kids-requires-clause-kids : goal.with_kids-requires-clause-kids
+with_kids-requires-clause-kids g t c = c.in_ok-kids.ensures.levels
+
+pub with_kids-requires-clause-low : goal.with_kids-requires-clause-low
+with_kids-requires-clause-low g t c =
+    let kids = rw c.deref.ensures at c.kids.ensures.kids in
+    omega (arith, kids.low, length-map c.kids.result.now arc_value, c.in_ok-kids.ensures.low, length-map c.in_ok-kids.kids.items arc_value)
+
+pub with_kids-requires-clause-high : goal.with_kids-requires-clause-high
+with_kids-requires-clause-high g t c =
+    omega (arith, c.in_ok-kids.ensures.high, length-map c.in_ok-kids.kids.items arc_value)
+
+pub seamed-requires : goal.seamed-requires
+seamed-requires g t c = record {
+  left = c.requires.nodes.levels;
+  right = rw c.if-height-row_height.true c.requires.row.levels;
+  few = omega (arith, bunch_few g.L.Leaf c.args.height c.args.nodes.now c.requires.nodes, bunch_few g.L.Leaf c.args.row_height c.args.row.now c.requires.row);
+  fits = c.requires.fits;
+}
+
+pub returns-then-height-row_height : goal.returns-then-height-row_height
+returns-then-height-row_height g t c = IfOk-weaker c.seamed.result _ _ (λ made of. seamed_most g.L.Leaf c.args.height (length c.args.nodes.now) (length c.args.row.now) (length c.args.nodes.now) _ made.items (bunch_few g.L.Leaf c.args.height c.args.nodes.now c.requires.nodes) (bunch_few g.L.Leaf c.args.row_height c.args.row.now c.requires.row) (omega arith) of) c.seamed.ensures

@@ -1,8 +1,9 @@
-use Rattle.std.proofs.Common.{◌≡◌, ◌-◌, ◌<◌, length, refl, arith}
+use Rattle.std.proofs.Common.{◌≡◌, ◌-◌, ◌<◌, length, refl, ap, arith}
 use Rattle.std.proofs.lemmas.List.{length-map}
 use Rattle.std.specs.Arc.{arc_value}
 use Rattle.shared_tree.specs.Row.{items_in, shapes}
 use Rattle.shared_tree.proofs.RowLemmas.{after_row, items_in-append, joined_length, level_at, two_nodes, IsRow-append}
+use Rattle.shared_tree.proofs.SumLemmas.{last_fits}
 use Rattle.shared_tree.proofs.beside.filled.Goals as goal
 
 pub kids-others-requires : goal.kids-others-requires
@@ -38,3 +39,19 @@ returns g c =
     let is = rw (c.split_at.ensures.front, c.deref-2.ensures.value) at c.in_ok-joined.ensures in
     let made = after_row g.L.Leaf c.args.height front c.in_ok-grown.grown.items c.in_ok-joined.field-0.items c.index-front-last.result (items_in g.L.Leaf (shapes c.args.kids.now)) 2 some (omega arith) c.index-front-last.is c.requires.front row is in
     record { levels = made.levels; same = made.same; low = omega (arith, made.low); high = made.high }
+
+pub joined-requires : goal.joined-requires
+joined-requires g c = omega arith
+
+pub joined-requires-2 : goal.joined-requires-2
+joined-requires-2 g c =
+    omega (arith, c.requires.few, c.split_at.ensures.front_len, ap length c.deref-2.ensures.value, length-map c.in_ok-grown.grown.items arc_value, c.in_ok-grown.ensures.row.high)
+
+pub grouped-requires-clause-above : goal.grouped-requires-clause-above
+grouped-requires-clause-above g c = c.requires.above
+
+pub grouped-requires-clause-fits : goal.grouped-requires-clause-fits
+grouped-requires-clause-fits g c =
+    let others = rw c.deref.ensures at c.kids-others.ensures.same in
+    let both = last_fits g.L.Leaf g.L.Sum.Summary g.met.L.Sum.Summary.adds g.met.L.Leaf.sums c.args.front.now _ (items_in g.L.Leaf (shapes c.args.kids.now)) (omega arith) c.index-front-last.is c.requires.fits in
+    rw (c.in_ok-both.ensures, items_in-append g.L.Leaf (shapes c.kids-others.result.now) (shapes c.args.kids.now), others) both

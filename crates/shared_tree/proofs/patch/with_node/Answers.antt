@@ -46,3 +46,11 @@ returns g c =
     let short = bunch_few g.L.Leaf c.args.height nodes c.requires.nodes in
     let same = parted-anew (items_in g.L.Leaf (shapes (take c.args.i nodes))) (items_of g.L.Leaf (arc_value c.args.node)) (items_in g.L.Leaf (shapes (drop (c.args.i + 1) nodes))) (items_in g.L.Leaf (shapes (take c.in_ok-stay.stay (take c.args.i nodes)))) (items_of g.L.Leaf (arc_value c.in_ok-stay.node)) (items_of g.L.Leaf (arc_value c.in_ok-node.node)) (items_in g.L.Leaf (shapes (drop c.in_ok-node.gone (drop (c.args.i + 1) nodes)))) left right in
     rw zero (IfOk-weaker c.with_between-2.result _ _ (λ made is. put_node g.L.Leaf 0 c.args.i c.in_ok-stay.stay c.in_ok-node.gone nodes _ _ made.items c.in_ok-node.node _ c.requires.inside short (rw zero at c.requires.nodes.levels) c.in_ok-node.ensures.level refl refl same is) whole)
+
+pub with_between-requires : goal.with_between-requires
+with_between-requires g c =
+    omega (arith, c.split_at.ensures.front_len, c.split_at-2.ensures.back_len, bunch_few g.L.Leaf c.args.height c.args.nodes.now c.requires.nodes)
+
+pub with_between-requires-2 : goal.with_between-requires-2
+with_between-requires-2 g c =
+    omega (arith, c.split_at.ensures.front_len, c.split_at-2.ensures.back_len, c.split_at-3.ensures.front_len, c.split_at-4.ensures.back_len, c.in_ok-stay.ensures.inside, bunch_few g.L.Leaf c.args.height c.args.nodes.now c.requires.nodes)
