@@ -1,16 +1,19 @@
 -- The delta between the flags of two revisions is the change between them: what stays, and what appears at each gap.
-use Rattle.std.proofs.Common.{◌≡◌, ℕ, zero, suc, ◌+◌, ◌<◌, Bool, true, false, cond, not, List, [], ◌∷◌, ◌++◌, length, map, filter, refl, ap, sym, ◌∙◌, arith}
+use Rattle.std.proofs.Common.{◌≡◌, ℕ, zero, suc, ◌+◌, ◌<◌, Bool, true, false, cond, not, List, [], ◌∷◌, ◌++◌, length, map, filter, refl, ap, sym, subst, ◌∙◌, arith}
 use Rattle.std.specs.Prelude.{if◌then◌else◌}
 use Rattle.std.proofs.lemmas.Bool.{ne_eqb, eq-eqb}
 use Rattle.subset_runs.specs.Subset.{contains, items_outside}
+use Rattle.plain_edits.specs.declared.delta.UnitDelta.{UnitDelta}
 use Rattle.plain_edits.specs.History.{Tagged, History, head, is_visible, text_at}
 use Rattle.plain_edits.specs.Change.{passes_at, block}
 use Rattle.delta_core.specs.Synthesis.{appearing, IsBetween}
 use Rattle.delta_core.specs.Units.{text_after}
 use Rattle.rev_list.specs.Hidden.{hidden_at}
+use Rattle.rev_list.proofs.ForCallers.{hidden_without_text}
 use Rattle.rev_rebase.specs.Rebase.{characters_of}
 use Rattle.rev_engine.specs.declared.edit.Change.{Change}
-use Rattle.rev_engine.specs.Engine.{IsChange}
+use Rattle.rev_engine.specs.State.{State}
+use Rattle.rev_engine.specs.Engine.{IsChange, IsSince, StandsFor}
 use Rattle.rev_engine.proofs.StandLemmas.{outside_visible}
 
 -- the flags of the characters that fail a test, and the characters alone
@@ -78,24 +81,50 @@ module _ (p q : Tagged → Bool) where
           ap (λ c. (if c then x.character ∷ [] else []) ++ appears alive xs (alive + suc gap)) (ne_eqb alive (alive + suc gap) (λ is. omega (arith, is))) ∙
           unseen
 
+-- what leads from a revision to the head is the edit since
+pub IsSince-between : (h : History) (rev : ℕ) (units : UnitDelta) → IsBetween (characters_of h) (hidden_at h rev) (hidden_at h (head h)) units →
+    IsSince h rev units
+IsSince-between h rev units between = record {
+  canonical = between.canonical;
+  base = between.base ∙ ap length (shown rev);
+  kept = λ index. between.kept index ∙ contains-stays (is_visible h.revisions rev) now h.characters index;
+  added = λ gap.
+      let none : gap ≡ 0 + gap = omega arith in
+      between.added gap ∙ ap (appearing 0 (characters_of h) (hidden_at h rev) (hidden_at h (head h))) none ∙
+      appears-block (is_visible h.revisions rev) now h.characters 0 gap;
+  leads = ap (text_after units) (sym (shown rev)) ∙ between.leads ∙ shown (head h);
+}
+  where
+    now : Tagged → Bool
+    now = is_visible h.revisions (head h)
+
+    shown : (at : ℕ) → items_outside (hidden_at h at) (characters_of h) ≡ text_at h at
+    shown at = outside_visible (is_visible h.revisions at) h.characters
+
 -- what leads between two heads is the change between them
 pub IsChange-between : (before after : History) (change : Change) → change.rev ≡ head after →
     text_at after (head before) ≡ text_at before (head before) →
     IsBetween (characters_of after) (hidden_at after (head before)) (hidden_at after (head after)) change.units → IsChange before after change
-IsChange-between before after change rev_is same between = record {
-  rev = rev_is;
-  canonical = between.canonical;
-  base = between.base ∙ ap length (shown (head before) ∙ same);
-  kept = λ index. between.kept index ∙ contains-stays (is_visible after.revisions (head before)) now after.characters index;
-  added = λ gap.
-      let none : gap ≡ 0 + gap = omega arith in
-      between.added gap ∙ ap (appearing 0 (characters_of after) (hidden_at after (head before)) (hidden_at after (head after))) none ∙
-      appears-block (is_visible after.revisions (head before)) now after.characters 0 gap;
-  leads = ap (text_after change.units) (sym (shown (head before) ∙ same)) ∙ between.leads ∙ shown (head after);
-}
-  where
-    now : Tagged → Bool
-    now = is_visible after.revisions (head after)
+IsChange-between before after change rev_is same between =
+    let since = IsSince-between after (head before) change.units between in
+    record {
+      rev = rev_is;
+      canonical = since.canonical;
+      base = since.base ∙ ap length same;
+      kept = since.kept;
+      added = since.added;
+      leads = ap (text_after change.units) (sym same) ∙ since.leads;
+    }
 
-    shown : (rev : ℕ) → items_outside (hidden_at after rev) (characters_of after) ≡ text_at after rev
-    shown rev = outside_visible (is_visible after.revisions rev) after.characters
+-- and so it is of what an engine holds
+pub IsSince-stands : (engine : State) (h : History) (rev : ℕ) (units : UnitDelta) → StandsFor engine h →
+    IsBetween engine.union (hidden_at engine.revisions rev) (hidden_at engine.revisions (head engine.revisions)) units → IsSince h rev units
+IsSince-stands engine h rev units stands between =
+    IsSince-between h rev units
+    (subst (λ xs. IsBetween xs (hidden_at h rev) (hidden_at h (head h)) units) stands.union
+    (subst (λ before. IsBetween engine.union before (hidden_at h (head h)) units) (hidden rev)
+    (subst (λ after. IsBetween engine.union (hidden_at engine.revisions rev) after units)
+    (hidden (head engine.revisions) ∙ ap (λ g. hidden_at h (head g)) stands.revisions) between)))
+  where
+    hidden : (at : ℕ) → hidden_at engine.revisions at ≡ hidden_at h at
+    hidden at = ap (λ g. hidden_at g at) stands.revisions ∙ hidden_without_text h at

@@ -1,7 +1,7 @@
 -- What an engine says of a history that it stands for.
-use Rattle.std.proofs.Common.{◌≡◌, ℕ, ◌+◌, ◌^◌, ◌<◌, ◌≤◌, inl, inr, Bool, true, false, ◌||◌, ◌==◌, cond, if◌then◌else◌, not, nat_lt, List, [], ◌∷◌, length, map, filter, replicate, Some, None, refl, ap, ap₂, sym, ◌∙◌, subst, arith}
+use Rattle.std.proofs.Common.{◌≡◌, ℕ, ◌+◌, ◌^◌, ◌<◌, ◌≤◌, inl, inr, Bool, true, false, cond, if◌then◌else◌, not, nat_lt, List, [], ◌∷◌, length, map, filter, replicate, Some, None, refl, ap, ap₂, sym, ◌∙◌, subst, arith}
 use Rattle.std.specs.List.{AllByRecursion, list_any}
-use Rattle.std.proofs.lemmas.Bool.{both_ways, cases_lt, eq-eqb, lt-ltb, le-ltb}
+use Rattle.std.proofs.lemmas.Bool.{cases_lt, lt-ltb, le-ltb}
 use Rattle.std.proofs.lemmas.List.{length-map}
 use Rattle.subset_runs.specs.Subset.{items_outside}
 use Rattle.plain_edits.specs.declared.delta.Delta.{Delta}
@@ -19,7 +19,6 @@ use Rattle.rev_list.specs.Hidden.{IsCollected, IsKeptAt, IsUnknown}
 use Rattle.rev_list.specs.WithoutText.{without_text}
 use Rattle.rev_list.proofs.ForCallers.{hidden_without_text}
 use Rattle.rev_rebase.specs.Rebase.{characters_of}
-use Rattle.plain_text.specs.Numbers.{has}
 use Rattle.plain_edits.specs.declared.fault.EditFault.{EditFault}
 use Rattle.plain_edits.specs.EditFault.{Refuses, refusal_of}
 use Rattle.rev_list.specs.RevFault.{fault_of_base}

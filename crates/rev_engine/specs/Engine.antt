@@ -62,6 +62,15 @@ pub record IsChange (before after : History) (change : Change) : Type 0 where
 abbrev pub IsChangeBy : History → History → UnitDelta → Type 0
 IsChangeBy before after units = IsChange before after (record { rev = head after; units = units })
 
+-- THE EDIT SINCE A REVISION, as the only delta of its meaning: of the text of the revision it keeps what the head shows too, and it adds each
+-- other character of the head text at the gap that counts the characters of the revision left of it
+pub record IsSince (history : History) (rev : ℕ) (units : UnitDelta) : Type 0 where
+  pub canonical : IsCanonical units
+  pub base : units.base ≡ length (text_at history rev)
+  pub kept : (index : ℕ) → unit_keeps units index ≡ change_keeps history rev (head history) index
+  pub added : (gap : ℕ) → unit_adds units gap ≡ change_adds history rev (head history) gap
+  pub leads : text_after units (text_at history rev) ≡ text_at history (head history)
+
 -- AN EDIT AGAINST THE HEAD IS ITS CHANGE: in canonical form it is itself what it changes of the head text
 abbrev pub HeadEditIsItsChange : Type 0
 HeadEditIsItsChange = (history : History) (edit : UnitEdit) → IsSound history → has (undone history.revisions (head history)) edit.group ≡ false →

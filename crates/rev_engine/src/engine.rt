@@ -10,9 +10,10 @@ ghost use Rattle.plain_edits.specs.HistorySteps.{MayUndoSet};
 ghost use Rattle.plain_edits.specs.Undo.{undone_now};
 ghost use Rattle.rev_list.specs.Edit.{undone_by};
 ghost use Rattle.rev_undo.specs.Under.{AgreesOnCollected};
-ghost use Rattle.rev_list.specs.Hidden.{IsCollected, IsKeptAt, IsUnknown};
+ghost use Rattle.delta_core.specs.Synthesis.{IsBetween};
+ghost use Rattle.rev_list.specs.Hidden.{IsCollected, IsKeptAt, IsUnknown, hidden_at};
 ghost use Rattle.rev_rebase.specs.Rebase.{added_text};
-ghost use Rattle.rev_engine.specs.Engine.{IsChange, IsChangeBy, IsSaidBy, StandsFor, asked_by, in_characters};
+ghost use Rattle.rev_engine.specs.Engine.{IsChange, IsChangeBy, IsSaidBy, IsSince, StandsFor, asked_by, in_characters};
 ghost use Rattle.plain_edits.specs.EditFault.{Refuses};
 ghost use Rattle.rev_engine.specs.Given.{AskedEdit, MayAsk, after};
 ghost use Rattle.rev_engine.specs.Asked.{IsFrozenAt, MayAskUndo};
@@ -130,7 +131,34 @@ impl Engine {
         self.shown(alloc, rev)
     }
 
+    /// The edit in characters from the text of a revision to the head text, canonical; refused as [`Engine::text_at`] is. It costs what
+    /// `RevList::dead_at` does, the runs of what is dead at both, and for each run of characters that appear the height of the union and
+    /// these characters: it reads no others.
+    pub fn since(&self, alloc: Global, rev: u64) -> Result<UnitDelta, RevFault>
+        ensures since { (history : History) → StandsFor self.now history
+            → IfOk result (IsSince history rev) }
+        ensures unknown { (history : History) → StandsFor self.now history
+            → (n : ℕ) → (result ≡ Err (RevFault.Unknown n)) ↔ IsUnknown history rev n }
+        ensures collected { (history : History) → StandsFor self.now history
+            → (n : ℕ) → (result ≡ Err (RevFault.Collected n)) ↔ IsCollected history rev n }
+    {
+        self.units_since(alloc, rev)
+    }
+
     // The same, where nothing is said of a history with text.
+    fn units_since(&self, alloc: Global, rev: u64) -> Result<UnitDelta, RevFault>
+        ensures between { IfOk result (IsBetween self.now.union (hidden_at self.now.revisions rev)
+            (hidden_at self.now.revisions (head self.now.revisions))) }
+        ensures unknown { (n : ℕ) → (result ≡ Err (RevFault.Unknown n)) ↔ IsUnknown self.now.revisions rev n }
+        ensures collected { (n : ℕ) → (result ≡ Err (RevFault.Collected n)) ↔ IsCollected self.now.revisions rev n }
+    {
+        match self.revs.position(rev) {
+            Ok(_) => Ok(units_from(alloc, &self.union, &self.revs, rev)?),
+            Err(fault) => Err(fault),
+        }
+    }
+
+    // The text of a revision, where nothing is said of a history with text.
     fn shown(&self, alloc: Global, rev: u64) -> Result<Text, RevFault>
         ensures text { IfOk result (λ text. text ≡ shown_at self.now.union self.now.revisions rev) }
         ensures unknown { (n : ℕ) → (result ≡ Err (RevFault.Unknown n)) ↔ IsUnknown self.now.revisions rev n }
