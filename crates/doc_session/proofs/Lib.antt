@@ -8,12 +8,6 @@ pub mod InsertLemmas
 pub mod SettleLemmas
 pub mod StepLemmas
 pub mod FitLemmas
-pub mod LayoutLemmas
-pub mod PlaceLemmas
-pub mod SameLemmas
-pub mod WireLemmas
-pub mod PlanLemmas
-pub mod TellLemmas
 pub mod ScreenLemmas
 pub mod ShowLemmas
 pub mod ForCallers

@@ -9,7 +9,6 @@ use Rattle.std.specs.Coded.{Coded-set, Unit-prop, coded_list, coded_ℕ, le_prop
 use Rattle.std.proofs.lemmas.Bool.{cases_lt, lt-ltb}
 use Rattle.std.proofs.lemmas.List.{length-map, length_push}
 use Rattle.std.proofs.lemmas.List.Sums.{sum_by-cons}
-use Rattle.std.proofs.lemmas.Str.{len_utf8_bounds}
 use Rattle.xi_plain.specs.declared.config.Notice.{Notice}
 use Rattle.plain_edits.specs.declared.delta.Delta.{Delta}
 use Rattle.plain_edits.specs.declared.delta.Misfit.{Misfit}
@@ -39,7 +38,8 @@ use Rattle.doc_session.specs.declared.left.Left.{Left}
 use Rattle.doc_session.specs.declared.taken.Taken.{Taken}
 use Rattle.doc_session.specs.declared.typing.Typing.{Typing}
 use Rattle.doc_session.specs.Effects.{notice_of, change_delta}
-use Rattle.doc_session.specs.Inner.{IsAfter, IsChangeOf, IsNoticed, IsSaidOfSome, IsTakenFrom, SaysSome, StandsForSome, head_shown}
+use Rattle.doc_layout.specs.Changed.{IsChangeOf}
+use Rattle.doc_session.specs.Inner.{IsAfter, IsNoticed, IsSaidOfSome, IsTakenFrom, SaysSome, StandsForSome, head_shown}
 use Rattle.doc_session.specs.Agree.{Agree}
 use Rattle.doc_session.specs.Whole.{IsStateOf, IsWhole, IsWholeOf}
 use Rattle.doc_session.proofs.HeadLemmas.{head_shown-stands}
@@ -151,10 +151,6 @@ AreAdds-prop base from (added ∷ adds) = hlevel (le_prop, AreAdds-prop base (ad
 
 pub IsUnitDelta-prop : (units : UnitDelta) → IsProp (IsUnitDelta units)
 IsUnitDelta-prop units = hlevel (AreRuns-prop units.base 0 units.kept, AreAdds-prop units.base 0 units.added)
-
-pub length-byte_len : (text : List ℕ) → length text ≤ byte_len text
-length-byte_len [] = omega arith
-length-byte_len (c ∷ text) = omega (arith, length-byte_len text, len_utf8_bounds c)
 
 -- a change from what the one engine shows to what the other shows, by a history
 pub IsChangeOf-stands : (h next : History) (engine now : State) (change : Change) → StandsFor engine h → StandsFor now next →

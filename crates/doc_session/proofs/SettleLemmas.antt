@@ -24,7 +24,8 @@ use Rattle.doc_session.specs.declared.typing.Kind.{Kind}
 use Rattle.doc_session.specs.Agree.{Agree}
 use Rattle.doc_session.specs.Document.{Document, text_of, layout_of, is_pristine, no_request}
 use Rattle.doc_session.specs.Effects.{ops_of, update_of, updated, differ, are_valid, is_window_valid, wants_update, update_after, settled, scroll_after}
-use Rattle.doc_session.specs.Inner.{IsAfter, head_shown, is_lacking, is_same_after, next_document, planned, scroll_between, told_of}
+use Rattle.doc_layout.specs.Told.{planned, scroll_between}
+use Rattle.doc_session.specs.Inner.{IsAfter, head_shown, is_lacking, is_same_after, next_document, told_of}
 use Rattle.doc_session.specs.Stands.{DocStandsFor}
 use Rattle.doc_session.specs.Step.{going_on}
 use Rattle.doc_session.specs.Typing.{run_on}
@@ -33,7 +34,7 @@ use Rattle.doc_session.specs.SameLayout.{is_same_layout}
 use Rattle.doc_session.proofs.HeadLemmas.{IsStateOf-whole, head-stands, head_shown-stands}
 use Rattle.doc_session.proofs.AgreeLemmas.{Agree-still}
 use Rattle.plain_screen.proofs.callers.SameLemmas.{is_same_layout-Decides}
-use Rattle.doc_session.proofs.TellLemmas.{layout_tells}
+use Rattle.doc_layout.proofs.ForCallers.{layout_tells}
 
 -- ---- the screen
 

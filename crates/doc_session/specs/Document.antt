@@ -4,6 +4,7 @@ use Rattle.plain_text.specs.declared.run.Run.{Run}
 use Rattle.plain_screen.specs.declared.screen.Line.{Line}
 use Rattle.plain_edits.specs.History.{History, head, loaded, text_at}
 use Rattle.doc_session.specs.Layout.{layout, Position, position_of}
+pub use Rattle.doc_layout.specs.Told.{no_request}
 use Rattle.plain_screen.specs.Screen.{Screen}
 use Rattle.undo_groups.specs.Groups.{Groups, no_groups}
 use Rattle.doc_session.specs.declared.typing.Typing.{Typing}
@@ -35,12 +36,9 @@ caret_point document = position_of (text_of document) document.caret
 abbrev pub is_pristine : Document → Bool
 is_pristine document = head document.history == document.saved
 
--- the window of a view that was just opened, and the request of an entry that requests no lines
+-- the window of a view that was just opened
 abbrev pub first_window : Run
 first_window = record { start = 0; end = 10 }
-
-abbrev pub no_request : Run
-no_request = record { start = 0; end = 0 }
 
 -- a document on a text that was just loaded: its front end was told nothing, and its screen is empty
 abbrev pub loaded_document : List ℕ → ℕ → ℕ → Document

@@ -1,5 +1,5 @@
 -- What a front end and the plugins are told after a document changed.
-use Rattle.std.specs.Prelude.{ℕ, ◌+◌, Bool, true, false, not, ◌&&◌, ◌||◌, if◌then◌else◌, ◌==◌, List, [], ◌∷◌, Option, Some, None, unwrap_or, is_some}
+use Rattle.std.specs.Prelude.{ℕ, ◌+◌, Bool, true, false, not, ◌&&◌, ◌||◌, if◌then◌else◌, List, [], ◌∷◌, Option, Some, None, unwrap_or, is_some}
 use Rattle.xi_plain.specs.declared.config.Notice.{Notice}
 use Rattle.plain_edits.specs.declared.delta.Delta.{Delta}
 use Rattle.plain_text.specs.declared.run.Run.{Run}
@@ -15,6 +15,7 @@ use Rattle.plain_screen.specs.Plan.{is_within, update_plan}
 use Rattle.delta_core.specs.Wire.{wire_from}
 use Rattle.doc_session.specs.Document.{Document, layout_of, caret_point, is_pristine, no_request}
 use Rattle.doc_session.specs.SameLayout.{is_same_layout}
+pub use Rattle.doc_layout.specs.Told.{is_same_point}
 
 -- the update of a document (no line has a partner yet)
 abbrev pub ops_of : Document → List Op
@@ -60,9 +61,6 @@ abbrev pub settled : Document → Document → Document
 settled before after = if wants_update before after then updated after else after
 
 -- THE OCCASION OF A SCROLL, at an edit of the front end: line or byte column of the caret changed; and the place that is written
-abbrev pub is_same_point : Position → Position → Bool
-is_same_point before after = before.line == after.line && before.col == after.col
-
 abbrev pub scroll_after : Document → Document → Option Position
 scroll_after before after = if is_same_point (caret_point before) (caret_point after) then None else Some (caret_point after)
 

@@ -1,21 +1,18 @@
 -- What private functions say: the steps of an event.
-use Rattle.std.specs.Prelude.{◌≡◌, ℕ, zero, suc, ◌+◌, ◌^◌, ◌<◌, ◌≤◌, Bool, not, true, false, ◌||◌, if◌then◌else◌, nat_lt, ◌==◌, List, [], ◌∷◌, ◌++◌, length, Option, Some, None, ⊤}
+use Rattle.std.specs.Prelude.{◌≡◌, ℕ, ◌+◌, ◌^◌, ◌<◌, ◌≤◌, Bool, not, true, false, ◌||◌, if◌then◌else◌, nat_lt, ◌==◌, List, [], ◌∷◌, length, Option, Some, None, ⊤}
 use Rattle.std.specs.Str.{bytes_eq}
 use Rattle.plain_text.specs.declared.run.Run.{Run}
-use Rattle.plain_text.specs.Lines.{logical_lines}
 use Rattle.plain_text.specs.Text.{byte_len}
 use Rattle.plain_text.specs.Numbers.{has, turned}
 use Rattle.plain_edits.specs.declared.delta.UnitDelta.{UnitDelta}
 use Rattle.plain_edits.specs.History.{History, head, text_at, inserted_count}
 use Rattle.plain_edits.specs.Undo.{undone_now}
-use Rattle.plain_edits.specs.UnitDelta.{IsCanonical, IsUnitDelta}
+use Rattle.plain_edits.specs.UnitDelta.{IsCanonical}
 use Rattle.plain_screen.specs.declared.screen.Line.{Line}
-use Rattle.plain_screen.specs.declared.screen.Op.{Op}
-use Rattle.plain_screen.specs.declared.screen.Op.TheVariants.{Invalidate}
 use Rattle.plain_screen.specs.declared.screen.Update.{Update}
-use Rattle.plain_screen.specs.Plan.{update_plan}
-use Rattle.delta_core.specs.Units.{text_after}
 use Rattle.delta_core.specs.Wire.{wire_of}
+use Rattle.doc_layout.specs.Changed.{IsChangeOf}
+use Rattle.doc_layout.specs.Told.{planned}
 use Rattle.rev_engine.specs.declared.edit.Change.{Change}
 use Rattle.rev_engine.specs.declared.edit.UnitEdit.{UnitEdit}
 use Rattle.rev_engine.specs.State.{State, shown_at}
@@ -23,15 +20,13 @@ use Rattle.rev_engine.specs.Engine.{IsChange, IsSaidBy, StandsFor}
 use Rattle.rev_engine.specs.Given.{AskedEdit, MayAsk, after}
 use Rattle.undo_groups.specs.Groups.{Groups, IsStack, is_known}
 use Rattle.doc_session.specs.declared.event.Effects.{Effects}
-use Rattle.doc_session.specs.declared.layout.LayoutWalk.{LayoutWalk}
 use Rattle.doc_session.specs.declared.left.Left.{Left}
 use Rattle.doc_session.specs.declared.taken.Taken.{Taken}
 use Rattle.doc_session.specs.declared.typing.Typing.{Typing}
 use Rattle.doc_session.specs.Asking.{insertion_at}
-use Rattle.doc_session.specs.Document.{Document, no_request}
-use Rattle.doc_session.specs.Effects.{is_same_point, notice_of}
+use Rattle.doc_session.specs.Document.{Document}
+use Rattle.doc_session.specs.Effects.{notice_of}
 use Rattle.doc_session.specs.InMemory.{Doc}
-use Rattle.doc_session.specs.Layout.{Position, layout_from}
 use Rattle.doc_session.specs.Stands.{DocStandsFor}
 use Rattle.doc_session.specs.Step.{AreEffectsOf, EventStep}
 
@@ -59,12 +54,6 @@ pub record IsHeadEdit (engine : State) (edit : UnitEdit) : Type 0 where
   pub may : MayAsk engine.revisions edit.group
   pub canonical : IsCanonical edit.units
   pub base : edit.units.base ≡ length (head_shown engine)
-
--- a change was made of a text, and led to another
-pub record IsChangeOf (text made : List ℕ) (units : UnitDelta) : Type 0 where
-  pub well_formed : IsUnitDelta units
-  pub base : units.base ≡ length text
-  pub leads : made ≡ text_after units text
 
 -- a change of this text was noticed: its delta is that of the notices
 pub record IsNoticed (text : List ℕ) (engine : State) (change : Change) (author : ℕ) (taken : Taken) : Type 0 where
@@ -153,61 +142,11 @@ is_lacking doc same caret = not doc.view.valid || (not (doc.caret == caret) || (
 abbrev pub is_same_after : Doc → State → ℕ → Bool
 is_same_after doc engine caret = if doc.caret == caret then bytes_eq (head_shown doc.engine) (head_shown engine) else false
 
--- what leaves so many lines invalid, where there are any
-abbrev pub left_ops : ℕ → List Op
-left_ops zero = []
-left_ops (suc n) = Invalidate (suc n) ∷ []
-
--- the update that sends the lines of a window
-abbrev pub planned : Run → List Line → Bool → Update
-planned window lines pristine = record { ops = update_plan window no_request lines []; pristine = pristine }
-
 -- what the front end is told of an edit that left the engine so, its head text laid out so, and the caret here
 abbrev pub told_of : Doc → State → List Line → ℕ → Option Update
 told_of doc engine lines caret = if is_lacking doc (is_same_after doc engine caret) caret then Some (planned doc.view.window lines false) else None
-
--- the place to scroll to, where it is another than before
-abbrev pub scroll_between : Position → Position → Option Position
-scroll_between was now = if is_same_point was now then None else Some now
 
 -- what an event makes is what its step gives: the document after it, and what those outside are told
 pub record IsStepped (step : EventStep) (made : Doc × Effects) : Type 0 where
   pub stands : DocStandsFor made.0 step.document
   pub effects : AreEffectsOf step made.1
-
--- ---- a layout in the making
-
--- the lines with characters put before the first
-abbrev pub lines_begun : List ℕ → List (List ℕ) → List (List ℕ)
-lines_begun begun [] = begun ∷ []
-lines_begun begun (line ∷ lines) = (begun ++ line) ∷ lines
-
--- the layout of a text, so much of which is ahead
-abbrev pub layout_ahead : LayoutWalk → List ℕ → List Line
-layout_ahead walk rest =
-    walk.lines ++ layout_from (walk.caret ∷ []) (length walk.lines + 1) walk.start (lines_begun walk.line (logical_lines rest))
-
--- so many characters are laid out or begun
-pub record IsBegun (walk : LayoutWalk) (count : ℕ) : Type 0 where
-  pub reached : walk.start + walk.len ≡ count
-  pub len : walk.len ≡ length walk.line
-
--- ---- what a change leaves alone
-
--- two texts begin with the same so many characters
-pub record BeginAlike (count : ℕ) (one other : List ℕ) : Type 0 where
-  pub front : List ℕ
-  pub one_rest : List ℕ
-  pub other_rest : List ℕ
-  pub long : length front ≡ count
-  pub one_is : one ≡ front ++ one_rest
-  pub other_is : other ≡ front ++ other_rest
-
--- they end with the same so many
-pub record EndAlike (count : ℕ) (one other : List ℕ) : Type 0 where
-  pub back : List ℕ
-  pub one_front : List ℕ
-  pub other_front : List ℕ
-  pub long : length back ≡ count
-  pub one_is : one ≡ one_front ++ back
-  pub other_is : other ≡ other_front ++ back

@@ -1,10 +1,9 @@
 -- Laws: what the definitions of a document come to, whatever the document.
-use Rattle.std.specs.Prelude.{◌≡◌, ℕ, ◌≤◌, List, [], ◌∷◌, ◌++◌, length, take, drop, Option, Some, None, ⊤}
+use Rattle.std.specs.Prelude.{◌≡◌, ℕ, ◌≤◌, List, ◌++◌, length, take, drop, Option, Some, None, ⊤}
 use Rattle.xi_plain.specs.declared.command.EditAct.{EditAct}
 use Rattle.plain_edits.specs.History.{History, text_at}
 use Rattle.plain_edits.specs.Delta.{Fits, keeps, adds, applied}
 use Rattle.plain_edits.specs.Edits.{Refusal, unknown, collected, misfit, spent}
-use Rattle.doc_session.specs.Layout.{layout}
 use Rattle.plain_screen.specs.Screen.{screen_after}
 use Rattle.plain_screen.specs.Plan.{shown_lines}
 use Rattle.doc_session.specs.Asking.{insertion_delta}
@@ -15,11 +14,6 @@ use Rattle.doc_session.specs.ScreenOf.{IsScreenOf}
 use Rattle.doc_session.specs.Stands.{DocStandsFor}
 use Rattle.doc_session.specs.Step.{refusal_at}
 use Rattle.doc_session.specs.declared.event.Event.TheVariants.{Front}
-
--- a layout has the characters of its text and the place of its caret, and nothing else: texts and carets that have one layout are one
-abbrev pub LayoutsTell : Type 0
-LayoutsTell = (text other : List ℕ) (caret place : ℕ) → caret ≤ length text → place ≤ length other →
-    layout text (caret ∷ []) ≡ layout other (place ∷ []) → (text ≡ other) × (caret ≡ place)
 
 -- a screen that shows the lines of the window is a screen of the layout
 abbrev pub ScreensShow : Type 0

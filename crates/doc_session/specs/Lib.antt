@@ -14,5 +14,4 @@ pub mod InMemory
 pub mod Stands
 pub mod ScreenOf
 pub mod Laws
-pub mod Rows
 pub mod Inner

@@ -7,7 +7,9 @@ ghost use Rattle.doc_session.specs.Document.{Document, layout_of, loaded_documen
 ghost use Rattle.doc_session.specs.Fault.{DocRefuses};
 ghost use Rattle.undo_groups.specs.Groups.{next_redo, next_undo, redone_one, undone_one};
 ghost use Rattle.doc_session.specs.Agree.{Agree};
-ghost use Rattle.doc_session.specs.Inner.{IsAfter, IsAfterEdit, IsChangeOf, IsHeadEdit, IsLeftOf, IsMoved, IsOpenGroup, IsStepped, IsTakenFrom, IsTurned, head_shown, insertion_in, is_lacking, next_document, scroll_between, told_of};
+ghost use Rattle.doc_layout.specs.Changed.{IsChangeOf};
+ghost use Rattle.doc_layout.specs.Told.{scroll_between};
+ghost use Rattle.doc_session.specs.Inner.{IsAfter, IsAfterEdit, IsHeadEdit, IsLeftOf, IsMoved, IsOpenGroup, IsStepped, IsTakenFrom, IsTurned, head_shown, insertion_in, is_lacking, next_document, told_of};
 ghost use Rattle.doc_session.specs.Layout.{position_of};
 ghost use Rattle.doc_session.specs.PositionView.{position_view};
 ghost use Rattle.doc_session.specs.ScreenOf.{IsUpToDate};
@@ -18,14 +20,12 @@ ghost use Rattle.doc_session.specs.Whole.{IsWhole};
 use crate::event::{Body, Effects, Event};
 use crate::fault::DocFault;
 use crate::insertion::insertion_of;
-use crate::layout::layout_of;
 use crate::left::{Left, joined_or_opened, left_by, named_or_opened};
-use crate::plan::{scroll_of, update_if};
-use crate::same::is_same_if;
 use crate::taken::{Taken, taken_by, taken_head, taken_turn};
-use crate::texts::{position_of, whole};
+use crate::told::update_if;
 use crate::typing::{Kind, Typing, kind_of, run_group, run_on, run_with};
 use crate::view::ViewState;
+use doc_layout::{is_same_if, layout_of, position_of, scroll_of, whole_text};
 use plain_edits::UnitDelta;
 use plain_screen::{Lines, Update};
 use plain_text::{NoMemory, Run, Steps, Text};
@@ -532,7 +532,7 @@ impl Doc {
     pub fn head_text(&self, alloc: Global) -> Result<Text, NoMemory>
         ensures { (plain : Document) → DocStandsFor self.now plain → IfOk result (λ text. text ≡ text_of plain) }
     {
-        whole(alloc, self.engine.head_rope())
+        whole_text(alloc, self.engine.head_rope())
     }
 
     /// How many characters some revision can still show.

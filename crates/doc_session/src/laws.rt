@@ -1,11 +1,6 @@
 //! Laws of the definitions, each the contract of a function: they hold of all documents.
 
-ghost use Rattle.doc_session.specs.Laws.{InsertionsFit, InsertionsPut, LayoutsTell, NoticesLead, ScreensShow, UpdatesShow};
-
-/// A layout has the characters of its text and the place of its caret, and nothing else.
-pub fn layouts_tell()
-    ensures { LayoutsTell }
-{}
+ghost use Rattle.doc_session.specs.Laws.{InsertionsFit, InsertionsPut, NoticesLead, ScreensShow, UpdatesShow};
 
 /// An updated screen shows the layout: its length, and no line of it is another; the lines of the window are there.
 pub fn screens_show()

@@ -1,5 +1,5 @@
 // What a revision leaves of a document beside its engine.
-ghost use Rattle.std.specs.Prelude.{◌≡◌, ◌+◌, ◌^◌, ◌<◌, IfOk, None, Some, if◌then◌else◌};
+ghost use Rattle.std.specs.Prelude.{◌≡◌, ◌+◌, ◌^◌, ◌<◌, IfOk, None, Some};
 ghost use Rattle.undo_groups.specs.Groups.{IsStack};
 ghost use Rattle.doc_session.specs.Grouping.{group_by, groups_by};
 ghost use Rattle.doc_session.specs.Inner.{known_group};

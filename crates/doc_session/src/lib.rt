@@ -10,17 +10,11 @@ mod event;
 mod fault;
 mod insertion;
 pub mod laws;
-mod layout;
 mod left;
-mod plan;
-pub mod rows;
-mod same;
 mod taken;
-mod texts;
+mod told;
 mod typing;
 mod view;
-mod wire;
-mod wire_builder;
 
 pub use doc::Doc;
 pub use event::{Body, Effects, Event};

@@ -9,10 +9,11 @@ ghost use Rattle.rev_undo.specs.Under.{AgreesOnCollected};
 ghost use Rattle.rev_engine.specs.Engine.{IsChange, IsSaidBy, StandsFor, asked_by};
 ghost use Rattle.rev_engine.specs.Given.{AskedEdit, MayAsk};
 ghost use Rattle.doc_session.specs.Fault.{DocRefuses};
-ghost use Rattle.doc_session.specs.Inner.{IsAfter, IsAfterEdit, IsChangeOf, IsNoticed, IsSaidOfSome, IsTakenFrom, StandsForSome, head_shown};
+ghost use Rattle.doc_layout.specs.Changed.{IsChangeOf};
+ghost use Rattle.doc_session.specs.Inner.{IsAfter, IsAfterEdit, IsNoticed, IsSaidOfSome, IsTakenFrom, StandsForSome, head_shown};
 
 use crate::fault::DocFault;
-use crate::wire::to_wire;
+use doc_layout::to_wire;
 use plain_text::{NoMemory, Text};
 use rev_engine::{Change, Edit, Engine, UndoFault, UnitEdit};
 use rope_tree::Rope;

@@ -1,6 +1,6 @@
 use Rattle.std.proofs.Common.{length, refl, ap, ◌∙◌, arith}
 use Rattle.plain_text.specs.Text.{byte_len}
-use Rattle.doc_session.proofs.MoveLemmas.{length-byte_len}
+use Rattle.doc_layout.proofs.ForCallers.{length-byte_len}
 use Rattle.doc_session.proofs.taken.noticed.Goals as goal
 
 pub returns-clause-noticed : goal.returns-clause-noticed

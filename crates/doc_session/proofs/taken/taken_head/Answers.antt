@@ -4,7 +4,8 @@ use Rattle.rev_engine.specs.Engine.{StandsFor}
 use Rattle.plain_edits.specs.HistorySteps.{edits}
 use Rattle.rev_engine.specs.Given.{MayAsk, after, meant}
 use Rattle.rev_engine.specs.State.{State}
-use Rattle.doc_session.specs.Inner.{IsChangeOf, IsNoticed, head_shown}
+use Rattle.doc_layout.specs.Changed.{IsChangeOf}
+use Rattle.doc_session.specs.Inner.{IsNoticed, head_shown}
 use Rattle.doc_session.proofs.MoveLemmas.{IsAfter-noticed, IsChangeOf-said, head-after, IsTakenFrom-noticed, spent-within}
 use Rattle.doc_session.proofs.taken.taken_head.Goals as goal
 

@@ -7,7 +7,8 @@ use Rattle.rev_undo.specs.Under.{AgreesOnCollected}
 use Rattle.rev_engine.specs.Asked.{MayAskUndo}
 use Rattle.rev_engine.specs.Engine.{StandsFor}
 use Rattle.rev_engine.specs.State.{State}
-use Rattle.doc_session.specs.Inner.{IsChangeOf, IsNoticed, head_shown}
+use Rattle.doc_layout.specs.Changed.{IsChangeOf}
+use Rattle.doc_session.specs.Inner.{IsNoticed, head_shown}
 use Rattle.doc_session.proofs.MoveLemmas.{IsAfter-noticed, IsChangeOf-shown, IsTakenFrom-noticed, head-undid}
 use Rattle.doc_session.proofs.taken.taken_turn.Goals as goal
 

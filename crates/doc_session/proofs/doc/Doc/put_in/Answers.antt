@@ -8,7 +8,8 @@ use Rattle.doc_session.specs.declared.left.Left.{Left}
 use Rattle.doc_session.specs.Asking.{front_edit, front_priority}
 use Rattle.doc_session.specs.Grouping.{group_by, groups_by, run_group}
 use Rattle.doc_session.specs.InMemory.{Doc}
-use Rattle.doc_session.specs.Inner.{IsOpenGroup, IsStepped, head_shown, insertion_in, next_document, scroll_between}
+use Rattle.doc_layout.specs.Told.{scroll_between}
+use Rattle.doc_session.specs.Inner.{IsOpenGroup, IsStepped, head_shown, insertion_in, next_document}
 use Rattle.doc_session.specs.Layout.{position_of}
 use Rattle.doc_session.specs.Stands.{DocStandsFor}
 use Rattle.doc_session.specs.Step.{EventStep, front_step, revision_step}

@@ -2,7 +2,8 @@ use Rattle.std.proofs.Common.{refl, true, ap, ap₂, sym, subst, ◌∙◌}
 use Rattle.std.specs.Prelude.{◌==◌, not, Some, None, Option, if◌then◌else◌}
 use Rattle.doc_session.specs.declared.typing.Typing.{Typing}
 use Rattle.doc_session.specs.InMemory.{Doc, View}
-use Rattle.doc_session.specs.Inner.{IsLeftOf, planned}
+use Rattle.doc_layout.specs.Told.{planned}
+use Rattle.doc_session.specs.Inner.{IsLeftOf}
 use Rattle.doc_session.specs.Stands.{DocStandsFor}
 use Rattle.doc_session.specs.Typing.{run_on}
 use Rattle.doc_session.proofs.GroupLemmas.{IsLeftOf-run}

@@ -1,7 +1,9 @@
 use Rattle.std.proofs.Common.{List, ℕ, false, ap, sym, subst, ◌∙◌}
 use Rattle.std.specs.Prelude.{Some, None, if◌then◌else◌}
 use Rattle.doc_session.specs.InMemory.{Doc}
-use Rattle.doc_session.specs.Inner.{IsChangeOf, head_shown, is_lacking, planned}
+use Rattle.doc_layout.specs.Changed.{IsChangeOf}
+use Rattle.doc_layout.specs.Told.{planned}
+use Rattle.doc_session.specs.Inner.{head_shown, is_lacking}
 use Rattle.doc_session.proofs.SettleLemmas.{same-inside}
 use Rattle.doc_session.proofs.doc.Doc.update_for.Goals as goal
 

@@ -1,0 +1,7 @@
+pub mod LayoutLemmas
+pub mod PlaceLemmas
+pub mod SameLemmas
+pub mod WireLemmas
+pub mod PlanLemmas
+pub mod TellLemmas
+pub mod ForCallers

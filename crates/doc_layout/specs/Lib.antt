@@ -1,0 +1,7 @@
+pub mod Layout
+pub mod PositionView
+pub mod Told
+pub mod Changed
+pub mod Laws
+pub mod Rows
+pub mod Inner

@@ -1,0 +1,8 @@
+//! Laws of the definitions, each the contract of a function: they hold of all texts.
+
+ghost use Rattle.doc_layout.specs.Laws.{LayoutsTell};
+
+/// A layout has the characters of its text and the place of its caret, and nothing else.
+pub fn layouts_tell()
+    ensures { LayoutsTell }
+{}

@@ -1,0 +1,75 @@
+// Where gaps of a rope stand: each answer costs the height of the rope, and no walk over its text.
+ghost use Rattle.std.specs.Prelude.{◌≡◌, ◌<◌, IfNone, IfOk, IfSome, take};
+ghost use Rattle.plain_text.specs.Text.{place_of};
+ghost use Rattle.rope_node.specs.Lengths.{lf_count};
+ghost use Rattle.rope_metrics.specs.Measure.{HasNone, IsConverted};
+ghost use Rattle.doc_layout.specs.Layout.{position_of};
+ghost use Rattle.doc_layout.specs.PositionView.{position_view};
+
+use plain_text::{NoMemory, Steps, Text};
+use rope_metrics::{Measure, convert, total};
+use rope_tree::Rope;
+use std::alloc::Global;
+use std::marker::Brand;
+use std::sync::ledger::{Blank, Ledger};
+
+/// The place of a gap on the layout: a line, and an offset in it in bytes.
+pub fn position_of(text: &Rope, gap: u64) -> (u64, u64)
+    ensures { position_view result ≡ position_of text.now gap }
+{
+    let line = lines_before(text, gap);
+    let place = place_of(text, gap);
+    match converted(text, Measure::Lines, Measure::Bytes, line) {
+        Some(start) => (line, place - start),
+        None => (line, place),
+    }
+}
+
+/// How many LFs stand left of a gap.
+fn lines_before(text: &Rope, gap: u64) -> u64
+    ensures { result ≡ lf_count (take gap text.now) }
+{
+    match converted(text, Measure::Chars, Measure::Lines, gap) {
+        Some(lines) => lines,
+        None => total(text.node(), Measure::Lines),
+    }
+}
+
+/// The byte offset of a gap, or of the end where there is no such gap.
+pub(crate) fn place_of(text: &Rope, gap: u64) -> u64
+    ensures { result ≡ place_of text.now gap }
+{
+    match converted(text, Measure::Chars, Measure::Bytes, gap) {
+        Some(place) => place,
+        None => text.byte_len(),
+    }
+}
+
+fn converted(text: &Rope, from: Measure, to: Measure, at: u64) -> Option<u64>
+    ensures some { IfSome result (λ offset. IsConverted from to text.now at offset) }
+    ensures none { IfNone result (HasNone from text.now at) }
+{
+    converted_by::<Brand>(text, from, to, at, Blank::new(1))
+}
+
+fn converted_by<L: Ledger>(
+    text: &Rope,
+    from: Measure,
+    to: Measure,
+    at: u64,
+    blank: Blank,
+) -> Option<u64>
+    requires blank { (blank.name ≡ L.name) × ((blank.parts ≡ L.parts) × (0 < blank.parts)) }
+    ensures some { IfSome result (λ offset. IsConverted from to text.now at offset) }
+    ensures none { IfNone result (HasNone from text.now at) }
+{
+    let mut steps = Steps::<L>::new(blank);
+    convert(text.node(), from, to, at, &mut steps)
+}
+
+/// The text of a rope, in one copy.
+pub fn whole_text(alloc: Global, rope: &Rope) -> Result<Text, NoMemory>
+    ensures { IfOk result (λ made. made ≡ rope.now) }
+{
+    rope.slice(alloc, 0, rope.len())
+}

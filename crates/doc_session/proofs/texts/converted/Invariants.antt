@@ -1,4 +1,0 @@
-use Rattle.doc_session.proofs.texts.converted.Given as goal
-
-abbrev pub ghosts-converted_by : goal.ghosts-converted_by
-ghosts-converted_by a = record { name = a.blank.name; parts = a.blank.parts }
