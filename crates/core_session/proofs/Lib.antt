@@ -1,5 +1,7 @@
 pub mod SessionLemmas
 pub mod ViewLemmas
+pub mod PlanLemmas
+pub mod StepLemmas
 pub mod RevisionLemmas
 pub mod ShowsLemmas
 pub mod OpenLemmas

@@ -1,30 +1,20 @@
 -- A front end that knows the first view alone sees what the journal defines, while there is no second one.
 use Rattle.std.proofs.Common.{◌≡◌, ℕ, Bool, true, false, List, [], ◌∷◌, ◌++◌, Option, Some, None, refl, ap, sym, ◌∙◌, subst, append_assoc, append-nil}
-use Rattle.std.specs.Prelude.{if◌then◌else◌, ⊤}
+use Rattle.std.specs.Prelude.{if◌then◌else◌}
 use Rattle.std.specs.List.{AllByRecursion}
 use Rattle.std.specs.Str.{bytes_eq}
-use Rattle.std.proofs.lemmas.Slice.Eq.{bytes_eq-Decides}
-use Rattle.xi_plain.specs.declared.command.EditAct.{EditAct}
-use Rattle.xi_plain.specs.declared.command.Act.{Act}
-use Rattle.xi_plain.specs.declared.command.Act.TheVariants.{NewView, CloseView, Save, Edit}
 use Rattle.xi_plain.specs.declared.entry.Entry.{Entry}
 use Rattle.plain_screen.specs.declared.screen.Op.{Op}
 use Rattle.plain_screen.specs.Screen.{Screen, screen_after}
 use Rattle.view_update.specs.Reading.{ViewUpdate}
-use Rattle.doc_session.specs.Step.{EventStep, event_step, refusal_at}
-use Rattle.doc_session.specs.declared.event.Event.TheVariants.{Front}
-use Rattle.core_session.specs.Session.{OpenView, view_id, named_view, Outcome, outcome, edit_came, edit_outcome, undone_outcome, spent_total, is_done, front_outcome, keeping, answer_undone, step, views_after, written, piece_of}
+use Rattle.core_session.specs.Session.{OpenView, view_id, step, views_after, written, piece_of}
 use Rattle.core_session.specs.Shows.{updates_in, rebuilt_from, rebuilt, IsShown, AreShown, SendsTo, NotesSendTo}
 use Rattle.core_session.specs.Core.{views_of}
 use Rattle.core_session.specs.Laws.{only_rebuilt_from, only_rebuilt, IsOnlyShown, OnlyViewIsShown}
 use Rattle.core_session.proofs.SessionLemmas.{views_after-push, all_append}
+use Rattle.core_session.proofs.ViewLemmas.{AtMostFirst, Stays}
+use Rattle.core_session.proofs.StepLemmas.{FirstStays, first_stays}
 use Rattle.core_session.proofs.ShowsLemmas.{updates_in-push}
-
--- at most the first view is open
-AtMostFirst : List OpenView → Type 0
-AtMostFirst [] = ⊤
-AtMostFirst (view ∷ []) = view.id ≡ view_id
-AtMostFirst (view ∷ next ∷ views) = ⊥
 
 -- the note is one of the first view, and that is open
 IsTold : List OpenView → Option ViewUpdate → Type 0
@@ -34,63 +24,6 @@ IsTold (view ∷ views) (Some note) = bytes_eq note.view view_id ≡ true
 
 AreTold : List OpenView → List (Option ViewUpdate) → Type 0
 AreTold views notes = AllByRecursion (IsTold views) notes
-
--- where a view is open, one is open after
-Stays : List OpenView → List OpenView → Type 0
-Stays [] after = ⊤
-Stays (view ∷ views) [] = ⊥
-Stays (view ∷ views) (next ∷ after) = ⊤
-
-stays_same : (views : List OpenView) → Stays views views
-unfolding Stays
-stays_same [] = tt
-stays_same (view ∷ views) = tt
-
--- ---- an act
-
-FirstStays : List OpenView → Outcome → Type 0
-FirstStays views done = AtMostFirst done.views × Stays views done.views
-
-first_id : (b : Bool) (view first : OpenView) → bytes_eq view.id first.id ≡ b → first.id ≡ view_id → (if b then view else first).id ≡ view_id
-first_id true view first is same = (bytes_eq-Decides view.id first.id).0 is ∙ same
-first_id false view first is same = same
-
-first_keeping : (views : List OpenView) (done : Outcome) → done.views ≡ views → AtMostFirst views → FirstStays views done
-unfolding FirstStays
-first_keeping views done same first =
-    let At : List OpenView → Type 0 = λ after. AtMostFirst after × Stays views after in
-    subst At (sym same) (first, stays_same views)
-
-first_came : (views : List OpenView) (view : OpenView) (total : Option ℕ) (next : EventStep) → AtMostFirst views → FirstStays views (edit_came views view total next)
-unfolding AtMostFirst Stays FirstStays
-first_came views view (Some total) next first = (first, stays_same views)
-first_came [] view None next first = (tt, tt)
-first_came (old ∷ []) view None next first = (first_id (bytes_eq view.id old.id) (record view { document = next.document }) old refl first, tt)
-first_came (old ∷ more ∷ views) view None next first = absurd first
-
-first_done : (done : Bool) (views : List OpenView) (view : OpenView) (act : EditAct) → AtMostFirst views →
-    FirstStays views (if done then front_outcome views view act else keeping views (answer_undone act))
-first_done true views view act first =
-    first_came views view (spent_total (refusal_at view.document (Front act))) (event_step view.document (Front act)) first
-first_done false views view act first = first_keeping views _ refl first
-
-first_edit : (views : List OpenView) (found : Option OpenView) (act : EditAct) → AtMostFirst views → FirstStays views (edit_outcome views found act)
-first_edit views None act first = first_keeping views _ refl first
-first_edit views (Some view) act first = first_done (is_done act) views view act first
-
-first_undone : (views : List OpenView) (found : Option OpenView) → AtMostFirst views → FirstStays views (undone_outcome views found)
-first_undone views None first = first_keeping views _ refl first
-first_undone views (Some view) first = first_keeping views _ refl first
-
-first_stays : (views : List OpenView) (act : Act) → AtMostFirst views → FirstStays views (outcome views act)
-unfolding AtMostFirst Stays FirstStays
-first_stays [] (NewView None) first = (refl, tt)
-first_stays [] (NewView (Some path)) first = (first, tt)
-first_stays (view ∷ views) (NewView path) first = (first, tt)
-first_stays views (Edit name act) first = first_edit views (named_view views name) act first
-first_stays views (CloseView name) first = first_undone views (named_view views name) first
-first_stays views (Save name path) first = first_undone views (named_view views name) first
-first_stays views act first = (first, stays_same views)
 
 -- ---- the notes of an entry, and those before it
 

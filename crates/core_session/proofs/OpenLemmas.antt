@@ -1,20 +1,25 @@
 -- What the opening of the first view comes to, and which view a text names.
-use Rattle.std.proofs.Common.{◌≡◌, ℕ, Bool, true, false, List, [], ◌∷◌, Option, Some, None, refl, ◌∙◌, ap, subst, arith}
+use Rattle.std.proofs.Common.{◌≡◌, ℕ, Bool, true, false, List, [], ◌∷◌, ◌++◌, Option, Some, None, refl, sym, ◌∙◌, ap, subst, arith, append-nil}
 use Rattle.plain_edits.specs.History.{loaded}
-use Rattle.std.specs.Prelude.{is_some, if◌then◌else◌}
+use Rattle.std.specs.Prelude.{is_some, if◌then◌else◌, Result, IfOk}
 use Rattle.std.specs.Str.{encode_utf8_all, bytes_eq}
 use Rattle.doc_session.specs.InMemory.{Doc}
 use Rattle.doc_session.specs.declared.event.Effects.{Effects}
-use Rattle.doc_session.specs.declared.event.Event.TheVariants.{Other}
+use Rattle.doc_session.specs.declared.event.Event.TheVariants.{Front, Other}
 use Rattle.doc_session.specs.Document.{loaded_document}
 use Rattle.doc_session.specs.Stands.{DocStandsFor}
-use Rattle.doc_session.specs.Step.{AreEffectsOf, event_step}
+use Rattle.doc_session.specs.Step.{AreEffectsOf, EventStep, event_step, refusal_at}
 use Rattle.doc_session.proofs.ForCallers.{head-stands}
 use Rattle.core_session.specs.declared.act.ActEffects.{ActEffects}
-use Rattle.core_session.specs.declared.act.Reply.TheVariants.{Opened}
-use Rattle.core_session.specs.Core.{ServesDocument, Stands}
-use Rattle.core_session.specs.Inner.{TakesEvents, IsOutcome}
-use Rattle.core_session.specs.Session.{OpenView, view_id, named_view, first_document, open_outcome, text_limit, updates_for, scroll_for}
+use Rattle.core_session.specs.declared.act.Reply.{Reply as ReplyInMemory}
+use Rattle.core_session.specs.declared.act.Reply.TheVariants.{Opened, Accepted}
+use Rattle.xi_plain.specs.declared.command.EditAct.{EditAct}
+use Rattle.plain_edits.specs.Edits.{Refusal}
+use Rattle.core_session.specs.Answer.{Reply}
+use Rattle.core_session.specs.Core.{ServesDocument, ServesView, Stands}
+use Rattle.core_session.specs.Inner.{TakesEvents, IsOutcome, reply_of}
+use Rattle.core_session.specs.Session.{OpenView, view_id, named_view, first_document, open_outcome, text_limit, updates_for, scroll_for, keeping, front_outcome, edit_came, spent_total, other_step}
+use Rattle.core_session.proofs.ViewLemmas.{same_id}
 
 -- a document that was just loaded takes events
 pub TakesEvents-loaded : (doc : Doc) (text : List ℕ) → DocStandsFor doc (loaded_document text 0 text_limit) → TakesEvents doc
@@ -33,10 +38,57 @@ IsOutcome-opened None None (view ∷ views) made effects came here there stands 
 IsOutcome-opened None None [] made effects came here there stands kept shown is =
     rw is (record {
       reply = refl;
-      updates = ap (updates_for view_id) shown.update;
+      updates = ap (updates_for view_id) shown.update ∙ sym (append-nil (updates_for view_id (event_step first_document Other).update));
       scroll = ap (scroll_for view_id) shown.scroll;
       stands = record { id = refl; serves = kept };
     })
+
+-- what a step of the only view tells
+told_only : (view : OpenView) (step : EventStep) (effects : Effects) → view.id ≡ view_id → AreEffectsOf step effects →
+    updates_for view_id effects.update ≡ updates_for view.id step.update ++ []
+told_only view step effects first shown =
+    ap (updates_for view_id) shown.update ∙ ap (λ id. updates_for id step.update) (sym first) ∙ sym (append-nil (updates_for view.id step.update))
+
+-- a line that is none of the only view's own
+pub IsOutcome-other : (doc : Doc) (reply : ReplyInMemory) (view : OpenView) (made : Doc) (effects : Effects) (came : ActEffects) →
+    ServesView doc view → ServesDocument made (event_step view.document Other).document → AreEffectsOf (event_step view.document Other) effects →
+    came ≡ record { reply = reply; next = Some made; update = effects.update; scroll = effects.scroll } →
+    IsOutcome (Some doc) (keeping (view ∷ []) (reply_of reply)) came
+IsOutcome-other doc reply view made effects came serves kept shown is =
+    rw is (record {
+      reply = refl;
+      updates = told_only view (event_step view.document Other) effects serves.id shown;
+      scroll = ap (scroll_for view_id) shown.scroll;
+      stands = record { id = serves.id; serves = kept };
+    })
+
+-- an edit of the only view that is taken
+pub IsOutcome-own : (doc : Doc) (view : OpenView) (act : EditAct) (made : Doc) (effects : Effects) (came : ActEffects) →
+    ServesView doc view → refusal_at view.document (Front act) ≡ None → ServesDocument made (event_step view.document (Front act)).document →
+    AreEffectsOf (event_step view.document (Front act)) effects →
+    came ≡ record { reply = Accepted; next = Some made; update = effects.update; scroll = effects.scroll } →
+    IsOutcome (Some doc) (front_outcome (view ∷ []) view act) came
+IsOutcome-own doc view act made effects came serves accepted kept shown is =
+    let own = event_step view.document (Front act) in
+    let At : EventStep → Type 0 = λ s. IsOutcome (Some doc) (record {
+      reply = reply_of Accepted;
+      views = record view { document = s.document } ∷ [];
+      updates = updates_for view.id s.update ++ [];
+      scroll = scroll_for view.id own.scroll;
+    }) came in
+    let here : At own = rw is (record {
+      reply = refl;
+      updates = told_only view own effects serves.id shown;
+      scroll = ap (scroll_for view_id) shown.scroll ∙ ap (λ id. scroll_for id own.scroll) (sym serves.id);
+      stands = record { id = serves.id; serves = kept };
+    }) in
+    let By : Option Refusal → Type 0 = λ refusal. IsOutcome (Some doc) (edit_came (view ∷ []) view (spent_total refusal) own) came in
+    subst By (sym accepted) (subst At (sym (ap (λ b. if b then own else other_step view) (same_id view.id))) here)
+
+-- the same answer
+pub keeping_same : {E : Type 0} (before : Option Doc) (views : List OpenView) (one other : Reply) (result : Result ActEffects E) → one ≡ other →
+    IfOk result (IsOutcome before (keeping views one)) → IfOk result (IsOutcome before (keeping views other))
+keeping_same before views one other result same is = subst (λ reply. IfOk result (IsOutcome before (keeping views reply))) same is
 
 -- the first view, where it is the only one, is named by its id and by no other text
 named_by : (b : Bool) (view : OpenView) (name : List ℕ) → bytes_eq (encode_utf8_all name) view_id ≡ b → view.id ≡ view_id →

@@ -1,8 +1,7 @@
 -- One more entry is shown, where those before it are.
-use Rattle.std.proofs.Common.{◌≡◌, ℕ, suc, ◌+◌, ◌-◌, ◌<◌, ◌≤◌, ◌||◌, length, arith, Bool, true, false, List, [], ◌∷◌, ◌++◌, map, Option, Some, None, refl, ap, sym, ◌∙◌, subst, append-nil, ◌⊎◌, inl, inr, unwrap_or}
+use Rattle.std.proofs.Common.{◌≡◌, ℕ, ◌-◌, ◌<◌, length, arith, Bool, true, false, List, [], ◌∷◌, ◌++◌, map, Option, Some, None, refl, ap, sym, ◌∙◌, subst, append-nil, ◌⊎◌, inl, inr}
 use Rattle.std.specs.Prelude.{if◌then◌else◌, ℤ, pos, codes, ◌^◌}
-use Rattle.std.specs.Str.{bytes_eq, encode_utf8_all}
-use Rattle.std.proofs.lemmas.Slice.Eq.{bytes_eq-Decides}
+use Rattle.std.specs.Str.{bytes_eq}
 use Rattle.std.specs.List.{filter_map, cons_option, AllByRecursion}
 use Rattle.serde_json.specs.Data.{Data}
 use Rattle.json_rpc.specs.Line.{line_of, IsLineOf}
@@ -13,18 +12,8 @@ use Rattle.xi_plain.specs.declared.command.Fault.{Fault}
 use Rattle.xi_plain.specs.declared.command.Fault.TheVariants.{Parse, Invalid, NoMethod, BadParams}
 use Rattle.xi_plain.specs.declared.command.Command.{Command}
 use Rattle.xi_plain.specs.declared.entry.Entry.{Entry}
-use Rattle.plain_text.specs.declared.run.Run.{Run}
-use Rattle.plain_screen.specs.declared.screen.Line.{Line}
-use Rattle.plain_screen.specs.declared.screen.Op.{Op}
-use Rattle.plain_screen.specs.declared.screen.Op.TheVariants.{Copy, Skip, Invalidate, Ins}
-use Rattle.xi_plain.specs.declared.command.EditAct.{EditAct}
 use Rattle.xi_plain.specs.declared.command.Act.{Act}
-use Rattle.xi_plain.specs.declared.command.Act.TheVariants.{NewView, CloseView, Save, Edit}
-use Rattle.plain_screen.specs.Plan.{shown_lines}
-use Rattle.plain_screen.specs.Plan.{is_within, onto_ops}
-use Rattle.plain_screen.proofs.callers.PlanLemmas.{plan_from, plan_from-line, screen_after-plan_from}
-use Rattle.std.proofs.lemmas.Bool.{cases_eq}
-use Rattle.std.proofs.lemmas.Bool.Decides.{nat_tests}
+use Rattle.plain_screen.specs.declared.screen.Update.{Update}
 use Rattle.plain_screen.specs.Screen.{Screen, screen_after}
 use Rattle.json_rpc.specs.Response.{reply_data, error_data}
 use Rattle.view_update.specs.Notes.{scroll_data, alert_data}
@@ -32,20 +21,19 @@ use Rattle.view_update.specs.Written.{update_data}
 use Rattle.view_update.specs.Reading.{ViewUpdate, Scroll, line_update}
 use Rattle.view_update.proofs.ForCallers.{others_are_no_updates}
 use Rattle.doc_session.specs.InMemory.{Doc}
-use Rattle.doc_session.specs.Document.{Document, layout_of, no_request}
-use Rattle.doc_session.specs.declared.event.Event.TheVariants.{Front}
-use Rattle.doc_session.specs.Effects.{ops_of, update_of, updated, wants_update}
-use Rattle.doc_session.specs.Step.{act_step, going_on, refusal_at}
+use Rattle.doc_session.specs.Document.{Document}
+use Rattle.doc_session.specs.Step.{EventStep}
 use Rattle.core_session.specs.Answer.{Reply, accepted, refused, spent, not_built, silent, answers, refusal, refused_by, spent_refusal, not_built_refusal}
 use Rattle.json_rpc.specs.Refusal.{code_of, message_of}
-use Rattle.core_session.specs.Session.{OpenView, view_of, with_view, named_view, view_id, Outcome, outcome, opening_outcome, first_document, edit_came, edit_outcome, undone_outcome, spent_total, front_outcome, is_done, answer_undone, keeping, outcome_messages, update_notes, scroll_notes, updates_for, messages, step, views_after, lines_written, written, piece_of}
-use Rattle.core_session.specs.Shows.{updates_in, screen_with, rebuilt_from, rebuilt, IsShown, AreShown, SendsWithin, SendsTo, NotesSendTo, Shows}
-use Rattle.doc_session.proofs.ForCallers.{by_front, head-stands}
+use Rattle.core_session.specs.Session.{OpenView, view_of, view_id, first_view, Outcome, outcome, opening_outcome, taking, leaving, other_step, outcome_messages, update_notes, scroll_notes, updates_for, messages, step, views_after, lines_written, written, piece_of}
+use Rattle.core_session.specs.Shows.{updates_in, screen_with, rebuilt_from, rebuilt, IsShown, AreShown, SendsTo, NotesSendTo, Shows}
+use Rattle.doc_session.proofs.ForCallers.{head-stands}
 use Rattle.core_session.specs.Core.{IsOfLine, IsOpen, Stands, screen_of, views_of, IsShowing, front_entry}
 use Rattle.core_session.specs.Inner.{MayBeAsked, UpdatesReadBack, AreLinesOf}
 use Rattle.core_session.specs.Laws.{HaveRevisions}
 use Rattle.core_session.proofs.RevisionLemmas.{revisions_few}
-use Rattle.core_session.proofs.ViewLemmas.{same_id, other_way, finds_itself, only_view, view_of-with_view, view_of-with_other}
+use Rattle.core_session.proofs.ViewLemmas.{other_way, only_view, AtMostFirst}
+use Rattle.core_session.proofs.StepLemmas.{MakesScreen, UpdateWithin, KeepsStep, KeepEach, by_outcome, first_of}
 use Rattle.core_session.proofs.SessionLemmas.{views_after-push, all_messages, all_messages-push, written-messages, IsOpen-push}
 
 -- the updates that messages say
@@ -208,218 +196,86 @@ splits_push {X} (j ∷ journal) (x ∷ front) back entry is =
 pub Settles : List OpenView → Outcome → Type 0
 Settles views done = (id : List ℕ) → rebuilt_from id (Some (screen_of (view_of views id))) (note_list done.updates) ≡ Some (screen_of (view_of done.views id))
 
-screen_after-ops_of : (document : Document) (screen : Screen) →
-    screen_after screen (ops_of document) ≡ Some (shown_lines document.window no_request (layout_of document))
-screen_after-ops_of document screen = screen_after-plan_from document.window no_request (layout_of document) 0 0 screen
+-- by the update of a step, where the id is that of the view or not
+settles_by : (b : Bool) (id : List ℕ) (view : OpenView) (after : Document) (update : Option Update) → bytes_eq view.id id ≡ b →
+    MakesScreen update view.document.screen after.screen →
+    rebuilt_from id (Some (screen_of (if b then Some view else None))) (note_list (updates_for view.id update ++ [])) ≡
+    Some (screen_of (if b then Some (record view { document = after }) else None))
+unfolding note_list MakesScreen
+settles_by true id view after None is makes = ap Some (sym makes)
+settles_by false id view after None is makes = refl
+settles_by true id view after (Some update) is makes =
+    ap (λ b. if b then screen_after view.document.screen update.ops else Some view.document.screen) is ∙ makes
+settles_by false id view after (Some update) is makes = ap (λ b. if b then screen_after [] update.ops else Some []) is
 
--- an updated document has the screen that its update makes of the one before
-updated_screen : (before : Screen) (after : Document) → after.screen ≡ before → screen_after before (ops_of after) ≡ Some (updated after).screen
-updated_screen before after same =
-    screen_after-ops_of after before ∙ ap Some (sym (ap (λ o. unwrap_or o []) (screen_after-ops_of after after.screen)))
+settles_one : (id : List ℕ) (view : OpenView) (after : Document) (update : Option Update) → MakesScreen update view.document.screen after.screen →
+    rebuilt_from id (Some (screen_of (view_of (view ∷ []) id))) (note_list (updates_for view.id update ++ [])) ≡
+    Some (screen_of (view_of (record view { document = after } ∷ []) id))
+settles_one id view after update makes =
+    let same : bytes_eq id view.id ≡ bytes_eq view.id id = other_way id view.id in
+    let notes = note_list (updates_for view.id update ++ []) in
+    ap (λ b. rebuilt_from id (Some (screen_of (if b then Some view else None))) notes) same ∙
+    settles_by (bytes_eq view.id id) id view after update refl makes ∙
+    sym (ap (λ b. Some (screen_of (if b then Some (record view { document = after }) else None))) same)
 
-settles_here : (wants : Bool) (id : List ℕ) (before : Screen) (after : Document) → after.screen ≡ before →
-    rebuilt_from id (Some before) (note_list (updates_for id (if wants then Some (update_of after) else None))) ≡
-    Some (if wants then updated after else after).screen
-unfolding note_list
-settles_here true id before after same =
-    ap (λ b. if b then screen_after before (ops_of after) else Some before) (same_id id) ∙ updated_screen before after same
-settles_here false id before after same = ap Some (sym same)
-
--- a note of another view is passed over
-settles_there : (wants : Bool) (id of : List ℕ) (screen : Screen) (after : Document) → bytes_eq of id ≡ false →
-    rebuilt_from id (Some screen) (note_list (updates_for of (if wants then Some (update_of after) else None))) ≡ Some screen
-unfolding note_list
-settles_there true id of screen after other = ap (λ b. if b then screen_after screen (ops_of after) else Some screen) other
-settles_there false id of screen after other = refl
-
--- the view with its next document
-next_view : Bool → OpenView → Document → OpenView
-next_view wants view after = record view { document = if wants then updated after else after }
-
-settles_by : (b wants : Bool) (views : List OpenView) (view : OpenView) (after : Document) (id : List ℕ) → bytes_eq view.id id ≡ b →
-    view_of views view.id ≡ Some view → after.screen ≡ view.document.screen →
-    rebuilt_from id (Some (screen_of (view_of views id))) (note_list (updates_for view.id (if wants then Some (update_of after) else None))) ≡
-    Some (screen_of (view_of (with_view views (next_view wants view after)) id))
-unfolding next_view
-settles_by true wants views view after id is found same =
-    let At : List ℕ → Type 0 = λ x.
-    rebuilt_from x (Some (screen_of (view_of views x))) (note_list (updates_for view.id (if wants then Some (update_of after) else None))) ≡
-    Some (screen_of (view_of (with_view views (next_view wants view after)) x)) in
-    let here : At view.id =
-    ap (λ v. rebuilt_from view.id (Some (screen_of v)) (note_list (updates_for view.id (if wants then Some (update_of after) else None)))) found ∙
-    settles_here wants view.id view.document.screen after same ∙
-    ap (λ v. Some (screen_of v)) (sym (view_of-with_view views view (next_view wants view after) found)) in
-    subst At ((bytes_eq-Decides view.id id).0 is) here
-settles_by false wants views view after id is found same =
-    settles_there wants id view.id (screen_of (view_of views id)) after is ∙
-    ap (λ v. Some (screen_of v)) (sym (view_of-with_other views (next_view wants view after) id (other_way view.id id is)))
-
-settles_came : (views : List OpenView) (view : OpenView) (total : Option ℕ) (act : EditAct) → view_of views view.id ≡ Some view →
-    Settles views (edit_came views view total (act_step view.document act))
-unfolding Settles note_list next_view
-settles_came views view (Some total) act found = λ id. refl
-settles_came views view None act found =
-    by_front (λ step. Settles views (edit_came views view None step)) view.document
-    (λ kind. let next = going_on view.document kind in
-    λ id. settles_by (bytes_eq view.id id) (wants_update next next) views view next id refl found refl)
-    (λ next one_more screen window. λ id. settles_by (bytes_eq view.id id) (wants_update view.document next) views view next id refl found screen) act
-
-settles_keeping : (views : List OpenView) (reply : Reply) → Settles views (keeping views reply)
-unfolding Settles note_list
-settles_keeping views reply = λ id. refl
-
--- the first view, before its front end was told anything
-first_view : OpenView
-first_view = record { id = view_id; document = first_document }
+settles_steps : (views : List OpenView) (reply : Reply) (scroll : Option Scroll) (steps : OpenView → EventStep) → AtMostFirst views → KeepEach steps views →
+    Settles views (taking reply scroll steps views)
+unfolding Settles note_list AtMostFirst KeepEach KeepsStep
+settles_steps [] reply scroll steps first keep = λ id. refl
+settles_steps (view ∷ next ∷ views) reply scroll steps first keep = absurd first
+settles_steps (view ∷ []) reply scroll steps first keep = λ id. settles_one id view (steps view).document (steps view).update keep.0.screen
 
 no_screen : (b : Bool) → screen_of (if b then Some first_view else None) ≡ []
-unfolding first_view
 no_screen true = refl
 no_screen false = refl
 
-settles_opening : Settles [] opening_outcome
-unfolding Settles first_view next_view
-settles_opening = λ id.
-    let next = going_on first_document None in
-    let wants = wants_update next next in
-    let notes = note_list (updates_for view_id (if wants then Some (update_of next) else None)) in
+settles_opening : KeepEach other_step (first_view ∷ []) → Settles [] opening_outcome
+unfolding Settles KeepEach KeepsStep
+settles_opening keep = λ id.
+    let step = other_step first_view in
+    let notes = note_list (updates_for view_id step.update ++ []) in
     ap (λ screen. rebuilt_from id (Some screen) notes) (sym (no_screen (bytes_eq id view_id))) ∙
-    settles_by (bytes_eq view_id id) wants (first_view ∷ []) first_view next id refl (only_view first_view) refl
+    settles_one id first_view step.document step.update keep.0.screen
 
-settles_done : (done : Bool) (views : List OpenView) (view : OpenView) (act : EditAct) → view_of views view.id ≡ Some view →
-    Settles views (if done then front_outcome views view act else keeping views (answer_undone act))
-settles_done true views view act found = settles_came views view (spent_total (refusal_at view.document (Front act))) act found
-settles_done false views view act found = settles_keeping views (answer_undone act)
-
-settles_edit : (views : List OpenView) (id : List ℕ) (found : Option OpenView) (act : EditAct) → view_of views id ≡ found →
-    Settles views (edit_outcome views found act)
-settles_edit views id None act is = settles_keeping views (refused (BadParams (codes "view_id")))
-settles_edit views id (Some view) act is = settles_done (is_done act) views view act (finds_itself views id view is)
-
-settles_undone : (views : List OpenView) (found : Option OpenView) → Settles views (undone_outcome views found)
-settles_undone views None = settles_keeping views (refused (BadParams (codes "view_id")))
-settles_undone views (Some view) = settles_keeping views not_built
-
-pub settles : (views : List OpenView) (act : Act) → Settles views (outcome views act)
+settles_leaving : (views : List OpenView) → Settles views (leaving views)
 unfolding Settles note_list
-settles [] (NewView None) = settles_opening
-settles [] (NewView (Some path)) = λ id. refl
-settles (view ∷ views) (NewView path) = λ id. refl
-settles views (Edit name act) = settles_edit views (encode_utf8_all name) (named_view views name) act refl
-settles views (CloseView name) = settles_undone views (named_view views name)
-settles views (Save name path) = settles_undone views (named_view views name)
-settles views act = λ id. refl
+settles_leaving views = λ id. refl
+
+pub settles : (views : List OpenView) (act : Act) → AtMostFirst views → Settles views (outcome views act)
+settles views act first = by_outcome Settles settles_steps settles_opening settles_leaving views act first
 
 -- ---- the lines that an entry sends
-
-sends-onto_left : (window : Run) (index : ℕ) (ops : List Op) → SendsWithin window (index + 1) ops → SendsWithin window index (onto_ops (Invalidate 1) ops)
-sends-onto_left window index [] sends = tt
-sends-onto_left window index (Copy n ln ∷ ops) sends = sends
-sends-onto_left window index (Skip n ∷ ops) sends = sends
-sends-onto_left window index (Ins lines ∷ ops) sends = sends
-sends-onto_left window index (Invalidate n ∷ ops) sends =
-    let At : ℕ → Type 0 = λ at. SendsWithin window at ops in
-    let same : index + 1 + n ≡ index + (1 + n) = omega arith in
-    subst At same sends
-
--- one line more in front of those sent
-one_line : (window : Run) (index n : ℕ) → is_within window index ≡ true →
-    ((at : ℕ) → index + 1 ≤ at → at < index + 1 + n → is_within window at ≡ true) →
-    (at : ℕ) → index ≤ at → at < index + suc n → is_within window at ≡ true
-one_line window index n here later at above below =
-    elim (cases_eq at index)
-    [ inl is ↦ ap (is_within window) is ∙ here | inr other ↦ later at (omega arith) (omega arith) ]
-
-sends-onto_sent : (window : Run) (index : ℕ) (line : Line) (ops : List Op) → is_within window index ≡ true →
-    SendsWithin window (index + 1) ops → SendsWithin window index (onto_ops (Ins (line ∷ [])) ops)
-sends-onto_sent window index line [] here sends = (one_line window index 0 here (λ at above below. absurd (omega arith)), tt)
-sends-onto_sent window index line (Copy n ln ∷ ops) here sends = (one_line window index 0 here (λ at above below. absurd (omega arith)), sends)
-sends-onto_sent window index line (Skip n ∷ ops) here sends = (one_line window index 0 here (λ at above below. absurd (omega arith)), sends)
-sends-onto_sent window index line (Invalidate n ∷ ops) here sends = (one_line window index 0 here (λ at above below. absurd (omega arith)), sends)
-sends-onto_sent window index line (Ins lines ∷ ops) here sends =
-    let At : ℕ → Type 0 = λ at. SendsWithin window at ops in
-    let same : index + 1 + length lines ≡ index + suc (length lines) = omega arith in
-    (one_line window index (length lines) here sends.0, subst At same sends.1)
-
-sends_one : (window : Run) (index : ℕ) (inside : Bool) (line : Line) (ops : List Op) → is_within window index ≡ inside →
-    SendsWithin window (index + 1) ops → SendsWithin window index (onto_ops (if inside then Ins (line ∷ []) else Invalidate 1) ops)
-sends_one window index true line ops here sends = sends-onto_sent window index line ops here sends
-sends_one window index false line ops here sends = sends-onto_left window index ops sends
-
-none_requested : (index : ℕ) → is_within no_request index ≡ false
-none_requested index = grind (arith, nat_tests)
-
-or-false : (b : Bool) → (b || false) ≡ b
-or-false true = refl
-or-false false = refl
-
-pub sends-plan_from : (window : Run) (lines : List Line) (index at : ℕ) → SendsWithin window index (plan_from window no_request index at lines)
-sends-plan_from window [] index at = tt
-sends-plan_from window (line ∷ lines) index at =
-    let inside : (is_within window index || is_within no_request index) ≡ is_within window index =
-    ap (λ b. is_within window index || b) (none_requested index) ∙ or-false (is_within window index) in
-    subst (SendsWithin window index) (sym (plan_from-line window no_request index at line lines (is_within window index) inside))
-    (sends_one window index (is_within window index) line (plan_from window no_request (index + 1) at lines) refl
-    (sends-plan_from window lines (index + 1) at))
 
 -- the updates of an outcome are of its views, and send lines of their windows alone
 pub Sends : Outcome → Type 0
 Sends done = NotesSendTo done.views (note_list done.updates)
 
-sends_by : (wants : Bool) (views : List OpenView) (view : OpenView) (after : Document) → view_of views view.id ≡ Some view →
-    NotesSendTo (with_view views (next_view wants view after)) (note_list (updates_for view.id (if wants then Some (update_of after) else None)))
-unfolding note_list next_view
-sends_by true views view after found =
-    let At : Option OpenView → Type 0 = λ v. SendsTo v (ops_of after) in
-    let next : view_of (with_view views (next_view true view after)) view.id ≡ Some (next_view true view after) =
-    view_of-with_view views view (next_view true view after) found in
-    let within : At (Some (next_view true view after)) = sends-plan_from after.window (layout_of after) 0 0 in
-    (subst At (sym next) within, tt)
-sends_by false views view after found = tt
+sends_one : (view : OpenView) (after : Document) (update : Option Update) → UpdateWithin update after.window →
+    NotesSendTo (record view { document = after } ∷ []) (note_list (updates_for view.id update ++ []))
+unfolding note_list UpdateWithin
+sends_one view after None within = tt
+sends_one view after (Some update) within =
+    let next : OpenView = record view { document = after } in
+    let At : Option OpenView → Type 0 = λ v. SendsTo v update.ops in
+    (subst At (sym (only_view next)) within, tt)
 
-sends_came : (views : List OpenView) (view : OpenView) (total : Option ℕ) (act : EditAct) → view_of views view.id ≡ Some view →
-    Sends (edit_came views view total (act_step view.document act))
-unfolding Sends note_list next_view
-sends_came views view (Some total) act found = tt
-sends_came views view None act found =
-    by_front (λ step. Sends (edit_came views view None step)) view.document
-    (λ kind. let next = going_on view.document kind in sends_by (wants_update next next) views view next found)
-    (λ next one_more screen window. sends_by (wants_update view.document next) views view next found) act
+sends_steps : (views : List OpenView) (reply : Reply) (scroll : Option Scroll) (steps : OpenView → EventStep) → AtMostFirst views → KeepEach steps views →
+    Sends (taking reply scroll steps views)
+unfolding Sends note_list AtMostFirst KeepEach KeepsStep
+sends_steps [] reply scroll steps first keep = tt
+sends_steps (view ∷ next ∷ views) reply scroll steps first keep = absurd first
+sends_steps (view ∷ []) reply scroll steps first keep = sends_one view (steps view).document (steps view).update keep.0.sends
 
--- what changes nothing tells nothing
-sends_keeping : (views : List OpenView) (reply : Reply) → Sends (keeping views reply)
+sends_opening : KeepEach other_step (first_view ∷ []) → Sends opening_outcome
+unfolding Sends KeepEach KeepsStep
+sends_opening keep = sends_one first_view (other_step first_view).document (other_step first_view).update keep.0.sends
+
+sends_leaving : (views : List OpenView) → Sends (leaving views)
 unfolding Sends note_list
-sends_keeping views reply = tt
+sends_leaving views = tt
 
-sends_opening : Sends opening_outcome
-unfolding Sends first_view next_view
-sends_opening =
-    let next = going_on first_document None in
-    sends_by (wants_update next next) (first_view ∷ []) first_view next (only_view first_view)
-
-sends_done : (done : Bool) (views : List OpenView) (view : OpenView) (act : EditAct) → view_of views view.id ≡ Some view →
-    Sends (if done then front_outcome views view act else keeping views (answer_undone act))
-sends_done true views view act found = sends_came views view (spent_total (refusal_at view.document (Front act))) act found
-sends_done false views view act found = sends_keeping views (answer_undone act)
-
-sends_edit : (views : List OpenView) (id : List ℕ) (found : Option OpenView) (act : EditAct) → view_of views id ≡ found →
-    Sends (edit_outcome views found act)
-sends_edit views id None act is = sends_keeping views (refused (BadParams (codes "view_id")))
-sends_edit views id (Some view) act is = sends_done (is_done act) views view act (finds_itself views id view is)
-
-sends_undone : (views : List OpenView) (found : Option OpenView) → Sends (undone_outcome views found)
-sends_undone views None = sends_keeping views (refused (BadParams (codes "view_id")))
-sends_undone views (Some view) = sends_keeping views not_built
-
-pub sends : (views : List OpenView) (act : Act) → Sends (outcome views act)
-unfolding Sends note_list
-sends [] (NewView None) = sends_opening
-sends [] (NewView (Some path)) = tt
-sends (view ∷ views) (NewView path) = tt
-sends views (Edit name act) = sends_edit views (encode_utf8_all name) (named_view views name) act refl
-sends views (CloseView name) = sends_undone views (named_view views name)
-sends views (Save name path) = sends_undone views (named_view views name)
-sends views act = tt
+pub sends : (views : List OpenView) (act : Act) → AtMostFirst views → Sends (outcome views act)
+sends views act first = by_outcome (λ _ done. Sends done) sends_steps sends_opening sends_leaving views act first
 
 -- ---- one more entry is shown
 
@@ -446,7 +302,7 @@ rebuilt_push journal entry before said = λ id.
     ap (rebuilt_from id (Some [])) (updates_in-push journal entry) ∙
     rebuilt_from-append id (Some []) (updates_in (written [] journal)) (updates_in (piece_of views entry.command)) ∙
     ap (λ screen. rebuilt_from id screen (updates_in (piece_of views entry.command))) (before id) ∙
-    ap (rebuilt_from id (Some (screen_of (view_of views id)))) said ∙ settles views entry.command.act id ∙
+    ap (rebuilt_from id (Some (screen_of (view_of views id)))) said ∙ settles views entry.command.act (first_of journal) id ∙
     ap (λ after. Some (screen_of (view_of after id))) (sym (views_after-push journal entry))
 
 -- what a document in memory stands for is shown by its screen
@@ -497,7 +353,7 @@ sends_push journal entry each said front last back (inr ([], is, only)) =
     let Of : List OpenView → Type 0 = λ views. NotesSendTo views (updates_in (piece_of (views_of journal) entry.command)) in
     let Notes : List (Option ViewUpdate) → Type 0 = λ notes. NotesSendTo (step (views_of journal) entry.command) notes in
     let here : At journal entry =
-    subst Of (sym (views_after-push journal entry)) (subst Notes (sym said) (sends (views_of journal) entry.command.act)) in
+    subst Of (sym (views_after-push journal entry)) (subst Notes (sym said) (sends (views_of journal) entry.command.act (first_of journal))) in
     let To : Entry → Type 0 = λ e. At front e in
     let From : List Entry → Type 0 = λ entries. At entries entry in
     subst To (sym added) (subst From whole here)

@@ -1,69 +1,52 @@
--- Lemmas on the views that are open: which one an id finds, before and after one of them takes another's place.
-use Rattle.std.proofs.Common.{◌≡◌, ℕ, Bool, true, false, List, [], ◌∷◌, Some, None, refl, ap, sym, ◌∙◌, subst}
-use Rattle.std.specs.Prelude.{if◌then◌else◌}
+-- Lemmas on the views that are open: which one an id finds. At most the first view is open today.
+use Rattle.std.proofs.Common.{◌≡◌, ℕ, Bool, true, false, List, [], ◌∷◌, Some, None, refl, ap, sym, ◌∙◌}
+use Rattle.std.specs.Prelude.{if◌then◌else◌, ⊤}
 use Rattle.std.specs.Str.{bytes_eq}
-use Rattle.std.proofs.lemmas.Bool.{false≢true}
 use Rattle.std.proofs.lemmas.Slice.Eq.{bytes_eq-Decides}
-use Rattle.core_session.specs.Session.{OpenView, view_of, with_view}
+use Rattle.doc_session.specs.Step.{EventStep}
+use Rattle.core_session.specs.Session.{OpenView, view_of, view_id, stepped}
 
--- ids that are the same, and that are not
+-- ids that are the same
 pub same_id : (id : List ℕ) → bytes_eq id id ≡ true
 same_id id = (bytes_eq-Decides id id).1 refl
 
-swapped : (b : Bool) (xs ys : List ℕ) → bytes_eq ys xs ≡ b → bytes_eq xs ys ≡ false → b ≡ false
-swapped false xs ys is other = refl
-swapped true xs ys is other = absurd (false≢true (sym other ∙ (bytes_eq-Decides xs ys).1 (sym ((bytes_eq-Decides ys xs).0 is))))
+-- whether two ids are the same, either way round
+swapped : (b c : Bool) (xs ys : List ℕ) → bytes_eq xs ys ≡ b → bytes_eq ys xs ≡ c → b ≡ c
+swapped true c xs ys one other = sym (sym other ∙ (bytes_eq-Decides ys xs).1 (sym ((bytes_eq-Decides xs ys).0 one)))
+swapped false false xs ys one other = refl
+swapped false true xs ys one other = sym one ∙ (bytes_eq-Decides xs ys).1 (sym ((bytes_eq-Decides ys xs).0 other))
 
-pub other_way : (xs ys : List ℕ) → bytes_eq xs ys ≡ false → bytes_eq ys xs ≡ false
-other_way xs ys other = swapped (bytes_eq ys xs) xs ys refl other
+pub other_way : (xs ys : List ℕ) → bytes_eq xs ys ≡ bytes_eq ys xs
+other_way xs ys = swapped (bytes_eq xs ys) (bytes_eq ys xs) xs ys refl refl
 
--- the view that an id finds has it
-found_first : (b : Bool) (id : List ℕ) (first : OpenView) (views : List OpenView) (view : OpenView) → bytes_eq id first.id ≡ b →
-    (view_of views id ≡ Some view → id ≡ view.id) → (if b then Some first else view_of views id) ≡ Some view → id ≡ view.id
-found_first false id first views view is later found = later found
-found_first true id first views view is later found =
-    let here : first ≡ view = cc in
-    (bytes_eq-Decides id first.id).0 is ∙ ap (λ (v : OpenView). v.id) here
-
-pub view_of-id : (views : List OpenView) (id : List ℕ) (view : OpenView) → view_of views id ≡ Some view → id ≡ view.id
-view_of-id [] id view found = absurd cc
-view_of-id (first ∷ views) id view found = found_first (bytes_eq id first.id) id first views view refl (view_of-id views id view) found
-
--- so its own id finds it
-pub finds_itself : (views : List OpenView) (id : List ℕ) (view : OpenView) → view_of views id ≡ Some view → view_of views view.id ≡ Some view
-finds_itself views id view found =
-    let At : List ℕ → Type 0 = λ x. view_of views x ≡ Some view in
-    subst At (view_of-id views id view found) found
-
+-- the only view is found by its id
 pub only_view : (view : OpenView) → view_of (view ∷ []) view.id ≡ Some view
 only_view view = ap (λ b. if b then Some view else None) (same_id view.id)
 
--- a view that takes another's place is found by its id
-put_here : (b : Bool) (first : OpenView) (views : List OpenView) (old view : OpenView) → bytes_eq view.id first.id ≡ b →
-    (view_of views view.id ≡ Some old → view_of (with_view views view) view.id ≡ Some view) →
-    (if b then Some first else view_of views view.id) ≡ Some old →
-    view_of ((if b then view else first) ∷ with_view views view) view.id ≡ Some view
-put_here true first views old view is later found = ap (λ b. if b then Some view else view_of (with_view views view) view.id) (same_id view.id)
-put_here false first views old view is later found =
-    ap (λ b. if b then Some first else view_of (with_view views view) view.id) is ∙ later found
+-- a view that is found where there is one only is that one
+pub found_only : (b : Bool) (view found : OpenView) → (if b then Some view else None) ≡ Some found → found ≡ view
+found_only false view found is = absurd cc
+found_only true view found is = let here : view ≡ found = cc in sym here
 
-pub view_of-with_view : (views : List OpenView) (old view : OpenView) → view_of views view.id ≡ Some old → view_of (with_view views view) view.id ≡ Some view
-view_of-with_view [] old view found = absurd cc
-view_of-with_view (first ∷ views) old view found =
-    put_here (bytes_eq view.id first.id) first views old view refl (view_of-with_view views old view) found
+-- at most the first view is open
+unfoldable pub AtMostFirst : List OpenView → Type 0
+AtMostFirst [] = ⊤
+AtMostFirst (view ∷ []) = view.id ≡ view_id
+AtMostFirst (view ∷ next ∷ views) = ⊥
 
--- and another id finds what it found before
-put_there : (b : Bool) (first : OpenView) (views : List OpenView) (view : OpenView) (id : List ℕ) → bytes_eq view.id first.id ≡ b →
-    bytes_eq id view.id ≡ false → view_of (with_view views view) id ≡ view_of views id →
-    view_of ((if b then view else first) ∷ with_view views view) id ≡ view_of (first ∷ views) id
-put_there false first views view id is other later = ap (λ found. if bytes_eq id first.id then Some first else found) later
-put_there true first views view id is other later =
-    let same : view.id ≡ first.id = (bytes_eq-Decides view.id first.id).0 is in
-    let At : List ℕ → Type 0 = λ x. bytes_eq id x ≡ false in
-    ap (λ b. if b then Some view else view_of (with_view views view) id) other ∙ later ∙
-    sym (ap (λ b. if b then Some first else view_of views id) (subst At same other))
+-- where a view is open, one is open after
+unfoldable pub Stays : List OpenView → List OpenView → Type 0
+Stays [] after = ⊤
+Stays (view ∷ views) [] = ⊥
+Stays (view ∷ views) (next ∷ after) = ⊤
 
-pub view_of-with_other : (views : List OpenView) (view : OpenView) (id : List ℕ) → bytes_eq id view.id ≡ false → view_of (with_view views view) id ≡ view_of views id
-view_of-with_other [] view id other = refl
-view_of-with_other (first ∷ views) view id other =
-    put_there (bytes_eq view.id first.id) first views view id refl other (view_of-with_other views view id other)
+pub stays_same : (views : List OpenView) → Stays views views
+unfolding Stays
+stays_same [] = tt
+stays_same (view ∷ views) = tt
+
+pub first_stepped : (steps : OpenView → EventStep) (views : List OpenView) → AtMostFirst views → AtMostFirst (stepped steps views) × Stays views (stepped steps views)
+unfolding AtMostFirst Stays
+first_stepped steps [] first = (tt, tt)
+first_stepped steps (view ∷ []) first = (first, tt)
+first_stepped steps (view ∷ next ∷ views) first = absurd first

@@ -36,11 +36,6 @@ abbrev pub view_of : List OpenView → List ℕ → Option OpenView
 view_of [] id = None
 view_of (view ∷ views) id = if bytes_eq id view.id then Some view else view_of views id
 
--- the views, where this one takes the place of the one with its id
-abbrev pub with_view : List OpenView → OpenView → List OpenView
-with_view [] view = []
-with_view (first ∷ views) view = (if bytes_eq view.id first.id then view else first) ∷ with_view views view
-
 -- the view that a text names, in bytes, where it is open
 abbrev pub named_view : List OpenView → List ℕ → Option OpenView
 named_view views name = view_of views (encode_utf8_all name)
@@ -61,18 +56,6 @@ abbrev pub scroll_notes : Option Scroll → List Data
 scroll_notes None = []
 scroll_notes (Some place) = scroll_data place.view place.line place.col ∷ []
 
--- what changes nothing is answered so
-abbrev pub keeping : List OpenView → Reply → Outcome
-keeping views reply = record { reply = reply; views = views; updates = []; scroll = None }
-
--- an act that is refused changes nothing
-abbrev pub refusing : List OpenView → Fault → Outcome
-refusing views fault = keeping views (refused fault)
-
--- nor does one on a view that is not there
-abbrev pub refusing_view : List OpenView → Outcome
-refusing_view views = refusing views (BadParams (codes "view_id"))
-
 -- the update and the place to scroll to, as they are told of the view with this id, where there are any
 abbrev pub updates_for : List ℕ → Option Update → List ViewUpdate
 updates_for id None = []
@@ -82,14 +65,41 @@ abbrev pub scroll_for : List ℕ → Option Position → Option Scroll
 scroll_for id None = None
 scroll_for id (Some point) = Some (record { view = id; line = point.line; col = point.col })
 
--- a step of the view with this id is taken, after which these views are open, and answered so
-abbrev pub taking : Data → List OpenView → List ℕ → EventStep → Outcome
-taking result views id step = record {
-  reply = accepted result;
-  views = views;
-  updates = updates_for id step.update;
-  scroll = scroll_for id step.scroll;
-}
+-- the views after each of them took its step, and the updates of these steps in the order of the views
+abbrev pub stepped : (OpenView → EventStep) → List OpenView → List OpenView
+stepped steps views = map (λ (view : OpenView). record view { document = (steps view).document }) views
+
+abbrev pub told : (OpenView → EventStep) → List OpenView → List ViewUpdate
+told steps [] = []
+told steps (view ∷ views) = updates_for view.id (steps view).update ++ told steps views
+
+-- each view takes its step, which is answered so
+abbrev pub taking : Reply → Option Scroll → (OpenView → EventStep) → List OpenView → Outcome
+taking reply scroll steps views = record { reply = reply; views = stepped steps views; updates = told steps views; scroll = scroll }
+
+-- the step of a view at a line that is none of its own: its run of typing ends, and its front end is told what it lacks
+abbrev pub other_step : OpenView → EventStep
+other_step view = event_step view.document Other
+
+-- the step of each view where this one takes a step of its own
+abbrev pub own_step : OpenView → EventStep → OpenView → EventStep
+own_step own step view = if bytes_eq own.id view.id then step else other_step view
+
+-- what is no view's own is answered so
+abbrev pub keeping : List OpenView → Reply → Outcome
+keeping views reply = taking reply None other_step views
+
+-- an act that is refused is no view's own
+abbrev pub refusing : List OpenView → Fault → Outcome
+refusing views fault = keeping views (refused fault)
+
+-- nor is one on a view that is not there
+abbrev pub refusing_view : List OpenView → Outcome
+refusing_view views = refusing views (BadParams (codes "view_id"))
+
+-- the closing leaves the views as they are
+abbrev pub leaving : List OpenView → Outcome
+leaving views = record { reply = silent; views = views; updates = []; scroll = None }
 
 -- the id of the first view
 abbrev pub view_id : List ℕ
@@ -103,23 +113,23 @@ text_limit = 2 ^ 40
 abbrev pub first_document : Document
 first_document = loaded_document [] 0 text_limit
 
--- a step opens the first view
-abbrev pub opened_by : EventStep → Outcome
-opened_by step = taking (text_data view_id) (record { id = view_id; document = step.document } ∷ []) view_id step
+-- the first view, before its front end was told anything
+abbrev pub first_view : OpenView
+first_view = record { id = view_id; document = first_document }
 
 -- the first view is opened
 abbrev pub opening_outcome : Outcome
-opening_outcome = opened_by (event_step first_document Other)
+opening_outcome = taking (accepted (text_data view_id)) None other_step (first_view ∷ [])
 
 -- the characters that would be spent in all, where an edit is refused for that
 abbrev pub spent_total : Option Refusal → Option ℕ
 spent_total (Some (spent_by total)) = Some total
 spent_total refusal = None
 
--- an edit of the front end in a view, where its characters would be spent or not. (The front end's edits are never refused for another
--- reason.)
+-- an edit of the front end in a view, where its characters would be spent or not: it is the view's own step, unless it is refused. (The
+-- front end's edits are never refused for another reason.)
 abbrev pub edit_came : List OpenView → OpenView → Option ℕ → EventStep → Outcome
-edit_came views view None step = taking null (with_view views (record view { document = step.document })) view.id step
+edit_came views view None step = taking (accepted null) (scroll_for view.id step.scroll) (own_step view step) views
 edit_came views view (Some total) step = keeping views spent
 
 -- a view is edited
@@ -161,7 +171,7 @@ outcome views (NewView path) = open_outcome views path
 outcome views (CloseView name) = undone_outcome views (named_view views name)
 outcome views (Save name path) = undone_outcome views (named_view views name)
 outcome views (Edit name act) = edit_outcome views (named_view views name) act
-outcome views Closing = keeping views silent
+outcome views Closing = leaving views
 outcome views act = keeping views not_built
 
 -- the messages of an outcome in their order

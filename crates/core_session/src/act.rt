@@ -7,7 +7,7 @@ ghost use Rattle.doc_session.specs.InMemory.{Doc};
 ghost use Rattle.doc_session.specs.Step.{EventStep, HasCaller};
 ghost use Rattle.core_session.specs.Core.{ServesView, Stands};
 ghost use Rattle.core_session.specs.Inner.{IsMade, IsOutcome, IsSpentOrLack, MayBeAsked, TakesEvents, reply_of};
-ghost use Rattle.core_session.specs.Session.{OpenView, view_id, named_view, outcome, edit_came, edit_outcome, undone_outcome, answer_undone, open_outcome, is_done, front_outcome, refusing, refusing_view, spent_total};
+ghost use Rattle.core_session.specs.Session.{OpenView, view_id, named_view, outcome, edit_came, edit_outcome, undone_outcome, answer_undone, open_outcome, is_done, front_outcome, keeping, refusing, refusing_view, spent_total};
 
 use doc_session::{Doc, DocFault, Effects, Event};
 use plain_screen::Update;
@@ -67,14 +67,38 @@ pub fn act_on(alloc: Global, document: &Option<Doc>, act: &Act) -> Result<ActEff
         → IfOk result (IsOutcome document.now (outcome views act.now)) }
 {
     match act {
-        Act::Bad(fault) => refused(alloc, fault),
-        Act::Nothing => Ok(changed_nothing(Reply::Accepted)),
+        Act::Bad(fault) => refused(alloc, document, fault),
+        Act::Nothing => others(alloc, document, Reply::Accepted),
         Act::NewView { path } => open(alloc, document, path),
         Act::CloseView { view } => undone(alloc, document, view),
         Act::Save { view, path: _ } => undone(alloc, document, view),
         Act::Edit { view, act } => edit(alloc, document, view, act),
         Act::Closing => Ok(changed_nothing(Reply::Silent)),
-        _ => Ok(changed_nothing(Reply::NotBuilt)),
+        _ => others(alloc, document, Reply::NotBuilt),
+    }
+}
+
+/// A line that is none of a document's own: it ends its run of typing.
+fn others(alloc: Global, document: &Option<Doc>, reply: Reply) -> Result<ActEffects, NoMemory>
+    requires { MayBeAsked document.now }
+    ensures { (views : List OpenView) → Stands document.now views
+        → IfOk result (IsOutcome document.now (keeping views (reply_of reply))) }
+{
+    match document {
+        Some(doc) => other(alloc, doc, reply),
+        None => Ok(changed_nothing(reply)),
+    }
+}
+
+/// The same, where there is a document.
+fn other(alloc: Global, doc: &Doc, reply: Reply) -> Result<ActEffects, NoMemory>
+    requires { MayBeAsked (Some doc.now) }
+    ensures { (view : OpenView) → ServesView doc.now view
+        → IfOk result (IsOutcome (Some doc.now) (keeping (view ∷ []) (reply_of reply))) }
+{
+    match after_alone(alloc, doc, Event::Other) {
+        Ok((next, effects)) => Ok(taken(reply, next, effects)),
+        Err(_) => Err(NoMemory),
     }
 }
 
@@ -89,39 +113,43 @@ fn changed_nothing(reply: Reply) -> ActEffects
     }
 }
 
-fn refused(alloc: Global, fault: &Fault) -> Result<ActEffects, NoMemory>
-    ensures { (views : List OpenView) (before : Option Doc) → Stands before views
-        → IfOk result (IsOutcome before (refusing views fault.now)) }
+fn refused(alloc: Global, document: &Option<Doc>, fault: &Fault) -> Result<ActEffects, NoMemory>
+    requires { MayBeAsked document.now }
+    ensures { (views : List OpenView) → Stands document.now views
+        → IfOk result (IsOutcome document.now (refusing views fault.now)) }
 {
-    Ok(changed_nothing(Reply::Refused(fault.copy(alloc)?)))
+    others(alloc, document, Reply::Refused(fault.copy(alloc)?))
 }
 
 /// The refusal of a view that is not there.
-fn refused_view(alloc: Global) -> Result<ActEffects, NoMemory>
-    ensures { (views : List OpenView) (before : Option Doc) → Stands before views
-        → IfOk result (IsOutcome before (refusing_view views)) }
+fn refused_view(alloc: Global, document: &Option<Doc>) -> Result<ActEffects, NoMemory>
+    requires { MayBeAsked document.now }
+    ensures { (views : List OpenView) → Stands document.now views
+        → IfOk result (IsOutcome document.now (refusing_view views)) }
 {
     let member = Text::from_ascii(alloc, VIEW_MEMBER)?;
-    Ok(changed_nothing(Reply::Refused(Fault::BadParams(member))))
+    others(alloc, document, Reply::Refused(Fault::BadParams(member)))
 }
 
 /// What is not done yet of a view.
 fn undone(alloc: Global, document: &Option<Doc>, name: &Text) -> Result<ActEffects, NoMemory>
+    requires { MayBeAsked document.now }
     ensures { (views : List OpenView) → Stands document.now views
         → IfOk result (IsOutcome document.now (undone_outcome views (named_view views name.now))) }
 {
     match document {
-        Some(_) if is_first_view(name) => Ok(changed_nothing(Reply::NotBuilt)),
-        _ => refused_view(alloc),
+        Some(doc) if is_first_view(name) => other(alloc, doc, Reply::NotBuilt),
+        _ => refused_view(alloc, document),
     }
 }
 
 fn open(alloc: Global, document: &Option<Doc>, path: &Option<Text>) -> Result<ActEffects, NoMemory>
+    requires { MayBeAsked document.now }
     ensures { (views : List OpenView) → Stands document.now views
         → IfOk result (IsOutcome document.now (open_outcome views path.now)) }
 {
     if document.is_some() || path.is_some() {
-        return Ok(changed_nothing(Reply::NotBuilt));
+        return others(alloc, document, Reply::NotBuilt);
     }
     let doc = Doc::of_text(alloc, Text::new(alloc), 0, TEXT_LIMIT, FIRST_CONFIG)?;
     match after_alone(alloc, &doc, Event::Other) {
@@ -142,7 +170,7 @@ fn edit(
 {
     match document {
         Some(doc) if is_first_view(name) => edit_view(alloc, doc, act),
-        _ => refused_view(alloc),
+        _ => refused_view(alloc, document),
     }
 }
 
@@ -155,7 +183,7 @@ fn edit_view(alloc: Global, doc: &Doc, act: &EditAct) -> Result<ActEffects, NoMe
     if is_done(act) {
         edit_document(alloc, doc, act)
     } else {
-        Ok(changed_nothing(answer_undone(act)))
+        other(alloc, doc, answer_undone(act))
     }
 }
 
@@ -188,19 +216,20 @@ fn edit_document(alloc: Global, doc: &Doc, act: &EditAct) -> Result<ActEffects, 
 {
     match after_alone(alloc, doc, Event::Front(act.copy(alloc)?)) {
         Ok((next, effects)) => Ok(taken(Reply::Accepted, next, effects)),
-        Err(fault) => not_inserted(fault),
+        Err(fault) => not_inserted(alloc, doc, fault),
     }
 }
 
 /// What the fault of an insertion comes to. An insertion is against the head, and its delta fits.
-fn not_inserted(fault: DocFault) -> Result<ActEffects, NoMemory>
-    requires { IsSpentOrLack fault }
-    ensures { (view : OpenView) (before : Option Doc) (refusal : Option Refusal) (step : EventStep)
-        → Stands before (view ∷ []) → DocRefuses refusal fault
-        → IfOk result (IsOutcome before (edit_came (view ∷ []) view (spent_total refusal) step)) }
+fn not_inserted(alloc: Global, doc: &Doc, fault: DocFault) -> Result<ActEffects, NoMemory>
+    requires fault { IsSpentOrLack fault }
+    requires asked { MayBeAsked (Some doc.now) }
+    ensures { (view : OpenView) (refusal : Option Refusal) (step : EventStep)
+        → ServesView doc.now view → DocRefuses refusal fault
+        → IfOk result (IsOutcome (Some doc.now) (edit_came (view ∷ []) view (spent_total refusal) step)) }
 {
     match fault {
-        DocFault::Spent(_) => Ok(changed_nothing(Reply::Spent)),
+        DocFault::Spent(_) => other(alloc, doc, Reply::Spent),
         DocFault::NoMemory => Err(NoMemory),
         DocFault::Unknown(_) | DocFault::Collected(_) | DocFault::Misfit(_) => unreachable!(),
     }
