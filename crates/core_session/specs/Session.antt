@@ -7,7 +7,7 @@ use Rattle.xi_plain.specs.declared.command.Id.{Id}
 use Rattle.xi_plain.specs.declared.command.Fault.{Fault}
 use Rattle.xi_plain.specs.declared.command.Fault.TheVariants.{BadParams}
 use Rattle.xi_plain.specs.declared.command.EditAct.{EditAct}
-use Rattle.xi_plain.specs.declared.command.EditAct.TheVariants.{Insert, InsertNewline}
+use Rattle.xi_plain.specs.declared.command.EditAct.TheVariants.{Insert, InsertNewline, Undo, Redo}
 use Rattle.xi_plain.specs.declared.command.EditAct.TheVariants as Edits
 use Rattle.xi_plain.specs.declared.command.Act.{Act}
 use Rattle.xi_plain.specs.declared.command.Act.TheVariants.{Bad, Nothing, NewView, CloseView, Save, Edit, Closing}
@@ -141,6 +141,8 @@ front_outcome views view act =
 abbrev pub is_done : EditAct → Bool
 is_done (Insert chars) = true
 is_done InsertNewline = true
+is_done Undo = true
+is_done Redo = true
 is_done act = false
 
 -- what is answered to an edit that is not done: one without effect is accepted

@@ -206,7 +206,10 @@ fn is_first_view(name: &Text) -> bool
 fn is_done(act: &EditAct) -> bool
     ensures { result ≡ is_done act.now }
 {
-    matches!(act, EditAct::Insert { .. } | EditAct::InsertNewline)
+    matches!(
+        act,
+        EditAct::Insert { .. } | EditAct::InsertNewline | EditAct::Undo | EditAct::Redo
+    )
 }
 
 fn edit_document(alloc: Global, doc: &Doc, act: &EditAct) -> Result<ActEffects, NoMemory>
