@@ -1,5 +1,6 @@
 #!/usr/bin/env python3
-"""A front end: it opens a view, types each line of its own input, and rebuilds the screen from the updates.
+"""A front end: it opens a view, types each line of its own input, and rebuilds the screen from the updates. A line that is Ctrl-Z alone
+is an undo, and one that is Ctrl-Y alone a redo.
 
     printf 'one\\ntwo' | python3 examples/front_end.py CORE             prints the screen, with the caret as |
     printf 'one\\ntwo' | python3 examples/front_end.py CORE --script    prints the session, as a script of protocol_cases
@@ -50,7 +51,9 @@ def read():
 
 threading.Thread(target=read, daemon=True).start()
 view = request("new_view", {})
-for typed in sys.stdin: request("edit", {"view_id": view, "method": "insert", "params": {"chars": typed}})
+for typed in sys.stdin:
+    key = {"\x1a\n": "undo", "\x19\n": "redo"}.get(typed)
+    request("edit", {"view_id": view, "method": key} if key else {"view_id": view, "method": "insert", "params": {"chars": typed}})
 core.stdin.close()
 while answers.get() is not None: pass
 for line in [] if "--script" in sys.argv else screen:

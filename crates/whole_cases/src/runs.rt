@@ -7,7 +7,7 @@ use std::alloc::{AllocError, Global};
 use std::test::Fail;
 use xi_top::run_alone;
 
-// An opening, three inserts, and an undo, which is not built.
+// An opening, three inserts, and an undo of them.
 const FIVE_LINES: [&str; 5] = [
     "{\"id\":0,\"method\":\"new_view\"}\n",
     "{\"method\":\"edit\",\"params\":{\"method\":\"insert\",\"params\":{\"chars\":\"a\"},\"view_id\":\"view-id-1\"}}\n",
@@ -30,7 +30,9 @@ const FIVE_PIECES: [&str; 5] = [
     r#"{"method":"update","params":{"update":{"ops":[{"lines":[{"cursor":[],"ln":1,"styles":[],"text":"aé\n"},{"cursor":[0],"ln":2,"styles":[],"text":""}],"n":2,"op":"ins"}],"pristine":false},"view_id":"view-id-1"}}
 {"method":"scroll_to","params":{"col":0,"line":1,"view_id":"view-id-1"}}
 "#,
-    r#"{"error":{"code":9,"message":"not built"},"id":1}
+    r#"{"id":1,"result":null}
+{"method":"update","params":{"update":{"ops":[{"lines":[{"cursor":[0],"ln":1,"styles":[],"text":""}],"n":1,"op":"ins"}],"pristine":false},"view_id":"view-id-1"}}
+{"method":"scroll_to","params":{"col":0,"line":0,"view_id":"view-id-1"}}
 "#,
 ];
 
