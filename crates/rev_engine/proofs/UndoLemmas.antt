@@ -13,7 +13,7 @@ use Rattle.delta_core.specs.Synthesis.{IsBetween}
 use Rattle.rev_list.specs.Hidden.{hidden_at}
 use Rattle.rev_undo.specs.Allowed.{HasEdit}
 use Rattle.rev_undo.specs.Under.{AgreesOnCollected}
-use Rattle.rev_list.specs.Edit.{undone_by}
+use Rattle.rev_list.specs.Edit.{undone_by, MayUndoGroups}
 use Rattle.plain_edits.specs.Undo.{undone_now}
 use Rattle.plain_text.proofs.callers.NumberLemmas.{IsRising-flipped}
 use Rattle.rev_engine.specs.Asked.{undoes, IsKnown, MayAskUndo}
@@ -128,6 +128,16 @@ may_undo_by state now groups view none up may agrees =
     (subst (λ (s : State). AllByRecursion (IsKnown s.revisions) (undone_by s.revisions groups)) (sym view) may.known)
     (subst (λ (s : State). AgreesOnCollected s.revisions (undone_by s.revisions groups)) (sym view) agrees)
     (IsRising-flipped (undone_now state.revisions) groups up)
+
+-- and the list may take it
+pub may_push_by : (state now : State) (groups : List ℕ) → state ≡ now → IsRising (undone_now state.revisions) →
+    MayAskUndo now.revisions (undone_by now.revisions groups) → AgreesOnCollected now.revisions (undone_by now.revisions groups) →
+    MayUndoGroups state.revisions (undone_by state.revisions groups)
+may_push_by state now groups view up may agrees = record {
+  known = subst (λ (s : State). AllByRecursion (IsKnown s.revisions) (undone_by s.revisions groups)) (sym view) may.known;
+  frozen = subst (λ (s : State). AgreesOnCollected s.revisions (undone_by s.revisions groups)) (sym view) agrees;
+  rising = IsRising-flipped (undone_now state.revisions) groups up;
+}
 
 module _ (state now : State) (text groups : List ℕ) (view : state ≡ now) (held : IsHeld state.union text state.revisions state.limit state.spent)
     (may : MayAskUndo now.revisions (undone_by now.revisions groups)) (copy pushed : History) (copied : copy ≡ state.revisions) (push : pushed ≡ undid copy (undone_by copy groups)) (from : ℕ)

@@ -3,7 +3,7 @@ use Rattle.std.proofs.Common.{◌≡◌, ℕ, zero, suc, ◌+◌, ◌<◌, ◌�
 use Rattle.std.specs.List.{list_any, AllByRecursion}
 use Rattle.std.proofs.lemmas.Bool.{cases_lt, both_ways, le-leb, lt-leb, eqb-true, eq-eqb, ne_eqb}
 use Rattle.std.specs.List.Sorted.{IsBinarySearchResult}
-use Rattle.std.proofs.lemmas.List.{take-append-le, take_more, take-append-drop}
+use Rattle.std.proofs.lemmas.List.{drop_more, take-append-le, take_more, take-append-drop}
 use Rattle.std.proofs.lemmas.List.Sorted.{searched}
 use Rattle.std.proofs.lemmas.List.Folds.{list_any-append}
 use Rattle.shared_tree.specs.Replaced.{replaced}
@@ -14,7 +14,8 @@ use Rattle.plain_edits.specs.History.{Revision, edit, undo, History, head}
 use Rattle.plain_edits.specs.Edits.{is_edit_of, undid}
 use Rattle.rev_list.specs.declared.edit.RevEdit.{RevEdit}
 use Rattle.rev_list.specs.Edit.{edit_revision, after_edit}
-use Rattle.rev_list.specs.Groups.{has_edit_by, IsFirstEdit, rev_of, or_else, first_after}
+use Rattle.rev_list.specs.declared.settled.SettledGroup.{SettledGroup}
+use Rattle.rev_list.specs.Groups.{has_edit_by, IsFirstEdit, rev_of, or_else, first_after, first_with}
 
 or_or : (a b c : Bool) → (a || (b || c)) ≡ ((a || b) || c)
 or_or true b c = refl
@@ -122,6 +123,13 @@ IsFirstEdit-loaded group = by (0 == group) refl
         ap₂ (λ a rs. a || list_any (is_edit_of group) rs) (eq-eqb group 0 (sym (eqb-true 0 group own))) (take_nothing rev) ∙ sym (le-leb 0 rev (omega arith))
     by false own = λ rev.
         ap₂ (λ a rs. a || list_any (is_edit_of group) rs) (ne_eqb group 0 (λ is. both_ways (0 == group) own (eq-eqb 0 group (sym is)))) (take_nothing rev)
+
+-- ---- the last edits of some groups
+
+pub first_with-more : (groups : List SettledGroup) (i : ℕ) (d : SettledGroup) (found : Option ℕ) (other : ℕ) → i < length groups →
+    first_with found (drop i groups) other ≡
+    first_with (first_after found (get_or groups i d).group (get_or groups i d).last other) (drop (i + 1) groups) other
+first_with-more groups i d found other lt = ap (λ gs. first_with found gs other) (drop_more groups i d lt)
 
 -- ---- two groups with one first edit are one group
 

@@ -1,6 +1,8 @@
 -- What other crates may cite of the proofs of `rev_list`.
 pub use Rattle.rev_list.proofs.FirstLemmas.{one_group, HasFirst, first_found, any_edit, no_edit}
 pub use Rattle.rev_list.proofs.HistoryLemmas.{IsPlain, length-after_edit}
+pub use Rattle.rev_list.proofs.RecordLemmas.{undone_rises}
 pub use Rattle.rev_list.proofs.StepLemmas.{filter-there}
 pub use Rattle.rev_list.proofs.TagLemmas.{undone_after-edit}
 pub use Rattle.rev_list.proofs.TextLemmas.{grown_flags, hidden_without_text, same_flags, step_without_text}
+pub use Rattle.rev_list.proofs.UpToFloorLemmas.{revision_at-settled}

@@ -273,15 +273,15 @@ IsRevisionAt-now h (Undo groups) sound next = IsUndoAt-now h groups sound
 -- ---- what an earlier revision is
 
 -- the revision that comes last
-abbrev last_of : History → RevStep → Revision
+abbrev pub last_of : History → RevStep → Revision
 last_of h (Edit e) = edit_revision e
 last_of h (Undo groups) = undo (undone_by h groups)
 
-revisions-after : (h : History) (r : RevStep) → (after_revision h r).revisions ≡ h.revisions ++ last_of h r ∷ []
+pub revisions-after : (h : History) (r : RevStep) → (after_revision h r).revisions ≡ h.revisions ++ last_of h r ∷ []
 revisions-after h (Edit e) = refl
 revisions-after h (Undo groups) = refl
 
-said_then : (h : History) (r : RevStep) (rev : ℕ) → rev ≤ head h → revision_at (after_revision h r).revisions rev ≡ revision_at h.revisions rev
+pub said_then : (h : History) (r : RevStep) (rev : ℕ) → rev ≤ head h → revision_at (after_revision h r).revisions rev ≡ revision_at h.revisions rev
 said_then h r rev le = ap (λ rs. revision_at rs rev) (revisions-after h r) ∙ revision_at-append h.revisions (last_of h r ∷ []) rev le
 
 undone_then : (h : History) (r : RevStep) (rev : ℕ) → rev ≤ head h → undone (after_revision h r).revisions rev ≡ undone h.revisions rev

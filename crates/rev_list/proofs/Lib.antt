@@ -4,6 +4,8 @@ pub mod StepLemmas
 pub mod HistoryLemmas
 pub mod FirstLemmas
 pub mod SettledLemmas
+pub mod UpToFloorLemmas
+pub mod CharacterLemmas
 pub mod RecordLemmas
 pub mod TextLemmas
 pub mod ForCallers

@@ -1,17 +1,19 @@
 -- What a list keeps up to the floor, and in its records.
-use Rattle.std.proofs.Common.{◌≡◌, ℕ, ◌+◌, ◌-◌, ◌^◌, ◌<◌, ◌≤◌, Bool, true, false, ◌&&◌, ◌||◌, nat_le, List, [], ◌∷◌, ◌++◌, length, map, take, drop, Some, slice_get, get_or, refl, ap, ap₂, sym, ◌∙◌, arith, suc-add, take_all, length-append}
+use Rattle.std.proofs.Common.{◌≡◌, ℕ, ◌+◌, ◌-◌, ◌^◌, ◌<◌, ◌≤◌, Bool, true, false, not, ◌&&◌, ◌||◌, ◌==◌, nat_le, List, [], ◌∷◌, ◌++◌, length, map, take, drop, Some, slice_get, get_or, refl, ap, ap₂, sym, ◌∙◌, arith, suc-add, take_all, length-append}
 use Rattle.std.specs.Prelude.{suc, zero, replicate}
-use Rattle.std.specs.List.{fold, list_all, list_any, range_with_len, AllByRecursion}
+use Rattle.std.specs.List.{fold, list_all, range_with_len, AllByRecursion}
 use Rattle.std.proofs.lemmas.Bool.{and_from, and_parts, le-leb, ne_eqb}
 use Rattle.std.proofs.lemmas.List.{drop-append-le, map-append, length-map, length-drop, length-take-le, take-append-drop}
 use Rattle.std.proofs.lemmas.List.Sums.{fold-append}
 use Rattle.std.proofs.lemmas.Option.{slice_get_past, slice_get_read}
 use Rattle.subset_runs.specs.Subset.{expand, symmetric_difference}
 use Rattle.plain_text.specs.Numbers.{has, flipped, IsRising}
-use Rattle.plain_edits.specs.History.{Tagged, inserted_by, Revision, undo, History, head, loaded, IsTaggedBy, IsSound}
-use Rattle.plain_edits.specs.Edits.{is_edit_of, undid}
+use Rattle.plain_text.proofs.callers.ListLemmas.{AllByRecursion-append}
+use Rattle.plain_edits.specs.History.{Tagged, inserted_by, Revision, edit, undo, History, head, loaded, edit_group, undone_after, is_visible_under, IsTaggedBy, IsSound}
+use Rattle.plain_edits.proofs.callers.HistoryLemmas.{undone_all}
+use Rattle.plain_edits.specs.Edits.{undid}
 use Rattle.plain_edits.specs.Collection.{is_based_from, is_clean}
-use Rattle.plain_edits.specs.HistorySteps.{HasRisingSet}
+use Rattle.plain_edits.specs.HistorySteps.{is_edit, HasRisingSet, IsByEdits}
 use Rattle.plain_edits.specs.Undo.{undone_now}
 use Rattle.undo_laws.specs.Under.{is_hidden_under}
 use Rattle.rev_list.specs.declared.edit.RevEdit.{RevEdit}
@@ -19,16 +21,19 @@ use Rattle.rev_list.specs.declared.step.RevStep.{RevStep}
 use Rattle.rev_list.specs.declared.step.RevStep.TheVariants.{Edit, Undo}
 use Rattle.rev_list.specs.declared.records.RevRecord.{RevRecord}
 use Rattle.rev_list.specs.declared.settled.SettledGroup.{SettledGroup}
-use Rattle.rev_list.specs.Groups.{Firsts, AreFirstEdits, rev_of, first_after}
-use Rattle.rev_list.specs.Edit.{edit_revision, new_by, with_new, with_deleted, after_edit, undone_by, after_revision, MayPush, MayPushUndo}
+use Rattle.rev_list.specs.Groups.{Firsts, AreFirstEdits, rev_of, first_after, first_with}
+use Rattle.rev_list.specs.Edit.{edit_revision, after_edit, undone_by, after_revision, IsKnownGroup, MayPush, MayPushUndo}
 use Rattle.rev_list.specs.Hidden.{is_hidden, hidden_at, union_at, hidden_then, IsRevisionAt, AreRevisionsAfter, IsDeletedLater, AreDeletedLater, IsKeptAt}
-use Rattle.rev_list.specs.Settled.{Settled, AreInsertedApart, AreSettled, HasLengths, hidden_by_groups, without_first, settled_characters, settled_history, settled_loaded, settled_said, ending_at}
-use Rattle.rev_list.specs.Kept.{history_of, steps_of, dead_now, dead_after, turned_by, IsNext, Follows, GrowFrom, AreKept, HoldsRevisions}
+use Rattle.rev_list.specs.Settled.{Settled, AreInsertedApart, AreSettled, AreSettledGroups, HasLengths, IsEnd, IsSettledGroup, MaySettle, hidden_by_groups, without_first, settled_at_head, settled_characters, settled_history, settled_loaded, settled_said, ending_at}
+use Rattle.rev_list.specs.Kept.{history_of, steps_of, dead_now, dead_after, turned_by, IsNext, IsOpen, Follows, GrowFrom, AreKept, HoldsRevisions}
 use Rattle.rev_list.specs.Inner.{dead_later}
 use Rattle.rev_list.proofs.FlagLemmas.{IsBack, IsTurn, IsTurn-edit, IsTurn-undo, length-steps_of, steps_of-at}
 use Rattle.rev_list.proofs.FirstLemmas.{IsFirstEdit-loaded, IsFirstEdit-edit, IsFirstEdit-undid}
-use Rattle.rev_list.proofs.StepLemmas.{filter-there, tagged_later, tagged-with_new}
+use Rattle.rev_list.proofs.StepLemmas.{filter-there}
 use Rattle.rev_list.proofs.SettledLemmas.{hides_by_groups}
+use Rattle.rev_list.proofs.TagLemmas.{has_deleted_before}
+use Rattle.rev_list.proofs.CharacterLemmas.{by_edits-fold, flags_then-fold, later-fold, no_text-fold, revision_at-fold}
+use Rattle.rev_list.proofs.UpToFloorLemmas.{IsLastEdit, IsSaidIn, edits_listed, groups_said, last_edits, settled_by_edits, settled_clean, settled_no_text, settled_open, settled_sets, settled_sound, IsFirstEdit-settled}
 use Rattle.rev_list.proofs.HistoryLemmas.{head-after, sound-after, length-after_edit, hidden_at-later, hidden_then-later, hidden_under_then-later, hidden_then-head, length-dead_now, dead_now-edit, dead_now-undid, undone_now-edit, undone_now-undid, IsRevisionAt-now, IsRevisionAt-later}
 
 -- the history after the first so many
@@ -147,37 +152,6 @@ IsRevisionAt-fold_at h (r ∷ records) zero d rev sound kept at is =
 IsRevisionAt-fold_at h (r ∷ records) (suc i) d rev sound kept at is =
     IsRevisionAt-fold_at (after_revision h r.step) records i d rev (sound-after h r.step sound) kept.2 at (omega (arith, head-after h r.step))
 
--- ---- no deletion before the insertion
-
-later-with_deleted : (floor rev : ℕ) (xs : List Tagged) (at : List Bool) → AllByRecursion (IsTaggedBy rev) xs → AllByRecursion (IsDeletedLater floor) xs →
-    AllByRecursion (IsDeletedLater floor) (with_deleted rev xs at)
-later-with_deleted floor rev [] at by later = tt
-later-with_deleted floor rev (x ∷ xs) [] by later = later
-later-with_deleted floor rev (x ∷ xs) (true ∷ at) by later = (λ over. one_later x.deleted (later.0 over), later-with_deleted floor rev xs at by.1 later.1)
-  where
-    one_later : (deleted : List ℕ) → AllByRecursion (λ k. x.inserted ≤ k) deleted → AllByRecursion (λ k. x.inserted ≤ k) (deleted ++ rev ∷ [])
-    one_later [] all = (by.0.inserted, tt)
-    one_later (k ∷ deleted) all = (all.0, one_later deleted all.1)
-later-with_deleted floor rev (x ∷ xs) (false ∷ at) by later = (later.0, later-with_deleted floor rev xs at by.1 later.1)
-
-later-with_new : (floor rev : ℕ) (xs : List Tagged) (by : List Bool) → AllByRecursion (IsDeletedLater floor) xs →
-    AllByRecursion (IsDeletedLater floor) (with_new (new_by rev) xs by)
-later-with_new floor rev xs [] later = tt
-later-with_new floor rev xs (true ∷ by) later = (λ over. tt, later-with_new floor rev xs by later)
-later-with_new floor rev [] (false ∷ by) later = tt
-later-with_new floor rev (x ∷ xs) (false ∷ by) later = (later.0, later-with_new floor rev xs by later.1)
-
-later-after : (h : History) (r : RevStep) → IsSound h → AreDeletedLater h → AreDeletedLater (after_revision h r)
-later-after h (Edit e) sound later =
-    later-with_deleted h.floor (head h + 1) (with_new (new_by (head h + 1)) h.characters e.inserted) e.deleted
-    (tagged-with_new (head h + 1) h.characters e.inserted (tagged_later (head h) (head h + 1) h.characters (omega arith) sound))
-    (later-with_new h.floor (head h + 1) h.characters e.inserted later)
-later-after h (Undo groups) sound later = later
-
-later-fold : (h : History) (steps : List RevStep) → IsSound h → AreDeletedLater h → AreDeletedLater (fold after_revision h steps)
-later-fold h [] sound later = later
-later-fold h (r ∷ steps) sound later = later-fold (after_revision h r) steps (sound-after h r sound) (later-after h r sound later)
-
 -- ---- what is up to the floor
 
 length-range : (from n : ℕ) → length (range_with_len from n) ≡ n
@@ -220,7 +194,7 @@ apart_loaded (suc len) = (tt, apart_loaded len)
 
 pub holds_loaded : (len : ℕ) → HoldsRevisions (settled_loaded len) [] (replicate len false) (record { groups = 0 ∷ []; revs = 0 ∷ [] }) []
 holds_loaded len = record {
-  parts = record { lengths = tt; ends = tt; apart = apart_loaded len };
+  parts = record { rising = tt; uncollected = tt; lengths = tt; ends = tt; apart = apart_loaded len };
   sound = loaded_sound len;
   kept = tt;
   numbers = omega arith;
@@ -230,7 +204,7 @@ holds_loaded len = record {
   rising = tt;
   sets = tt;
   clean = refl;
-  none = refl;
+  uncollected = tt;
 }
 
 pub head-history_of : (settled : Settled) (records : List RevRecord) → head (history_of settled (steps_of records)) ≡ settled.floor + length records
@@ -267,6 +241,13 @@ module _ (settled : Settled) (records : List RevRecord) (sound : IsSound (settle
 
   pub later-history_of : AreDeletedLater (history_of settled (steps_of records))
   later-history_of = later-fold start (steps_of records) sound (settled_later settled sound)
+
+  pub by_edits-history_of : AreSettled settled →
+      AllByRecursion (IsByEdits (history_of settled (steps_of records)).revisions) (history_of settled (steps_of records)).characters
+  by_edits-history_of parts = by_edits-fold start (steps_of records) sound (settled_by_edits settled parts)
+
+  pub no_text-history_of : AllByRecursion (λ tagged. tagged.character ≡ 0) (history_of settled (steps_of records)).characters
+  no_text-history_of = no_text-fold start (steps_of records) (settled_no_text settled)
 
   abbrev then_of : ℕ → History
   then_of i = until_record start records i
@@ -367,6 +348,42 @@ module _ (settled : Settled) (records : List RevRecord) (parts : AreSettled sett
   settled_hides set =
       ap (λ n. map (is_hidden_under whole set n) (union_at whole n)) floor_is ∙ shown set ∙ ap (λ n. hidden_by_groups set n settled.groups) (sym len_is)
 
+  -- what the groups say of the history
+  said_whole : (g : SettledGroup) → IsEnd (settled_history settled).revisions settled.floor g → IsLastEdit settled g → IsSaidIn (settled_history settled).characters g → IsSettledGroup whole g
+  said_whole g end is said =
+      let there = filter-there settled.floor (settled_history settled).characters (rw (head-settled settled) at sound) in
+      let le : settled.floor ≤ head (settled_history settled) = omega (arith, head-settled settled) in
+      let at = revision_at-fold (settled_history settled) (steps_of records) g.last (omega (arith, is.1, le)) in
+      record {
+        within = omega (arith, is.1, floor_is);
+        edits = ap is_edit at ∙ is.0;
+        group = ap edit_group at ∙ end.said;
+        inserted =
+            said.inserted ∙ ap (map (λ tagged. tagged.inserted == g.last)) (sym there) ∙
+            sym (flags_then-fold (λ tagged. tagged.inserted == g.last) (settled_history settled) records settled.floor (λ rev t over. refl) kept le) ∙
+            ap (λ n. map (λ tagged. tagged.inserted == g.last) (union_at whole n)) (sym floor_is);
+        deleted =
+            said.deleted ∙ ap (map (λ tagged. has tagged.deleted g.last)) (sym there) ∙
+            sym (flags_then-fold (λ tagged. has tagged.deleted g.last) (settled_history settled) records settled.floor
+            (λ rev t over. has_deleted_before rev g.last t (omega (arith, over, is.1))) kept le) ∙
+            ap (λ n. map (λ tagged. has tagged.deleted g.last) (union_at whole n)) (sym floor_is);
+      }
+
+  all_said_whole : (groups : List SettledGroup) → AllByRecursion (IsEnd (settled_history settled).revisions settled.floor) groups → AllByRecursion (IsLastEdit settled) groups →
+      AllByRecursion (IsSaidIn (settled_history settled).characters) groups → AllByRecursion (IsSettledGroup whole) groups
+  all_said_whole [] ends lasts said = tt
+  all_said_whole (g ∷ groups) ends lasts said = (said_whole g ends.0 lasts.0 said.0, all_said_whole groups ends.1 lasts.1 said.1)
+
+  pub settled_are : AreSettledGroups whole settled.groups
+  settled_are = record {
+    rising = parts.rising;
+    each = all_said_whole settled.groups parts.ends (last_edits settled parts) (groups_said settled parts);
+    all = λ rev le edits.
+        let within : rev ≤ settled.floor = omega (arith, le, floor_is) in
+        edits_listed settled rev within
+        (sym (ap is_edit (revision_at-fold (settled_history settled) (steps_of records) rev (omega (arith, within, head-settled settled)))) ∙ edits);
+  }
+
 -- ---- the next revision
 
 steps_of-push : (records : List RevRecord) (newest : RevRecord) (settled : Settled) →
@@ -394,8 +411,9 @@ HoldsRevisions-push : (settled : Settled) (records : List RevRecord) (newest : R
     after ≡ undone_now (after_revision (history_of settled (steps_of records)) newest.step) → IsRising after →
     AllByRecursion HasRisingSet (after_revision (history_of settled (steps_of records)) newest.step).revisions →
     is_clean (after_revision (history_of settled (steps_of records)) newest.step).revisions settled.floor ≡ true →
+    AllByRecursion (IsOpen settled.collected) (after_revision (history_of settled (steps_of records)) newest.step).revisions →
     HoldsRevisions settled (records ++ newest ∷ []) dead more after
-HoldsRevisions-push settled records newest gone dead first more groups after was has_number next turned_is dead_is first_edits groups_are rising sets clean = record {
+HoldsRevisions-push settled records newest gone dead first more groups after was has_number next turned_is dead_is first_edits groups_are rising sets clean free = record {
   parts = was.parts;
   sound = was.sound;
   kept = AreKept-append (settled_history settled) records (newest ∷ []) was.kept (next, turned_is, tt);
@@ -406,7 +424,7 @@ HoldsRevisions-push settled records newest gone dead first more groups after was
   rising = rising;
   sets = rw (steps_of-push records newest settled) sets;
   clean = rw (steps_of-push records newest settled) clean;
-  none = was.none;
+  uncollected = rw (steps_of-push records newest settled) free;
 }
 
 -- what a list is and keeps after one more record
@@ -421,13 +439,12 @@ AreFirstEdits-edit : (h : History) (e : RevEdit) (first more : Firsts) → AreFi
 AreFirstEdits-edit h e first more are made = λ group.
     rw (made group) (IsFirstEdit-edit h e group (rev_of first.groups first.revs group) (are group))
 
--- one more set that rises
-HasRisingSet-push : (revisions : List Revision) (last : Revision) → AllByRecursion HasRisingSet revisions → HasRisingSet last → AllByRecursion HasRisingSet (revisions ++ last ∷ [])
-HasRisingSet-push [] last sets rising = (rising, tt)
-HasRisingSet-push (r ∷ revisions) last sets rising = (sets.0, HasRisingSet-push revisions last sets.1 rising)
+-- one more revision for which it holds
+all-push : (P : Revision → Type 0) (revisions : List Revision) (last : Revision) → AllByRecursion P revisions → P last → AllByRecursion P (revisions ++ last ∷ [])
+all-push P revisions last all is = AllByRecursion-append P revisions (last ∷ []) all (is, tt)
 
 -- a set that may be undone does not have group 0
-without_loaded : (h : History) (groups : List ℕ) → AllByRecursion (λ group. (0 < group) × (list_any (is_edit_of group) h.revisions ≡ true)) groups → has groups 0 ≡ false
+without_loaded : (h : History) (groups : List ℕ) → AllByRecursion (IsKnownGroup h) groups → has groups 0 ≡ false
 without_loaded h [] known = refl
 without_loaded h (group ∷ groups) known =
     ap₂ (λ a b. a || b) (ne_eqb group 0 (λ is. omega (arith, is, known.0.0))) (without_loaded h groups known.1)
@@ -454,8 +471,11 @@ push_edit settled records newest e gone dead first more groups holds may step_is
           (dead_is ∙ now ∙ ap (λ step. dead_now (after_revision h step)) (sym step_is))
           (rw step_is firsts)
           (holds.undone ∙ sym (undone_now-edit h e) ∙ ap (λ step. undone_now (after_revision h step)) (sym step_is)) holds.rising
-          (rw step_is (HasRisingSet-push h.revisions (edit_revision e) holds.sets tt))
-          (rw step_is (clean-push h.revisions (edit_revision e) settled.floor within holds.clean from));
+          (rw step_is (all-push HasRisingSet h.revisions (edit_revision e) holds.sets tt))
+          (rw step_is (clean-push h.revisions (edit_revision e) settled.floor within holds.clean from))
+          (rw step_is
+          (all-push (IsOpen settled.collected) h.revisions (edit_revision e) holds.uncollected
+          (ap (λ groups. has groups e.group) (sym (collected-history_of settled (steps_of records))) ∙ may.group_kept)));
       history = steps_of-push records newest settled ∙ ap (after_revision h) step_is;
     }
 
@@ -478,8 +498,9 @@ push_undo settled records newest differ gone dead first groups after holds may s
           (now ∙ ap (λ step. dead_now (after_revision h step)) (sym step_is))
           (rw step_is firsts)
           (groups_are ∙ sym (undone_now-undid h set) ∙ ap (λ step. undone_now (after_revision h step)) (sym step_is)) (rw groups_are may.allowed.rising)
-          (rw step_is (HasRisingSet-push h.revisions (undo set) holds.sets (may.allowed.rising, without_loaded h set may.allowed.allowed.known)))
-          (rw step_is (clean-push h.revisions (undo set) settled.floor within holds.clean refl));
+          (rw step_is (all-push HasRisingSet h.revisions (undo set) holds.sets (may.allowed.rising, without_loaded h set may.allowed.known)))
+          (rw step_is (clean-push h.revisions (undo set) settled.floor within holds.clean refl))
+          (rw step_is (all-push (IsOpen settled.collected) h.revisions (undo set) holds.uncollected tt));
       history = steps_of-push records newest settled ∙ ap (after_revision h) step_is;
     }
 
@@ -489,3 +510,57 @@ pub undo_lengths : (settled : Settled) (records : List RevRecord) (set : List �
 undo_lengths settled records set gone dead first groups holds may =
     let h : History = history_of settled (steps_of records) in
     ap length holds.dead ∙ length-dead_now h ∙ sym (length-map h.characters (is_hidden_under h set (head h))) ∙ sym (ap length may.hidden)
+
+-- ---- a list whose floor is its head
+
+rising_undone : (groups : List ℕ) (revisions : List Revision) → HasRisingSet (undo groups) → AllByRecursion HasRisingSet revisions →
+    HasRisingSet (undo (undone_after groups revisions))
+rising_undone groups [] up sets = up
+rising_undone groups (edit base group priority author ∷ revisions) up sets = rising_undone groups revisions up sets.1
+rising_undone groups (undo more ∷ revisions) up sets = rising_undone more revisions sets.0 sets.1
+
+-- what is undone at the head is a rising set without group 0
+pub undone_rises : (h : History) → AllByRecursion HasRisingSet h.revisions → HasRisingSet (undo (undone_now h))
+undone_rises h sets = rw (undone_all h.revisions) (rising_undone [] h.revisions (tt, refl) sets)
+
+dead-settled : (settled : Settled) → AreSettled settled → undone_now (settled_history settled) ≡ settled.undone →
+    dead_now (settled_history settled) ≡ hidden_by_groups settled.undone settled.len settled.groups
+dead-settled settled parts undone_is =
+    ap₂ (λ n set. map (λ t. not (is_visible_under (settled_history settled).revisions set n t)) (settled_history settled).characters) (head-settled settled) undone_is ∙
+    hides_by_groups (settled_history settled).revisions settled.undone settled.floor settled.len settled.groups parts.lengths parts.ends parts.apart
+
+abbrev settled_by : List SettledGroup → ℕ → ℕ → List ℕ → List ℕ → Settled
+settled_by groups floor len undone collected = record { floor = floor; len = len; groups = groups; undone = undone; collected = collected }
+
+pub settled_same : {f f' l l' : ℕ} {u u' c c' : List ℕ} (groups : List SettledGroup) → f ≡ f' → l ≡ l' → u ≡ u' → c ≡ c' →
+    settled_by groups f l u c ≡ settled_by groups f' l' u' c'
+settled_same {f} {f'} {l} {l'} {u} {u'} {c} {c'} groups floor len undone collected =
+    ap₂ (λ n m. settled_by groups n m u c) floor len ∙ ap₂ (λ xs ys. settled_by groups f' l' xs ys) undone collected
+
+-- what may stand for all up to the head of a list is what another list keeps
+pub holds_settled : (settled new : Settled) (records : List RevRecord) (gone dead : List Bool) (first firsts : Firsts) (groups : List ℕ) (more : List SettledGroup) (collected : List ℕ) →
+    HoldsRevisions settled records gone first groups → MaySettle (history_of settled (steps_of records)) more collected dead →
+    new ≡ settled_at_head (history_of settled (steps_of records)) more collected (length dead) →
+    ((group : ℕ) → rev_of firsts.groups firsts.revs group ≡ first_with (rev_of (0 ∷ []) (0 ∷ []) group) more group) →
+    HoldsRevisions new [] dead firsts groups
+holds_settled settled new records gone dead first firsts groups more collected holds may is made =
+    let h : History = history_of settled (steps_of records) in
+    let parts : AreSettled new = rw is may.parts in
+    let set : List ℕ = undone_now h in
+    let undone_is : undone_now (settled_history new) ≡ undone_now h = ap (λ s. undone_now (settled_history s)) is ∙ may.undone in
+    let up : HasRisingSet (undo (undone_now h)) = undone_rises h holds.sets in
+    record {
+      parts = parts;
+      sound = rw (head-settled new) (settled_sound new parts);
+      kept = tt;
+      numbers = omega (arith, holds.numbers, ap (λ (s : Settled). s.floor) is, head-history_of settled records);
+      dead =
+          may.hidden ∙ ap (λ (s : Settled). hidden_by_groups s.undone s.len s.groups) (sym is) ∙
+          sym (dead-settled new parts (undone_is ∙ ap (λ (s : Settled). s.undone) (sym is)));
+      first_edits = λ group. rw (made group, ap (λ (s : Settled). s.groups) (sym is)) (IsFirstEdit-settled new group parts);
+      undone = holds.undone ∙ sym undone_is;
+      rising = holds.rising;
+      sets = settled_sets new (rw (ap (λ (s : Settled). s.undone) is) up);
+      clean = settled_clean new;
+      uncollected = settled_open new parts;
+    }

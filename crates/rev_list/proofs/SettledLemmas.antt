@@ -15,7 +15,7 @@ use Rattle.rev_list.specs.Settled.{first_flag, without_first, first_inserted, fi
 
 -- ---- position by position
 
-first_rest : (flags : List Bool) (len : ℕ) → length flags ≡ suc len → flags ≡ first_flag flags ∷ drop 1 flags
+pub first_rest : (flags : List Bool) (len : ℕ) → length flags ≡ suc len → flags ≡ first_flag flags ∷ drop 1 flags
 first_rest [] len long = absurd (omega arith)
 first_rest (flag ∷ flags) len long = refl
 
@@ -50,7 +50,7 @@ module _ (f : SettledGroup → List Bool) (f_rest : (g : SettledGroup) → f (wi
 
 -- ---- the first position
 
-all-with_number : (p : ℕ → Bool) (xs : List ℕ) (n : ℕ) → list_all p (with_number xs n) ≡ (p n && list_all p xs)
+pub all-with_number : (p : ℕ → Bool) (xs : List ℕ) (n : ℕ) → list_all p (with_number xs n) ≡ (p n && list_all p xs)
 all-with_number p [] n = refl
 all-with_number p (x ∷ xs) n = by (nat_cmp n x) refl (all-with_number p xs n)
   where
@@ -204,16 +204,16 @@ module _ (revisions : List Revision) (set : List ℕ) (floor : ℕ) where
 
 -- ---- all positions
 
-all_rest : (P Q : SettledGroup → Type 0) → ((g : SettledGroup) → P g → Q (without_first g)) → (groups : List SettledGroup) → AllByRecursion P groups →
+pub all_rest : (P Q : SettledGroup → Type 0) → ((g : SettledGroup) → P g → Q (without_first g)) → (groups : List SettledGroup) → AllByRecursion P groups →
     AllByRecursion Q (map without_first groups)
 all_rest P Q step [] all = tt
 all_rest P Q step (g ∷ groups) all = (step g all.0, all_rest P Q step groups all.1)
 
-all_of : (P Q : SettledGroup → Type 0) → ((g : SettledGroup) → P g → Q g) → (groups : List SettledGroup) → AllByRecursion P groups → AllByRecursion Q groups
+pub all_of : (P Q : SettledGroup → Type 0) → ((g : SettledGroup) → P g → Q g) → (groups : List SettledGroup) → AllByRecursion P groups → AllByRecursion Q groups
 all_of P Q step [] all = tt
 all_of P Q step (g ∷ groups) all = (step g all.0, all_of P Q step groups all.1)
 
-rest_lengths : (len : ℕ) (g : SettledGroup) → HasLengths (suc len) g → HasLengths len (without_first g)
+pub rest_lengths : (len : ℕ) (g : SettledGroup) → HasLengths (suc len) g → HasLengths len (without_first g)
 rest_lengths len g is = record {
   inserted = omega (arith, length-drop 1 g.inserted, is.inserted);
   deleted = omega (arith, length-drop 1 g.deleted, is.deleted);
@@ -288,7 +288,7 @@ hides_by_groups revisions set floor (suc len) groups lengths ends apart =
     let long : length (loaded_in set len (map without_first groups)) ≡ len = length-loaded_in set len (map without_first groups) rest in
     ap₂ (λ b flags. b ∷ flags) (hides_first revisions set floor groups ends apart.0)
     (hides_by_groups revisions set floor len (map without_first groups) rest
-    (all_rest (IsEnd revisions floor) (IsEnd revisions floor) (λ g is. record { within = is.within; said = is.said }) groups ends) apart.1) ∙
+    (all_rest (IsEnd revisions floor) (IsEnd revisions floor) (λ g is. record { counts = is.counts; within = is.within; said = is.said }) groups ends) apart.1) ∙
     sym (ap (λ flags. fold (λ dead g. union dead (hidden_of set g)) flags groups) (loaded_first set len groups lengths) ∙
     fold_first (hidden_of set) (hidden_rest set) groups (has set 0 && not (list_any (λ g. first_flag g.inserted) groups)) (loaded_in set len (map without_first groups))
     (all_of (HasLengths (suc len)) (λ g. length (hidden_of set g) ≡ suc (length (loaded_in set len (map without_first groups))))

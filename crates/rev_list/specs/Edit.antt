@@ -1,10 +1,11 @@
 -- What an edit and an undo add to a history, where they say positions of the union.
 use Rattle.std.specs.Prelude.{◌≡◌, ℕ, ◌+◌, ◌-◌, ◌^◌, ◌<◌, ◌≤◌, Bool, true, false, if◌then◌else◌, List, [], ◌∷◌, ◌++◌, length}
+use Rattle.std.specs.List.{AllByRecursion}
 use Rattle.subset_runs.specs.Subset.{count}
-use Rattle.plain_text.specs.Numbers.{has, flipped}
+use Rattle.plain_text.specs.Numbers.{has, flipped, IsRising}
 use Rattle.plain_edits.specs.History.{inserted_by, Tagged, Revision, edit, History, head}
 use Rattle.plain_edits.specs.Edits.{with_deletion, undid}
-use Rattle.plain_edits.specs.HistorySteps.{MayUndoSet}
+use Rattle.plain_edits.specs.Collection.{is_group}
 use Rattle.plain_edits.specs.Undo.{undone_now}
 use Rattle.undo_laws.specs.Under.{hidden_under}
 use Rattle.rev_list.specs.declared.edit.RevEdit.{RevEdit}
@@ -61,8 +62,18 @@ pub record MayPush (history : History) (e : RevEdit) : Type 0 where
   pub group_kept : has history.collected e.group ≡ false
   pub has_number : head history < 2 ^ 63 - 1
 
--- the undo may come next: its set may be undone, and `dead` is what of the union it hides
+-- the group counts from 1, and has an edit or is collected
+abbrev pub IsKnownGroup : History → ℕ → Type 0
+IsKnownGroup history group = (0 < group) × (is_group history group ≡ true)
+
+-- the groups may be undone: each is known, they agree with what is undone on each collected group, and they rise
+pub record MayUndoGroups (history : History) (groups : List ℕ) : Type 0 where
+  pub known : AllByRecursion (IsKnownGroup history) groups
+  pub frozen : AllByRecursion (λ group. has groups group ≡ has (undone_now history) group) history.collected
+  pub rising : IsRising groups
+
+-- the undo may come next: its groups may be undone, and `dead` is what of the union it hides
 pub record MayPushUndo (history : History) (groups : List ℕ) (dead : List Bool) : Type 0 where
-  pub allowed : MayUndoSet history groups
+  pub allowed : MayUndoGroups history groups
   pub hidden : dead ≡ hidden_under history groups (head history)
   pub has_number : head history < 2 ^ 63 - 1

@@ -3,6 +3,7 @@ use Rattle.std.specs.Prelude.{◌≡◌, ℕ, Bool, false, ◌||◌, if◌then�
 use Rattle.std.specs.List.{list_any}
 use Rattle.plain_edits.specs.History.{Revision}
 use Rattle.plain_edits.specs.Edits.{is_edit_of}
+use Rattle.rev_list.specs.declared.settled.SettledGroup.{SettledGroup}
 
 -- whether the group has an edit by the revision; the loaded text is of group 0
 abbrev pub has_edit_by : List Revision → ℕ → ℕ → Bool
@@ -32,6 +33,11 @@ or_else None other = other
 -- the first edit of a group after one more edit of group `own`, which is revision `next`
 abbrev pub first_after : Option ℕ → ℕ → ℕ → ℕ → Option ℕ
 first_after found own next group = or_else found (if own == group then Some next else None)
+
+-- the first edit of a group after the last edits of these groups
+abbrev pub first_with : Option ℕ → List SettledGroup → ℕ → Option ℕ
+first_with found [] group = found
+first_with found (g ∷ groups) group = first_with (first_after found g.group g.last group) groups group
 
 -- beside each group stands its first edit
 abbrev pub AreFirstEdits : List Revision → Firsts → Type 0

@@ -2,8 +2,8 @@
 use Rattle.std.specs.Prelude.{◌≡◌, ℕ, ◌+◌, ◌^◌, ◌<◌, Bool, true, false, List, [], ◌∷◌, length, map}
 use Rattle.std.specs.List.{fold, AllByRecursion}
 use Rattle.subset_runs.specs.Subset.{count, expand, expand_in, shrink, union, symmetric_difference}
-use Rattle.plain_text.specs.Numbers.{IsRising}
-use Rattle.plain_edits.specs.History.{History, IsSound, head}
+use Rattle.plain_text.specs.Numbers.{has, IsRising}
+use Rattle.plain_edits.specs.History.{Revision, edit, undo, History, IsSound, head}
 use Rattle.plain_edits.specs.Collection.{is_clean}
 use Rattle.plain_edits.specs.HistorySteps.{HasRisingSet}
 use Rattle.plain_edits.specs.Undo.{undone_now}
@@ -78,8 +78,14 @@ AreKept history [] = Unit {0}
 AreKept history (r ∷ records) =
     Follows history r.step × (r.turned ≡ turned_by history r.step) × AreKept (after_revision history r.step) records
 
+-- an edit is of no collected group
+abbrev pub IsOpen : List ℕ → Revision → Type 0
+IsOpen collected (edit base group priority author) = has collected group ≡ false
+IsOpen collected (undo groups) = Unit {0}
+
 -- what a list keeps: what is up to the floor, each later revision with what it turned, what is dead at the head, the first edit of each
--- group, and which groups are undone at the head; each undo has a rising set, and no later edit has its base below the floor
+-- group, and which groups are undone at the head; each undo has a rising set, no later edit has its base below the floor, and no edit is of
+-- a collected group
 pub record HoldsRevisions (settled : Settled) (records : List RevRecord) (gone : List Bool) (first : Firsts) (groups : List ℕ) : Type 0 where
   pub parts : AreSettled settled
   pub sound : IsSound (settled_history settled)
@@ -91,5 +97,4 @@ pub record HoldsRevisions (settled : Settled) (records : List RevRecord) (gone :
   pub rising : IsRising groups
   pub sets : AllByRecursion HasRisingSet (history_of settled (steps_of records)).revisions
   pub clean : is_clean (history_of settled (steps_of records)).revisions settled.floor ≡ true
-  -- no group is collected yet
-  pub none : settled.collected ≡ []
+  pub uncollected : AllByRecursion (IsOpen settled.collected) (history_of settled (steps_of records)).revisions

@@ -1,10 +1,13 @@
 -- What is up to the floor of a list, said once for each group that has an edit by then and is not collected.
-use Rattle.std.specs.Prelude.{◌≡◌, ℕ, zero, suc, ◌≤◌, Bool, true, false, if◌then◌else◌, ◌==◌, List, [], ◌∷◌, length, map, drop, replicate, Option, Some, None}
+use Rattle.std.specs.Prelude.{◌≡◌, ℕ, zero, suc, ◌<◌, ◌≤◌, Bool, true, false, if◌then◌else◌, ◌==◌, List, [], ◌∷◌, length, map, drop, replicate, Option, Some, None}
 use Rattle.std.specs.List.{fold, list_any, range_with_len, AllByRecursion}
 use Rattle.subset_runs.specs.Subset.{complement, union}
-use Rattle.plain_text.specs.Numbers.{has, with_number}
-use Rattle.plain_edits.specs.History.{Tagged, Revision, edit, undo, History, group_of}
+use Rattle.plain_text.specs.Numbers.{has, with_number, IsRising}
+use Rattle.plain_edits.specs.History.{Tagged, Revision, edit, undo, History, head, revision_at, group_of}
+use Rattle.plain_edits.specs.HistorySteps.{is_edit}
+use Rattle.plain_edits.specs.Undo.{undone_now}
 use Rattle.rev_list.specs.declared.settled.SettledGroup.{SettledGroup}
+use Rattle.rev_list.specs.Hidden.{union_at}
 
 -- the floor, the length of the union there, the groups, which groups are undone there, and the collected ones
 pub record Settled : Type 0 where
@@ -90,8 +93,9 @@ pub record HasLengths (len : ℕ) (g : SettledGroup) : Type 0 where
   pub inserted : length g.inserted ≡ len
   pub deleted : length g.deleted ≡ len
 
--- the last edit of the group is by the floor, and is the group's
+-- the last edit of the group counts from 1, is by the floor, and is the group's
 pub record IsEnd (revisions : List Revision) (floor : ℕ) (g : SettledGroup) : Type 0 where
+  pub counts : 0 < g.last
   pub within : g.last ≤ floor
   pub said : group_of revisions g.last ≡ g.group
 
@@ -106,9 +110,46 @@ abbrev pub AreInsertedApart : ℕ → List SettledGroup → Type 0
 AreInsertedApart zero groups = Unit {0}
 AreInsertedApart (suc len) groups = IsFirstApart groups × AreInsertedApart len (map without_first groups)
 
--- the groups are those of what is up to the floor: they speak of the union there, their last edits are by the floor, and no position was
--- inserted by two
+-- the groups are those of what is up to the floor: they rise, none is collected, they speak of the union there, their last edits are by
+-- the floor, and no position was inserted by two
 pub record AreSettled (settled : Settled) : Type 0 where
+  pub rising : IsRising (map (λ g. g.group) settled.groups)
+  pub uncollected : AllByRecursion (λ g. has settled.collected g.group ≡ false) settled.groups
   pub lengths : AllByRecursion (HasLengths settled.len) settled.groups
   pub ends : AllByRecursion (IsEnd (settled_history settled).revisions settled.floor) settled.groups
   pub apart : AreInsertedApart settled.len settled.groups
+
+-- ---- what the groups of a list say of its history
+
+-- a group up to the floor: its last edit stands for all of them, in what it inserted and in what it deleted of the union there
+pub record IsSettledGroup (history : History) (g : SettledGroup) : Type 0 where
+  pub within : g.last ≤ history.floor
+  pub edits : is_edit (revision_at history.revisions g.last) ≡ true
+  pub group : group_of history.revisions g.last ≡ g.group
+  pub inserted : g.inserted ≡ map (λ tagged. tagged.inserted == g.last) (union_at history history.floor)
+  pub deleted : g.deleted ≡ map (λ tagged. has tagged.deleted g.last) (union_at history history.floor)
+
+-- these are the groups up to the floor, in rising order: each edit up to there is the last one of a group
+pub record AreSettledGroups (history : History) (groups : List SettledGroup) : Type 0 where
+  pub rising : IsRising (map (λ g. g.group) groups)
+  pub each : AllByRecursion (IsSettledGroup history) groups
+  pub all : (rev : ℕ) → rev ≤ history.floor → is_edit (revision_at history.revisions rev) ≡ true →
+      list_any (λ g. g.last == rev) groups ≡ true
+
+-- ---- a list whose floor is its head
+
+-- what is up to the head of a history, where these groups are left and more groups are collected
+abbrev pub settled_at_head : History → List SettledGroup → List ℕ → ℕ → Settled
+settled_at_head history groups collected len = record {
+  floor = head history;
+  len = len;
+  groups = groups;
+  undone = undone_now history;
+  collected = fold with_number history.collected collected;
+}
+
+-- the groups may stand for all up to the head, where more groups are collected: `dead` is what they hide of their union
+pub record MaySettle (history : History) (groups : List SettledGroup) (collected : List ℕ) (dead : List Bool) : Type 0 where
+  pub parts : AreSettled (settled_at_head history groups collected (length dead))
+  pub undone : undone_now (settled_history (settled_at_head history groups collected (length dead))) ≡ undone_now history
+  pub hidden : dead ≡ hidden_by_groups (undone_now history) (length dead) groups

@@ -2,8 +2,9 @@
 ghost use Rattle.std.specs.Prelude.{◌≡◌, ℕ, ◌<◌, [], ◌∷◌, length, slice_index_or, IfOk};
 ghost use Rattle.std.specs.List.Sorted.{IsBinarySearchResult};
 ghost use Rattle.std.specs.Ordering.{nat_cmp};
-ghost use Rattle.rev_list.specs.Groups.{first_after, rev_of};
+ghost use Rattle.rev_list.specs.Groups.{first_after, first_with, rev_of};
 
+use crate::SettledGroup;
 use number_set::NumberSet;
 use plain_text::NoMemory;
 use shared_tree::{Batch, Tree};
@@ -37,6 +38,18 @@ impl FirstEdits {
             groups: NumberSet::new(alloc).with(alloc, 0)?,
             revs: Tree::of_leaf(alloc, Batch::of_one(alloc, 0)?)?,
         })
+    }
+
+    // Of groups of which only the last edit is said.
+    pub(crate) fn of_groups(alloc: Global, groups: &[SettledGroup]) -> Result<FirstEdits, NoMemory>
+        ensures { IfOk result (λ made. (other : ℕ) → rev_of made.groups made.revs other
+            ≡ first_with (rev_of (0 ∷ []) (0 ∷ []) other) groups.now other) }
+    {
+        let mut firsts = FirstEdits::start(alloc)?;
+        for group in groups {
+            firsts = firsts.with(alloc, group.group, group.last)?;
+        }
+        Ok(firsts)
     }
 
     // The same, shared, in O(1).

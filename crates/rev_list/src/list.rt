@@ -4,12 +4,13 @@ ghost use Rattle.plain_text.specs.Numbers.{has, IsRising};
 ghost use Rattle.plain_edits.specs.History.{IsSound, head, loaded, revision_at};
 ghost use Rattle.plain_edits.specs.Edits.{undid};
 ghost use Rattle.plain_edits.specs.Collection.{is_clean};
-ghost use Rattle.plain_edits.specs.HistorySteps.{HasRisingSet};
+ghost use Rattle.plain_edits.specs.HistorySteps.{HasRisingSet, IsByEdits};
 ghost use Rattle.plain_edits.specs.Undo.{undone_now};
 ghost use Rattle.rev_list.specs.Groups.{IsFirstEdit};
 ghost use Rattle.rev_list.specs.Edit.{after_edit, undone_by, MayPush, MayPushUndo};
 ghost use Rattle.rev_list.specs.Hidden.{AreDeletedLater, AreRevisionsAfter, IsCollected, IsEditAt, IsKeptAt, IsRevisionAt, IsUnknown, hidden_at, hidden_then, is_edit, union_at};
-ghost use Rattle.rev_list.specs.Settled.{HasLengths, hidden_by_groups};
+ghost use Rattle.rev_list.specs.Kept.{IsOpen};
+ghost use Rattle.rev_list.specs.Settled.{AreSettledGroups, HasLengths, MaySettle, hidden_by_groups, settled_at_head, settled_history};
 ghost use Rattle.undo_laws.specs.Under.{is_hidden_under};
 
 use crate::carry::{before, carried, recorded_edit, recorded_undo};
@@ -83,11 +84,10 @@ impl RevList {
         self.settled.floor()
     }
 
-    /// Whether the group is collected, in the logarithm of the number of collected groups. None is yet.
+    /// Whether the group is collected, in the logarithm of the number of collected groups. A collected group has no edit.
     pub fn is_collected(&self, group: u64) -> bool
         ensures collected { result ≡ has self.now.collected group }
-        ensures none { result ≡ false }
-        ensures all { (group : ℕ) → has self.now.collected group ≡ false }
+        ensures uncollected { AllByRecursion (IsOpen self.now.collected) self.now.revisions }
     {
         self.settled.has_collected(group)
     }
@@ -102,6 +102,7 @@ impl RevList {
     /// What is up to the floor, said once for each group that has an edit by then and is not collected, in O(1): with each group what
     /// its edits by the floor inserted and deleted of the union as it was there.
     pub fn settled_groups(&self) -> &[SettledGroup]
+        ensures groups { AreSettledGroups self.now result.now }
         ensures lengths { AllByRecursion (HasLengths (length (union_at self.now self.now.floor))) result.now }
         ensures hides { (set : List ℕ)
             → map (is_hidden_under self.now set self.now.floor) (union_at self.now self.now.floor)
@@ -186,13 +187,15 @@ impl RevList {
 
     /// A walk over the revisions after a revision, edits and undos, the oldest first, in O(1). Each edit's subsets are in the
     /// positions of the union after it, so that a set of positions is carried over one revision after the other, passes an undo by,
-    /// and ends in the present union: each character of that is of a revision which is there.
+    /// and ends in the present union: each character of that is of edits that are there.
     pub fn revisions_after(&self, base: u64) -> RevisionsAfter<'_>
         requires kept { self.now.floor ≤ base }
         requires known { base ≤ head self.now }
         ensures revisions { AreRevisionsAfter self.now base result }
         ensures sound { IsSound self.now }
         ensures later { AreDeletedLater self.now }
+        ensures edits { AllByRecursion (IsByEdits self.now.revisions) self.now.characters }
+        ensures no_text { AllByRecursion (λ tagged. tagged.character ≡ 0) self.now.characters }
     {
         RevisionsAfter::new(&self.records, base - self.floor())
     }
@@ -313,6 +316,34 @@ impl RevList {
         self.dead = dead;
         self.undone = undone;
         Ok(next)
+    }
+
+    /// The list whose floor is the head, with these groups up to there, where the groups of `collected` are collected beside those that
+    /// were. It costs the logarithm of the number of groups for each of them, and that of the collected ones for each of `collected`.
+    pub fn settled(
+        &self,
+        alloc: Global,
+        groups: Vec<SettledGroup>,
+        collected: &BTreeSet<u64>,
+        dead: Subset,
+    ) -> Result<RevList, NoMemory>
+        requires { MaySettle self.now groups.items collected.now.keys dead }
+        ensures { IfOk result (λ made. made
+            ≡ settled_history (settled_at_head self.now groups.items collected.now.keys (length dead))) }
+    {
+        let firsts = FirstEdits::of_groups(alloc, &groups)?;
+        let undone = self.undone.copy(alloc)?;
+        let head = self.head();
+        let settled = self
+            .settled
+            .collecting(alloc, head, dead.len(), groups, undone, collected)?;
+        Ok(RevList {
+            settled: Arc::new(alloc, settled)?,
+            records: Records::new(alloc),
+            dead: Arc::new(alloc, dead)?,
+            firsts,
+            undone: self.undone.copy(alloc)?,
+        })
     }
 
     /// The same revisions, which are shared with this list, in O(1).

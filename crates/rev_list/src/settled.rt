@@ -1,10 +1,13 @@
 // What is up to the floor of a list, said once for each group that has an edit by then and is not collected.
-ghost use Rattle.std.specs.Prelude.{◌≡◌};
-ghost use Rattle.plain_text.specs.Numbers.{has};
+ghost use Rattle.std.specs.Prelude.{◌≡◌, IfOk};
+ghost use Rattle.std.specs.List.{fold};
+ghost use Rattle.plain_text.specs.Numbers.{has, with_number};
 ghost use Rattle.rev_list.specs.Settled.{settled_loaded};
 
 use number_set::NumberSet;
+use plain_text::NoMemory;
 use std::alloc::Global;
+use std::collections::BTreeSet;
 use std::marker::Model;
 use subset_runs::Subset;
 
@@ -48,6 +51,37 @@ impl UpToFloor {
             undone: NumberSet::new(alloc),
             collected: NumberSet::new(alloc),
         }
+    }
+
+    // With another floor and other groups, where these are collected beside those that were.
+    pub(crate) fn collecting(
+        &self,
+        alloc: Global,
+        floor: u64,
+        len: u64,
+        groups: Vec<SettledGroup>,
+        undone: NumberSet,
+        collected: &BTreeSet<u64>,
+    ) -> Result<UpToFloor, NoMemory>
+        ensures { IfOk result (λ made. made ≡ record {
+          floor = floor;
+          len = len;
+          groups = groups.items;
+          undone = undone;
+          collected = fold with_number self.now.collected collected.now.keys;
+        }) }
+    {
+        let mut all = self.collected.copy(alloc)?;
+        for group in collected {
+            all = all.with(alloc, *group)?;
+        }
+        Ok(UpToFloor {
+            floor,
+            len,
+            groups,
+            undone,
+            collected: all,
+        })
     }
 
     pub(crate) fn floor(&self) -> u64

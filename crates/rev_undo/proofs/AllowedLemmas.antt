@@ -8,10 +8,12 @@ use Rattle.std.proofs.lemmas.Bool.Decides.{nat_tests}
 use Rattle.plain_text.specs.Numbers.{has, IsRising}
 use Rattle.plain_text.proofs.callers.ListLemmas.{AllByRecursion-weaker}
 use Rattle.plain_edits.specs.History.{History}
+use Rattle.plain_edits.specs.Collection.{is_group}
 use Rattle.plain_edits.specs.Undo.{undone_now}
+use Rattle.rev_list.specs.Edit.{IsKnownGroup}
 use Rattle.rev_list.specs.Groups.{IsFirstEdit}
 use Rattle.rev_list.proofs.ForCallers.{any_edit, no_edit}
-use Rattle.rev_undo.specs.Allowed.{HasEdit, IsIn, IsThere}
+use Rattle.rev_undo.specs.Allowed.{IsIn, IsThere}
 use Rattle.rev_undo.specs.Under.{AgreesOnCollected}
 
 both_true : (a b : Bool) → (a ≡ true → b ≡ true) → (b ≡ true → a ≡ true) → a ≡ b
@@ -71,10 +73,17 @@ pub has_contains : (numbers : List ℕ) (n : ℕ) → list_any (is_at (nat_cmp n
 has_contains [] n = refl
 has_contains (m ∷ numbers) n = ap₂ (λ a b. a || b) (at_number n m) (has_contains numbers n)
 
-pub has_first : (h : History) (group : ℕ) (found : Option ℕ) → 0 < group → IsFirstEdit h.revisions group found →
-    IsTrue (is_some found) ↔ HasEdit h group
-has_first h group (Some first) counts is = (λ some. (counts, any_edit h.revisions group first counts is), λ has. refl)
-has_first h group None counts is = (λ some. absurd cc, λ has. sym (no_edit h.revisions group is) ∙ has.1)
+-- a group with a first edit is known, and one without is where it is collected
+pub known_some : (h : History) (group : ℕ) (found : Option ℕ) → 0 < group → IsFirstEdit h.revisions group found → is_some found ≡ true → IsKnownGroup h group
+known_some h group (Some first) counts is some = (counts, ap (λ b. b || has h.collected group) (any_edit h.revisions group first counts is))
+known_some h group None counts is some = absurd cc
+
+pub known_none : (h : History) (group : ℕ) (found : Option ℕ) → 0 < group → IsFirstEdit h.revisions group found → is_some found ≡ false →
+    IsTrue (has h.collected group) ↔ IsKnownGroup h group
+known_none h group (Some first) counts is none = absurd cc
+known_none h group None counts is none =
+    let same : is_group h group ≡ has h.collected group = ap (λ b. b || has h.collected group) (no_edit h.revisions group is) in
+    (λ collected. (counts, same ∙ collected), λ known. sym same ∙ known.1)
 
 -- ---- the keys of a set
 

@@ -1,8 +1,8 @@
 ghost use Rattle.std.specs.Prelude.{◌≡◌, ◌↔◌, IsTrue};
 ghost use Rattle.std.specs.List.{AllByRecursion};
-ghost use Rattle.plain_edits.specs.HistorySteps.{MayUndoSet};
 ghost use Rattle.plain_edits.specs.Undo.{undone_now};
-ghost use Rattle.rev_undo.specs.Allowed.{HasEdit, IsIn, IsThere};
+ghost use Rattle.rev_list.specs.Edit.{IsKnownGroup, MayUndoGroups};
+ghost use Rattle.rev_undo.specs.Allowed.{IsIn, IsThere};
 ghost use Rattle.rev_undo.specs.Under.{AgreesOnCollected};
 
 use rev_list::RevList;
@@ -16,9 +16,9 @@ pub fn agrees_on_collected(revs: &RevList, groups: &BTreeSet<u64>) -> bool
     all_undone(revs, groups) && all_in(revs, groups)
 }
 
-/// Whether the set may be undone: beside that, each of its groups counts from 1 and has an edit.
+/// Whether the set may be undone: beside that, each of its groups counts from 1, and has an edit or is collected.
 pub fn may_undo(revs: &RevList, groups: &BTreeSet<u64>) -> bool
-    ensures { IsTrue result ↔ MayUndoSet revs.now groups.now.keys }
+    ensures { IsTrue result ↔ MayUndoGroups revs.now groups.now.keys }
 {
     let _count = groups.len();
     all_known(revs, groups) && agrees_on_collected(revs, groups)
@@ -63,20 +63,20 @@ fn is_in(revs: &RevList, groups: &BTreeSet<u64>, group: u64) -> bool
     !revs.is_collected(group) || groups.contains(&group)
 }
 
-// Whether each group of the set counts from 1 and has an edit.
+// Whether each group of the set counts from 1, and has an edit or is collected.
 fn all_known(revs: &RevList, groups: &BTreeSet<u64>) -> bool
-    ensures { IsTrue result ↔ AllByRecursion (HasEdit revs.now) groups.now.keys }
+    ensures { IsTrue result ↔ AllByRecursion (IsKnownGroup revs.now) groups.now.keys }
 {
     for group in groups {
-        if !has_edit(revs, *group) {
+        if !is_known(revs, *group) {
             return false;
         }
     }
     true
 }
 
-fn has_edit(revs: &RevList, group: u64) -> bool
-    ensures { IsTrue result ↔ HasEdit revs.now group }
+fn is_known(revs: &RevList, group: u64) -> bool
+    ensures { IsTrue result ↔ IsKnownGroup revs.now group }
 {
-    group > 0 && revs.first_edit(group).is_some()
+    group > 0 && (revs.first_edit(group).is_some() || revs.is_collected(group))
 }

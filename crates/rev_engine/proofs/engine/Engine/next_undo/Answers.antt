@@ -3,14 +3,13 @@ use Rattle.plain_edits.specs.History.{History, head}
 use Rattle.plain_edits.specs.HistorySteps.{MayUndoSet}
 use Rattle.rev_list.specs.Edit.{undone_by, MayPushUndo}
 use Rattle.rev_engine.specs.State.{State}
-use Rattle.rev_engine.proofs.UndoLemmas.{may_undo_by, goes-on-pushed, change-pushed}
+use Rattle.rev_engine.proofs.UndoLemmas.{may_push_by, may_undo_by, goes-on-pushed, change-pushed}
 use Rattle.rev_engine.proofs.engine.Engine.next_undo.Goals as goal
 
 pub push_undo_by-requires-clause-may : goal.push_undo_by-requires-clause-may
 push_undo_by-requires-clause-may c =
     let may =
-    may_undo_by _ c.args.self.now c.args.groups.now c.self.view_is c.self.invariant.uncollected
-    (rw c.undone-undone.ensures.groups at c.undone-undone.ensures.rising) c.requires.may c.requires.agrees in
+    may_push_by _ c.args.self.now c.args.groups.now c.self.view_is (rw c.undone-undone.ensures.groups at c.undone-undone.ensures.rising) c.requires.may c.requires.agrees in
     subst (λ (h : History). MayPushUndo h (undone_by h c.args.groups.now) c.in_ok-dead.dead) (sym c.in_ok-revs.ensures)
     (record {
       allowed = may;

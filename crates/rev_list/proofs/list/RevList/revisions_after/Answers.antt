@@ -1,7 +1,7 @@
 use Rattle.std.proofs.Common.{◌≡◌, ◌+◌, ◌-◌, ◌≤◌, length, arith}
 use Rattle.std.specs.Arc.{arc_value}
 use Rattle.rev_list.specs.Kept.{steps_of}
-use Rattle.rev_list.proofs.RecordLemmas.{floor-history_of, head-history_of, later-history_of, sound-history_of, AreRevisionsAfter-history_of}
+use Rattle.rev_list.proofs.RecordLemmas.{by_edits-history_of, floor-history_of, head-history_of, later-history_of, no_text-history_of, sound-history_of, AreRevisionsAfter-history_of}
 use Rattle.rev_list.proofs.list.RevList.revisions_after.Goals as goal
 
 pub new-requires : goal.new-requires
@@ -32,3 +32,13 @@ pub returns-clause-later : goal.returns-clause-later
 returns-clause-later c =
     let s = c.self.inside in
     rw (← c.self.view_is) (later-history_of (arc_value s.settled) s.records c.self.invariant.sound c.self.invariant.kept)
+
+pub returns-clause-edits : goal.returns-clause-edits
+returns-clause-edits c =
+    let s = c.self.inside in
+    rw (← c.self.view_is) (by_edits-history_of (arc_value s.settled) s.records c.self.invariant.sound c.self.invariant.kept c.self.invariant.parts)
+
+pub returns-clause-no_text : goal.returns-clause-no_text
+returns-clause-no_text c =
+    let s = c.self.inside in
+    rw (← c.self.view_is) (no_text-history_of (arc_value s.settled) s.records c.self.invariant.sound c.self.invariant.kept)
