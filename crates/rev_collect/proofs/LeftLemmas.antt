@@ -16,7 +16,7 @@ use Rattle.rev_collect.specs.Groups.{IsGroup, AreGroups, settled_of}
 
 -- ---- some of a list
 
-any_gives : {X : Type 0} (Q : X → Type 0) (R : Type 0) (p : X → Bool) (xs : List X) → AllByRecursion Q xs → ((x : X) → Q x → p x ≡ true → R) → list_any p xs ≡ true → R
+pub any_gives : {X : Type 0} (Q : X → Type 0) (R : Type 0) (p : X → Bool) (xs : List X) → AllByRecursion Q xs → ((x : X) → Q x → p x ≡ true → R) → list_any p xs ≡ true → R
 any_gives Q R p [] all gives some = absurd cc
 any_gives Q R p (x ∷ xs) all gives some = by (p x) refl some (any_gives Q R p xs all.1 gives)
   where
@@ -24,7 +24,7 @@ any_gives Q R p (x ∷ xs) all gives some = by (p x) refl some (any_gives Q R p 
     by true is some rest = gives x all.0 is
     by false is some rest = rest some
 
-any_where : {X : Type 0} (Q : X → Type 0) (p q : X → Bool) (xs : List X) → AllByRecursion Q xs → ((x : X) → Q x → p x ≡ true → q x ≡ true) →
+pub any_where : {X : Type 0} (Q : X → Type 0) (p q : X → Bool) (xs : List X) → AllByRecursion Q xs → ((x : X) → Q x → p x ≡ true → q x ≡ true) →
     list_any p xs ≡ true → list_any q xs ≡ true
 any_where Q p q [] all more some = some
 any_where Q p q (x ∷ xs) all more some = by (p x) refl some (any_where Q p q xs all.1 more)
@@ -33,7 +33,7 @@ any_where Q p q (x ∷ xs) all more some = by (p x) refl some (any_where Q p q x
     by true is some rest = or_left (q x) (list_any q xs) (more x all.0 is)
     by false is some rest = or_right (q x) (list_any q xs) (rest some)
 
-both_true : (a b : Bool) → (a ≡ true → b ≡ true) → (b ≡ true → a ≡ true) → a ≡ b
+pub both_true : (a b : Bool) → (a ≡ true → b ≡ true) → (b ≡ true → a ≡ true) → a ≡ b
 both_true true b there back = sym (there refl)
 both_true false true there back = back refl
 both_true false false there back = refl

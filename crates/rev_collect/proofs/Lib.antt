@@ -1,3 +1,5 @@
 pub mod FloorLemmas
 pub mod RestLemmas
 pub mod LeftLemmas
+pub mod DroppedLemmas
+pub mod PresentLemmas

@@ -1,13 +1,14 @@
 -- What is left of a history at its head, said once for each group.
-use Rattle.std.specs.Prelude.{◌≡◌, ℕ, ◌<◌, ◌==◌, true, false, List, length, map}
-use Rattle.std.specs.List.{filter, list_any, AllByRecursion}
+use Rattle.std.specs.Prelude.{◌≡◌, ℕ, ◌<◌, ◌==◌, true, false, Bool, List, length, map, replicate}
+use Rattle.std.specs.List.{filter, fold, list_any, AllByRecursion}
+use Rattle.subset_runs.specs.Subset.{union}
 use Rattle.plain_text.specs.Numbers.{has}
 use Rattle.plain_edits.specs.History.{Tagged, History, head, revision_at, group_of, undone}
 use Rattle.plain_edits.specs.Collection.{is_collected}
 use Rattle.plain_edits.specs.HistorySteps.{is_edit}
 use Rattle.collection_laws.specs.Left.{is_kept, edits_group, last_edit}
 use Rattle.rev_list.specs.declared.settled.SettledGroup.{SettledGroup}
-use Rattle.rev_list.specs.Settled.{Settled}
+use Rattle.rev_list.specs.Settled.{Settled, hidden_of}
 
 -- a group that is not collected: its last edit, and what its edits inserted and deleted of these characters
 pub record IsGroup (history : History) (characters : List Tagged) (g : SettledGroup) : Type 0 where
@@ -32,3 +33,8 @@ settled_of history groups = record {
   undone = undone history.revisions history.floor;
   collected = history.collected;
 }
+
+-- what the groups of a set that are collected now drop: each what it inserted, where it is undone at the head, and else what it deleted
+abbrev pub dropped_by : List ℕ → List ℕ → ℕ → List SettledGroup → List Bool
+dropped_by now undone len groups =
+    fold (λ dropped g. union dropped (hidden_of undone g)) (replicate len false) (filter (λ g. has now g.group) groups)

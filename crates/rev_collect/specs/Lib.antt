@@ -1,3 +1,4 @@
 pub mod Choice
 pub mod Groups
 pub mod Inner
+pub mod Present

@@ -7,7 +7,9 @@
 mod choice;
 mod floors;
 pub mod laws;
+mod present;
 mod rest;
 
 pub use choice::collectable;
 pub use floors::clean;
+pub use present::present_edits;
