@@ -4,7 +4,7 @@ ghost use Rattle.std.specs.Prelude.{◌≡◌, ◌≤◌, [], IsTrue, IfOk, OnOk
 ghost use Rattle.std.specs.List.{fold};
 ghost use Rattle.plain_text.specs.Numbers.{with_number};
 ghost use Rattle.plain_edits.specs.History.{head};
-ghost use Rattle.undo_laws.specs.Under.{hidden_under};
+ghost use Rattle.rev_list.specs.Under.{hidden_under};
 ghost use Rattle.rev_list.specs.Hidden.{hidden_at};
 ghost use Rattle.history_cases.specs.Inner.{is_marked, AgreeUpTo, AreOfHead};
 

@@ -14,8 +14,8 @@ use Rattle.plain_edits.specs.Edits.{with_deletion, undid}
 use Rattle.plain_edits.specs.Undo.{undone_now}
 use Rattle.plain_edits.proofs.callers.HistoryLemmas.{IsSound-undid, group_of-append, revision_at-append, revision_at-push, undone-append, undone-edit, undone-undo, is_visible-deleted_later, is_visible-later}
 use Rattle.plain_edits.proofs.callers.FirstLemmas.{is_visible-take}
-use Rattle.undo_laws.specs.Under.{is_hidden_under, hidden_under}
-use Rattle.undo_laws.proofs.ForCallers.{map_where, is_visible_under-more, is_visible_under-new, is_visible_under-deletion, hidden_under-undid}
+use Rattle.rev_list.specs.Under.{is_hidden_under, hidden_under}
+use Rattle.rev_list.proofs.UnderEditLemmas.{map_where, is_visible_under-more, is_visible_under-new, is_visible_under-deletion, hidden_under-undid}
 use Rattle.rev_list.specs.declared.edit.RevEdit.{RevEdit}
 use Rattle.rev_list.specs.declared.step.RevStep.{RevStep}
 use Rattle.rev_list.specs.declared.step.RevStep.TheVariants.{Edit, Undo}

@@ -1,3 +1,5 @@
+pub mod UnderLemmas
+pub mod UnderEditLemmas
 pub mod FlagLemmas
 pub mod TagLemmas
 pub mod StepLemmas

@@ -15,7 +15,7 @@ use Rattle.plain_edits.specs.Edits.{undid}
 use Rattle.plain_edits.specs.Collection.{is_based_from, is_clean}
 use Rattle.plain_edits.specs.HistorySteps.{is_edit, HasRisingSet, IsByEdits}
 use Rattle.plain_edits.specs.Undo.{undone_now}
-use Rattle.undo_laws.specs.Under.{is_hidden_under}
+use Rattle.rev_list.specs.Under.{is_hidden_under}
 use Rattle.rev_list.specs.declared.edit.RevEdit.{RevEdit}
 use Rattle.rev_list.specs.declared.step.RevStep.{RevStep}
 use Rattle.rev_list.specs.declared.step.RevStep.TheVariants.{Edit, Undo}

@@ -7,7 +7,7 @@ use Rattle.plain_edits.specs.History.{inserted_by, Tagged, Revision, edit, Histo
 use Rattle.plain_edits.specs.Edits.{with_deletion, undid}
 use Rattle.plain_edits.specs.Collection.{is_group}
 use Rattle.plain_edits.specs.Undo.{undone_now}
-use Rattle.undo_laws.specs.Under.{hidden_under}
+use Rattle.rev_list.specs.Under.{hidden_under}
 use Rattle.rev_list.specs.declared.edit.RevEdit.{RevEdit}
 use Rattle.rev_list.specs.declared.step.RevStep.{RevStep}
 use Rattle.rev_list.specs.declared.step.RevStep.TheVariants.{Edit, Undo}

@@ -1,3 +1,5 @@
+pub mod Under
+pub mod UndoRows
 pub mod Edit
 pub mod Settled
 pub mod RevFault

@@ -26,6 +26,8 @@ mod list;
 mod records;
 mod settled;
 mod step;
+pub mod undo_laws;
+pub mod undo_rows;
 mod walk;
 
 pub use edit::RevEdit;

@@ -11,7 +11,7 @@ ghost use Rattle.rev_list.specs.Edit.{after_edit, undone_by, MayPush, MayPushUnd
 ghost use Rattle.rev_list.specs.Hidden.{AreDeletedLater, AreRevisionsAfter, IsCollected, IsEditAt, IsKeptAt, IsRevisionAt, IsUnknown, hidden_at, hidden_then, is_edit, union_at};
 ghost use Rattle.rev_list.specs.Kept.{IsOpen};
 ghost use Rattle.rev_list.specs.Settled.{AreSettledGroups, HasLengths, MaySettle, hidden_by_groups, settled_at_head, settled_history};
-ghost use Rattle.undo_laws.specs.Under.{is_hidden_under};
+ghost use Rattle.rev_list.specs.Under.{is_hidden_under};
 
 use crate::carry::{before, carried, recorded_edit, recorded_undo};
 use crate::firsts::FirstEdits;

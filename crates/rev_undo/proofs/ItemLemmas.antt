@@ -6,7 +6,7 @@ use Rattle.std.proofs.lemmas.Bool.{cases_eq, cases_lt, le-leb, le-ltb}
 use Rattle.std.proofs.lemmas.Bool.Decides.{nat_tests}
 use Rattle.plain_text.specs.Numbers.{has}
 use Rattle.plain_edits.specs.History.{Tagged, History, group_of}
-use Rattle.undo_laws.specs.Under.{is_hidden_under}
+use Rattle.rev_list.specs.Under.{is_hidden_under}
 
 lt_now : (m rev : ℕ) → rev ≡ m + 1 → nat_lt (m + 1) rev ≡ false
 lt_now m rev is = grind (arith, nat_tests)

@@ -10,7 +10,7 @@ use Rattle.plain_edits.specs.History.{Revision, edit, undo, History, head, undon
 use Rattle.plain_edits.specs.HistorySteps.{HasRisingSet}
 use Rattle.plain_edits.specs.Edits.{is_edit_of}
 use Rattle.plain_edits.specs.Undo.{undone_now}
-use Rattle.undo_laws.specs.Under.{AgreeBy}
+use Rattle.rev_list.specs.Under.{AgreeBy}
 use Rattle.rev_list.specs.declared.edit.RevEdit.{RevEdit}
 use Rattle.rev_list.specs.Groups.{has_edit_by, IsFirstEdit}
 use Rattle.rev_list.specs.Hidden.{IsEditAt, IsUndoAt}

@@ -7,8 +7,8 @@ use Rattle.std.proofs.lemmas.Bool.{leb-true, leb-false, eq-eqb, ne_eqb}
 use Rattle.subset_runs.specs.Subset.{count}
 use Rattle.plain_text.specs.Numbers.{has}
 use Rattle.plain_edits.specs.History.{Tagged, History, head, edit_group, undone, is_there, IsSound}
-use Rattle.undo_laws.specs.Under.{is_hidden_under, hidden_under, AgreeBy}
-use Rattle.undo_laws.proofs.ForCallers.{is_visible_under-agree}
+use Rattle.rev_list.specs.Under.{is_hidden_under, hidden_under, AgreeBy}
+use Rattle.rev_list.proofs.ForCallers.{is_visible_under-agree}
 use Rattle.rev_list.specs.declared.edit.RevEdit.{RevEdit}
 use Rattle.rev_list.specs.declared.step.RevStep.{RevStep}
 use Rattle.rev_list.specs.declared.step.RevStep.TheVariants.{Edit, Undo}

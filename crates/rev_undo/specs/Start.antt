@@ -2,7 +2,7 @@
 use Rattle.std.specs.Prelude.{◌≡◌, ℕ, ◌≤◌, Bool, true, false, not, ◌⊎◌, List, Some}
 use Rattle.plain_text.specs.Numbers.{has}
 use Rattle.plain_edits.specs.History.{History, head, undone}
-use Rattle.undo_laws.specs.Under.{AgreeBy}
+use Rattle.rev_list.specs.Under.{AgreeBy}
 use Rattle.rev_list.specs.Groups.{IsFirstEdit}
 
 -- a walk may begin at the revision: it is the floor, or what was undone there agrees with the set on all groups that have an edit by

@@ -5,7 +5,7 @@ use Rattle.subset_runs.specs.Subset.{count}
 use Rattle.plain_text.specs.Numbers.{has}
 use Rattle.plain_edits.specs.History.{History}
 use Rattle.plain_edits.specs.Undo.{undone_now}
-use Rattle.undo_laws.specs.Under.{is_hidden_under}
+use Rattle.rev_list.specs.Under.{is_hidden_under}
 use Rattle.rev_list.specs.declared.step.RevStep.{RevStep}
 use Rattle.rev_list.specs.declared.step.RevStep.TheVariants.{Edit, Undo}
 use Rattle.rev_list.specs.Hidden.{union_at}

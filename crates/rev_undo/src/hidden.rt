@@ -2,7 +2,7 @@ ghost use Rattle.std.specs.Prelude.{◌≡◌, IfOk};
 ghost use Rattle.plain_text.specs.Numbers.{flipped, IsRising};
 ghost use Rattle.plain_edits.specs.History.{head};
 ghost use Rattle.plain_edits.specs.Undo.{undone_now};
-ghost use Rattle.undo_laws.specs.Under.{hidden_under};
+ghost use Rattle.rev_list.specs.Under.{hidden_under};
 ghost use Rattle.rev_list.specs.Edit.{undone_by};
 ghost use Rattle.rev_undo.specs.Under.{AgreesOnCollected};
 

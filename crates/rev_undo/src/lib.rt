@@ -1,6 +1,6 @@
 //! What of the present union any set of groups hides at the head.
 //!
-//! To a contract a list of revisions is its history, and a subset is a list of flags. [`recompute`] gives what `undo_laws` defines for
+//! To a contract a list of revisions is its history, and a subset is a list of flags. [`recompute`] gives what `rev_list` defines for
 //! the set. It begins at the last revision at which what was undone agrees with the set on all groups that have an edit by then: the
 //! list knows what that revision shows, and the set shows the same there. For an undo or a redo of a document's stack that is the
 //! revision right before the group's first edit, or right before the undo that it takes back.

@@ -1,6 +1,6 @@
 use Rattle.std.proofs.Common.{◌≡◌, ◌++◌, drop, map, length}
 use Rattle.plain_edits.specs.History.{head}
-use Rattle.undo_laws.specs.Under.{is_hidden_under}
+use Rattle.rev_list.specs.Under.{is_hidden_under}
 use Rattle.history_cases.proofs.by_rev_list.is_hidden_set.Given as goal
 
 abbrev pub invariant-loop-tagged : goal.invariant-loop-tagged

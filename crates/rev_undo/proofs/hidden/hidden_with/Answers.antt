@@ -2,7 +2,7 @@ use Rattle.std.proofs.Common.{length, ap, ◌∙◌}
 use Rattle.std.proofs.lemmas.List.{length-map}
 use Rattle.plain_text.specs.Numbers.{flipped}
 use Rattle.plain_edits.specs.Undo.{undone_now}
-use Rattle.undo_laws.specs.Under.{is_hidden_under}
+use Rattle.rev_list.specs.Under.{is_hidden_under}
 use Rattle.rev_list.specs.Hidden.{union_at}
 use Rattle.rev_undo.proofs.StepLemmas.{SpeakFrom-revisions, recomputed}
 use Rattle.rev_undo.proofs.hidden.hidden_with.Goals as goal

@@ -3,7 +3,7 @@ use Rattle.std.proofs.lemmas.Result.{IfOk-weaker}
 use Rattle.plain_text.specs.Numbers.{flipped}
 use Rattle.plain_edits.specs.History.{head}
 use Rattle.plain_edits.specs.Undo.{undone_now}
-use Rattle.undo_laws.specs.Under.{hidden_under}
+use Rattle.rev_list.specs.Under.{hidden_under}
 use Rattle.number_set.proofs.ForCallers.{flipped_back}
 use Rattle.rev_undo.proofs.hidden.recompute.Goals as goal
 

@@ -1,5 +1,5 @@
-use Rattle.undo_laws.proofs.EditLemmas.{hidden_under-edited, hidden_under-undid}
-use Rattle.undo_laws.proofs.laws.one_more_revision.Goals as goal
+use Rattle.rev_list.proofs.UnderEditLemmas.{hidden_under-edited, hidden_under-undid}
+use Rattle.rev_list.proofs.undo_laws.one_more_revision.Goals as goal
 
 pub returns-clause-edit : goal.returns-clause-edit
 returns-clause-edit c = λ history e groups sound. hidden_under-edited history e groups sound

@@ -5,7 +5,7 @@ use Rattle.std.proofs.lemmas.Bool.{leb-true, ltb-false, eq-eqb}
 use Rattle.plain_text.specs.Numbers.{has}
 use Rattle.plain_edits.specs.History.{Tagged, Revision, edit, undo, History, edit_group, group_of, is_visible_under}
 use Rattle.plain_edits.specs.Edits.{is_edit_of}
-use Rattle.undo_laws.specs.Under.{is_hidden_under, hidden_under, AgreeBy}
+use Rattle.rev_list.specs.Under.{is_hidden_under, hidden_under, AgreeBy}
 
 or_more : (a b : Bool) → b ≡ true → (a || b) ≡ true
 or_more true b is = refl

@@ -3,7 +3,7 @@
 ghost use Rattle.std.specs.Prelude.{◌≡◌, ℕ, ◌+◌, List, map, not};
 ghost use Rattle.plain_edits.specs.History.{History, IsSound, head, is_visible, undone};
 ghost use Rattle.plain_edits.specs.Edits.{PlainEdit, edited, undid};
-ghost use Rattle.undo_laws.specs.Under.{AgreeBy, hidden_after_edit, hidden_under};
+ghost use Rattle.rev_list.specs.Under.{AgreeBy, hidden_after_edit, hidden_under};
 
 /// What a set hides at a revision is decided by the groups that have an edit by then. At each revision the groups that are undone
 /// there hide what is not visible.

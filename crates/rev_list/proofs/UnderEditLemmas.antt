@@ -11,7 +11,7 @@ use Rattle.plain_edits.specs.History.{Tagged, inserted_by, Revision, edit, undo,
 use Rattle.plain_edits.specs.Edits.{PlainEdit, edited, undid, inserted_at, is_deleted_by, with_deletion}
 use Rattle.plain_edits.proofs.callers.HistoryLemmas.{group_of-append, revision_at-push, AllByRecursion-inserted_at, becomes}
 use Rattle.plain_edits.proofs.callers.UndoLemmas.{is_visible_under_same}
-use Rattle.undo_laws.specs.Under.{is_hidden_under, hidden_under, hidden_after_edit}
+use Rattle.rev_list.specs.Under.{is_hidden_under, hidden_under, hidden_after_edit}
 
 pub map_where : {X Y : Type 0} (Q : X → Type 0) (f g : X → Y) → ((x : X) → Q x → f x ≡ g x) → (xs : List X) → AllByRecursion Q xs → map f xs ≡ map g xs
 map_where Q f g same [] all = refl

@@ -2,7 +2,7 @@
 use Rattle.std.specs.Prelude.{◌≡◌, ℕ, true, false, not, if◌then◌else◌, ◌==◌, List, [], ◌∷◌, codes}
 use Rattle.plain_edits.specs.History.{History, loaded}
 use Rattle.plain_edits.specs.Edits.{PlainEdit, edited, undid}
-use Rattle.undo_laws.specs.Under.{hidden_under}
+use Rattle.rev_list.specs.Under.{hidden_under}
 
 -- an edit of a text of two characters that deletes the first one and inserts a text at the end
 abbrev pub first_for : List ℕ → ℕ → PlainEdit
