@@ -67,21 +67,32 @@ fn retires(stack: &Stack, group: Option<u64>) -> bool {
     stack.retired(0) == group && stack.retired(1) == None
 }
 
+fn gives_whole_sets(alloc: Global, stack: &mut Stack) -> bool {
+    opens(stack, 2)
+        && copies(alloc, stack)
+        && undoes(alloc, stack, Some(&[2]))
+        && undoes(alloc, stack, Some(&[1, 2]))
+        && undoes(alloc, stack, None)
+        && redoes(alloc, stack, Some(&[2]))
+        && retires(stack, None)
+}
+
+fn goes_on_after_a_group(alloc: Global, stack: &mut Stack) -> bool {
+    opens(stack, 1)
+        && retires(stack, Some(2))
+        && redoes(alloc, stack, None)
+        && undoes(alloc, stack, Some(&[2, 3]))
+        && retires(stack, Some(2))
+}
+
+fn undo_and_redo(alloc: Global) -> bool {
+    let mut stack = Stack::new(alloc);
+    gives_whole_sets(alloc, &mut stack) && goes_on_after_a_group(alloc, &mut stack)
+}
+
 #[test]
 fn undo_and_redo_give_the_whole_set(rt: HostRuntime) {
-    let alloc = rt.alloc();
-    let mut stack = Stack::new(alloc);
-    assert!(rt; opens(&mut stack, 2) && copies(alloc, &mut stack));
-    assert!(rt; undoes(alloc, &mut stack, Some(&[2])));
-    assert!(rt; undoes(alloc, &mut stack, Some(&[1, 2])));
-    assert!(rt; undoes(alloc, &mut stack, None));
-    assert!(rt; redoes(alloc, &mut stack, Some(&[2])));
-    assert!(rt; retires(&stack, None));
-    assert!(rt; opens(&mut stack, 1));
-    assert!(rt; retires(&stack, Some(2)));
-    assert!(rt; redoes(alloc, &mut stack, None));
-    assert!(rt; undoes(alloc, &mut stack, Some(&[2, 3])));
-    assert!(rt; retires(&stack, Some(2)));
+    assert!(rt; undo_and_redo(rt.alloc()));
 }
 
 // Whether so many undos each give a set.
@@ -95,15 +106,21 @@ fn undoes_all(stack: &mut Stack, count: u64) -> bool {
     true
 }
 
+fn retires_the_oldest(alloc: Global) -> bool {
+    let mut stack = Stack::new(alloc);
+    opens(&mut stack, 20)
+        && stack.given() == 20
+        && retires(&stack, None)
+        && opens(&mut stack, 1)
+        && stack.given() == 21
+        && retires(&stack, Some(1))
+        && undoes_all(&mut stack, 20)
+        && stack.given() == 21
+        && retires(&stack, Some(1))
+        && undoes(alloc, &mut stack, None)
+}
+
 #[test]
 fn the_twenty_first_group_retires_the_oldest(rt: HostRuntime) {
-    let alloc = rt.alloc();
-    let mut stack = Stack::new(alloc);
-    assert!(rt; opens(&mut stack, 20) && stack.given() == 20);
-    assert!(rt; retires(&stack, None));
-    assert!(rt; opens(&mut stack, 1) && stack.given() == 21);
-    assert!(rt; retires(&stack, Some(1)));
-    assert!(rt; undoes_all(&mut stack, 20) && stack.given() == 21);
-    assert!(rt; retires(&stack, Some(1)));
-    assert!(rt; undoes(alloc, &mut stack, None));
+    assert!(rt; retires_the_oldest(rt.alloc()));
 }

@@ -1,9 +1,7 @@
-//! Tables of tests of revisions, of what undoes them, of the engine and of documents, each proved once: every call that takes memory
-//! gives its answer where there is enough, and worked rows have the values that they had on paper.
+//! Tables of tests of revisions, of what undoes them and of the engine, each proved once: every call that takes memory gives its answer
+//! where there is enough, and worked rows have the values that they had on paper.
 #![tactic(auto)]
 
-#[cfg(test)]
-mod documents;
 #[cfg(test)]
 mod elements;
 #[cfg(test)]
@@ -16,7 +14,5 @@ mod merging;
 mod revisions;
 #[cfg(test)]
 mod stacks;
-#[cfg(test)]
-mod steps;
 #[cfg(test)]
 mod undos;

@@ -2,7 +2,6 @@
 
 use rev_list::{RevEdit, RevFault, RevList, RevStep};
 use std::alloc::{AllocError, Global};
-use std::test::Fail;
 use subset_runs::{Subset, SubsetFault};
 
 type Ranges<'a> = &'a [(u64, u64)];
@@ -56,39 +55,73 @@ fn were_dead(alloc: Global, revs: &RevList, rev: u64, runs: Ranges<'_>) -> bool 
     }
 }
 
+// Whether the one edit of two characters is there, and each revision has its dead.
+fn is_the_row(alloc: Global, revs: &mut RevList) -> bool {
+    match push(alloc, revs, 0, 3, &[(1, 2)], &[(2, 3)]) {
+        Ok(rev) => {
+            rev == Some(1)
+                && are_dead(alloc, revs, 0, &[(1, 2)])
+                && are_dead(alloc, revs, 1, &[(2, 3)])
+        }
+        Err(_) => false,
+    }
+}
+
+fn has_the_row(alloc: Global) -> bool {
+    match RevList::start(alloc, 2) {
+        Ok(mut revs) => is_the_row(alloc, &mut revs),
+        Err(_) => false,
+    }
+}
+
 #[test]
-fn row_of_rev_list(rt: HostRuntime) -> Result<(), Fail> {
-    let alloc = rt.alloc();
-    let mut revs = RevList::start(alloc, 2)?;
-    let rev = push(alloc, &mut revs, 0, 3, &[(1, 2)], &[(2, 3)])?;
-    assert_eq!(rt; rev, Some(1));
-    assert!(rt; are_dead(alloc, &revs, 0, &[(1, 2)]));
-    assert!(rt; are_dead(alloc, &revs, 1, &[(2, 3)]));
-    Ok(())
+fn row_of_rev_list(rt: HostRuntime) {
+    assert!(rt; has_the_row(rt.alloc()));
+}
+
+// Whether the edit came.
+fn came(made: Result<Option<u64>, SubsetFault>) -> bool {
+    match made {
+        Ok(rev) => rev.is_some(),
+        Err(_) => false,
+    }
 }
 
 // Three edits of a text of three characters, of which the last only deletes.
-fn edited(alloc: Global) -> Result<RevList, Fail> {
-    let mut revs = RevList::start(alloc, 3)?;
-    push(alloc, &mut revs, 0, 4, &[(1, 2)], &[(3, 4)])?;
-    push(alloc, &mut revs, 1, 6, &[(0, 1), (5, 6)], &[(1, 2)])?;
-    push(alloc, &mut revs, 0, 6, &[], &[(1, 3)])?;
-    Ok(revs)
+fn three_edits(alloc: Global, revs: &mut RevList) -> bool {
+    came(push(alloc, revs, 0, 4, &[(1, 2)], &[(3, 4)]))
+        && came(push(alloc, revs, 1, 6, &[(0, 1), (5, 6)], &[(1, 2)]))
+        && came(push(alloc, revs, 0, 6, &[], &[(1, 3)]))
+}
+
+// Whether a copy of the list has these dead at each revision, and then.
+fn has_its_dead(alloc: Global, copy: &RevList) -> bool {
+    are_dead(alloc, copy, 0, &[(0, 1), (2, 3), (5, 6)])
+        && are_dead(alloc, copy, 1, &[(0, 1), (4, 6)])
+        && are_dead(alloc, copy, 2, &[(1, 2), (4, 5)])
+        && are_dead(alloc, copy, 3, &[(1, 3), (4, 5)])
+        && were_dead(alloc, copy, 0, &[])
+        && were_dead(alloc, copy, 1, &[(3, 4)])
+        && copy.dead_at(alloc, 4).err() == Some(RevFault::Unknown(3))
+}
+
+fn copy_has_its_dead(alloc: Global, revs: &RevList) -> bool {
+    match revs.copy(alloc) {
+        Ok(copy) => has_its_dead(alloc, &copy),
+        Err(_) => false,
+    }
+}
+
+fn each_has_its_dead(alloc: Global) -> bool {
+    match RevList::start(alloc, 3) {
+        Ok(mut revs) => three_edits(alloc, &mut revs) && copy_has_its_dead(alloc, &revs),
+        Err(_) => false,
+    }
 }
 
 #[test]
-fn each_revision_has_its_dead(rt: HostRuntime) -> Result<(), Fail> {
-    let alloc = rt.alloc();
-    let revs = edited(alloc)?;
-    let copy = revs.copy(alloc)?;
-    assert!(rt; are_dead(alloc, &copy, 0, &[(0, 1), (2, 3), (5, 6)]));
-    assert!(rt; are_dead(alloc, &copy, 1, &[(0, 1), (4, 6)]));
-    assert!(rt; are_dead(alloc, &copy, 2, &[(1, 2), (4, 5)]));
-    assert!(rt; are_dead(alloc, &copy, 3, &[(1, 3), (4, 5)]));
-    assert!(rt; were_dead(alloc, &copy, 0, &[]));
-    assert!(rt; were_dead(alloc, &copy, 1, &[(3, 4)]));
-    assert_eq!(rt; copy.dead_at(alloc, 4).err(), Some(RevFault::Unknown(3)));
-    Ok(())
+fn each_revision_has_its_dead(rt: HostRuntime) {
+    assert!(rt; each_has_its_dead(rt.alloc()));
 }
 
 // The bases of the edits after a revision.
@@ -105,20 +138,38 @@ fn bases_after(alloc: Global, revs: &RevList, rev: u64) -> Result<Vec<u64>, Allo
 }
 
 // Whether these are the bases of the edits after the revision.
-fn are_bases(alloc: Global, revs: &RevList, rev: u64, bases: &[u64]) -> Result<bool, AllocError> {
-    let found = bases_after(alloc, revs, rev)?;
-    Ok(found.as_slice() == bases)
+fn are_bases(alloc: Global, revs: &RevList, rev: u64, bases: &[u64]) -> bool {
+    match bases_after(alloc, revs, rev) {
+        Ok(found) => found.as_slice() == bases,
+        Err(_) => false,
+    }
+}
+
+// Whether the edit has this base.
+fn has_base(revs: &RevList, rev: u64, base: u64) -> bool {
+    match revs.edit(rev) {
+        Some(edit) => edit.base == base,
+        None => false,
+    }
+}
+
+fn come_in_order(alloc: Global, revs: &RevList) -> bool {
+    are_bases(alloc, revs, 0, &[0, 1, 0])
+        && are_bases(alloc, revs, 1, &[1, 0])
+        && are_bases(alloc, revs, 3, &[])
+        && has_base(revs, 2, 1)
+}
+
+fn edits_come_in_order(alloc: Global) -> bool {
+    match RevList::start(alloc, 3) {
+        Ok(mut revs) => three_edits(alloc, &mut revs) && come_in_order(alloc, &revs),
+        Err(_) => false,
+    }
 }
 
 #[test]
-fn revisions_after_a_revision_come_in_order(rt: HostRuntime) -> Result<(), Fail> {
-    let alloc = rt.alloc();
-    let revs = edited(alloc)?;
-    assert!(rt; are_bases(alloc, &revs, 0, &[0, 1, 0]).unwrap_or(false));
-    assert!(rt; are_bases(alloc, &revs, 1, &[1, 0]).unwrap_or(false));
-    assert!(rt; are_bases(alloc, &revs, 3, &[]).unwrap_or(false));
-    assert_eq!(rt; revs.edit(2).map(|edit| edit.base), Some(1));
-    Ok(())
+fn revisions_after_a_revision_come_in_order(rt: HostRuntime) {
+    assert!(rt; edits_come_in_order(rt.alloc()));
 }
 
 // Whether the fault is printed so.

@@ -4,7 +4,6 @@ use rev_list::{RevEdit, RevList};
 use rev_undo::{agrees_on_collected, may_undo, recompute};
 use std::alloc::{AllocError, Global};
 use std::collections::BTreeSet;
-use std::test::Fail;
 use subset_runs::Subset;
 
 type Ranges<'a> = &'a [(u64, u64)];
@@ -108,50 +107,78 @@ fn three_groups(alloc: Global, revs: &mut RevList) -> bool {
         && push(alloc, revs, 1, 3, 4, &[(2, 3)], &[])
 }
 
-#[test]
-fn undo_of_any_set(rt: HostRuntime) -> Result<(), Fail> {
-    let alloc = rt.alloc();
-    let mut revs = RevList::start(alloc, 0)?;
-    assert!(rt; three_groups(alloc, &mut revs));
-    assert!(rt; hides(alloc, &revs, &[], &[(1, 2)]));
-    assert!(rt; hides(alloc, &revs, &[2], &[]));
-    assert!(rt; hides(alloc, &revs, &[1], &[(0, 2), (3, 4)]));
-    assert!(rt; hides(alloc, &revs, &[1, 2], &[(0, 2), (3, 4)]));
-    assert!(rt; hides(alloc, &revs, &[2, 3], &[(2, 3)]));
-    assert!(rt; hides(alloc, &revs, &[9], &[(1, 2)]));
-    Ok(())
+// Whether these groups then hide what is in these ranges.
+fn set_hides(alloc: Global, groups: &[u64], ranges: Ranges<'_>) -> bool {
+    match RevList::start(alloc, 0) {
+        Ok(mut revs) => three_groups(alloc, &mut revs) && hides(alloc, &revs, groups, ranges),
+        Err(_) => false,
+    }
 }
 
 #[test]
-fn undo_shows_no_earlier_revision_another_way(rt: HostRuntime) -> Result<(), Fail> {
+fn undo_of_any_set(rt: HostRuntime) {
     let alloc = rt.alloc();
-    let mut revs = RevList::start(alloc, 0)?;
-    assert!(rt; three_groups(alloc, &mut revs));
-    assert!(rt; undo(alloc, &mut revs, &[2]));
-    assert!(rt; undo(alloc, &mut revs, &[1]));
-    assert!(rt; hides(alloc, &revs, &[2], &[]));
-    assert!(rt; undo(alloc, &mut revs, &[1, 2]));
-    assert!(rt; !undo(alloc, &mut revs, &[9]));
-    assert!(rt; hides(alloc, &revs, &[], &[(1, 2)]));
-    assert!(rt; shows(alloc, &revs, 3, &[(1, 2)]));
-    assert!(rt; shows(alloc, &revs, 4, &[]));
-    assert!(rt; shows(alloc, &revs, 5, &[(0, 2), (3, 4)]));
-    assert!(rt; shows(alloc, &revs, 6, &[(0, 2), (3, 4)]));
-    Ok(())
+    assert!(rt; set_hides(alloc, &[], &[(1, 2)]));
+    assert!(rt; set_hides(alloc, &[2], &[]));
+    assert!(rt; set_hides(alloc, &[1], &[(0, 2), (3, 4)]));
+    assert!(rt; set_hides(alloc, &[1, 2], &[(0, 2), (3, 4)]));
+    assert!(rt; set_hides(alloc, &[2, 3], &[(2, 3)]));
+    assert!(rt; set_hides(alloc, &[9], &[(1, 2)]));
+}
+
+// Whether the second group is undone, the first in its place, and then both.
+fn three_undos(alloc: Global, revs: &mut RevList) -> bool {
+    three_groups(alloc, revs)
+        && undo(alloc, revs, &[2])
+        && undo(alloc, revs, &[1])
+        && hides(alloc, revs, &[2], &[])
+        && undo(alloc, revs, &[1, 2])
+        && !undo(alloc, revs, &[9])
+        && hides(alloc, revs, &[], &[(1, 2)])
+}
+
+fn shows_after_undos(alloc: Global, rev: u64, ranges: Ranges<'_>) -> bool {
+    match RevList::start(alloc, 0) {
+        Ok(mut revs) => three_undos(alloc, &mut revs) && shows(alloc, &revs, rev, ranges),
+        Err(_) => false,
+    }
 }
 
 #[test]
-fn hidden_on_arrival(rt: HostRuntime) -> Result<(), Fail> {
+fn undo_shows_no_earlier_revision_another_way(rt: HostRuntime) {
     let alloc = rt.alloc();
-    let mut revs = RevList::start(alloc, 2)?;
-    assert!(rt; push(alloc, &mut revs, 0, 1, 3, &[(1, 2)], &[]));
-    assert!(rt; undo(alloc, &mut revs, &[1]));
-    assert!(rt; push(alloc, &mut revs, 2, 1, 4, &[(3, 4)], &[(0, 1)]));
-    assert!(rt; shows(alloc, &revs, 2, &[(1, 2), (3, 4)]));
-    assert!(rt; shows(alloc, &revs, 3, &[(1, 2), (3, 4)]));
-    assert!(rt; hides(alloc, &revs, &[], &[(0, 1)]));
-    assert!(rt; undo(alloc, &mut revs, &[]));
-    assert!(rt; shows(alloc, &revs, 3, &[(1, 2), (3, 4)]));
-    assert!(rt; shows(alloc, &revs, 4, &[(0, 1)]));
-    Ok(())
+    assert!(rt; shows_after_undos(alloc, 3, &[(1, 2)]));
+    assert!(rt; shows_after_undos(alloc, 4, &[]));
+    assert!(rt; shows_after_undos(alloc, 5, &[(0, 2), (3, 4)]));
+    assert!(rt; shows_after_undos(alloc, 6, &[(0, 2), (3, 4)]));
+}
+
+// Whether group 1 inserts, is undone, and then inserts and deletes without being seen.
+fn a_hidden_edit(alloc: Global, revs: &mut RevList) -> bool {
+    push(alloc, revs, 0, 1, 3, &[(1, 2)], &[])
+        && undo(alloc, revs, &[1])
+        && push(alloc, revs, 2, 1, 4, &[(3, 4)], &[(0, 1)])
+        && shows(alloc, revs, 2, &[(1, 2), (3, 4)])
+        && shows(alloc, revs, 3, &[(1, 2), (3, 4)])
+}
+
+// Whether all of it shows once the group is not undone any more, and not before.
+fn hides_on_arrival(alloc: Global, revs: &mut RevList) -> bool {
+    a_hidden_edit(alloc, revs)
+        && hides(alloc, revs, &[], &[(0, 1)])
+        && undo(alloc, revs, &[])
+        && shows(alloc, revs, 3, &[(1, 2), (3, 4)])
+        && shows(alloc, revs, 4, &[(0, 1)])
+}
+
+fn is_hidden_on_arrival(alloc: Global) -> bool {
+    match RevList::start(alloc, 2) {
+        Ok(mut revs) => hides_on_arrival(alloc, &mut revs),
+        Err(_) => false,
+    }
+}
+
+#[test]
+fn hidden_on_arrival(rt: HostRuntime) {
+    assert!(rt; is_hidden_on_arrival(rt.alloc()));
 }

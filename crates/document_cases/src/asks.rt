@@ -1,0 +1,228 @@
+//! What rows ask of a document with one plugin.
+
+ghost use Rattle.std.specs.Prelude.{◌≡◌, ◌-◌, ◌^◌, ◌<◌, IfOk};
+ghost use Rattle.plain_edits.specs.History.{head};
+ghost use Rattle.doc_session.specs.Step.{HasCaller};
+
+use doc_session::{Doc, DocFault, Effects, Event};
+use plain_edits::{Delta, El, Els};
+use plain_screen::{Op, Update};
+use plain_text::{NoMemory, Steps, Text};
+use rev_engine::Edit;
+use std::alloc::Global;
+use std::marker::Brand;
+use std::sync::ledger::{Blank, Ledger};
+use xi_plain::{Config, EditAct, Notice};
+
+// A text in the place of a range of a base of so many bytes, by the plugin, which may name a group.
+#[derive(Clone, Copy)]
+pub(crate) struct Given {
+    pub(crate) rev: u64,
+    pub(crate) len: u64,
+    pub(crate) range: (u64, u64),
+    pub(crate) added: &'static str,
+    pub(crate) after_cursor: bool,
+    pub(crate) named: Option<u64>,
+}
+
+// What a row asks of a document.
+#[derive(Clone, Copy)]
+pub(crate) enum Ask {
+    Type(&'static str),
+    Line,
+    Undo,
+    Redo,
+    // A line of the front end that is none of the document's.
+    End,
+    Give(Given),
+}
+
+// An insertion of the plugin at an offset of a base of so many bytes.
+pub(crate) fn put(rev: u64, len: u64, at: u64, added: &'static str) -> Given {
+    Given {
+        rev,
+        len,
+        range: (at, at),
+        added,
+        after_cursor: false,
+        named: None,
+    }
+}
+
+// The same, with a group that it names.
+pub(crate) fn put_into(group: u64, put: Given) -> Ask {
+    Ask::Give(Given {
+        named: Some(group),
+        ..put
+    })
+}
+
+fn insertion(alloc: Global, text: &str) -> Result<El, NoMemory> {
+    let text = Text::from_str(alloc, text)?;
+    Ok(El::Insert { text })
+}
+
+fn els_of(alloc: Global, given: Given) -> Result<Els, NoMemory> {
+    let (from, to) = given.range;
+    let added = insertion(alloc, given.added)?;
+    let mut els = Els::new(alloc);
+    els.push(El::Copy { a: 0, b: from })?;
+    els.push(added)?;
+    els.push(El::Copy {
+        a: to,
+        b: given.len,
+    })?;
+    Ok(els)
+}
+
+fn giving(els: Els, given: Given) -> Event
+    ensures { HasCaller 1 result }
+{
+    let edit = Edit {
+        rev: given.rev,
+        delta: Delta {
+            els,
+            base_len: given.len,
+        },
+        priority: 0,
+        after_cursor: given.after_cursor,
+        author: 7,
+        group: 7,
+    };
+    Event::Edit {
+        caller: 1,
+        edit,
+        named: given.named,
+    }
+}
+
+fn typing(chars: Text) -> Event
+    ensures { HasCaller 1 result }
+{
+    Event::Front(EditAct::Insert { chars })
+}
+
+fn event_of(alloc: Global, ask: Ask) -> Result<Event, NoMemory>
+    ensures { IfOk result (HasCaller 1) }
+{
+    match ask {
+        Ask::Type(chars) => Ok(typing(Text::from_str(alloc, chars)?)),
+        Ask::Line => Ok(Event::Front(EditAct::InsertNewline)),
+        Ask::Undo => Ok(Event::Front(EditAct::Undo)),
+        Ask::Redo => Ok(Event::Front(EditAct::Redo)),
+        Ask::End => Ok(Event::Other),
+        Ask::Give(given) => Ok(giving(els_of(alloc, given)?, given)),
+    }
+}
+
+fn counted<L: Ledger>(
+    alloc: Global,
+    doc: &mut Doc,
+    event: Event,
+    blank: Blank,
+) -> Result<Effects, DocFault>
+    requires name { blank.name ≡ L.name }
+    requires parts { blank.parts ≡ L.parts }
+    requires some { 0 < blank.parts }
+    requires caller { HasCaller doc.old.plugins event }
+    requires has_number { head doc.old.engine.revisions < 2 ^ 63 - 1 }
+    ensures { doc.new.plugins ≡ doc.old.plugins }
+{
+    let mut steps = Steps::<L>::new(blank);
+    doc.apply(alloc, event, &mut steps)
+}
+
+fn take(alloc: Global, doc: &mut Doc, event: Event) -> Result<Effects, DocFault>
+    requires { HasCaller doc.old.plugins event }
+    ensures { doc.new.plugins ≡ doc.old.plugins }
+{
+    if 1000 < doc.head() {
+        return Err(DocFault::NoMemory);
+    }
+    counted::<Brand>(alloc, doc, event, Blank::new(1))
+}
+
+// What the document tells of it.
+pub(crate) fn told(alloc: Global, doc: &mut Doc, ask: Ask) -> Result<Effects, DocFault>
+    requires { doc.old.plugins ≡ 1 }
+    ensures { doc.new.plugins ≡ 1 }
+{
+    match event_of(alloc, ask) {
+        Ok(event) => take(alloc, doc, event),
+        Err(_) => Err(DocFault::NoMemory),
+    }
+}
+
+const CONFIG: Config = Config {
+    tab: 4,
+    width: 0,
+    spaces: false,
+};
+
+// A document of a text, with the plugin and a limit of thirty characters.
+fn loaded(alloc: Global, text: &str) -> Result<Doc, NoMemory>
+    ensures { IfOk result (λ doc. doc.plugins ≡ 1) }
+{
+    let text = Text::from_str(alloc, text)?;
+    Doc::of_text(alloc, text, 1, 30, CONFIG)
+}
+
+// The same after it was opened, and after what a row asks; what is refused changes nothing.
+pub(crate) fn after(alloc: Global, text: &str, asks: &[Ask]) -> Result<Doc, NoMemory>
+    ensures { IfOk result (λ doc. doc.plugins ≡ 1) }
+{
+    let mut doc = loaded(alloc, text)?;
+    let _opened = told(alloc, &mut doc, Ask::End);
+    for ask in asks {
+        let _told = told(alloc, &mut doc, *ask);
+    }
+    Ok(doc)
+}
+
+// What the last ask comes to, after all before it.
+pub(crate) fn last(alloc: Global, text: &str, asks: &[Ask], ask: Ask) -> Result<Effects, DocFault> {
+    match after(alloc, text, asks) {
+        Ok(mut doc) => told(alloc, &mut doc, ask),
+        Err(_) => Err(DocFault::NoMemory),
+    }
+}
+
+pub(crate) fn shows_now(alloc: Global, doc: &Doc, want: &str, head: u64) -> bool {
+    match doc.head_text(alloc) {
+        Ok(shown) => shown.as_str() == want && doc.head() == head,
+        Err(_) => false,
+    }
+}
+
+// Whether the document then shows this, at this revision.
+pub(crate) fn shows(alloc: Global, text: &str, asks: &[Ask], want: &str, head: u64) -> bool {
+    match after(alloc, text, asks) {
+        Ok(doc) => shows_now(alloc, &doc, want, head),
+        Err(_) => false,
+    }
+}
+
+// Where the caret stands in the first line that an update sends.
+fn caret_in(update: &Option<Update>) -> Option<u64> {
+    let update = update.as_ref()?;
+    match update.ops.get(0)? {
+        Op::Ins { lines } => lines.get(0)?.cursor.get(0).copied(),
+        _ => None,
+    }
+}
+
+// Whether the caret then stands there, in the one line.
+pub(crate) fn stands(alloc: Global, text: &str, asks: &[Ask], ask: Ask, caret: u64) -> bool {
+    match last(alloc, text, asks, ask) {
+        Ok(effects) => caret_in(&effects.update) == Some(caret),
+        Err(_) => false,
+    }
+}
+
+// Whether the notice says this author, revision and length.
+pub(crate) fn notes(notice: &Option<Notice>, author: u32, rev: u64, new_len: u64) -> bool {
+    match notice {
+        Some(notice) => (notice.author, notice.rev, notice.new_len) == (author, rev, new_len),
+        None => false,
+    }
+}

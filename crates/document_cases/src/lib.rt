@@ -1,0 +1,10 @@
+//! Tables of tests of documents, each proved once: every call that takes memory gives its answer where there is enough, and worked rows
+//! have the values that they had on paper.
+#![tactic(auto)]
+
+#[cfg(test)]
+mod asks;
+#[cfg(test)]
+mod documents;
+#[cfg(test)]
+mod steps;
