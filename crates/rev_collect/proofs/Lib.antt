@@ -3,3 +3,7 @@ pub mod RestLemmas
 pub mod LeftLemmas
 pub mod DroppedLemmas
 pub mod PresentLemmas
+pub mod JoinLemmas
+pub mod SetLemmas
+pub mod LoopLemmas
+pub mod CollectLemmas

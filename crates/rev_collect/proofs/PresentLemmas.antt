@@ -1,20 +1,23 @@
 -- Sets of positions of an earlier union in those of the present one.
-use Rattle.std.proofs.Common.{◌≡◌, ℕ, suc, ◌+◌, ◌<◌, ◌≤◌, Bool, true, false, cond, not, ◌&&◌, ◌||◌, if◌then◌else◌, ◌==◌, nat_le, inl, inr, List, [], ◌∷◌, ◌++◌, length, map, filter, refl, ap, ap₂, sym, ◌∙◌, arith}
+use Rattle.std.proofs.Common.{◌≡◌, ℕ, zero, suc, ◌+◌, ◌<◌, ◌≤◌, Bool, true, false, cond, not, ◌&&◌, ◌||◌, if◌then◌else◌, ◌==◌, nat_le, inl, inr, List, [], ◌∷◌, ◌++◌, length, map, filter, refl, ap, ap₂, sym, ◌∙◌, arith}
 use Rattle.std.specs.Prelude.{replicate}
 use Rattle.std.specs.List.{AllByRecursion, list_any}
-use Rattle.std.proofs.lemmas.Bool.{both_ways, cases_eq, eq-eqb, le-leb, leb-true, or_left, or_right}
+use Rattle.std.proofs.lemmas.Bool.{both_ways, cases_eq, cases_lt, eq-eqb, eqb-true, le-leb, leb-true, ne_eqb, or_left, or_right}
 use Rattle.std.proofs.lemmas.Bool.Decides.{nat_tests}
 use Rattle.std.proofs.lemmas.List.{length-map}
 use Rattle.std.proofs.lemmas.List.Folds.{list_any-append}
+use Rattle.std.proofs.lemmas.Option.{slice_get_past}
 use Rattle.subset_runs.specs.Subset.{count, expand, union}
 use Rattle.plain_text.specs.Numbers.{has}
+use Rattle.plain_text.proofs.callers.ListLemmas.{AllByRecursion-append}
 use Rattle.plain_edits.specs.History.{Tagged, History, head, revision_at, edit_group, is_there, IsTaggedBy, IsSound}
 use Rattle.plain_edits.specs.HistorySteps.{is_edit}
 use Rattle.rev_list.specs.declared.settled.SettledGroup.{SettledGroup}
 use Rattle.rev_list.specs.declared.step.RevStep.{RevStep}
 use Rattle.rev_list.specs.declared.step.RevStep.TheVariants.{Edit, Undo}
 use Rattle.rev_list.specs.Hidden.{union_at, insertions_of, deletions_of, IsRevisionAt, IsDeletedLater, AreDeletedLater}
-use Rattle.rev_collect.specs.Present.{IsPresent, ArePresent, FitsLater, later_with, present_of}
+use Rattle.rev_list.specs.Settled.{AreSettledGroups, HasLengths, IsSettledGroup}
+use Rattle.rev_collect.specs.Present.{IsPresent, ArePresent, AreAllEdits, FitsLater, in_present, later_with, present_of}
 
 -- flags of some characters, put among all
 spread : (p f : Tagged → Bool) (xs : List Tagged) → expand (map f (filter p xs)) (map (λ t. not (p t)) xs) ≡ map (λ t. p t && f t) xs
@@ -163,7 +166,6 @@ module _ (h : History) (m : ℕ) (after : h.floor < suc m) (known : suc m ≤ he
     record {
       edits = ap is_edit is.said;
       group = ap edit_group is.said;
-      after = after;
       known = known;
       inserted = ap₂ expand is.inserted are ∙ insertions_present;
       deleted = ap₂ expand is.deleted are ∙ deletions_present;
@@ -207,3 +209,103 @@ present_at_head h sound = record {
   each = tt;
   all = λ rev over within edit. absurd (omega (arith, over, within));
 }
+
+-- ---- what is up to the floor
+
+-- by the floor there is nothing of a character that came after it
+there_inserted : (floor n : ℕ) (t : Tagged) → n ≤ floor → (nat_le t.inserted floor && t.inserted == n) ≡ (t.inserted == n)
+there_inserted floor n t within = by (t.inserted == n) refl
+  where
+    nothing : (b : Bool) → (b && false) ≡ false
+    nothing true = refl
+    nothing false = refl
+
+    by : (own : Bool) → (t.inserted == n) ≡ own → (nat_le t.inserted floor && own) ≡ own
+    by true own = ap (λ b. b && true) (le-leb t.inserted floor (omega (arith, eqb-true t.inserted n own, within)))
+    by false other = nothing (nat_le t.inserted floor)
+
+there_deleted : (floor n : ℕ) (t : Tagged) → n ≤ floor → IsDeletedLater floor t → (nat_le t.inserted floor && has t.deleted n) ≡ has t.deleted n
+there_deleted floor n t within later = by (nat_le t.inserted floor) refl
+  where
+    over : nat_le t.inserted floor ≡ false → floor < t.inserted
+    over none = grind (arith, nat_tests)
+
+    none : (deleted : List ℕ) → floor < t.inserted → AllByRecursion (λ k. t.inserted ≤ k) deleted → has deleted n ≡ false
+    none [] past all = refl
+    none (k ∷ deleted) past all =
+        ap₂ (λ a b. a || b) (ne_eqb k n (λ is. omega (arith, is, past, within, all.0))) (none deleted past all.1)
+
+    by : (there : Bool) → nat_le t.inserted floor ≡ there → (there && has t.deleted n) ≡ has t.deleted n
+    by true is = refl
+    by false is = sym (none t.deleted (over is) (later (over is)))
+
+-- a revision that is there is by the head
+within_head : (h : History) (rev : ℕ) → is_edit (revision_at h.revisions rev) ≡ true → rev ≤ head h
+within_head h zero edits = omega arith
+within_head h (suc n) edits =
+    elim (cases_lt n (head h)) [
+      | inl lt ↦ omega (arith, lt)
+      | inr ge ↦ absurd (both_ways (is_edit (revision_at h.revisions (suc n))) (ap is_edit (slice_get_past h.revisions n (omega (arith, ge)))) edits)
+    ]
+
+module _ (h : History) (deleted_later : AreDeletedLater h) (known : h.floor ≤ head h) (later : List Bool)
+    (came : later ≡ map (λ t. not (is_there h.floor t)) h.characters) where
+  settled_present : (g : SettledGroup) → IsSettledGroup h g → IsPresent h (in_present later g)
+  settled_present g is = record {
+    edits = is.edits;
+    group = is.group;
+    known = omega (arith, is.within, known);
+    inserted =
+        ap₂ expand is.inserted came ∙ spread (is_there h.floor) (λ t. t.inserted == g.last) h.characters ∙
+        map_where (IsDeletedLater h.floor) (λ t. is_there h.floor t && t.inserted == g.last) (λ t. t.inserted == g.last) h.characters deleted_later
+        (λ t _. there_inserted h.floor g.last t is.within);
+    deleted =
+        ap₂ expand is.deleted came ∙ spread (is_there h.floor) (λ t. has t.deleted g.last) h.characters ∙
+        map_where (IsDeletedLater h.floor) (λ t. is_there h.floor t && has t.deleted g.last) (λ t. has t.deleted g.last) h.characters deleted_later
+        (λ t one. there_deleted h.floor g.last t is.within one);
+  }
+
+  all_present : (groups : List SettledGroup) → AllByRecursion (IsSettledGroup h) groups → AllByRecursion (IsPresent h) (map (in_present later) groups)
+  all_present [] each = tt
+  all_present (g ∷ groups) each = (settled_present g each.0, all_present groups each.1)
+
+  any_present : (rev : ℕ) (groups : List SettledGroup) → list_any (λ e. e.last == rev) (map (in_present later) groups) ≡ list_any (λ g. g.last == rev) groups
+  any_present rev [] = refl
+  any_present rev (g ∷ groups) = ap (λ b. g.last == rev || b) (any_present rev groups)
+
+  pub fits_settled : (flags : List Bool) → length flags ≡ length (union_at h h.floor) → length flags + count later ≡ length later
+  fits_settled flags long =
+      rw came
+      (omega (
+        arith,
+        long,
+        beside (is_there h.floor) h.characters,
+        length-map h.characters (λ t. not (is_there h.floor t)),
+      ))
+
+  pub all_edits_are : (edits groups : List SettledGroup) → ArePresent h h.floor edits later → AreSettledGroups h groups →
+      AreAllEdits h (edits ++ map (in_present later) groups)
+  all_edits_are edits groups present settled = record {
+    each = AllByRecursion-append (IsPresent h) edits (map (in_present later) groups) present.each (all_present groups settled.each);
+    all = λ rev edit.
+        list_any-append (λ e. e.last == rev) edits (map (in_present later) groups) ∙
+        elim (cases_lt h.floor rev) [
+          | inl over ↦
+              or_left (list_any (λ e. e.last == rev) edits) (list_any (λ e. e.last == rev) (map (in_present later) groups))
+              (present.all rev over (within_head h rev edit) edit)
+          | inr le ↦
+              or_right (list_any (λ e. e.last == rev) edits) (list_any (λ e. e.last == rev) (map (in_present later) groups))
+              (any_present rev groups ∙ settled.all rev le edit)
+        ];
+  }
+
+-- all are positions of the present union
+pub present_lengths : (h : History) (edits : List SettledGroup) → AllByRecursion (IsPresent h) edits → AllByRecursion (HasLengths (length h.characters)) edits
+present_lengths h [] each = tt
+present_lengths h (e ∷ edits) each = (
+  record {
+    inserted = ap length each.0.inserted ∙ length-map h.characters (λ t. t.inserted == e.last);
+    deleted = ap length each.0.deleted ∙ length-map h.characters (λ t. has t.deleted e.last);
+  },
+  present_lengths h edits each.1,
+)

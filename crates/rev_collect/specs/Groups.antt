@@ -1,7 +1,7 @@
 -- What is left of a history at its head, said once for each group.
 use Rattle.std.specs.Prelude.{◌≡◌, ℕ, ◌<◌, ◌==◌, true, false, Bool, List, length, map, replicate}
 use Rattle.std.specs.List.{filter, fold, list_any, AllByRecursion}
-use Rattle.subset_runs.specs.Subset.{union}
+use Rattle.subset_runs.specs.Subset.{shrink, union}
 use Rattle.plain_text.specs.Numbers.{has}
 use Rattle.plain_edits.specs.History.{Tagged, History, head, revision_at, group_of, undone}
 use Rattle.plain_edits.specs.Collection.{is_collected}
@@ -38,3 +38,8 @@ settled_of history groups = record {
 abbrev pub dropped_by : List ℕ → List ℕ → ℕ → List SettledGroup → List Bool
 dropped_by now undone len groups =
     fold (λ dropped g. union dropped (hidden_of undone g)) (replicate len false) (filter (λ g. has now g.group) groups)
+
+-- the group without the positions that are dropped
+abbrev pub shrunk : List Bool → SettledGroup → SettledGroup
+shrunk dropped g =
+    record { group = g.group; last = g.last; inserted = shrink g.inserted dropped; deleted = shrink g.deleted dropped }

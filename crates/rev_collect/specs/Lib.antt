@@ -1,4 +1,5 @@
 pub mod Choice
 pub mod Groups
 pub mod Inner
+pub mod Joined
 pub mod Present

@@ -1,4 +1,4 @@
--- The edits after a revision in the positions of the present union.
+-- The edits of a history in the positions of the present union.
 use Rattle.std.specs.Prelude.{◌≡◌, ℕ, ◌+◌, ◌<◌, ◌≤◌, Bool, true, not, ◌==◌, List, [], ◌∷◌, length, map}
 use Rattle.std.specs.List.{list_any, AllByRecursion}
 use Rattle.subset_runs.specs.Subset.{count, expand, union}
@@ -13,7 +13,6 @@ use Rattle.rev_list.specs.declared.step.RevStep.TheVariants.{Edit, Undo}
 pub record IsPresent (history : History) (e : SettledGroup) : Type 0 where
   pub edits : is_edit (revision_at history.revisions e.last) ≡ true
   pub group : group_of history.revisions e.last ≡ e.group
-  pub after : history.floor < e.last
   pub known : e.last ≤ head history
   pub inserted : e.inserted ≡ map (λ tagged. tagged.inserted == e.last) history.characters
   pub deleted : e.deleted ≡ map (λ tagged. has tagged.deleted e.last) history.characters
@@ -40,3 +39,13 @@ abbrev pub present_of : ℕ → List Bool → RevStep → List SettledGroup
 present_of at later (Edit e) =
     record { group = e.group; last = at; inserted = expand e.inserted later; deleted = expand e.deleted later } ∷ []
 present_of at later (Undo groups) = []
+
+-- what a group up to the floor says, in present positions, where `later` came after the floor
+abbrev pub in_present : List Bool → SettledGroup → SettledGroup
+in_present later g =
+    record { group = g.group; last = g.last; inserted = expand g.inserted later; deleted = expand g.deleted later }
+
+-- these are all edits of the history
+pub record AreAllEdits (history : History) (edits : List SettledGroup) : Type 0 where
+  pub each : AllByRecursion (IsPresent history) edits
+  pub all : (rev : ℕ) → is_edit (revision_at history.revisions rev) ≡ true → list_any (λ e. e.last == rev) edits ≡ true

@@ -1,15 +1,18 @@
-//! Which floors of a list of revisions are clean, and what is collected after an entry.
+//! Which floors of a list of revisions are clean, what is collected after an entry, and the list that is left of it.
 //!
 //! To a contract a list of revisions is its history. [`clean`] answers what `plain_edits` says of a floor, and [`collectable`] gives the
-//! collection that it says comes after an entry. Both look at the revisions after the floor, and at none before it.
+//! collection that it says comes after an entry. Both look at the revisions after the floor, and at none before it. [`collect`] gives
+//! the list whose history is what is left after a collection at the head, and the positions that are dropped.
 #![tactic(auto)]
 
 mod choice;
 mod floors;
+mod join;
 pub mod laws;
+mod left;
 mod present;
 mod rest;
 
 pub use choice::collectable;
 pub use floors::clean;
-pub use present::present_edits;
+pub use left::collect;
