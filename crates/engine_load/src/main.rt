@@ -6,11 +6,16 @@
 //! | `groups N` | the same, each of a group of its own; then the newest group is undone and redone 1,000 times |
 //! | `group N` | N insertions of one group, which is then undone and redone 100 times |
 //! | `sets N` | N groups of one insertion each; then 100 sets are undone, one after the other, each whole: a group is in one or not by a seed |
-//! | `cut N` | N times a group, its undo by difference and a new group, so that N groups stay undone |
+//! | `cut N` | N times a group at the end of the text, its undo by difference and a new group in the middle, so that N groups stay undone and their characters stand together |
+//! | `cut_apart N` | the same with the new group at the end too, so that each undone character stands between two that are shown |
 //! | `stale N` | N insertions of one character at the start, each against the revision 100 before the head, or the first |
 //! | `all N` | each of these in its turn |
 //!
 //! Nothing stands on it. It is for measuring: its output says only what was run, and its time is taken from outside.
+//!
+//! `cut` and `cut_apart` undo the same groups at the same revisions. That a group was undone before costs nothing in either; but each
+//! revision goes through what is dead run by run, and that is a run or two in `cut`, and as many runs as undone groups in `cut_apart`. So
+//! `cut` takes a time like N, and `cut_apart` one like its square.
 #![tactic(auto)]
 
 use anyhow::{bail, ensure};
@@ -31,15 +36,17 @@ enum Load {
     Group,
     Sets,
     Cut,
+    CutApart,
     Stale,
 }
 
-const ALL: [Load; 6] = [
+const ALL: [Load; 7] = [
     Load::Typing,
     Load::Groups,
     Load::Group,
     Load::Sets,
     Load::Cut,
+    Load::CutApart,
     Load::Stale,
 ];
 
@@ -51,6 +58,7 @@ impl Load {
             Load::Group => "group",
             Load::Sets => "sets",
             Load::Cut => "cut",
+            Load::CutApart => "cut_apart",
             Load::Stale => "stale",
         }
     }
@@ -72,37 +80,50 @@ const SETS: u64 = 100;
 fn main(rt: HostRuntime) -> anyhow::Result<()> {
     let mut words = env::args(&rt)?.skip(1);
     let (Some(kind), Some(count)) = (words.next(), words.next()) else {
-        bail!("usage: engine_load typing|groups|group|sets|cut|stale|all N");
+        bail!("usage: engine_load typing|groups|group|sets|cut|cut_apart|stale|all N");
     };
-    let count: u64 = count.as_str().parse()?;
-    let is_all = kind.as_str() == "all";
+    run_named(&rt, kind.as_str(), count.as_str())
+}
+
+/// Runs the loads of this name.
+fn run_named(rt: &HostRuntime, kind: &str, count: &str) -> anyhow::Result<()> {
+    let count: u64 = count.parse()?;
     for load in ALL {
-        if is_all || kind.as_str() == load.name() {
-            let engine = run(rt.alloc(), load, count)?;
-            let name = load.name();
-            let head = engine.head();
-            let kept = engine.kept();
-            let shown = engine.head_rope().len();
-            println!(rt; "{name} {count}: revisions {head}, characters {kept}, shown {shown}")?;
+        if kind == "all" || kind == load.name() {
+            run_and_print(rt, load, count)?;
         }
     }
+    Ok(())
+}
+
+fn run_and_print(rt: &HostRuntime, load: Load, count: u64) -> anyhow::Result<()> {
+    let engine = run(rt.alloc(), load, count)?;
+    let name = load.name();
+    let head = engine.head();
+    let kept = engine.kept();
+    let shown = engine.head_rope().len();
+    println!(rt; "{name} {count}: revisions {head}, characters {kept}, shown {shown}")?;
     Ok(())
 }
 
 /// The engine of an empty text after such steps.
 fn run(alloc: Global, load: Load, count: u64) -> anyhow::Result<Engine> {
     let mut engine = Engine::of_text(alloc, Text::new(alloc), LIMIT)?;
+    go_through(alloc, &mut engine, load, count)?;
+    Ok(engine)
+}
+
+fn go_through(alloc: Global, engine: &mut Engine, load: Load, count: u64) -> anyhow::Result<()> {
     for _ in 0..count {
-        insert(alloc, &mut engine, load)?;
+        insert(alloc, engine, load)?;
     }
     let newest = engine.head();
     match load {
-        Load::Groups => turn(alloc, &mut engine, newest, TURNS)?,
-        Load::Group => turn(alloc, &mut engine, 1, LONG_TURNS)?,
-        Load::Sets => undo_sets(alloc, &mut engine, newest)?,
-        _ => {}
+        Load::Groups => turn(alloc, engine, newest, TURNS),
+        Load::Group => turn(alloc, engine, 1, LONG_TURNS),
+        Load::Sets => undo_sets(alloc, engine, newest),
+        _ => Ok(()),
     }
-    Ok(engine)
 }
 
 /// The next insertion, and what a load does between two of them.
@@ -112,19 +133,35 @@ fn insert(alloc: Global, engine: &mut Engine, load: Load) -> anyhow::Result<()> 
         Load::Typing | Load::Group => append(alloc, engine, 1),
         Load::Groups | Load::Sets => append(alloc, engine, next),
         Load::Cut => {
-            append(alloc, engine, next)?;
-            undo_by(alloc, engine, next)?;
+            undo_new(alloc, engine, next)?;
+            let middle = engine.head_rope().len() / 2;
+            insert_at(alloc, engine, middle, next.saturating_add(2))
+        }
+        Load::CutApart => {
+            undo_new(alloc, engine, next)?;
             append(alloc, engine, next.saturating_add(2))
         }
         Load::Stale => insert_back(alloc, engine),
     }
 }
 
+/// A new group at the end of the head text, and its undo.
+fn undo_new(alloc: Global, engine: &mut Engine, group: u64) -> anyhow::Result<()> {
+    append(alloc, engine, group)?;
+    undo_by(alloc, engine, group)
+}
+
 /// One character more at the end of the head text.
 fn append(alloc: Global, engine: &mut Engine, group: u64) -> anyhow::Result<()> {
+    let end = engine.head_rope().len();
+    insert_at(alloc, engine, end, group)
+}
+
+/// One character more at a gap of the head text.
+fn insert_at(alloc: Global, engine: &mut Engine, at: u64, group: u64) -> anyhow::Result<()> {
     let rev = engine.head();
     let len = engine.head_rope().len();
-    let edit = insertion(alloc, rev, len, len, group)?;
+    let edit = insertion(alloc, rev, len, at, group)?;
     take(alloc, engine, &edit)
 }
 
