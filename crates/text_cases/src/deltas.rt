@@ -1,6 +1,7 @@
 //! Deltas.
 
-ghost use Rattle.std.specs.Prelude.{◌≡◌, IfOk};
+ghost use Rattle.std.specs.Prelude.{◌≡◌, length, IfOk};
+ghost use Rattle.plain_edits.specs.UnitDelta.{IsUnitDelta};
 ghost use Rattle.text_cases.specs.Edit.{edit_of_abc};
 
 use delta_core::{apply, carry_ins, factor, fits, synthesize, to_delta, to_units, to_wire};
@@ -98,7 +99,10 @@ fn is_written(
     text: &Text,
     in_units: &UnitDelta,
     form: Form<'_>,
-) -> Result<bool, NoMemory> {
+) -> Result<bool, NoMemory>
+    requires well_formed { IsUnitDelta in_units.now }
+    requires base { in_units.now.base ≡ length text.now }
+{
     let by_gaps = to_delta(alloc, text, in_units)?;
     let wire = to_wire(alloc, text, in_units)?;
     Ok(
