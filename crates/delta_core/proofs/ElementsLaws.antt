@@ -1,9 +1,9 @@
 -- The delta on the wire of a unit delta fits, and keeps and adds the same.
-use Rattle.std.proofs.Common.{◌≡◌, ◌≢◌, ℕ, true, false, Bool, ◌+◌, ◌<◌, ◌≤◌, List, [], ◌∷◌, ◌++◌, length, append-nil, refl, ap, sym, ◌∙◌, arith, ⊎_elim, length-append}
-use Rattle.std.specs.Prelude.{if◌then◌else◌, nat_le, ◌==◌, ◌&&◌}
+use Rattle.std.proofs.Common.{◌≡◌, ◌≢◌, ℕ, true, false, Bool, ◌+◌, ◌<◌, ◌≤◌, List, [], ◌∷◌, ◌++◌, length, append-nil, refl, ap, ap₂, sym, ◌∙◌, arith, ⊎_elim, length-append}
+use Rattle.std.specs.Prelude.{if◌then◌else◌, nat_le, nat_lt, ◌==◌, ◌&&◌}
 use Rattle.std.specs.Char.{len_utf8}
 use Rattle.std.proofs.lemmas.Str.{len_utf8_bounds}
-use Rattle.std.proofs.lemmas.Bool.{cases_eq, cases_lt}
+use Rattle.std.proofs.lemmas.Bool.{cases_eq, cases_lt, le-leb, le-ltb, lt-ltb}
 use Rattle.std.proofs.lemmas.Bool.Decides.{nat_tests}
 use Rattle.plain_text.specs.declared.run.Run.{Run}
 use Rattle.plain_edits.specs.declared.delta.Added.{Added}
@@ -11,7 +11,9 @@ use Rattle.plain_edits.specs.declared.delta.El.{El}
 use Rattle.plain_edits.specs.declared.delta.El.TheVariants.{Copy, Insert}
 use Rattle.plain_edits.specs.declared.delta.UnitDelta.{UnitDelta}
 use Rattle.plain_text.specs.Text.{byte_len, gap_of}
-use Rattle.plain_edits.specs.Delta.{copies_misfit, is_in_runs, text_at_gap, kept_runs, insertions, keeps, adds, Fits}
+use Rattle.plain_text.specs.Woven.{woven}
+use Rattle.plain_edits.specs.declared.delta.Delta.{Delta}
+use Rattle.plain_edits.specs.Delta.{applied, copies_misfit, is_in_runs, text_at_gap, kept_runs, insertions, keeps, adds, Fits}
 use Rattle.plain_edits.specs.UnitDelta.{AreRuns, AreAdds, IsCanonical, IsUnitDelta, unit_keeps, unit_adds}
 use Rattle.delta_core.specs.Units.{IsUnitsOf}
 use Rattle.delta_core.specs.UnitStep.{UnitStep}
@@ -41,7 +43,7 @@ FitFrom-elements k f text front (c ∷ back) gap at cut =
     FitFrom-fixed text front (c ∷ back) (f gap) at _ cut
     (FitFrom-either (k gap) text at (at + len_utf8 c) (elements_from k f (gap + 1) (at + len_utf8 c) back) (omega arith) (CopyFits-cut text front back c at cut) rest)
 
-Fits-elements : (k : ℕ → Bool) (f : ℕ → List ℕ) (text : List ℕ) → Fits text (delta_by k f text)
+pub Fits-elements : (k : ℕ → Bool) (f : ℕ → List ℕ) (text : List ℕ) → Fits text (delta_by k f text)
 Fits-elements k f text =
     let same : (byte_len text == byte_len text) ≡ true = grind (arith, nat_tests) in
     rw same (FitFrom-elements k f text [] text 0 0 (IsCut-start text) 0 (omega arith))
@@ -256,6 +258,57 @@ elements_from-same k k' f f' gap at [] keeps_same adds_same = ap (λ t. fixed_be
 elements_from-same k k' f f' gap at (c ∷ text) keeps_same adds_same =
     let rest = elements_from-same k k' f f' (gap + 1) (at + len_utf8 c) text (λ j less. keeps_same j (omega arith)) (λ j less. adds_same j (omega arith)) in
     rw (adds_same gap (omega arith), keeps_same gap (omega arith), rest) refl
+
+-- ---- whatever is kept and added, the delta leads to the text with it
+
+pub woven-within : (k k' : ℕ → Bool) (f f' : ℕ → List ℕ) (from : ℕ) (text : List ℕ) → ((j : ℕ) → j < from + length text → k j ≡ k' j) →
+    ((gap : ℕ) → gap ≤ from + length text → f gap ≡ f' gap) →
+    woven f (λ index c. if k index then c ∷ [] else []) from text ≡ woven f' (λ index c. if k' index then c ∷ [] else []) from text
+woven-within k k' f f' from [] keeps adds = adds from (omega arith)
+woven-within k k' f f' from (c ∷ text) keeps adds =
+    ap₂ (λ xs ys. xs ++ ys) (adds from (omega arith))
+    (ap₂ (λ b ys. (if b then c ∷ [] else []) ++ ys) (keeps from (omega arith))
+    (woven-within k k' f f' (from + 1) text (λ j less. keeps j (omega (arith, less))) (λ gap less. adds gap (omega (arith, less)))))
+
+module _ (k : ℕ → Bool) (f : ℕ → List ℕ) (text : List ℕ) where
+  -- the same up to the end, and nothing past it
+  abbrev kept_inside : ℕ → Bool
+  kept_inside j = nat_lt j (length text) && k j
+
+  abbrev added_inside : ℕ → List ℕ
+  added_inside gap = if nat_le gap (length text) then f gap else []
+
+  kept-inside : (j : ℕ) → j < length text → k j ≡ kept_inside j
+  kept-inside j less = sym (ap (λ b. b && k j) (lt-ltb j (length text) less))
+
+  added-inside : (gap : ℕ) → gap ≤ length text → f gap ≡ added_inside gap
+  added-inside gap less = sym (ap (λ b. if b then f gap else []) (le-leb gap (length text) less))
+
+  added-past : (gap : ℕ) → length text < gap → added_inside gap ≡ []
+  added-past gap past =
+      let behind : nat_le gap (length text) ≡ false = grind (arith, nat_tests, past) in
+      ap (λ b. if b then f gap else []) behind
+
+  delta-inside : delta_by k f text ≡ delta_by kept_inside added_inside text
+  delta-inside =
+      ap (λ els. record { els = els; base_len = byte_len text })
+      (elements_from-same k kept_inside f added_inside 0 0 text (λ j less. kept-inside j (omega (arith, less))) (λ gap less. added-inside gap (omega (arith, less))))
+
+  pub applied-delta_by : applied (keeps text (delta_by k f text)) (adds text (delta_by k f text)) text ≡ applied k f text
+  applied-delta_by =
+      let d = delta_by kept_inside added_inside text in
+      let cut = IsCut-start text in
+      let kept : (index : ℕ) → keeps text d index ≡ kept_inside index =
+      λ index. kept-elements kept_inside added_inside text [] text 0 0 cut refl
+      (λ j past. ap (λ b. b && k j) (le-ltb j (length text) past)) index ∙ ap (λ x. x && kept_inside index) (from_zero index) in
+      let added : (gap : ℕ) → adds text d gap ≡ added_inside gap =
+      λ gap. added-elements kept_inside added_inside text [] text 0 0 cut refl added-past gap 0 ∙
+      ap (λ x. if x then added_inside gap else []) (from_zero gap) in
+      ap (λ (e : Delta). applied (keeps text e) (adds text e) text) delta-inside ∙
+      applied-same (keeps text d) kept_inside (adds text d) added_inside text kept added ∙
+      woven-within kept_inside k added_inside f 0 text (λ j less. sym (kept-inside j (omega (arith, less)))) (λ gap less. sym (added-inside gap (omega (arith, less))))
+
+-- ---- the delta in the making
 
 pub IsDeltaOf-all : (w : Gathered) (units : UnitDelta) (at base_len : ℕ) (steps : List UnitStep) (text before : List ℕ) (els : List El) → IsUnitDelta units →
     units.base ≡ length before → IsPutting w at steps text before (elements_from (unit_keeps units) (unit_adds units) 0 0 before) → steps ≡ [] →
