@@ -298,7 +298,13 @@ next_start text from zero (first ∷ next ∷ pieces) piece chained is last =
     (next, refl, head_start text first.end next pieces chained.4 ∙ ap (λ (p : Piece). p.end) same)
 next_start text from (suc i) (first ∷ next ∷ pieces) piece chained is last = next_start text first.end i (next ∷ pieces) piece chained.4 is last
 
-length-text_of_piece : (text : List ℕ) (piece : Piece) → piece.start ≤ piece.end → piece.end ≤ length text →
+-- a piece of a text lies in it, and has as many characters as it is long
+pub piece-inside : (text : List ℕ) (pieces : List Piece) (index : ℕ) (piece : Piece) → ArePieces text pieces → slice_get pieces index ≡ Some piece →
+    (piece.start ≤ piece.end) × (piece.end ≤ length text)
+piece-inside text pieces index piece are is =
+    let known = ends_inside text 0 index pieces piece (AreChained-pieces text pieces are) is in (known.1, known.2)
+
+pub length-text_of_piece : (text : List ℕ) (piece : Piece) → piece.start ≤ piece.end → piece.end ≤ length text →
     length (text_of_piece text piece) ≡ piece.end - piece.start
 length-text_of_piece text piece ordered inside =
     length-take-le (piece.end - piece.start) (drop piece.start text) (omega (arith, length-drop piece.start text))

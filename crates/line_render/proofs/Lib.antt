@@ -3,4 +3,5 @@ mod CaretLemmas
 mod SelectedLemmas
 mod CutLemmas
 mod FeedLemmas
-mod LawLemmas
+pub mod LawLemmas
+pub mod ForCallers
