@@ -84,7 +84,7 @@ impl RevList {
         self.settled.floor()
     }
 
-    /// Whether the group is collected, in the logarithm of the number of collected groups. A collected group has no edit.
+    /// Whether the group is collected, in the logarithm of the number of runs of collected groups. A collected group has no edit.
     pub fn is_collected(&self, group: u64) -> bool
         ensures collected { result ≡ has self.now.collected group }
         ensures uncollected { AllByRecursion (IsOpen self.now.collected) self.now.revisions }

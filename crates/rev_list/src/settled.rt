@@ -4,6 +4,7 @@ ghost use Rattle.std.specs.List.{fold};
 ghost use Rattle.plain_text.specs.Numbers.{has, with_number};
 ghost use Rattle.rev_list.specs.Settled.{settled_loaded};
 
+use number_runs::NumberRuns;
 use number_set::NumberSet;
 use plain_text::NoMemory;
 use std::alloc::Global;
@@ -28,7 +29,7 @@ pub(crate) struct UpToFloor {
     len: u64,
     groups: Vec<SettledGroup>,
     undone: NumberSet,
-    collected: NumberSet,
+    collected: NumberRuns,
 }
 
 impl Model for UpToFloor {
@@ -49,7 +50,7 @@ impl UpToFloor {
             len,
             groups: Vec::new(alloc),
             undone: NumberSet::new(alloc),
-            collected: NumberSet::new(alloc),
+            collected: NumberRuns::new(alloc),
         }
     }
 
@@ -71,16 +72,12 @@ impl UpToFloor {
           collected = fold with_number self.now.collected collected.now.keys;
         }) }
     {
-        let mut all = self.collected.copy(alloc)?;
-        for group in collected {
-            all = all.with(alloc, *group)?;
-        }
         Ok(UpToFloor {
             floor,
             len,
             groups,
             undone,
-            collected: all,
+            collected: self.collected.with_all(alloc, collected)?,
         })
     }
 
