@@ -8,16 +8,18 @@ use Rattle.plain_text.specs.Numbers.{has}
 use Rattle.plain_text.proofs.callers.ListLemmas.{AllByRecursion-weaker}
 use Rattle.plain_edits.specs.History.{Revision, edit, undo, History, head, loaded, undone}
 use Rattle.plain_edits.specs.HistorySteps.{MayEdit, MayUndoSet}
+use Rattle.plain_edits.specs.HistorySteps as Steps
+use Rattle.plain_edits.specs.Collection.{collected_at, MayCollect}
 use Rattle.plain_edits.specs.declared.delta.Delta.{Delta}
 use Rattle.plain_edits.specs.Edits.{PlainEdit, edited, undid, is_edit_of, Refusal, unknown, collected, edit_refusal}
 use Rattle.plain_edits.specs.Undo.{undone_now}
 use Rattle.plain_edits.proofs.callers.HistoryLemmas.{undone-edit, undone-undo}
-use Rattle.plain_edits.proofs.callers.WellFormedLemmas.{IsWellFormed-loaded, IsWellFormed-edited, IsWellFormed-undid}
+use Rattle.collection_laws.proofs.ForCallers.{MayForget-loaded, MayForget-after_step}
 use Rattle.rev_list.specs.declared.edit.RevEdit.{RevEdit}
 use Rattle.rev_list.specs.Edit.{after_edit, edit_revision}
 use Rattle.rev_undo.specs.Allowed.{HasEdit}
 use Rattle.rev_engine.specs.Given.{AskedEdit, IsTaken, meant}
-use Rattle.rev_engine.specs.Asked.{Asked, asks, undoes, after_asked, after_all_asked, IsKnown, IsTakenStep, AreTakenSteps, IsGiven, IsOfEngine}
+use Rattle.rev_engine.specs.Asked.{Asked, asks, undoes, collects, after_asked, after_all_asked, IsKnown, IsTakenStep, AreTakenSteps, IsGiven, IsOfEngine}
 
 -- ---- groups that have an edit
 
@@ -66,7 +68,7 @@ has-no_edit h group (g ∷ groups) known none = by (g == group) refl (has-no_edi
 -- ---- the steps
 
 pub IsOfEngine-loaded : (text : List ℕ) → IsOfEngine (loaded text)
-IsOfEngine-loaded text = record { formed = IsWellFormed-loaded text; undone_known = tt; collected_known = tt }
+IsOfEngine-loaded text = record { forgets = MayForget-loaded text; undone_known = tt }
 
 pub undone_now-edited : (h : History) (e : PlainEdit) → undone_now (edited h e) ≡ undone_now h
 undone_now-edited h e =
@@ -82,21 +84,23 @@ pub undone_now-undid : (h : History) (groups : List ℕ) → undone_now (undid h
 undone_now-undid h groups =
     ap (undone (undid h groups).revisions) (length-append h.revisions (undo groups ∷ [])) ∙ undone-undo h.revisions groups
 
-IsOfEngine-edited : (h : History) (e : PlainEdit) → IsOfEngine h → MayEdit h e → IsOfEngine (edited h e)
+pub IsOfEngine-edited : (h : History) (e : PlainEdit) → IsOfEngine h → MayEdit h e → IsOfEngine (edited h e)
 IsOfEngine-edited h e is may =
     let last : Revision = edit e.base e.group e.priority e.author in
     record {
-      formed = IsWellFormed-edited h e is.formed may;
+      forgets = MayForget-after_step h (Steps.edits e) is.forgets may;
       undone_known = rw (undone_now-edited h e) (HasEdit-more h (edited h e) last (undone_now h) refl is.undone_known);
-      collected_known = HasEdit-more h (edited h e) last h.collected refl is.collected_known;
     }
 
-IsOfEngine-undid : (h : History) (groups : List ℕ) → IsOfEngine h → MayUndoSet h groups → IsOfEngine (undid h groups)
+pub IsOfEngine-undid : (h : History) (groups : List ℕ) → IsOfEngine h → MayUndoSet h groups → IsOfEngine (undid h groups)
 IsOfEngine-undid h groups is may = record {
-  formed = IsWellFormed-undid h groups is.formed may;
+  forgets = MayForget-after_step h (Steps.undoes groups) is.forgets may;
   undone_known = rw (undone_now-undid h groups) (HasEdit-more h (undid h groups) (undo groups) groups refl may.allowed.known);
-  collected_known = HasEdit-more h (undid h groups) (undo groups) h.collected refl is.collected_known;
 }
+
+pub IsOfEngine-collected : (h : History) (floor : ℕ) (groups : List ℕ) → IsOfEngine h → MayCollect h floor groups → IsOfEngine (collected_at h floor groups)
+IsOfEngine-collected h floor groups is may =
+    record { forgets = MayForget-after_step h (Steps.collects floor groups) is.forgets may; undone_known = is.undone_known }
 
 passed : (stops : Bool) (cause : Refusal) (rest : Option Refusal) → (if stops then Some cause else rest) ≡ None → (stops ≡ false) × (rest ≡ None)
 passed true cause rest none = absurd cc
@@ -112,7 +116,7 @@ base_kept h limit base delta none =
     )
 
 -- an edit that is taken may come
-MayEdit-taken : (limit : ℕ) (h : History) (asked : AskedEdit) → IsTaken limit h asked → MayEdit h (meant h asked)
+pub MayEdit-taken : (limit : ℕ) (h : History) (asked : AskedEdit) → IsTaken limit h asked → MayEdit h (meant h asked)
 MayEdit-taken limit h asked taken =
     let kept = base_kept h limit asked.base asked.delta taken.accepted in
     record { known = kept.1; reached = kept.0; is_open = taken.may.group_kept }
@@ -120,6 +124,7 @@ MayEdit-taken limit h asked taken =
 IsOfEngine-asked : (limit : ℕ) (h : History) (step : Asked) → IsOfEngine h → IsTakenStep limit h step → IsOfEngine (after_asked h step)
 IsOfEngine-asked limit h (asks asked) is taken = IsOfEngine-edited h (meant h asked) is (MayEdit-taken limit h asked taken)
 IsOfEngine-asked limit h (undoes groups) is taken = IsOfEngine-undid h groups is taken.allowed
+IsOfEngine-asked limit h (collects floor groups) is taken = IsOfEngine-collected h floor groups is taken.may
 
 IsOfEngine-all : (limit : ℕ) (h : History) (steps : List Asked) → IsOfEngine h → AreTakenSteps limit h steps → IsOfEngine (after_all_asked h steps)
 IsOfEngine-all limit h [] is taken = is

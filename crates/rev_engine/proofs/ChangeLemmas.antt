@@ -1,5 +1,5 @@
 -- The delta between the flags of two revisions is the change between them: what stays, and what appears at each gap.
-use Rattle.std.proofs.Common.{◌≡◌, ℕ, zero, suc, ◌+◌, ◌<◌, Bool, true, false, cond, not, List, [], ◌∷◌, ◌++◌, length, map, filter, refl, ap, sym, subst, ◌∙◌, arith}
+use Rattle.std.proofs.Common.{◌≡◌, ℕ, zero, suc, ◌+◌, ◌<◌, Bool, true, false, cond, not, List, [], ◌∷◌, ◌++◌, length, map, filter, refl, ap, sym, ◌∙◌, arith}
 use Rattle.std.specs.Prelude.{if◌then◌else◌}
 use Rattle.std.proofs.lemmas.Bool.{ne_eqb, eq-eqb}
 use Rattle.subset_runs.specs.Subset.{contains, items_outside}
@@ -9,11 +9,9 @@ use Rattle.plain_edits.specs.Change.{passes_at, block}
 use Rattle.delta_core.specs.Synthesis.{appearing, IsBetween}
 use Rattle.delta_core.specs.Units.{text_after}
 use Rattle.rev_list.specs.Hidden.{hidden_at}
-use Rattle.rev_list.proofs.ForCallers.{hidden_without_text}
 use Rattle.rev_rebase.specs.Rebase.{characters_of}
 use Rattle.rev_engine.specs.declared.edit.Change.{Change}
-use Rattle.rev_engine.specs.State.{State}
-use Rattle.rev_engine.specs.Engine.{IsChange, IsSince, StandsFor}
+use Rattle.rev_engine.specs.Engine.{IsChange, IsSince}
 use Rattle.rev_engine.proofs.StandLemmas.{outside_visible}
 
 -- the flags of the characters that fail a test, and the characters alone
@@ -115,16 +113,3 @@ IsChange-between before after change rev_is same between =
       added = since.added;
       leads = ap (text_after change.units) (sym same) ∙ since.leads;
     }
-
--- and so it is of what an engine holds
-pub IsSince-stands : (engine : State) (h : History) (rev : ℕ) (units : UnitDelta) → StandsFor engine h →
-    IsBetween engine.union (hidden_at engine.revisions rev) (hidden_at engine.revisions (head engine.revisions)) units → IsSince h rev units
-IsSince-stands engine h rev units stands between =
-    IsSince-between h rev units
-    (subst (λ xs. IsBetween xs (hidden_at h rev) (hidden_at h (head h)) units) stands.union
-    (subst (λ before. IsBetween engine.union before (hidden_at h (head h)) units) (hidden rev)
-    (subst (λ after. IsBetween engine.union (hidden_at engine.revisions rev) after units)
-    (hidden (head engine.revisions) ∙ ap (λ g. hidden_at h (head g)) stands.revisions) between)))
-  where
-    hidden : (at : ℕ) → hidden_at engine.revisions at ≡ hidden_at h at
-    hidden at = ap (λ g. hidden_at g at) stands.revisions ∙ hidden_without_text h at

@@ -12,7 +12,7 @@ use Rattle.plain_edits.specs.Delta.{inserted_len}
 use Rattle.plain_edits.proofs.callers.HistoryLemmas.{IsSound-edited, text_at-edited}
 use Rattle.rev_engine.specs.Given.{AskedEdit, meant, after, after_all, IsTaken, AreTaken}
 use Rattle.rev_engine.specs.Asked.{IsGiven}
-use Rattle.rev_engine.specs.Commute.{DifferInPriority, IsForHead, AreForHead, ShowsMerged, EditsCommute}
+use Rattle.rev_engine.specs.Commute.{DifferInPriority, IsForHead, AreForHead, AreOpen, ShowsMerged, EditsCommute}
 use Rattle.plain_edits.specs.Blocks.{block_at}
 use Rattle.plain_edits.proofs.callers.BlockLemmas.{at-by_blocks}
 use Rattle.plain_edits.proofs.callers.RunLemmas.{AllByRecursion-parts, AllByRecursion-to_map}
@@ -25,21 +25,19 @@ use Rattle.rev_engine.proofs.StandLemmas.{refusal-none}
 
 -- ---- which histories take edits
 
--- each character is of revisions that are there, the head is not collected, and a group with no edit yet is neither undone nor collected
+-- each character is of revisions that are there, the head is not collected, and a group with no edit yet is not undone
 pub record TakesEdits (history : History) : Type 0 where
   pub sound : IsSound history
   pub floor : history.floor ≤ head history
   pub live : (group : ℕ) → list_any (is_edit_of group) history.revisions ≡ false → has (undone history.revisions (head history)) group ≡ false
-  pub kept : (group : ℕ) → list_any (is_edit_of group) history.revisions ≡ false → has history.collected group ≡ false
 
 pub TakesEdits-given : (limit : ℕ) (history : History) → IsGiven limit history → TakesEdits history
 TakesEdits-given limit history given =
     let is = IsOfEngine-given limit history given in
     record {
-      sound = is.formed.sound;
-      floor = is.formed.floor;
+      sound = is.forgets.formed.sound;
+      floor = is.forgets.formed.floor;
       live = λ group none. has-no_edit history group (undone history.revisions (head history)) is.undone_known none;
-      kept = λ group none. has-no_edit history group history.collected is.collected_known none;
     }
 
 -- ---- one edit in its turn
@@ -73,11 +71,11 @@ module _ (limit : ℕ) (first last : History) (asked : AskedEdit) (edits : List 
         author = asked.author;
       }) same_text
 
-  IsTaken-ready : IsTaken limit last asked
-  IsTaken-ready = record {
+  IsTaken-ready : has first.collected asked.group ≡ false → IsTaken limit last asked
+  IsTaken-ready is_open = record {
     may = record {
       group_counts = is.group_counts;
-      group_kept = ap (λ groups. has groups asked.group) ready.collected ∙ takes.kept asked.group is.group_fresh;
+      group_kept = ap (λ groups. has groups asked.group) ready.collected ∙ is_open;
       has_number = omega (arith, ready.numbers);
     };
     accepted =
@@ -103,7 +101,7 @@ module _ (limit : ℕ) (first last : History) (asked : AskedEdit) (edits : List 
 
 -- the history after the edits shows them merged in some order
 record Comes (limit : ℕ) (first : History) (done : List PlainEdit) (last : History) (order : List AskedEdit) : Type 0 where
-  taken : AreTaken limit last order
+  taken : AreOpen first order → AreTaken limit last order
   final : List PlainEdit
   dones : List Done
   at : ℕ → Tagged → Tagged
@@ -114,7 +112,7 @@ comes : (limit : ℕ) (first : History) → TakesEdits first → (order : List A
     (at : ℕ → Tagged → Tagged) → IsMerging first done last dones at → IsReady limit first last order → AllByRecursion (IsForHead first) order →
     Differ (λ e. e.priority) (done ++ map (meant first) order) → Comes limit first done last order
 comes limit first takes [] done last dones at state ready each differ = record {
-  taken = tt;
+  taken = λ _. tt;
   final = done;
   dones = dones;
   at = at;
@@ -140,7 +138,7 @@ comes limit first takes (asked ∷ order) done last dones at state ready each di
     (at_after first takes.sound done last dones at state e each.0.base live others)) (sym same) step)
     (IsReady-after limit first last asked order takes each.0 ready) each.1 apart in
     record {
-      taken = (IsTaken-ready limit first last asked order takes each.0 ready, rest.taken);
+      taken = λ are. (IsTaken-ready limit first last asked order takes each.0 ready are.0, rest.taken are.1);
       final = rest.final;
       dones = rest.dones;
       at = rest.at;
@@ -175,7 +173,7 @@ IsMerging-none first sound = record {
 
 -- in a history that takes edits
 pub edits_commute_in : (limit : ℕ) (history : History) (edits order : List AskedEdit) → TakesEdits history → AreForHead limit history edits →
-    IsPermutation edits order → AreTaken limit history order × ShowsMerged history edits (after_all history order)
+    IsPermutation edits order → (AreOpen history edits → AreTaken limit history order) × ShowsMerged history edits (after_all history order)
 edits_commute_in limit history edits order takes for_head moved =
     let text : List ℕ = text_at history (head history) in
     let asked_for = map (meant history) edits in
@@ -195,7 +193,7 @@ edits_commute_in limit history edits order takes for_head moved =
     })
     (AllByRecursion-permutation (IsForHead history) edits order moved for_head.each)
     (Differ-permutation (λ (e : PlainEdit). e.priority) asked_for in_order across differ) in (
-      all.taken,
+      λ are. all.taken (AllByRecursion-permutation (λ asked. has history.collected asked.group ≡ false) edits order moved are),
       text_at-merging history takes.sound all.final (after_all history order) all.dones all.at all.state ∙
           sym (merged-permutation text asked_for all.final (IsPermutation-trans asked_for in_order all.final across all.moved) differ),
     )

@@ -1,6 +1,6 @@
 -- The last step of an edit: what is put in is the edit step of every history that the engine stands for.
 use Rattle.std.proofs.Common.{◌≡◌, ℕ, ◌+◌, ◌^◌, ◌<◌, ◌≤◌, Bool, false, List, [], ◌∷◌, length, length-append, refl, ap, ap₂, sym, ◌∙◌, subst, None, Some, arith}
-use Rattle.std.proofs.Math.Logic.{∥∥₁_elim}
+use Rattle.std.proofs.Math.Logic.{∥∥₁_elim, ∥∥₁_map}
 use Rattle.std.proofs.Math.Nat.{ℕ_set}
 use Rattle.std.proofs.lemmas.List.{length-map}
 use Rattle.std.specs.List.{AllByRecursion}
@@ -15,6 +15,10 @@ use Rattle.plain_edits.specs.Delta.{inserted_len}
 use Rattle.plain_edits.proofs.callers.HistoryLemmas.{IsSound-edited, text_at-edited}
 use Rattle.delta_core.specs.Units.{IsUnitsOf}
 use Rattle.delta_core.specs.Synthesis.{IsBetween}
+use Rattle.plain_edits.specs.HistorySteps.{MayEdit}
+use Rattle.plain_edits.specs.HistorySteps as Steps
+use Rattle.collection_laws.specs.Left.{left_of}
+use Rattle.collection_laws.proofs.ForCallers.{MayForget-after_step, left_of-edited}
 use Rattle.rev_list.specs.declared.edit.RevEdit.{RevEdit}
 use Rattle.rev_list.specs.Edit.{after_edit, edit_revision}
 use Rattle.rev_list.specs.Hidden.{IsKeptAt, hidden_at}
@@ -26,18 +30,19 @@ use Rattle.rev_engine.specs.declared.edit.Edit.{Edit}
 use Rattle.rev_engine.specs.declared.edit.UnitEdit.{UnitEdit}
 use Rattle.rev_engine.specs.declared.edit.Change.{Change}
 use Rattle.rev_engine.specs.declared.step.Fitting.{Fitting}
-use Rattle.rev_engine.specs.Given.{AskedEdit, MayAsk, after, meant}
-use Rattle.rev_engine.specs.State.{IsHeld, IsHistoryOf, State, shown_at}
+use Rattle.rev_engine.specs.Given.{AskedEdit, IsTaken, MayAsk, after, meant}
+use Rattle.rev_engine.specs.State.{IsHeld, IsHistoryOf, IsLeftOf, State, shown_at}
 use Rattle.rev_engine.specs.Inner.{IsAnswered, IsBasedOn, IsFitting, IsNext, IsPutIn}
 use Rattle.rev_engine.specs.Engine.{IsChange, IsChangeBy, IsSaidBy, StandsFor, asked_by, in_characters}
 use Rattle.rev_engine.specs.Asked.{asks, IsKnown}
-use Rattle.rev_engine.proofs.AskedLemmas.{IsGiven-after, IsKnown-more, IsOfEngine-given, undone_now-after}
-use Rattle.rev_engine.proofs.NextLemmas.{GoesOn, IsChangeBy-between, goes-on-by, some-after}
+use Rattle.rev_engine.proofs.AskedLemmas.{IsGiven-after, IsKnown-more, IsOfEngine-edited, MayEdit-taken, undone_now-after}
+use Rattle.rev_engine.proofs.LeftLemmas.{IsChange-left}
+use Rattle.rev_engine.proofs.NextLemmas.{GoesOn, IsChangeBy-between, goes-on-by, some-after, some-left}
 use Rattle.rev_engine.proofs.ByteLemmas.{byte_len-least, byte_len-most, byte_len-outside, byte_len-put_in}
 use Rattle.rev_engine.proofs.HeadLemmas.{IsChangeBy-head}
 use Rattle.rev_engine.proofs.PlacedLemmas.{longer-flags, members-flags}
 use Rattle.rev_engine.proofs.SpentLemmas.{inserted_count-plain, length-added_text}
-use Rattle.rev_engine.proofs.StandLemmas.{IsHistoryOf-stands, accepted-fitting, length-shown_at, refused-spent, shown-history, shown-stands}
+use Rattle.rev_engine.proofs.StandLemmas.{IsHistoryOf-left, IsHistoryOf-stands, IsLeftOf-said, accepted-fitting, collected-is, collected-stands, floor-is, floor-stands, forgets-stands, head-is, head-stands, length-shown_at, refused-spent, shown-history, shown-stands}
 
 -- ---- what a fitting edit asks for
 
@@ -84,7 +89,7 @@ head-next h e = length-append h.revisions (revision e.base e.group e.priority e.
 head-step : (h : History) (e : PlainEdit) → head (edited h e) ≡ head h + 1
 head-step h e = length-append h.revisions (revision e.base e.group e.priority e.author ∷ [])
 
-positions-history : (union : List ℕ) (revisions h : History) → IsHistoryOf union revisions h → length union ≡ length revisions.characters
+pub positions-history : (union : List ℕ) (revisions h : History) → IsHistoryOf union revisions h → length union ≡ length revisions.characters
 positions-history union revisions h is =
     ap length is.union_is ∙ (length-map h.characters _ ∙ (sym (length-map h.characters _) ∙ sym (ap (λ (g : History). length g.characters) is.revisions_is)))
 
@@ -144,8 +149,11 @@ module _ (engine : State) (text : List ℕ) (rev : ℕ) (fitting : Fitting) (hel
   gone_on : (h : History) → IsHistoryOf engine.union engine.revisions h → IsHistoryOf union_after revisions_after (edited h (in_characters rev fitting.edit))
   gone_on h of = IsHistoryOf-after engine.union engine.revisions rev fitting.edit is.base union_after revisions_after put h of
 
+  some : ∥ ((h : History) × IsHistoryOf engine.union engine.revisions h) ∥₁
+  some = some-left engine.union engine.revisions held.some
+
   some_later : ∥ ((h : History) × IsHistoryOf union_after revisions_after h) ∥₁
-  some_later = some-after engine.union union_after engine.revisions revisions_after (λ h. edited h (in_characters rev fitting.edit)) gone_on held.some
+  some_later = some-after engine.union union_after engine.revisions revisions_after (λ h. edited h (in_characters rev fitting.edit)) gone_on some
 
   pub positions-after : length union_after ≡ length revisions_after.characters
   positions-after =
@@ -160,10 +168,25 @@ module _ (engine : State) (text : List ℕ) (rev : ℕ) (fitting : Fitting) (hel
       (subst (λ (groups : List ℕ). AllByRecursion (IsKnown (after_edit engine.revisions e)) groups) (sym (undone_now-after engine.revisions e))
       (IsKnown-more engine.revisions (after_edit engine.revisions e) (edit_revision e) (undone_now engine.revisions) refl refl held.known))
 
-  pub IsHeld-after : (text_now : List ℕ) → text_now ≡ shown_at union_after revisions_after (head revisions_after) →
-      IsHeld union_after text_now revisions_after engine.limit fitting.spent
-  IsHeld-after text_now shown = record {
-    some = some_later;
+  -- what is left goes along
+  left_gone_on : MayAsk engine.revisions fitting.edit.group → (h : History) → IsLeftOf engine.union engine.revisions h →
+      IsLeftOf union_after revisions_after (edited h (in_characters rev fitting.edit))
+  left_gone_on may h of =
+      let e : PlainEdit = in_characters rev fitting.edit in
+      let comes : MayEdit h e = record {
+        known = omega (arith, is.base_known, head-is engine.union engine.revisions h of);
+        reached = omega (arith, is.base_kept, floor-is engine.union engine.revisions h of);
+        is_open = ap (λ (groups : List ℕ). has groups fitting.edit.group) (sym (collected-is engine.union engine.revisions h of)) ∙ may.group_kept;
+      } in
+      IsLeftOf-said union_after revisions_after (edited h e) (edited (left_of h) e) (IsOfEngine-edited h e of.of_engine comes)
+      (left_of-edited h e of.of_engine.forgets comes) (gone_on (left_of h) (IsHistoryOf-left engine.union engine.revisions h of))
+
+  pub IsHeld-after : MayAsk engine.revisions fitting.edit.group → (text_now : List ℕ) →
+      text_now ≡ shown_at union_after revisions_after (head revisions_after) → IsHeld union_after text_now revisions_after engine.limit fitting.spent
+  IsHeld-after may text_now shown = record {
+    some =
+        ∥∥₁_map held.some (λ (s : (h : History) × IsLeftOf engine.union engine.revisions h).
+        (edited s.0 (in_characters rev fitting.edit), left_gone_on may s.0 s.1));
     positions = positions-after;
     floor =
         omega (
@@ -173,7 +196,6 @@ module _ (engine : State) (text : List ℕ) (rev : ℕ) (fitting : Fitting) (hel
           ap head put.revisions_is,
           head-next engine.revisions (in_positions engine.revisions (in_characters rev fitting.edit)),
         );
-    uncollected = ap (λ (g : History). g.collected) put.revisions_is ∙ held.uncollected;
     shown = shown;
     known = known-after;
     within = is.room.within;
@@ -181,12 +203,12 @@ module _ (engine : State) (text : List ℕ) (rev : ℕ) (fitting : Fitting) (hel
     bound = omega (arith, held.bound, bytes-union, is.room.is, byte_len-most (added_text fitting.edit.units));
   }
 
-  pub goes-on : (units : UnitDelta) →
+  pub goes-on : MayAsk engine.revisions fitting.edit.group → (units : UnitDelta) →
       ((h : History) → IsHistoryOf engine.union engine.revisions h → IsChangeBy h (edited h (in_characters rev fitting.edit)) units) →
       GoesOn text union_after revisions_after engine.limit fitting.spent units
-  goes-on units change =
-      goes-on-by engine.union union_after engine.revisions revisions_after (λ h. edited h (in_characters rev fitting.edit)) gone_on held.some text
-      engine.limit fitting.spent held.shown (short-after (head revisions_after)) IsHeld-after units change
+  goes-on may units change =
+      goes-on-by engine.union union_after engine.revisions revisions_after (λ h. edited h (in_characters rev fitting.edit)) gone_on some text
+      engine.limit fitting.spent held.shown (short-after (head revisions_after)) (IsHeld-after may) units change
 
 -- ---- the histories that the engine stands for
 
@@ -202,29 +224,55 @@ same_edit h asked rev edit base is group priority author = λ i. record {
   author = author i;
 }
 
+-- the edit is taken
+IsTaken-asked : (engine : State) (h : History) (asked : AskedEdit) → StandsFor engine h → MayAsk engine.revisions asked.group →
+    edit_refusal h engine.limit asked.base asked.delta ≡ None → IsTaken engine.limit h asked
+IsTaken-asked engine h asked stands may accepted = record {
+  may = record {
+    group_counts = may.group_counts;
+    group_kept = ap (λ (groups : List ℕ). has groups asked.group) (sym (collected-stands engine h stands)) ∙ may.group_kept;
+    has_number = omega (arith, may.has_number, head-stands engine h stands);
+  };
+  accepted = accepted;
+}
+
 pub StandsFor-after : (engine new : State) (h : History) (asked : AskedEdit) (rev : ℕ) (fitting : Fitting) → StandsFor engine h →
     IsFitting engine rev fitting → MayAsk engine.revisions asked.group →
     edit_refusal h engine.limit asked.base asked.delta ≡ None → meant h asked ≡ in_characters rev fitting.edit →
     length (added_text fitting.edit.units) ≡ inserted_len asked.delta.els → IsNext engine rev fitting new → StandsFor new (after h asked)
 StandsFor-after engine new h asked rev fitting stands is may accepted same more next = record {
   given =
-      rw next.limit (IsGiven-after engine.limit h (asks asked) stands.given (record {
-        may = record { group_counts = asking.group_counts; group_kept = asking.group_kept; has_number = asking.has_number };
-        accepted = accepted;
-      }));
-  union = now.union_is ∙ ap (λ e. characters_of (edited h e)) (sym same);
-  revisions = now.revisions_is ∙ ap (λ e. without_text (edited h e)) (sym same);
+      rw next.limit (IsGiven-after engine.limit h (asks asked) stands.given taken);
+  union = now.union_is ∙ ap (λ e. characters_of (edited (left_of h) e)) (sym same) ∙ ap characters_of (sym goes_along);
+  revisions = now.revisions_is ∙ ap (λ e. without_text (edited (left_of h) e)) (sym same) ∙ ap without_text (sym goes_along);
   spent =
       next.spent ∙ (is.room.is ∙ (ap₂ (λ m n. m + n) stands.spent more ∙
       sym (inserted_count-plain h asked.base asked.delta asked.group asked.priority asked.author)));
 }
   where
-    now : IsHistoryOf new.union new.revisions (edited h (in_characters rev fitting.edit))
+    now : IsHistoryOf new.union new.revisions (edited (left_of h) (in_characters rev fitting.edit))
     now =
-        IsHistoryOf-after engine.union engine.revisions rev fitting.edit is.base new.union new.revisions next.put h (IsHistoryOf-stands engine h stands)
+        IsHistoryOf-after engine.union engine.revisions rev fitting.edit is.base new.union new.revisions next.put (left_of h)
+        (IsHistoryOf-stands engine h stands)
 
-    asking : MayAsk (without_text h) asked.group
-    asking = subst (λ g. MayAsk g asked.group) stands.revisions may
+    taken : IsTaken engine.limit h asked
+    taken = IsTaken-asked engine h asked stands may accepted
+
+    goes_along : left_of (edited h (meant h asked)) ≡ edited (left_of h) (meant h asked)
+    goes_along = left_of-edited h (meant h asked) (forgets-stands engine h stands) (MayEdit-taken engine.limit h asked taken)
+
+-- what the edit changes of what is left it changes of the history
+pub IsChange-after : (engine : State) (h : History) (asked : AskedEdit) (rev : ℕ) (edit : UnitEdit) (change : Change) → StandsFor engine h →
+    MayAsk engine.revisions asked.group → edit_refusal h engine.limit asked.base asked.delta ≡ None → meant h asked ≡ in_characters rev edit →
+    IsChange (left_of h) (edited (left_of h) (in_characters rev edit)) change → IsChange h (after h asked) change
+IsChange-after engine h asked rev edit change stands may accepted same changes =
+    let forgets = forgets-stands engine h stands in
+    let comes = MayEdit-taken engine.limit h asked (IsTaken-asked engine h asked stands may accepted) in
+    let more : head (after h asked) ≡ head h + 1 = head-step h (meant h asked) in
+    IsChange-left h (after h asked) forgets (MayForget-after_step h (Steps.edits (meant h asked)) forgets comes) forgets.formed.floor
+    (omega (arith, more)) change
+    (subst (λ g. IsChange (left_of h) g change) (sym (left_of-edited h (meant h asked) forgets comes))
+    (subst (λ e. IsChange (left_of h) (edited (left_of h) e) change) (sym same) changes))
 
 -- an edit in bytes
 module _ (engine : State) (h : History) (edit : Edit) (fitting : Fitting) (stands : StandsFor engine h) (is : IsFitting engine edit.rev fitting)
@@ -232,7 +280,7 @@ module _ (engine : State) (h : History) (edit : Edit) (fitting : Fitting) (stand
   same-asked : meant h (asked_by edit) ≡ in_characters edit.rev fitting.edit
   same-asked =
       same_edit h (asked_by edit) edit.rev fitting.edit refl
-      (subst (λ text. IsUnitsOf text edit.delta fitting.edit.units) (shown-stands engine h edit.rev stands) answers.units)
+      (subst (λ text. IsUnitsOf text edit.delta fitting.edit.units) (shown-stands engine h stands edit.rev (is.base_kept, is.base_known)) answers.units)
       answers.group answers.priority answers.author
 
   more-asked : length (added_text fitting.edit.units) ≡ inserted_len edit.delta.els
@@ -246,22 +294,24 @@ module _ (engine : State) (h : History) (edit : Edit) (fitting : Fitting) (stand
   pub StandsFor-asked : (new : State) → MayAsk engine.revisions edit.group → IsNext engine edit.rev fitting new → StandsFor new (after h (asked_by edit))
   StandsFor-asked new may next = StandsFor-after engine new h (asked_by edit) edit.rev fitting stands is may accepted-asked same-asked more-asked next
 
-  pub IsChange-asked : (change : Change) → IsChange h (edited h (in_characters edit.rev fitting.edit)) change → IsChange h (after h (asked_by edit)) change
-  IsChange-asked change changes = subst (λ e. IsChange h (edited h e) change) (sym same-asked) changes
+  pub IsChange-asked : (change : Change) → MayAsk engine.revisions edit.group →
+      IsChange (left_of h) (edited (left_of h) (in_characters edit.rev fitting.edit)) change → IsChange h (after h (asked_by edit)) change
+  IsChange-asked change may changes =
+      IsChange-after engine h (asked_by edit) edit.rev fitting.edit change stands may accepted-asked same-asked changes
 
 -- an edit of the head text, in characters
 module _ (engine : State) (h : History) (edit : UnitEdit) (asked : AskedEdit) (stands : StandsFor engine h) (said : IsSaidBy h edit asked) where
   head-said : asked.base ≡ head engine.revisions
-  head-said = said.base ∙ ap head (sym stands.revisions)
-
-  text-said : text_at h (head h) ≡ shown_at engine.union engine.revisions asked.base
-  text-said = ap (text_at h) (sym said.base) ∙ sym (shown-stands engine h asked.base stands)
+  head-said = said.base ∙ sym (head-stands engine h stands)
 
   kept-said : IsKeptAt engine.revisions asked.base
   kept-said = (
-    omega (arith, said.base, ap (λ (g : History). g.floor) stands.revisions, (IsOfEngine-given engine.limit h stands.given).formed.floor),
+    omega (arith, said.base, floor-stands engine h stands, (forgets-stands engine h stands).formed.floor),
     omega (arith, head-said),
   )
+
+  text-said : text_at h (head h) ≡ shown_at engine.union engine.revisions asked.base
+  text-said = ap (text_at h) (sym said.base) ∙ sym (shown-stands engine h stands asked.base kept-said)
 
   more-said : length (added_text edit.units) ≡ inserted_len asked.delta.els
   more-said = length-added_text _ _ _ said.units
@@ -292,7 +342,8 @@ module _ (engine : State) (h : History) (edit : UnitEdit) (asked : AskedEdit) (s
         StandsFor-after engine new h asked (head engine.revisions) fitting stands is (subst (MayAsk engine.revisions) (sym said.group) may) accepted-said
         same-said more-fitting (subst (λ r. IsNext engine r fitting new) rev_is next)
 
-    pub IsChange-said : (change : Change) (rev : ℕ) → rev ≡ head engine.revisions → IsChange h (edited h (in_characters rev fitting.edit)) change →
-        IsChange h (after h asked) change
-    IsChange-said change rev rev_is changes =
-        subst (λ e. IsChange h (edited h e) change) (ap (λ r. in_characters r fitting.edit) rev_is ∙ sym same-said) changes
+    pub IsChange-said : (change : Change) (rev : ℕ) → rev ≡ head engine.revisions → MayAsk engine.revisions edit.group →
+        IsChange (left_of h) (edited (left_of h) (in_characters rev fitting.edit)) change → IsChange h (after h asked) change
+    IsChange-said change rev rev_is may changes =
+        IsChange-after engine h asked rev fitting.edit change stands (subst (MayAsk engine.revisions) (sym said.group) may) accepted-said
+        (same-said ∙ ap (λ r. in_characters r fitting.edit) (sym rev_is)) changes

@@ -228,3 +228,22 @@ pub IsPuttingAt-end : (made : List ℕ) (gap : ℕ) (new : List ℕ) (walk : Lis
 IsPuttingAt-end made gap new walk all bytes at none =
     let over : length at.old ≡ 0 = omega (arith, at.putting.longer, ap length none) in
     at.cut ∙ (ap (λ xs. at.front ++ xs) (nil_from_length at.old over) ∙ append-nil at.front) ∙ IsPutting-end at.front new at.old all walk at.putting none
+
+-- ---- the characters outside of no flag
+
+pub length-none : (n : ℕ) → length (replicate n false) ≡ n
+length-none zero = refl
+length-none (suc n) = ap suc (length-none n)
+
+pub outside-none : (xs : List ℕ) → items_outside (replicate (length xs) false) xs ≡ xs
+outside-none [] = refl
+outside-none (x ∷ xs) = ap (λ ys. x ∷ ys) (outside-none xs)
+
+-- the same of flags without a member
+pub outside-uncounted : (flags : List Bool) (xs : List ℕ) → length xs ≡ length flags → count flags ≡ 0 → items_outside flags xs ≡ xs
+outside-uncounted [] [] same no_member = refl
+outside-uncounted [] (x ∷ xs) same no_member = absurd (omega (arith, same))
+outside-uncounted (true ∷ flags) xs same no_member = absurd (omega (arith, no_member))
+outside-uncounted (false ∷ flags) [] same no_member = absurd (omega (arith, same))
+outside-uncounted (false ∷ flags) (x ∷ xs) same no_member =
+    ap (λ ys. x ∷ ys) (outside-uncounted flags xs (omega (arith, same)) (omega (arith, no_member)))

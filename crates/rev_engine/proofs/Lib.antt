@@ -3,6 +3,7 @@ pub mod SpentLemmas
 pub mod ByteLemmas
 pub mod PlacedLemmas
 pub mod AskedLemmas
+pub mod LeftLemmas
 pub mod StandLemmas
 pub mod ChangeLemmas
 pub mod BlockLemmas
@@ -17,5 +18,7 @@ pub mod CommuteLemmas
 pub mod SelectiveLemmas
 pub mod FrozenLemmas
 pub mod KnownLemmas
+pub mod SinceLemmas
 pub mod UndoLemmas
+pub mod CollectLemmas
 pub mod ForCallers

@@ -8,18 +8,25 @@ use Rattle.plain_text.specs.Text.{byte_len}
 use Rattle.plain_edits.specs.History.{History, head, text_at}
 use Rattle.delta_core.specs.Units.{text_after}
 use Rattle.delta_core.specs.Synthesis.{IsBetween}
+use Rattle.collection_laws.specs.Left.{left_of}
 use Rattle.rev_list.specs.Hidden.{hidden_at}
 use Rattle.rev_list.proofs.ForCallers.{hidden_without_text}
-use Rattle.rev_engine.specs.State.{IsHeld, IsHistoryOf, shown_at}
+use Rattle.rev_engine.specs.State.{IsHeld, IsHistoryOf, IsLeftOf, shown_at}
 use Rattle.rev_engine.specs.Engine.{IsChangeBy}
 use Rattle.rev_engine.proofs.ChangeLemmas.{IsChange-between}
-use Rattle.rev_engine.proofs.StandLemmas.{shown-history}
+use Rattle.rev_engine.proofs.StandLemmas.{IsHistoryOf-left, shown-history}
 
 -- the head text is edited by the change
 pub record GoesOn (text union : List ℕ) (revisions : History) (limit spent : ℕ) (units : UnitDelta) : Type 0 where
   pub base : units.base ≡ length text
   pub short : byte_len (text_after units text) < 2 ^ 64
   pub holds : (text_now : List ℕ) → text_now ≡ text_after units text → IsHeld union text_now revisions limit spent
+
+-- what is left of some history is one
+pub some-left : (union : List ℕ) (revisions : History) → ∥ ((h : History) × IsLeftOf union revisions h) ∥₁ →
+    ∥ ((h : History) × IsHistoryOf union revisions h) ∥₁
+some-left union revisions some =
+    ∥∥₁_map some (λ (s : (h : History) × IsLeftOf union revisions h). (left_of s.0, IsHistoryOf-left union revisions s.0 s.1))
 
 -- the parts after a step are those of each history after the step
 module _ (union union_after : List ℕ) (revisions revisions_after : History) (step : History → History)

@@ -53,5 +53,5 @@ may_undo_more limit history more given are =
             absurd (both_ways (has history.collected group)
             (of_one (λ g. has history.collected g ≡ false) more group are.not_collected new) collected)));
       };
-      rising = IsRising-with_numbers (undone_now history) more (rising_after [] history.revisions (head history) tt is.formed.sets);
+      rising = IsRising-with_numbers (undone_now history) more (rising_after [] history.revisions (head history) tt is.forgets.formed.sets);
     }

@@ -1,16 +1,22 @@
 -- What an engine says of a history that it stands for.
-use Rattle.std.proofs.Common.{◌≡◌, ℕ, ◌+◌, ◌^◌, ◌<◌, ◌≤◌, inl, inr, Bool, true, false, cond, if◌then◌else◌, not, nat_lt, List, [], ◌∷◌, length, map, filter, replicate, Some, None, refl, ap, ap₂, sym, ◌∙◌, subst, arith}
-use Rattle.std.specs.List.{AllByRecursion, list_any}
+use Rattle.std.proofs.Common.{◌≡◌, ℕ, ◌+◌, ◌^◌, ◌<◌, ◌≤◌, inl, inr, Result, Ok, Err, IfOk, OnOk, Bool, true, false, ◌||◌, cond, if◌then◌else◌, not, nat_lt, List, [], ◌∷◌, length, map, filter, replicate, Some, None, refl, ap, ap₂, sym, ◌∙◌, subst, arith}
 use Rattle.std.proofs.lemmas.Bool.{cases_lt, lt-ltb, le-ltb}
 use Rattle.std.proofs.lemmas.List.{length-map}
 use Rattle.subset_runs.specs.Subset.{items_outside}
 use Rattle.plain_edits.specs.declared.delta.Delta.{Delta}
 use Rattle.plain_edits.specs.declared.delta.Misfit.{Misfit}
 use Rattle.plain_edits.specs.Delta.{Fits, misfit_of}
-use Rattle.plain_edits.specs.History.{Tagged, History, head, is_visible, inserted_count, loaded, text_at, visible_at}
-use Rattle.plain_edits.specs.Edits.{collected, edit_refusal, misfit, misfit_or_spent, spent, unknown}
+use Rattle.plain_edits.specs.History.{Tagged, History, head, is_visible, inserted_count, loaded, text_at, undone, visible_at}
+use Rattle.plain_edits.specs.Edits.{collected, edit_refusal, is_edit_of, misfit, misfit_or_spent, spent, unknown}
+use Rattle.plain_edits.specs.HistorySteps.{IsWellFormed}
+use Rattle.plain_text.specs.Numbers.{has}
+use Rattle.std.specs.List.{list_any}
 use Rattle.plain_edits.specs.Delta.{inserted_len}
-use Rattle.plain_edits.specs.Collection.{is_dropped, kept}
+use Rattle.plain_edits.specs.Collection.{kept}
+use Rattle.plain_edits.specs.Undo.{undone_now}
+use Rattle.collection_laws.specs.MayForget.{MayForget}
+use Rattle.collection_laws.specs.Left.{left_of}
+use Rattle.collection_laws.proofs.ForCallers.{IsWellFormed-left, MayForget-loaded, head-left, left_of-whole, length-left, text_at-left, undone-left}
 use Rattle.plain_text.proofs.callers.ListLemmas.{count_by-no}
 use Rattle.plain_edits.proofs.callers.HistoryLemmas.{IsSound-loaded}
 use Rattle.rev_list.specs.declared.fault.RevFault.{RevFault}
@@ -23,33 +29,11 @@ use Rattle.plain_edits.specs.declared.fault.EditFault.{EditFault}
 use Rattle.plain_edits.specs.EditFault.{Refuses, refusal_of}
 use Rattle.rev_list.specs.RevFault.{fault_of_base}
 use Rattle.plain_text.specs.Text.{byte_len}
-use Rattle.rev_engine.specs.State.{IsHeld, IsHistoryOf, State, shown_at}
+use Rattle.rev_engine.specs.Asked.{IsKnown, IsOfEngine}
+use Rattle.rev_engine.specs.State.{IsHeld, IsHistoryOf, IsLeftOf, State, shown_at}
 use Rattle.rev_engine.specs.Engine.{StandsFor}
-use Rattle.rev_engine.proofs.AskedLemmas.{IsGiven-loaded, IsOfEngine-given}
-use Rattle.rev_engine.proofs.SpentLemmas.{count_by-all}
-
--- ---- what is kept
-
-any_none : (xs : List ℕ) → list_any (λ _. false) xs ≡ false
-any_none [] = refl
-any_none (x ∷ xs) = any_none xs
-
-dropped_none : (h : History) (tagged : Tagged) → h.collected ≡ [] → is_dropped h tagged ≡ false
-dropped_none h tagged none =
-    ap (λ (collected : List ℕ). is_dropped (record h { collected = collected }) tagged) none ∙ any_none tagged.deleted
-
-pub kept-all : (h : History) → h.collected ≡ [] → kept h ≡ length h.characters
-kept-all h none = count_by-all (λ tagged. not (is_dropped h tagged)) h.characters (each h.characters)
-  where
-    each : (xs : List Tagged) → AllByRecursion (λ tagged. not (is_dropped h tagged) ≡ true) xs
-    each [] = tt
-    each (x ∷ xs) = (ap not (dropped_none h x none), each xs)
-
-pub kept-stands : (engine : State) (h : History) (n : ℕ) → StandsFor engine h → engine.revisions.collected ≡ [] →
-    n ≡ length engine.revisions.characters → n ≡ kept h
-kept-stands engine h n stands none is =
-    is ∙ (ap (λ g. length g.characters) stands.revisions ∙
-    (length-map h.characters _ ∙ sym (kept-all h (ap (λ (g : History). g.collected) (sym stands.revisions) ∙ none))))
+use Rattle.rev_engine.proofs.AskedLemmas.{IsGiven-loaded, IsOfEngine-given, IsOfEngine-loaded}
+use Rattle.rev_engine.proofs.LeftLemmas.{known-left}
 
 -- ---- what is shown
 
@@ -72,19 +56,105 @@ pub shown-history : (union : List ℕ) (revisions h : History) (rev : ℕ) → I
 shown-history union revisions h rev is =
     ap₂ (λ xs g. shown_at xs g rev) is.union_is is.revisions_is ∙ shown_at-text_at h rev
 
-pub IsHistoryOf-stands : (engine : State) (h : History) → StandsFor engine h → IsHistoryOf engine.union engine.revisions h
-IsHistoryOf-stands engine h stands =
-    record { sound = (IsOfEngine-given engine.limit h stands.given).formed.sound; union_is = stands.union; revisions_is = stands.revisions }
+-- ---- what is said by what is left of a history
 
-pub head-text : (engine : State) (h : History) (text : List ℕ) → StandsFor engine h →
-    text ≡ shown_at engine.union engine.revisions (head engine.revisions) → text ≡ text_at h (head h)
-head-text engine h text stands is =
-    is ∙ shown-history engine.union engine.revisions h (head engine.revisions) (IsHistoryOf-stands engine h stands) ∙
-    ap (λ g. text_at h (head g)) stands.revisions
+-- what is left of a later history, where it is these characters and revisions
+pub IsLeftOf-said : (union : List ℕ) (revisions later left : History) → IsOfEngine later → left_of later ≡ left → IsHistoryOf union revisions left →
+    IsLeftOf union revisions later
+IsLeftOf-said union revisions later left of_engine same is = record {
+  of_engine = of_engine;
+  union_is = is.union_is ∙ ap characters_of (sym same);
+  revisions_is = is.revisions_is ∙ ap without_text (sym same);
+}
 
-pub shown-stands : (engine : State) (h : History) (rev : ℕ) → StandsFor engine h → shown_at engine.union engine.revisions rev ≡ text_at h rev
-shown-stands engine h rev stands =
-    ap₂ (λ union revisions. shown_at union revisions rev) stands.union stands.revisions ∙ shown_at-text_at h rev
+module _ (union : List ℕ) (revisions h : History) (is : IsLeftOf union revisions h) where
+  pub forgets-left : MayForget h
+  forgets-left = is.of_engine.forgets
+
+  within-left : h.floor ≤ head h
+  within-left = forgets-left.formed.floor
+
+  pub IsHistoryOf-left : IsHistoryOf union revisions (left_of h)
+  IsHistoryOf-left = record { sound = (IsWellFormed-left h forgets-left).sound; union_is = is.union_is; revisions_is = is.revisions_is }
+
+  pub head-is : head revisions ≡ head h
+  head-is = ap head is.revisions_is ∙ head-left h within-left
+
+  pub floor-is : revisions.floor ≡ h.floor
+  floor-is = ap (λ (g : History). g.floor) is.revisions_is
+
+  pub collected-is : revisions.collected ≡ h.collected
+  collected-is = ap (λ (g : History). g.collected) is.revisions_is
+
+  pub undone_now-is : undone_now revisions ≡ undone_now h
+  undone_now-is =
+      ap undone_now is.revisions_is ∙ ap (undone (left_of h).revisions) (head-left h within-left) ∙ undone-left h within-left (head h) within-left
+
+  pub IsKeptAt-is : (rev : ℕ) → IsKeptAt revisions rev → IsKeptAt h rev
+  IsKeptAt-is rev kept = (omega (arith, kept.0, floor-is), omega (arith, kept.1, head-is))
+
+  pub shown-is : (rev : ℕ) → IsKeptAt revisions rev → shown_at union revisions rev ≡ text_at h rev
+  shown-is rev kept =
+      shown-history union revisions (left_of h) rev IsHistoryOf-left ∙
+      text_at-left h forgets-left rev (IsKeptAt-is rev kept).0 (IsKeptAt-is rev kept).1
+
+  pub shown-head : shown_at union revisions (head revisions) ≡ text_at h (head h)
+  shown-head = shown-is (head revisions) (omega (arith, floor-is, head-is, within-left), omega arith) ∙ ap (text_at h) head-is
+
+-- and so it is of an engine that stands for the history
+module _ (engine : State) (h : History) (stands : StandsFor engine h) where
+  pub IsLeftOf-stands : IsLeftOf engine.union engine.revisions h
+  IsLeftOf-stands =
+      record { of_engine = IsOfEngine-given engine.limit h stands.given; union_is = stands.union; revisions_is = stands.revisions }
+
+  pub forgets-stands : MayForget h
+  forgets-stands = forgets-left engine.union engine.revisions h IsLeftOf-stands
+
+  pub IsHistoryOf-stands : IsHistoryOf engine.union engine.revisions (left_of h)
+  IsHistoryOf-stands = IsHistoryOf-left engine.union engine.revisions h IsLeftOf-stands
+
+  pub head-stands : head engine.revisions ≡ head h
+  head-stands = head-is engine.union engine.revisions h IsLeftOf-stands
+
+  pub floor-stands : engine.revisions.floor ≡ h.floor
+  floor-stands = floor-is engine.union engine.revisions h IsLeftOf-stands
+
+  pub collected-stands : engine.revisions.collected ≡ h.collected
+  collected-stands = collected-is engine.union engine.revisions h IsLeftOf-stands
+
+  pub undone_now-stands : undone_now engine.revisions ≡ undone_now h
+  undone_now-stands = undone_now-is engine.union engine.revisions h IsLeftOf-stands
+
+  pub IsKeptAt-stands : (rev : ℕ) → IsKeptAt engine.revisions rev → IsKeptAt h rev
+  IsKeptAt-stands = IsKeptAt-is engine.union engine.revisions h IsLeftOf-stands
+
+  pub shown-stands : (rev : ℕ) → IsKeptAt engine.revisions rev → shown_at engine.union engine.revisions rev ≡ text_at h rev
+  shown-stands = shown-is engine.union engine.revisions h IsLeftOf-stands
+
+  pub head-text : (text : List ℕ) → text ≡ shown_at engine.union engine.revisions (head engine.revisions) → text ≡ text_at h (head h)
+  head-text text is = is ∙ shown-head engine.union engine.revisions h IsLeftOf-stands
+
+  -- as many characters are kept as it has positions
+  pub kept-stands : (n : ℕ) → n ≡ length engine.revisions.characters → n ≡ kept h
+  kept-stands n is =
+      is ∙ (ap (λ (g : History). length g.characters) stands.revisions ∙ (length-map (left_of h).characters _ ∙ length-left h))
+
+  -- what is known in the history is known to it
+  pub IsKnown-stands : (group : ℕ) → IsKnown h group → IsKnown engine.revisions group
+  IsKnown-stands group known = (
+    known.0,
+    ap (λ (g : History). list_any (is_edit_of group) g.revisions || has g.collected group) stands.revisions ∙
+        known-left h group forgets-stands.formed known.1,
+  )
+
+  pub formed-stands : IsWellFormed h
+  formed-stands = forgets-stands.formed
+
+  pub shown_head-stands : shown_at engine.union engine.revisions (head engine.revisions) ≡ text_at h (head h)
+  shown_head-stands = shown-head engine.union engine.revisions h IsLeftOf-stands
+
+  pub union-kept : length engine.union ≡ kept h
+  union-kept = ap length stands.union ∙ (length-map (left_of h).characters _ ∙ length-left h)
 
 length-outside : (p : Tagged → Bool) (ts : List Tagged) (xs : List ℕ) → length xs ≡ length ts →
     length (items_outside (map (λ t. not (p t)) ts) xs) ≡ length (filter p ts)
@@ -96,6 +166,13 @@ length-outside p (t ∷ ts) (x ∷ xs) same = both (p t) (length-outside p ts xs
         length (items_outside (not b ∷ map (λ u. not (p u)) ts) (x ∷ xs)) ≡ length (cond b (t ∷ filter p ts) (filter p ts))
     both true rest = omega (arith, rest)
     both false rest = rest
+
+-- what is answered of a revision is its text
+pub text-shown : {E : Type 0} (engine : State) (h : History) (rev : ℕ) → StandsFor engine h → (answer : Result (List ℕ) E) →
+    IfOk answer (λ text. text ≡ shown_at engine.union engine.revisions rev) → OnOk answer (IsKeptAt engine.revisions rev) →
+    IfOk answer (λ text. text ≡ text_at h rev)
+text-shown engine h rev stands (Ok text) is kept = is ∙ shown-stands engine h stands rev kept
+text-shown engine h rev stands (Err fault) is kept = tt
 
 -- as many as the revision shows
 pub length-shown_at : (union : List ℕ) (revisions : History) (rev : ℕ) → length union ≡ length revisions.characters →
@@ -153,15 +230,16 @@ IsKeptAt-answered revisions rev known kept = (
 
 module _ (engine : State) (h : History) (base : ℕ) (delta : Delta) (stands : StandsFor engine h) where
   kept_then : IsKeptAt engine.revisions base → IsKeptAt h base
-  kept_then kept = subst (λ revisions. IsKeptAt revisions base) stands.revisions kept
+  kept_then kept = IsKeptAt-stands engine h stands base kept
 
   pub Refuses-base : (rev : RevFault) (fault : EditFault) → ((n : ℕ) → rev ≡ Rev.Unknown n → IsUnknown engine.revisions base n) →
       ((n : ℕ) → rev ≡ Rev.Collected n → IsCollected engine.revisions base n) → fault ≡ fault_of_base rev →
       Refuses (edit_refusal h engine.limit base delta) fault
   Refuses-base (Rev.Unknown n) fault above below is = λ _.
-      refusal-unknown h engine.limit base delta n (subst (λ revisions. IsUnknown revisions base n) stands.revisions (above n refl)) ∙ ap refusal_of (sym is)
+      refusal-unknown h engine.limit base delta n (subst (λ last. (last < base) × (n ≡ last)) (head-stands engine h stands) (above n refl)) ∙
+      ap refusal_of (sym is)
   Refuses-base (Rev.Collected n) fault above below is = λ _.
-      refusal-collected h engine.limit base delta n (IsOfEngine-given engine.limit h stands.given).formed.floor
+      refusal-collected h engine.limit base delta n (forgets-stands engine h stands).formed.floor
       (subst (λ revisions. IsCollected revisions base n) stands.revisions (below n refl)) ∙ ap refusal_of (sym is)
   Refuses-base Rev.NoMemory fault above below is = λ other. absurd (other is)
 
@@ -169,10 +247,11 @@ module _ (engine : State) (h : History) (base : ℕ) (delta : Delta) (stands : S
       misfit_of text delta ≡ Some first → edit_refusal h engine.limit base delta ≡ Some (misfit first)
   refused-misfit text first kept text_is is =
       refusal-misfit h engine.limit base delta first (kept_then kept).0 (kept_then kept).1
-      (ap (λ shown. misfit_of shown delta) (sym (text_is ∙ shown-stands engine h base stands)) ∙ is)
+      (ap (λ shown. misfit_of shown delta) (sym (text_is ∙ shown-stands engine h stands base kept)) ∙ is)
 
-  fits_then : (text : List ℕ) → text ≡ shown_at engine.union engine.revisions base → Fits text delta → Fits (text_at h base) delta
-  fits_then text text_is fits = ap (λ shown. misfit_of shown delta) (sym (text_is ∙ shown-stands engine h base stands)) ∙ fits
+  fits_then : (text : List ℕ) → IsKeptAt engine.revisions base → text ≡ shown_at engine.union engine.revisions base → Fits text delta →
+      Fits (text_at h base) delta
+  fits_then text kept text_is fits = ap (λ shown. misfit_of shown delta) (sym (text_is ∙ shown-stands engine h stands base kept)) ∙ fits
 
   spent_then : inserted_count h + inserted_len delta.els ≡ engine.spent + inserted_len delta.els
   spent_then = ap (λ n. n + inserted_len delta.els) (sym stands.spent)
@@ -180,13 +259,13 @@ module _ (engine : State) (h : History) (base : ℕ) (delta : Delta) (stands : S
   pub refused-spent : (text : List ℕ) (total : ℕ) → IsKeptAt engine.revisions base → text ≡ shown_at engine.union engine.revisions base → Fits text delta →
       total ≡ engine.spent + inserted_len delta.els → engine.limit < total → edit_refusal h engine.limit base delta ≡ Some (spent total)
   refused-spent text total kept text_is fits total_is past =
-      refusal-spent h engine.limit base delta (kept_then kept).0 (kept_then kept).1 (fits_then text text_is fits) (omega (arith, past, total_is, spent_then)) ∙
+      refusal-spent h engine.limit base delta (kept_then kept).0 (kept_then kept).1 (fits_then text kept text_is fits) (omega (arith, past, total_is, spent_then)) ∙
       ap (λ n. Some (spent n)) (spent_then ∙ sym total_is)
 
   pub accepted-fitting : (text : List ℕ) (total : ℕ) → IsKeptAt engine.revisions base → text ≡ shown_at engine.union engine.revisions base → Fits text delta →
       total ≡ engine.spent + inserted_len delta.els → total ≤ engine.limit → edit_refusal h engine.limit base delta ≡ None
   accepted-fitting text total kept text_is fits total_is within =
-      refusal-none h engine.limit base delta (kept_then kept).0 (kept_then kept).1 (fits_then text text_is fits) (omega (arith, within, total_is, spent_then))
+      refusal-none h engine.limit base delta (kept_then kept).0 (kept_then kept).1 (fits_then text kept text_is fits) (omega (arith, within, total_is, spent_then))
 
 -- ---- the engine of a loaded text
 
@@ -203,14 +282,18 @@ spent-loaded [] = refl
 spent-loaded (c ∷ text) =
     count_by-no (λ tagged. nat_lt 0 tagged.inserted) (record { character = c; inserted = 0; deleted = [] }) (loaded text).characters refl ∙ spent-loaded text
 
+left-loaded : (text : List ℕ) → left_of (loaded text) ≡ loaded text
+left-loaded text = left_of-whole (loaded text) (MayForget-loaded text) refl refl
+
 pub StandsFor-loaded : (engine : State) (text : List ℕ) → engine.union ≡ text → engine.revisions ≡ loaded (replicate (length text) 0) → engine.spent ≡ 0 →
     StandsFor engine (loaded text)
 StandsFor-loaded engine text union_is revisions_is spent_is = record {
   given = IsGiven-loaded engine.limit text;
-  union = union_is ∙ characters-loaded text;
+  union = union_is ∙ characters-loaded text ∙ ap characters_of (sym (left-loaded text));
   revisions =
       revisions_is ∙
-      ap (λ (xs : List Tagged). record { characters = xs; revisions = []; floor = 0; collected = [] }) (positions-loaded text);
+      ap (λ (xs : List Tagged). record { characters = xs; revisions = []; floor = 0; collected = [] }) (positions-loaded text) ∙
+      ap without_text (sym (left-loaded text));
   spent = spent_is ∙ sym (spent-loaded text);
 }
 
@@ -222,10 +305,9 @@ pub IsHeld-loaded : (text union head_text : List ℕ) (revisions : History) (lim
     revisions ≡ loaded (replicate (length text) 0) → limit ≤ 2 ^ 60 → byte_len text < 2 ^ 63 → IsHeld union head_text revisions limit 0
 IsHeld-loaded text union head_text revisions limit union_is head_is revisions_is bound few =
     rw (union_is, head_is, revisions_same) record {
-      some = ∣ (loaded text, is) ∣₁;
+      some = ∣ (loaded text, IsLeftOf-said text (without_text (loaded text)) (loaded text) (loaded text) (IsOfEngine-loaded text) (left-loaded text) is) ∣₁;
       positions = sym (length-map (loaded text).characters _ ∙ length-map text _);
       floor = omega arith;
-      uncollected = refl;
       shown = sym (shown_at-start ∙ text_at-loaded text);
       known = tt;
       within = omega arith;

@@ -1,15 +1,22 @@
 -- The last step of an undo: it is the undo step of every history that the engine stands for.
-use Rattle.std.proofs.Common.{◌≡◌, ℕ, ◌+◌, ◌-◌, ◌^◌, ◌<◌, Bool, true, false, ◌||◌, List, [], ◌∷◌, length-append, refl, ap, sym, ◌∙◌, subst, arith}
+use Rattle.std.proofs.Common.{◌≡◌, ℕ, ◌+◌, ◌-◌, ◌^◌, ◌<◌, true, List, [], ◌∷◌, length-append, inl, inr, ◌⊎◌, refl, ap, sym, ◌∙◌, subst, arith}
+use Rattle.std.proofs.Math.Logic.{∥∥₁_map}
 use Rattle.std.specs.List.{AllByRecursion, list_any}
-use Rattle.plain_text.specs.Numbers.{has, IsRising}
+use Rattle.plain_text.specs.Numbers.{flipped, has, IsRising}
+use Rattle.std.proofs.lemmas.Bool.{or_cases}
 use Rattle.plain_text.specs.Text.{byte_len}
-use Rattle.plain_text.proofs.callers.ListLemmas.{AllByRecursion-weaker}
 use Rattle.plain_edits.specs.declared.delta.UnitDelta.{UnitDelta}
 use Rattle.plain_edits.specs.History.{History, undo, head}
 use Rattle.plain_edits.specs.HistorySteps.{MayUndoSet}
 use Rattle.plain_edits.specs.Edits.{undid, is_edit_of}
 use Rattle.plain_edits.proofs.callers.HistoryLemmas.{IsSound-undid, text_at-undid}
+use Rattle.plain_edits.specs.HistorySteps as Steps
 use Rattle.delta_core.specs.Synthesis.{IsBetween}
+use Rattle.collection_laws.specs.Left.{left_of}
+use Rattle.collection_laws.proofs.ForCallers.{MayForget-after_step, left_of-undid}
+use Rattle.rev_list.specs.WithoutText.{without_text}
+use Rattle.rev_rebase.specs.Rebase.{characters_of}
+use Rattle.rev_undo.proofs.ForCallers.{of_all, of_one}
 use Rattle.rev_list.specs.Hidden.{hidden_at}
 use Rattle.rev_undo.specs.Allowed.{HasEdit}
 use Rattle.rev_undo.specs.Under.{AgreesOnCollected}
@@ -17,31 +24,44 @@ use Rattle.rev_list.specs.Edit.{undone_by, MayUndoGroups}
 use Rattle.plain_edits.specs.Undo.{undone_now}
 use Rattle.plain_text.proofs.callers.NumberLemmas.{IsRising-flipped}
 use Rattle.rev_engine.specs.Asked.{undoes, IsKnown, MayAskUndo}
-use Rattle.rev_engine.specs.State.{IsHeld, IsHistoryOf, State, shown_at}
+use Rattle.rev_engine.specs.State.{IsHeld, IsHistoryOf, IsLeftOf, State, shown_at}
+use Rattle.rev_engine.specs.declared.edit.Change.{Change}
 use Rattle.rev_engine.specs.Engine.{IsChange, IsChangeBy, StandsFor}
-use Rattle.rev_engine.proofs.AskedLemmas.{IsGiven-after, IsKnown-more, undone_now-undid}
+use Rattle.rev_engine.proofs.AskedLemmas.{IsGiven-after, IsKnown-more, IsOfEngine-undid, undone_now-undid}
+use Rattle.rev_engine.proofs.LeftLemmas.{IsChange-left, has_edit-left}
+use Rattle.rev_engine.proofs.StandLemmas.{IsHistoryOf-left, IsLeftOf-said, IsLeftOf-stands, collected-is, forgets-stands, head-stands, undone_now-is, undone_now-stands}
 use Rattle.rev_engine.proofs.ByteLemmas.{byte_len-outside}
-use Rattle.rev_engine.proofs.NextLemmas.{GoesOn, IsChangeBy-between, goes-on-by, some-after}
+use Rattle.rev_engine.proofs.NextLemmas.{GoesOn, IsChangeBy-between, goes-on-by, some-left}
 
 -- ---- when a set may be undone
 
-or_none : (a b : Bool) → b ≡ false → (a || b) ≡ true → a ≡ true
-or_none true b none some = refl
-or_none false true none some = absurd cc
-or_none false false none some = some
-
--- where no group is collected
-pub MayUndoSet-known : (h : History) (groups : List ℕ) → h.collected ≡ [] → AllByRecursion (IsKnown h) groups →
-    AgreesOnCollected h groups → IsRising groups → MayUndoSet h groups
-MayUndoSet-known h groups none known agrees rising = record {
+-- the set may be undone in the history: what of its groups is collected has to agree with what is undone there, and so has an edit
+pub MayUndoSet-left : (union : List ℕ) (revisions h : History) (groups : List ℕ) → IsLeftOf union revisions h → AllByRecursion (IsKnown revisions) groups →
+    AgreesOnCollected revisions groups → IsRising groups → MayUndoSet h groups
+MayUndoSet-left union revisions h groups left known agrees rising = record {
   allowed = record {
     known =
-        AllByRecursion-weaker (IsKnown h) (HasEdit h)
-        (λ group is. (is.0, or_none (list_any (is_edit_of group) h.revisions) (has h.collected group) (ap (λ collected. has collected group) none) is.1)) groups known;
-    frozen = agrees;
+        of_all (HasEdit h) groups (λ group there.
+        let is = of_one (IsKnown revisions) groups group known there in
+        (is.0, by group there (or_cases (list_any (is_edit_of group) revisions.revisions) (has revisions.collected group) is.1)));
+    frozen = of_all (λ group. has groups group ≡ has (undone_now h) group) h.collected (λ group there. agreed group there);
   };
   rising = rising;
 }
+  where
+    agreed : (group : ℕ) → has h.collected group ≡ true → has groups group ≡ has (undone_now h) group
+    agreed group there =
+        of_one (λ g. has groups g ≡ has (undone_now revisions) g) revisions.collected group agrees
+        (ap (λ (set : List ℕ). has set group) (collected-is union revisions h left) ∙ there) ∙
+        ap (λ (set : List ℕ). has set group) (undone_now-is union revisions h left)
+
+    by : (group : ℕ) → has groups group ≡ true →
+        ((list_any (is_edit_of group) revisions.revisions ≡ true) ⊎ (has revisions.collected group ≡ true)) →
+        list_any (is_edit_of group) h.revisions ≡ true
+    by group there (inl edit) = has_edit-left h group (ap (λ (g : History). list_any (is_edit_of group) g.revisions) (sym left.revisions_is) ∙ edit)
+    by group there (inr collected) =
+        let frozen : has h.collected group ≡ true = ap (λ (set : List ℕ). has set group) (sym (collected-is union revisions h left)) ∙ collected in
+        (of_one (HasEdit h) (undone_now h) group left.of_engine.undone_known (sym (agreed group frozen) ∙ there)).1
 
 -- ---- the parts after it
 
@@ -63,7 +83,16 @@ module _ (union : List ℕ) (revisions : History) (groups : List ℕ) where
       IsChangeBy-between union union revisions (undid revisions groups) (λ g. undid g groups) IsHistoryOf-undid h is units from
       (text_at-undid h groups (head h) is.sound (omega arith)) from_is between
 
-  module _ (text : List ℕ) (limit spent : ℕ) (held : IsHeld union text revisions limit spent) (known : AllByRecursion (IsKnown revisions) groups) where
+  -- what is left goes along
+  left_undid : AllByRecursion (IsKnown revisions) groups → AgreesOnCollected revisions groups → IsRising groups → (h : History) →
+      IsLeftOf union revisions h → IsLeftOf union (undid revisions groups) (undid h groups)
+  left_undid known agrees rising h left =
+      let may = MayUndoSet-left union revisions h groups left known agrees rising in
+      IsLeftOf-said union (undid revisions groups) (undid h groups) (undid (left_of h) groups) (IsOfEngine-undid h groups left.of_engine may)
+      (left_of-undid h groups left.of_engine.forgets may) (IsHistoryOf-undid (left_of h) (IsHistoryOf-left union revisions h left))
+
+  module _ (text : List ℕ) (limit spent : ℕ) (held : IsHeld union text revisions limit spent) (known : AllByRecursion (IsKnown revisions) groups)
+      (agrees : AgreesOnCollected revisions groups) (rising : IsRising groups) where
     short-undid : (at : ℕ) → byte_len (shown_at union (undid revisions groups) at) < 2 ^ 64
     short-undid at =
         omega (arith, byte_len-outside (hidden_at (undid revisions groups) at) union, held.bound, held.within)
@@ -71,10 +100,10 @@ module _ (union : List ℕ) (revisions : History) (groups : List ℕ) where
     IsHeld-undid : (text_now : List ℕ) → text_now ≡ shown_at union (undid revisions groups) (head (undid revisions groups)) →
         IsHeld union text_now (undid revisions groups) limit spent
     IsHeld-undid text_now shown = record {
-      some = some-after union union revisions (undid revisions groups) (λ h. undid h groups) IsHistoryOf-undid held.some;
+      some =
+          ∥∥₁_map held.some (λ (s : (h : History) × IsLeftOf union revisions h). (undid s.0 groups, left_undid known agrees rising s.0 s.1));
       positions = held.positions;
       floor = omega (arith, held.floor, head-undid revisions groups);
-      uncollected = held.uncollected;
       shown = shown;
       known =
           subst (λ (set : List ℕ). AllByRecursion (IsKnown (undid revisions groups)) set) (sym (undone_now-undid revisions groups))
@@ -87,49 +116,60 @@ module _ (union : List ℕ) (revisions : History) (groups : List ℕ) where
     pub goes-on-undid : (units : UnitDelta) → ((h : History) → IsHistoryOf union revisions h → IsChangeBy h (undid h groups) units) →
         GoesOn text union (undid revisions groups) limit spent units
     goes-on-undid units change =
-        goes-on-by union union revisions (undid revisions groups) (λ h. undid h groups) IsHistoryOf-undid held.some text limit spent held.shown
+        goes-on-by union union revisions (undid revisions groups) (λ h. undid h groups) IsHistoryOf-undid (some-left union revisions held.some) text limit spent held.shown
         (short-undid (head (undid revisions groups))) IsHeld-undid units change
 
 -- ---- the histories that the engine stands for
 
-pub StandsFor-undid : (engine : State) (h : History) (groups : List ℕ) → StandsFor engine h → MayUndoSet engine.revisions groups →
-    head engine.revisions < 2 ^ 63 - 1 → StandsFor (record engine { revisions = undid engine.revisions groups }) (undid h groups)
-StandsFor-undid engine h groups stands may numbered = record {
-  given =
-      IsGiven-after engine.limit h (undoes groups) stands.given (record {
-        allowed = let same = subst (λ g. MayUndoSet g groups) stands.revisions may in record {
-          allowed = record { known = same.allowed.known; frozen = same.allowed.frozen };
-          rising = same.rising;
-        };
-        has_number = omega (arith, numbered, ap head stands.revisions);
-      });
-  union = stands.union;
-  revisions = ap (λ g. undid g groups) stands.revisions;
-  spent = stands.spent;
-}
+module _ (engine : State) (h : History) (groups : List ℕ) (stands : StandsFor engine h) (known : AllByRecursion (IsKnown engine.revisions) groups)
+    (agrees : AgreesOnCollected engine.revisions groups) (rising : IsRising groups) where
+  may_undo : MayUndoSet h groups
+  may_undo = MayUndoSet-left engine.union engine.revisions h groups (IsLeftOf-stands engine h stands) known agrees rising
+
+  goes_along : left_of (undid h groups) ≡ undid (left_of h) groups
+  goes_along = left_of-undid h groups (forgets-stands engine h stands) may_undo
+
+  pub StandsFor-undid : head engine.revisions < 2 ^ 63 - 1 → StandsFor (record engine { revisions = undid engine.revisions groups }) (undid h groups)
+  StandsFor-undid numbered = record {
+    given =
+        IsGiven-after engine.limit h (undoes groups) stands.given
+        (record { allowed = may_undo; has_number = omega (arith, numbered, head-stands engine h stands) });
+    union = stands.union ∙ ap characters_of (sym goes_along);
+    revisions = ap (λ g. undid g groups) stands.revisions ∙ ap without_text (sym goes_along);
+    spent = stands.spent;
+  }
+
+  -- what the undo changes of what is left it changes of the history
+  pub IsChange-undid : (change : Change) → IsChange (left_of h) (undid (left_of h) groups) change → IsChange h (undid h groups) change
+  IsChange-undid change changes =
+      let forgets = forgets-stands engine h stands in
+      let more : head (undid h groups) ≡ head h + 1 = head-undid h groups in
+      IsChange-left h (undid h groups) forgets (MayForget-after_step h (Steps.undoes groups) forgets may_undo) forgets.formed.floor
+      (omega (arith, more)) change (subst (λ g. IsChange (left_of h) g change) (sym goes_along) changes)
 
 -- by the groups in which the set differs
-pub StandsFor-undid_by : (engine new : State) (h : History) (groups : List ℕ) → StandsFor engine h →
-    MayUndoSet engine.revisions (undone_by engine.revisions groups) → head engine.revisions < 2 ^ 63 - 1 →
-    new ≡ record engine { revisions = undid engine.revisions (undone_by engine.revisions groups) } → StandsFor new (undid h (undone_by h groups))
-StandsFor-undid_by engine new h groups stands may numbered is =
-    subst (λ (set : List ℕ). StandsFor new (undid h set)) (ap (λ g. undone_by g groups) stands.revisions)
-    (subst (λ (e : State). StandsFor e (undid h (undone_by engine.revisions groups))) (sym is)
-    (StandsFor-undid engine h (undone_by engine.revisions groups) stands may numbered))
+module _ (engine : State) (h : History) (groups : List ℕ) (stands : StandsFor engine h)
+    (may : MayAskUndo engine.revisions (undone_by engine.revisions groups)) (agrees : AgreesOnCollected engine.revisions (undone_by engine.revisions groups))
+    (rising : IsRising (undone_by engine.revisions groups)) where
+  same_set : undone_by engine.revisions groups ≡ undone_by h groups
+  same_set = ap (λ (set : List ℕ). flipped set groups) (undone_now-stands engine h stands)
+
+  pub StandsFor-undid_by : (new : State) → new ≡ record engine { revisions = undid engine.revisions (undone_by engine.revisions groups) } →
+      StandsFor new (undid h (undone_by h groups))
+  StandsFor-undid_by new is =
+      subst (λ (set : List ℕ). StandsFor new (undid h set)) same_set
+      (subst (λ (e : State). StandsFor e (undid h (undone_by engine.revisions groups))) (sym is)
+      (StandsFor-undid engine h (undone_by engine.revisions groups) stands may.known agrees rising may.has_number))
+
+  pub IsChange-undid_by : (change : Change) → IsChange (left_of h) (undid (left_of h) (undone_by engine.revisions groups)) change →
+      IsChange h (undid h (undone_by h groups)) change
+  IsChange-undid_by change changes =
+      subst (λ (set : List ℕ). IsChange h (undid h set) change) same_set
+      (IsChange-undid engine h (undone_by engine.revisions groups) stands may.known agrees rising change changes)
 
 -- ---- the same, of what the calls give
 
--- the set may be undone
-pub may_undo_by : (state now : State) (groups : List ℕ) → state ≡ now → state.revisions.collected ≡ [] →
-    IsRising (undone_now state.revisions) → MayAskUndo now.revisions (undone_by now.revisions groups) →
-    AgreesOnCollected now.revisions (undone_by now.revisions groups) → MayUndoSet state.revisions (undone_by state.revisions groups)
-may_undo_by state now groups view none up may agrees =
-    MayUndoSet-known state.revisions (undone_by state.revisions groups) none
-    (subst (λ (s : State). AllByRecursion (IsKnown s.revisions) (undone_by s.revisions groups)) (sym view) may.known)
-    (subst (λ (s : State). AgreesOnCollected s.revisions (undone_by s.revisions groups)) (sym view) agrees)
-    (IsRising-flipped (undone_now state.revisions) groups up)
-
--- and the list may take it
+-- the list may take the set
 pub may_push_by : (state now : State) (groups : List ℕ) → state ≡ now → IsRising (undone_now state.revisions) →
     MayAskUndo now.revisions (undone_by now.revisions groups) → AgreesOnCollected now.revisions (undone_by now.revisions groups) →
     MayUndoGroups state.revisions (undone_by state.revisions groups)
@@ -140,7 +180,8 @@ may_push_by state now groups view up may agrees = record {
 }
 
 module _ (state now : State) (text groups : List ℕ) (view : state ≡ now) (held : IsHeld state.union text state.revisions state.limit state.spent)
-    (may : MayAskUndo now.revisions (undone_by now.revisions groups)) (copy pushed : History) (copied : copy ≡ state.revisions) (push : pushed ≡ undid copy (undone_by copy groups)) (from : ℕ)
+    (may : MayAskUndo now.revisions (undone_by now.revisions groups)) (agrees : AgreesOnCollected now.revisions (undone_by now.revisions groups))
+    (up : IsRising (undone_now state.revisions)) (copy pushed : History) (copied : copy ≡ state.revisions) (push : pushed ≡ undid copy (undone_by copy groups)) (from : ℕ)
     (from_is : from ≡ head now.revisions) (units : UnitDelta)
     (between : IsBetween state.union (hidden_at pushed from) (hidden_at pushed (head pushed)) units) where
   pushed_is : pushed ≡ undid state.revisions (undone_by state.revisions groups)
@@ -158,7 +199,9 @@ module _ (state now : State) (text groups : List ℕ) (view : state ≡ now) (he
   pub goes-on-pushed : GoesOn text state.union pushed state.limit state.spent units
   goes-on-pushed =
       subst (λ g. GoesOn text state.union g state.limit state.spent units) (sym pushed_is)
-      (goes-on-undid state.union state.revisions (undone_by state.revisions groups) text state.limit state.spent held known_then units change)
+      (goes-on-undid state.union state.revisions (undone_by state.revisions groups) text state.limit state.spent held known_then
+      (subst (λ (s : State). AgreesOnCollected s.revisions (undone_by s.revisions groups)) (sym view) agrees)
+      (IsRising-flipped (undone_now state.revisions) groups up) units change)
 
   pub change-pushed : (rev : ℕ) → rev ≡ head copy + 1 → (h : History) → IsHistoryOf now.union now.revisions h →
       IsChange h (undid h (undone_by now.revisions groups)) (record { rev = rev; units = units })

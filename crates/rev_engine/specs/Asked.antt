@@ -3,21 +3,25 @@ use Rattle.std.specs.Prelude.{◌≡◌, ◌≢◌, ℕ, ◌-◌, ◌^◌, ◌<�
 use Rattle.std.specs.List.{fold, list_any, AllByRecursion}
 use Rattle.plain_text.specs.Numbers.{has}
 use Rattle.plain_edits.specs.History.{History, head, loaded}
-use Rattle.plain_edits.specs.HistorySteps.{IsWellFormed, MayUndoSet}
+use Rattle.plain_edits.specs.HistorySteps.{MayUndoSet}
 use Rattle.plain_edits.specs.Edits.{is_edit_of, undid}
 use Rattle.plain_edits.specs.Undo.{undone_now}
+use Rattle.plain_edits.specs.Collection.{collected_at, is_where_to_collect, MayCollect}
+use Rattle.collection_laws.specs.MayForget.{MayForget}
 use Rattle.rev_undo.specs.Allowed.{HasEdit}
 use Rattle.rev_engine.specs.Given.{AskedEdit, IsTaken, after}
 
--- a step: an edit that is asked for, or a set of groups that is undone
+-- a step: an edit that is asked for, a set of groups that is undone, or a collection
 pub data Asked : Type 0 where
   asks : (asked : AskedEdit) → Asked
   undoes : (groups : List ℕ) → Asked
+  collects : (floor : ℕ) (groups : List ℕ) → Asked
 
 -- the history after a step, and after many, one after the other
 abbrev pub after_asked : History → Asked → History
 after_asked history (asks asked) = after history asked
 after_asked history (undoes groups) = undid history groups
+after_asked history (collects floor groups) = collected_at history floor groups
 
 abbrev pub after_all_asked : History → List Asked → History
 after_all_asked history steps = fold after_asked history steps
@@ -45,10 +49,16 @@ pub record IsUndoTaken (history : History) (groups : List ℕ) : Type 0 where
   pub allowed : MayUndoSet history groups
   pub has_number : head history < 2 ^ 63 - 1
 
+-- the collection is taken: it may come, where groups are collected
+pub record IsCollectionTaken (history : History) (floor : ℕ) (groups : List ℕ) : Type 0 where
+  pub may : MayCollect history floor groups
+  pub at_place : is_where_to_collect history floor ≡ true
+
 -- a step is taken
 abbrev pub IsTakenStep : ℕ → History → Asked → Type 0
 IsTakenStep limit history (asks asked) = IsTaken limit history asked
 IsTakenStep limit history (undoes groups) = IsUndoTaken history groups
+IsTakenStep limit history (collects floor groups) = IsCollectionTaken history floor groups
 
 -- each step is taken in its turn
 abbrev pub AreTakenSteps : ℕ → History → List Asked → Type 0
@@ -62,9 +72,8 @@ pub record IsGiven (limit : ℕ) (history : History) : Type 0 where
   pub taken : AreTakenSteps limit (loaded text) steps
   pub is : history ≡ after_all_asked (loaded text) steps
 
--- WHAT EACH STEP KEEPS, and all that the proofs of the engine use of such a history: it is well formed, and each group that is undone
--- at the head or collected has an edit
+-- WHAT EACH STEP KEEPS, and all that the proofs of the engine use of such a history: it may forget, and each group that is undone at the
+-- head has an edit
 pub record IsOfEngine (history : History) : Type 0 where
-  pub formed : IsWellFormed history
+  pub forgets : MayForget history
   pub undone_known : AllByRecursion (HasEdit history) (undone_now history)
-  pub collected_known : AllByRecursion (HasEdit history) history.collected

@@ -1,6 +1,7 @@
 -- Edits that were made for one text.
 use Rattle.std.specs.Prelude.{◌≡◌, ◌≢◌, ℕ, ◌+◌, ◌-◌, ◌^◌, ◌≤◌, false, List, [], ◌∷◌, length, map, IsPermutation, ⊤}
 use Rattle.std.specs.List.{AllByRecursion, sum_by, list_any}
+use Rattle.plain_text.specs.Numbers.{has}
 use Rattle.plain_edits.specs.Delta.{Fits}
 use Rattle.plain_edits.specs.History.{History, head, text_at, inserted_count}
 use Rattle.plain_edits.specs.Edits.{is_edit_of, merged}
@@ -31,7 +32,12 @@ pub record AreForHead (limit : ℕ) (history : History) (edits : List AskedEdit)
 abbrev pub ShowsMerged : History → List AskedEdit → History → Type 0
 ShowsMerged history edits last = text_at last (head last) ≡ merged (text_at history (head history)) (map (meant history) edits)
 
--- EDITS OF ONE BASE COMMUTE: in whatever order they come, all are taken, and the text is the merged one
+-- none of their groups is collected
+abbrev pub AreOpen : History → List AskedEdit → Type 0
+AreOpen history edits = AllByRecursion (λ asked. has history.collected asked.group ≡ false) edits
+
+-- EDITS OF ONE BASE COMMUTE: in whatever order they come, all are taken where none of their groups is collected, and the text is the
+-- merged one
 abbrev pub EditsCommute : Type 0
 EditsCommute = (limit : ℕ) (history : History) (edits order : List AskedEdit) → IsGiven limit history → AreForHead limit history edits →
-    IsPermutation edits order → AreTaken limit history order × ShowsMerged history edits (after_all history order)
+    IsPermutation edits order → (AreOpen history edits → AreTaken limit history order) × ShowsMerged history edits (after_all history order)

@@ -5,9 +5,11 @@ use Rattle.plain_edits.specs.History.{History, IsSound, head, inserted_count, te
 use Rattle.plain_edits.specs.Delta.{Fits}
 use Rattle.plain_edits.specs.Edits.{PlainEdit, edited}
 use Rattle.plain_edits.specs.Change.{change_keeps, change_adds}
+use Rattle.plain_edits.specs.Collection.{kept}
 use Rattle.plain_edits.specs.declared.delta.UnitDelta.{UnitDelta}
 use Rattle.plain_edits.specs.UnitDelta.{IsCanonical, unit_keeps, unit_adds}
 use Rattle.delta_core.specs.Units.{IsUnitsOf, text_after}
+use Rattle.collection_laws.specs.Left.{left_of}
 use Rattle.rev_list.specs.WithoutText.{without_text}
 use Rattle.rev_rebase.specs.Rebase.{characters_of}
 use Rattle.rev_engine.specs.declared.edit.Edit.{Edit}
@@ -17,12 +19,17 @@ use Rattle.rev_engine.specs.Given.{AskedEdit}
 use Rattle.rev_engine.specs.Asked.{IsGiven}
 use Rattle.rev_engine.specs.State.{State}
 
--- THE ENGINE STANDS FOR A HISTORY: it is one that calls give, and the engine has its characters, and its revisions over their positions
+-- THE ENGINE STANDS FOR A HISTORY: it is one that calls give, and the engine has the characters of what is left of it, the revisions of that
+-- over their positions, and how many characters were ever inserted
 pub record StandsFor (engine : State) (history : History) : Type 0 where
   pub given : IsGiven engine.limit history
-  pub union : engine.union ≡ characters_of history
-  pub revisions : engine.revisions ≡ without_text history
+  pub union : engine.union ≡ characters_of (left_of history)
+  pub revisions : engine.revisions ≡ without_text (left_of history)
   pub spent : engine.spent ≡ inserted_count history
+
+-- MEMORY IS BOUNDED BY WHAT IS KEPT: an engine holds exactly as many characters as are kept
+abbrev pub UnionIsWhatIsKept : Type 0
+UnionIsWhatIsKept = (engine : State) (history : History) → StandsFor engine history → length engine.union ≡ kept history
 
 -- the edit that is asked for
 abbrev pub asked_by : Edit → AskedEdit

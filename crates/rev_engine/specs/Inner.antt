@@ -1,9 +1,12 @@
--- What private functions say: the steps of an edit.
-use Rattle.std.specs.Prelude.{◌≡◌, ℕ, ◌+◌, ◌≤◌, List, length}
+-- What private functions say: the steps of an edit, and of a collection.
+use Rattle.std.specs.Prelude.{◌≡◌, ℕ, ◌+◌, ◌≤◌, List, length, map}
 use Rattle.plain_edits.specs.declared.delta.UnitDelta.{UnitDelta}
 use Rattle.plain_edits.specs.Delta.{Fits}
 use Rattle.plain_edits.specs.History.{History, head, visible_at}
 use Rattle.plain_edits.specs.UnitDelta.{IsCanonical}
+use Rattle.plain_edits.specs.Collection.{collected_at, is_dropped}
+use Rattle.subset_runs.specs.Subset.{items_outside}
+use Rattle.collection_laws.specs.Left.{left_of}
 use Rattle.delta_core.specs.Units.{IsUnitsOf}
 use Rattle.rev_list.specs.Edit.{after_edit}
 use Rattle.rev_list.specs.Hidden.{IsKeptAt}
@@ -59,3 +62,10 @@ pub record IsNext (engine : State) (rev : ℕ) (fitting : Fitting) (next : State
   pub put : IsPutIn engine.union engine.revisions rev fitting.edit next.union next.revisions
   pub limit : next.limit ≡ engine.limit
   pub spent : next.spent ≡ fitting.spent
+
+-- the engine after a collection: of the characters those that are not dropped, and of the revisions what is left
+pub record IsNextLeft (engine : State) (floor : ℕ) (groups : List ℕ) (next : State) : Type 0 where
+  pub union_is : next.union ≡ items_outside (map (is_dropped (collected_at engine.revisions floor groups)) engine.revisions.characters) engine.union
+  pub revisions_is : next.revisions ≡ left_of (collected_at engine.revisions floor groups)
+  pub limit : next.limit ≡ engine.limit
+  pub spent : next.spent ≡ engine.spent

@@ -1,12 +1,12 @@
 ghost use Rattle.std.specs.List.{flat_map};
-ghost use Rattle.std.specs.Prelude.{◌≡◌, ◌≢◌, ◌+◌, ◌^◌, ◌<◌, ◌≤◌, ◌↔◌, ℕ, false, None, length, IfOk, IfErr, IsTrue, OnErr, OnOk};
+ghost use Rattle.std.specs.Prelude.{◌≡◌, ◌≢◌, ◌+◌, ◌^◌, ◌<◌, ◌≤◌, ◌↔◌, ℕ, false, None, length, IfOk, IfErr, IfSome, IsTrue, OnErr, OnOk};
 ghost use Rattle.plain_text.specs.Numbers.{has, IsRising};
 ghost use Rattle.plain_text.specs.Text.{byte_len};
 ghost use Rattle.plain_edits.specs.UnitDelta.{IsCanonical, IsUnitDelta};
 ghost use Rattle.plain_edits.specs.History.{History, head, loaded, text_at};
-ghost use Rattle.plain_edits.specs.Collection.{kept};
+ghost use Rattle.plain_edits.specs.Collection.{collected_at, collection_of, kept};
+ghost use Rattle.rev_collect.specs.Choice.{collection_said};
 ghost use Rattle.plain_edits.specs.Edits.{edit_refusal, edited, undid};
-ghost use Rattle.plain_edits.specs.HistorySteps.{MayUndoSet};
 ghost use Rattle.plain_edits.specs.Undo.{undone_now};
 ghost use Rattle.rev_list.specs.Edit.{undone_by};
 ghost use Rattle.rev_undo.specs.Under.{AgreesOnCollected};
@@ -16,17 +16,18 @@ ghost use Rattle.rev_rebase.specs.Rebase.{added_text};
 ghost use Rattle.rev_engine.specs.Engine.{IsChange, IsChangeBy, IsSaidBy, IsSince, StandsFor, asked_by, in_characters};
 ghost use Rattle.plain_edits.specs.EditFault.{Refuses};
 ghost use Rattle.rev_engine.specs.Given.{AskedEdit, MayAsk, after};
-ghost use Rattle.rev_engine.specs.Asked.{IsFrozenAt, MayAskUndo};
+ghost use Rattle.rev_engine.specs.Asked.{IsCollectionTaken, IsFrozenAt, MayAskUndo};
 ghost use Rattle.rev_engine.specs.State.{IsHistoryOf, shown_at};
-ghost use Rattle.rev_engine.specs.Inner.{IsAnswered, IsFitting, IsNext, IsPutIn, IsUnitsFor};
+ghost use Rattle.rev_engine.specs.Inner.{IsAnswered, IsFitting, IsNext, IsNextLeft, IsPutIn, IsUnitsFor};
 
 use crate::flat::{alive, whole};
-use crate::step::{Fitting, PutIn, put_in, units_from};
+use crate::step::{Fitting, PutIn, put_in, units_from, without};
 use crate::undo::{are_known, frozen, has_number, is_set_known};
 use crate::{Change, Edit, EditFault, UndoFault, UnitEdit, short};
 use delta_core::{fits, to_units};
 use plain_edits::{Added, UnitDelta};
 use plain_text::{NoMemory, Text};
+use rev_collect::{collect, collectable};
 use rev_list::{Groups, RevFault, RevList};
 use rev_undo::recompute_by;
 use rope_tree::Rope;
@@ -95,6 +96,15 @@ impl Engine {
         self.revs.head()
     }
 
+    /// The first revision that may still be asked for, in O(1).
+    pub fn floor(&self) -> u64
+        ensures floor { (history : History) → StandsFor self.now history → result ≡ history.floor }
+        ensures revisions { result ≡ self.now.revisions.floor }
+        ensures known { self.now.revisions.floor ≤ head self.now.revisions }
+    {
+        self.revs.floor()
+    }
+
     /// What the head shows, in O(1) and without memory.
     pub fn head_rope(&self) -> &Rope
         ensures text { (history : History) → StandsFor self.now history → result.now ≡ text_at history (head history) }
@@ -103,15 +113,15 @@ impl Engine {
         &self.text
     }
 
-    /// Whether the group is collected, in O(1). None is yet.
+    /// Whether the group is collected, in the logarithm of the number of collected groups. No edit may be of such a group.
     pub fn is_collected(&self, group: u64) -> bool
-        ensures collected { result ≡ has self.now.revisions.collected group }
-        ensures none { result ≡ false }
+        ensures collected { (history : History) → StandsFor self.now history → result ≡ has history.collected group }
+        ensures revisions { result ≡ has self.now.revisions.collected group }
     {
         self.revs.is_collected(group)
     }
 
-    /// How many characters can still be shown by a kept revision, in O(1). Nothing is collected yet, so it is all of them.
+    /// How many characters can still be shown by a kept revision, in O(1).
     pub fn kept(&self) -> u64
         ensures { (history : History) → StandsFor self.now history → result ≡ kept history }
     {
@@ -119,7 +129,7 @@ impl Engine {
     }
 
     /// What a revision shows: at the head in the time of its text, and for an older revision in that of the union text and of
-    /// `RevList::dead_at`. `Unknown` comes above the head; `Collected` does not come yet, since nothing is collected.
+    /// `RevList::dead_at`. `Unknown` comes above the head, and `Collected` below the floor.
     pub fn text_at(&self, alloc: Global, rev: u64) -> Result<Text, RevFault>
         ensures text { (history : History) → StandsFor self.now history
             → IfOk result (λ text. text ≡ text_at history rev) }
@@ -151,6 +161,7 @@ impl Engine {
             (hidden_at self.now.revisions (head self.now.revisions))) }
         ensures unknown { (n : ℕ) → (result ≡ Err (RevFault.Unknown n)) ↔ IsUnknown self.now.revisions rev n }
         ensures collected { (n : ℕ) → (result ≡ Err (RevFault.Collected n)) ↔ IsCollected self.now.revisions rev n }
+        ensures kept { OnOk result (IsKeptAt self.now.revisions rev) }
     {
         match self.revs.position(rev) {
             Ok(_) => Ok(units_from(alloc, &self.union, &self.revs, rev)?),
@@ -474,7 +485,7 @@ impl Engine {
         requires agrees { AgreesOnCollected self.now.revisions (undone_by self.now.revisions groups.now) }
         ensures next { IfOk result (λ next. next.engine
             ≡ record self.now { revisions = undid self.now.revisions (undone_by self.now.revisions groups.now) }) }
-        ensures may { IfOk result (λ next. MayUndoSet self.now.revisions (undone_by self.now.revisions groups.now)) }
+        ensures rising { OnOk result (IsRising (undone_by self.now.revisions groups.now)) }
         ensures change { (history : History) → IsHistoryOf self.now.union self.now.revisions history
             → IfOk result (λ next. IsChange history (undid history (undone_by self.now.revisions groups.now)) next.change) }
     {
@@ -495,6 +506,73 @@ impl Engine {
                 spent: self.spent,
             },
             change: Change { rev, units },
+        })
+    }
+
+    /// What is collected after an entry, where these groups are retired and `acknowledged` is the least revision that an open session has
+    /// acknowledged, or the head where none is open: a floor, and the groups that are collected there. `None` comes exactly where that is
+    /// nothing. Neither text nor revisions up to the greatest clean floor are looked at; it costs what `rev_collect` says.
+    pub fn collectable(
+        &self,
+        alloc: Global,
+        acknowledged: u64,
+        retired: &BTreeSet<u64>,
+    ) -> Result<Option<(u64, BTreeSet<u64>)>, NoMemory>
+        requires reached { self.now.revisions.floor ≤ acknowledged }
+        requires known { acknowledged ≤ head self.now.revisions }
+        ensures collected { (history : History) → StandsFor self.now history
+            → IfOk result (λ found. collection_said found ≡ collection_of history retired.now.keys acknowledged) }
+        ensures revisions { IfOk result (λ found. collection_said found
+            ≡ collection_of self.now.revisions retired.now.keys acknowledged) }
+        ensures may { IfOk result (λ found. IfSome found (λ some.
+            IsCollectionTaken self.now.revisions some.0 some.1.keys)) }
+    {
+        let _floor = self.revs.floor();
+        collectable(alloc, &self.revs, acknowledged, retired)
+    }
+
+    /// Collects these groups at the floor: what no revision from there on can show again goes, and the revisions before it. The groups are
+    /// to be retired, which is the caller's part; [`Engine::collectable`] says what may be asked. It makes no revision and changes no
+    /// text. The only error is want of memory, and then the engine is as before.
+    ///
+    /// It costs what `collect` of `rev_collect` does, and the height of the union for each run that is dropped. Where nothing is dropped
+    /// the union is shared. The head text is shared.
+    pub fn collect(
+        &mut self,
+        alloc: Global,
+        floor: u64,
+        groups: &BTreeSet<u64>,
+    ) -> Result<(), NoMemory>
+        requires { IsCollectionTaken self.old.revisions floor groups.now.keys }
+        ensures stands { (history : History) → StandsFor self.old history
+            → OnOk result (StandsFor self.new (collected_at history floor groups.now.keys)) }
+        ensures limit { self.new.limit ≡ self.old.limit }
+        ensures same { OnErr result (self.new ≡ self.old) }
+    {
+        let next = self.next_left(alloc, floor, groups)?;
+        *self = next;
+        Ok(())
+    }
+
+    // The engine after a collection.
+    fn next_left(
+        &self,
+        alloc: Global,
+        floor: u64,
+        groups: &BTreeSet<u64>,
+    ) -> Result<Engine, NoMemory>
+        requires { IsCollectionTaken self.now.revisions floor groups.now.keys }
+        ensures { IfOk result (IsNextLeft self.now floor groups.now.keys) }
+    {
+        let (revs, dropped) = collect(alloc, &self.revs, floor, groups)?;
+        let union = without(alloc, &self.union, &dropped)?;
+        let text = self.text.copy(alloc)?;
+        Ok(Engine {
+            union,
+            text,
+            revs,
+            limit: self.limit,
+            spent: self.spent,
         })
     }
 

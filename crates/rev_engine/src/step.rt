@@ -4,6 +4,7 @@ ghost use Rattle.plain_text.specs.Text.{byte_len};
 ghost use Rattle.plain_edits.specs.History.{head};
 ghost use Rattle.plain_edits.specs.UnitDelta.{IsUnitDelta};
 ghost use Rattle.delta_core.specs.Synthesis.{IsBetween};
+ghost use Rattle.subset_runs.specs.Subset.{items_outside};
 ghost use Rattle.rev_list.specs.Hidden.{hidden_at};
 ghost use Rattle.rev_rebase.specs.Rebase.{added_text};
 ghost use Rattle.rev_engine.specs.Given.{MayAsk};
@@ -104,6 +105,21 @@ fn units_between(
     let gone = appears.complement(alloc)?;
     let text = picked(alloc, union, &gone)?;
     synthesize_of(alloc, &text, before, after)
+}
+
+// The union without the characters that are dropped: the height of the rope for each run of them. All others are shared, and where
+// there are none the union is.
+pub(crate) fn without(alloc: Global, union: &Rope, dropped: &Subset) -> Result<Rope, NoMemory>
+    requires as_many { length union.now ≡ length dropped.now }
+    requires fits { byte_len union.now < 2 ^ 64 }
+    ensures { IfOk result (λ made. made ≡ items_outside dropped.now union.now) }
+{
+    if dropped.count() == 0 {
+        return union.copy(alloc);
+    }
+    let none = Subset::none(alloc, union.len());
+    let units = units_between(alloc, union, &none, dropped)?;
+    union.edited(alloc, &units)
 }
 
 // What of the union is not visible at a kept revision.

@@ -5,4 +5,4 @@ use Rattle.rev_engine.proofs.engine.Engine.head_rope.Goals as goal
 
 pub returns-clause-text : goal.returns-clause-text
 returns-clause-text c = λ history stands.
-    head-text _ history _ (subst (λ s. StandsFor s history) (sym c.self.view_is) stands) c.self.invariant.shown
+    head-text _ history (subst (λ s. StandsFor s history) (sym c.self.view_is) stands) _ c.self.invariant.shown

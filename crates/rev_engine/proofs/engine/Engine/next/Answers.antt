@@ -1,6 +1,7 @@
 use Rattle.std.proofs.Common.{subst, sym}
 use Rattle.plain_edits.specs.History.{History}
 use Rattle.plain_edits.specs.Edits.{edited}
+use Rattle.rev_engine.specs.Given.{MayAsk}
 use Rattle.rev_engine.specs.State.{IsHistoryOf, State}
 use Rattle.rev_engine.specs.Engine.{IsChangeBy, in_characters}
 use Rattle.rev_engine.specs.Inner.{IsFitting}
@@ -28,20 +29,20 @@ units_to-requires-clause-positions c =
 pub edited-requires-clause-base : goal.edited-requires-clause-base
 edited-requires-clause-base c =
     (goes-on _ _ c.args.rev c.args.fitting c.self.invariant (subst (λ s. IsFitting s c.args.rev c.args.fitting) (sym c.self.view_is) c.requires.fits)
-    _ _ c.in_ok-made.ensures _
+    _ _ c.in_ok-made.ensures (subst (λ (s : State). MayAsk s.revisions c.args.fitting.edit.group) (sym c.self.view_is) c.requires.may) _
     (subst (λ (s : State). (h : History) → IsHistoryOf s.union s.revisions h → IsChangeBy h (edited h (in_characters c.args.rev c.args.fitting.edit)) c.in_ok-units.units)
     (sym c.self.view_is) c.in_ok-units.ensures.change)).base
 
 pub edited-requires-clause-fits : goal.edited-requires-clause-fits
 edited-requires-clause-fits c =
     (goes-on _ _ c.args.rev c.args.fitting c.self.invariant (subst (λ s. IsFitting s c.args.rev c.args.fitting) (sym c.self.view_is) c.requires.fits)
-    _ _ c.in_ok-made.ensures _
+    _ _ c.in_ok-made.ensures (subst (λ (s : State). MayAsk s.revisions c.args.fitting.edit.group) (sym c.self.view_is) c.requires.may) _
     (subst (λ (s : State). (h : History) → IsHistoryOf s.union s.revisions h → IsChangeBy h (edited h (in_characters c.args.rev c.args.fitting.edit)) c.in_ok-units.units)
     (sym c.self.view_is) c.in_ok-units.ensures.change)).short
 
 pub invariant_of-result : goal.invariant_of-result
 invariant_of-result c =
     (goes-on _ _ c.args.rev c.args.fitting c.self.invariant (subst (λ s. IsFitting s c.args.rev c.args.fitting) (sym c.self.view_is) c.requires.fits)
-    _ _ c.in_ok-made.ensures _
+    _ _ c.in_ok-made.ensures (subst (λ (s : State). MayAsk s.revisions c.args.fitting.edit.group) (sym c.self.view_is) c.requires.may) _
     (subst (λ (s : State). (h : History) → IsHistoryOf s.union s.revisions h → IsChangeBy h (edited h (in_characters c.args.rev c.args.fitting.edit)) c.in_ok-units.units)
     (sym c.self.view_is) c.in_ok-units.ensures.change)).holds _ c.in_ok-text.ensures

@@ -1,9 +1,11 @@
 use Rattle.std.proofs.Common.{◌-◌, ◌^◌, ◌<◌, subst, sym}
 use Rattle.plain_edits.specs.History.{History, head}
-use Rattle.plain_edits.specs.HistorySteps.{MayUndoSet}
+use Rattle.plain_edits.specs.Undo.{undone_now}
+use Rattle.plain_text.specs.Numbers.{IsRising}
+use Rattle.plain_text.proofs.callers.NumberLemmas.{IsRising-flipped}
 use Rattle.rev_list.specs.Edit.{undone_by, MayPushUndo}
 use Rattle.rev_engine.specs.State.{State}
-use Rattle.rev_engine.proofs.UndoLemmas.{may_push_by, may_undo_by, goes-on-pushed, change-pushed}
+use Rattle.rev_engine.proofs.UndoLemmas.{may_push_by, goes-on-pushed, change-pushed}
 use Rattle.rev_engine.proofs.engine.Engine.next_undo.Goals as goal
 
 pub push_undo_by-requires-clause-may : goal.push_undo_by-requires-clause-may
@@ -19,28 +21,31 @@ push_undo_by-requires-clause-may c =
 
 pub edited-requires-clause-base : goal.edited-requires-clause-base
 edited-requires-clause-base c =
-    (goes-on-pushed _ c.args.self.now _ c.args.groups.now c.self.view_is c.self.invariant c.requires.may c.in_ok-revs.revs c.push_undo_by.new.self c.in_ok-revs.ensures
+    (goes-on-pushed _ c.args.self.now _ c.args.groups.now c.self.view_is c.self.invariant c.requires.may c.requires.agrees
+    (rw c.undone-undone.ensures.groups at c.undone-undone.ensures.rising) c.in_ok-revs.revs c.push_undo_by.new.self c.in_ok-revs.ensures
     c.in_ok-rev.ensures.ok c.head-head.result c.head-head.ensures.revisions c.in_ok-units.units c.in_ok-units.ensures).base
 
 pub edited-requires-clause-fits : goal.edited-requires-clause-fits
 edited-requires-clause-fits c =
-    (goes-on-pushed _ c.args.self.now _ c.args.groups.now c.self.view_is c.self.invariant c.requires.may c.in_ok-revs.revs c.push_undo_by.new.self c.in_ok-revs.ensures
+    (goes-on-pushed _ c.args.self.now _ c.args.groups.now c.self.view_is c.self.invariant c.requires.may c.requires.agrees
+    (rw c.undone-undone.ensures.groups at c.undone-undone.ensures.rising) c.in_ok-revs.revs c.push_undo_by.new.self c.in_ok-revs.ensures
     c.in_ok-rev.ensures.ok c.head-head.result c.head-head.ensures.revisions c.in_ok-units.units c.in_ok-units.ensures).short
 
 pub invariant_of-result : goal.invariant_of-result
 invariant_of-result c =
     rw c.in_ok-union.ensures
-    ((goes-on-pushed _ c.args.self.now _ c.args.groups.now c.self.view_is c.self.invariant c.requires.may c.in_ok-revs.revs c.push_undo_by.new.self c.in_ok-revs.ensures
+    ((goes-on-pushed _ c.args.self.now _ c.args.groups.now c.self.view_is c.self.invariant c.requires.may c.requires.agrees
+    (rw c.undone-undone.ensures.groups at c.undone-undone.ensures.rising) c.in_ok-revs.revs c.push_undo_by.new.self c.in_ok-revs.ensures
     c.in_ok-rev.ensures.ok c.head-head.result c.head-head.ensures.revisions c.in_ok-units.units c.in_ok-units.ensures).holds _ c.in_ok-shown.ensures)
 
-pub returns-clause-may : goal.returns-clause-may
-returns-clause-may c =
-    subst (λ (s : State). MayUndoSet s.revisions (undone_by s.revisions c.args.groups.now)) c.self.view_is
-    (may_undo_by _ c.args.self.now c.args.groups.now c.self.view_is c.self.invariant.uncollected
-    (rw c.undone-undone.ensures.groups at c.undone-undone.ensures.rising) c.requires.may c.requires.agrees)
+pub returns-clause-rising : goal.returns-clause-rising
+returns-clause-rising c =
+    subst (λ (s : State). IsRising (undone_by s.revisions c.args.groups.now)) c.self.view_is
+    (IsRising-flipped (undone_now c.self.inside.revs) c.args.groups.now (rw c.undone-undone.ensures.groups at c.undone-undone.ensures.rising))
 
 pub returns-clause-change : goal.returns-clause-change
 returns-clause-change c =
-    change-pushed _ c.args.self.now _ c.args.groups.now c.self.view_is c.self.invariant c.requires.may c.in_ok-revs.revs c.push_undo_by.new.self c.in_ok-revs.ensures
+    change-pushed _ c.args.self.now _ c.args.groups.now c.self.view_is c.self.invariant c.requires.may c.requires.agrees
+    (rw c.undone-undone.ensures.groups at c.undone-undone.ensures.rising) c.in_ok-revs.revs c.push_undo_by.new.self c.in_ok-revs.ensures
     c.in_ok-rev.ensures.ok c.head-head.result c.head-head.ensures.revisions c.in_ok-units.units c.in_ok-units.ensures c.in_ok-rev.rev
     c.in_ok-rev.ensures.number
