@@ -13,7 +13,7 @@ use Rattle.doc_session.specs.Fault.{DocRefuses}
 use Rattle.doc_session.specs.Laws.{IsSpentIfAny}
 use Rattle.doc_session.specs.Stands.{DocStandsFor}
 use Rattle.doc_session.specs.Step.{refusal_at}
-use Rattle.doc_session.proofs.ForCallers.{insertion_fits}
+use Rattle.doc_session.proofs.ForCallers.{command_fits}
 use Rattle.core_session.specs.Inner.{IsSpentOrLack}
 
 -- no refusal is one for characters spent but that one
@@ -45,4 +45,4 @@ pub IsSpentOrLack-inserted : (doc : Doc) (act : EditAct) (fault : DocFault) → 
     ((plain : Document) → DocStandsFor doc plain → DocRefuses (refusal_at plain (Front act)) fault) → IsSpentOrLack fault
 IsSpentOrLack-inserted doc act fault known refuses =
     ∥∥₁_elim known (prop fault) (λ (s : (plain : Document) × DocStandsFor doc plain).
-    spent_fault (refusal_at s.0 (Front act)) fault (insertion_fits doc s.0 act s.1) (refuses s.0 s.1))
+    spent_fault (refusal_at s.0 (Front act)) fault (command_fits doc s.0 act s.1) (refuses s.0 s.1))

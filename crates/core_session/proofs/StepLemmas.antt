@@ -60,14 +60,14 @@ keeps_by true before next same one = record {
 
 keeps_other : (document : Document) → KeepsStep document (event_step document Other)
 unfolding KeepsStep
-keeps_other document = let next = going_on document None in keeps_by (wants_update next next) document next refl (omega arith)
+keeps_other document = let next = going_on document None in keeps_by (wants_update document next) document next refl (omega arith)
 
 keeps_act : (document : Document) (act : EditAct) → KeepsStep document (act_step document act)
 unfolding KeepsStep
 keeps_act document act =
     by_front (KeepsStep document) document
-    (λ kind. let next = going_on document kind in keeps_by (wants_update next next) document next refl (omega arith))
-    (λ next one_more screen window. keeps_by (wants_update document next) document next screen (omega (arith, one_more))) act
+    (λ next body scroll same screen window. keeps_by (wants_update document next) document next screen (omega (arith, ap head same)))
+    (λ next body scroll one_more screen window. keeps_by (wants_update document next) document next screen (omega (arith, one_more))) act
 
 -- each view's step keeps this
 unfoldable pub KeepEach : (OpenView → EventStep) → List OpenView → Type 0

@@ -1,3 +1,2 @@
 -- What other crates may cite of the proofs of `doc_layout`.
 pub use Rattle.doc_layout.proofs.LayoutLemmas.{length-byte_len}
-pub use Rattle.doc_layout.proofs.TellLemmas.{layout_tells}

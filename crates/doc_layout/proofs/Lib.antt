@@ -1,6 +1,5 @@
 pub mod LayoutLemmas
 pub mod PlaceLemmas
-pub mod SameLemmas
 pub mod WireLemmas
 pub mod PlanLemmas
 pub mod TellLemmas

@@ -1,105 +1,137 @@
--- Lemmas on what a layout tells of its text and its caret.
-use Rattle.std.proofs.Common.{◌≡◌, ℕ, ◌+◌, ◌-◌, ◌<◌, ◌≤◌, Bool, true, false, List, [], ◌∷◌, ◌++◌, length, map, take, Some, refl, ap, ap₂, sym, ◌∙◌, arith, append-nil, length-append, inl, inr}
-use Rattle.std.specs.Prelude.{◌==◌, if◌then◌else◌}
-use Rattle.std.specs.List.{concat, onto_first}
-use Rattle.std.proofs.lemmas.Bool.{cases_lt}
-use Rattle.std.proofs.lemmas.List.{take-append-le}
-use Rattle.std.proofs.Math.Seq.{take-append-add}
+-- What a layout tells: its text, and the gaps of its carets.
+use Rattle.std.proofs.Common.{◌≡◌, ◌≢◌, ℕ, zero, suc, ◌+◌, ◌-◌, ◌<◌, ◌≤◌, Bool, true, false, cond, List, [], ◌∷◌, length, map, Some, refl, ap, sym, ◌∙◌, arith, inl, inr}
+use Rattle.std.specs.Prelude.{◌||◌, option_map, slice_get, unwrap_or}
+use Rattle.std.specs.List.{concat, filter, range_with_len}
+use Rattle.std.proofs.lemmas.Bool.{eq-eqb, ne_eqb, cases_lt}
+use Rattle.plain_text.specs.declared.selection.Region.{Region}
+use Rattle.plain_text.specs.Numbers.{has}
+use Rattle.plain_text.specs.Text.{place_of}
+use Rattle.plain_text.proofs.callers.PlaceLemmas.{place_of-rises_strictly}
+use Rattle.plain_screen.specs.declared.piece.Piece.{Piece}
 use Rattle.plain_screen.specs.declared.screen.Line.{Line}
-use Rattle.plain_text.specs.Text.{byte_len, place_of, gap_from}
-use Rattle.plain_text.specs.Lines.{logical_lines}
-use Rattle.rope_node.specs.Lengths.{byte_len-append}
-use Rattle.doc_layout.specs.Layout.{layout_from, layout}
-use Rattle.plain_text.proofs.callers.TextLemmas.{gap_from-place}
-use Rattle.doc_layout.proofs.LayoutLemmas.{cursor_of-one, cursor_of-past}
+use Rattle.plain_screen.specs.View.{ArePieces, layout_line_of, whole_lines}
+use Rattle.plain_screen.proofs.callers.ViewLemmas.{ArePieces-whole_lines, IsLayoutLineOf-layout_line_of, pieces-text}
+use Rattle.line_render.specs.Rendered.{carets_of, cursor_of, is_last_piece, own_gaps, text_of_piece}
+use Rattle.line_render.proofs.ForCallers.{own-layout_line_of}
+use Rattle.doc_layout.specs.Layout.{layout, layout_line}
 
--- the logical lines, one after the other, are the text
-concat-logical_lines : (text : List ℕ) → concat (logical_lines text) ≡ text
-concat-logical_lines [] = refl
-concat-logical_lines (c ∷ text) = by_case (c == 10) (logical_lines text) (concat-logical_lines text)
-  where
-    by_case : (b : Bool) (lines : List (List ℕ)) → concat lines ≡ text → concat (if b then (c ∷ []) ∷ lines else onto_first c lines) ≡ c ∷ text
-    by_case true lines is = ap (λ cs. c ∷ cs) is
-    by_case false [] is = ap (λ cs. c ∷ cs) is
-    by_case false (line ∷ lines) is = ap (λ cs. c ∷ cs) is
+-- ---- the text
 
--- the texts of a layout's lines
-texts-layout_from : (carets : List ℕ) (number start : ℕ) (lines : List (List ℕ)) →
-    map (λ (line : Line). line.text) (layout_from carets number start lines) ≡ lines
-texts-layout_from carets number start [] = refl
-texts-layout_from carets number start (line ∷ []) = refl
-texts-layout_from carets number start (line ∷ next ∷ lines) =
-    ap (λ rest. line ∷ rest) (texts-layout_from carets (number + 1) (start + length line) (next ∷ lines))
+texts-layout : (text : List ℕ) (regions : List Region) (pieces : List Piece) →
+    map (λ (line : Line). line.text) (layout text pieces regions) ≡ map (text_of_piece text) pieces
+texts-layout text regions [] = refl
+texts-layout text regions (piece ∷ pieces) = ap (λ ts. text_of_piece text piece ∷ ts) (texts-layout text regions pieces)
 
-text_told : (carets text : List ℕ) → concat (map (λ (line : Line). line.text) (layout text carets)) ≡ text
-text_told carets text = ap concat (texts-layout_from carets 1 0 (logical_lines text)) ∙ concat-logical_lines text
+text-layout : (text : List ℕ) (pieces : List Piece) (regions : List Region) → ArePieces text pieces →
+    concat (map (λ (line : Line). line.text) (layout text pieces regions)) ≡ text
+text-layout text pieces regions are = ap concat (texts-layout text regions pieces) ∙ pieces-text text pieces are
 
--- the place of the first cursor, from the start of the text
-abbrev place_by : List ℕ → ℕ → ℕ → ℕ
-place_by [] bytes rest = bytes + rest
-place_by (place ∷ places) bytes rest = place
+-- ---- the carets of a line
 
-abbrev place_told : List Line → ℕ
-place_told [] = 0
-place_told (line ∷ lines) = place_by line.cursor (byte_len line.text) (place_told lines)
-
-place_of-in : (line rest : List ℕ) (gap : ℕ) → gap ≤ length line → place_of (line ++ rest) gap ≡ place_of line gap
-place_of-in line rest gap inside = ap byte_len (take-append-le gap line rest inside)
-
-place_of-past : (line rest : List ℕ) (gap more : ℕ) → gap ≡ length line + more → place_of (line ++ rest) gap ≡ byte_len line + place_of rest more
-place_of-past line rest gap more is =
-    ap (place_of (line ++ rest)) is ∙ ap byte_len (take-append-add line rest more) ∙ byte_len-append line (take more rest)
-
-place_told-layout_from : (caret number start : ℕ) (line : List ℕ) (lines : List (List ℕ)) → start ≤ caret →
-    caret ≤ start + length (concat (line ∷ lines)) →
-    place_told (layout_from (caret ∷ []) number start (line ∷ lines)) ≡ place_of (concat (line ∷ lines)) (caret - start)
-place_told-layout_from caret number start line [] low high =
-    ap (λ cursor. place_by cursor (byte_len line) 0)
-    (cursor_of-one caret start (length line + 1) line low (omega (arith, length-append line []))) ∙
-    ap (λ text. place_of text (caret - start)) (sym (append-nil line))
-place_told-layout_from caret number start line (next ∷ lines) low high =
-    elim (cases_lt (caret - start) (length line)) [
-      | inl inside ↦
-          ap (λ cursor. place_by cursor (byte_len line) (place_told (layout_from (caret ∷ []) (number + 1) (start + length line) (next ∷ lines))))
-          (cursor_of-one caret start (length line) line low inside) ∙
-          sym (place_of-in line (concat (next ∷ lines)) (caret - start) (omega arith))
-      | inr past ↦
-          ap (λ cursor. place_by cursor (byte_len line) (place_told (layout_from (caret ∷ []) (number + 1) (start + length line) (next ∷ lines))))
-          (cursor_of-past caret start (length line) line low past) ∙
-          ap (λ n. byte_len line + n)
-          (place_told-layout_from caret (number + 1) (start + length line) next lines (omega arith)
-          (omega (arith, length-append line (concat (next ∷ lines))))) ∙
-          sym (place_of-past line (concat (next ∷ lines)) (caret - start) (caret - (start + length line)) (omega arith))
+-- two gaps of a line stand at one place only where they are one
+place-apart : (line : List ℕ) (gap other : ℕ) → gap ≤ length line → other ≤ length line → gap ≢ other → place_of line gap ≢ place_of line other
+place-apart line gap other inside too apart = λ same.
+    elim (cases_lt gap other) [
+      | inl less ↦ omega (arith, same, place_of-rises_strictly line gap other less too)
+      | inr more ↦ omega (arith, same, place_of-rises_strictly line other gap (omega (arith, more, apart)) inside)
     ]
 
-place_told-some : (caret : ℕ) (text : List ℕ) (lines : List (List ℕ)) → 0 < length lines → concat lines ≡ text → caret ≤ length text →
-    place_told (layout_from (caret ∷ []) 1 0 lines) ≡ place_of text caret
-place_told-some caret text [] some is inside = absurd (omega arith)
-place_told-some caret text (line ∷ lines) some is inside =
-    place_told-layout_from caret 1 0 line lines (omega arith) (omega (arith, ap length is)) ∙
-    ap₂ place_of is (omega arith)
+-- the places of the gaps that pass a test
+abbrev places : List ℕ → (ℕ → Bool) → ℕ → ℕ → List ℕ
+places line p from count = map (place_of line) (filter p (range_with_len from count))
 
-some_lines : (text : List ℕ) → 0 < length (logical_lines text)
-some_lines [] = omega arith
-some_lines (c ∷ text) = by_case (c == 10) (logical_lines text)
+has-first : (n m : ℕ) (ns : List ℕ) → n ≡ m → has (n ∷ ns) m ≡ true
+has-first n m ns same = ap (λ b. b || has ns m) (eq-eqb n m same)
+
+has-other : (n m : ℕ) (ns : List ℕ) → n ≢ m → has (n ∷ ns) m ≡ has ns m
+has-other n m ns apart = ap (λ b. b || has ns m) (ne_eqb n m apart)
+
+no_place : (line : List ℕ) (p : ℕ → Bool) (from count gap : ℕ) → gap < from → from + count ≤ length line + 1 → has (places line p from count) (place_of line gap) ≡ false
+no_place line p from zero gap past inside = refl
+no_place line p from (suc count) gap past inside = by (p from) (no_place line p (from + 1) count gap (omega arith) (omega arith))
   where
-    by_case : (b : Bool) (lines : List (List ℕ)) → 0 < length (if b then (c ∷ []) ∷ lines else onto_first c lines)
-    by_case true lines = omega arith
-    by_case false [] = omega arith
-    by_case false (line ∷ lines) = omega arith
+    by : (b : Bool) → has (places line p (from + 1) count) (place_of line gap) ≡ false →
+        has (map (place_of line) (cond b (from ∷ filter p (range_with_len (from + 1) count)) (filter p (range_with_len (from + 1) count)))) (place_of line gap) ≡ false
+    by true rest =
+        has-other (place_of line from) (place_of line gap) _ (place-apart line from gap (omega arith) (omega arith) (λ same. omega arith)) ∙ rest
+    by false rest = rest
 
-caret_told : (caret : ℕ) (text : List ℕ) → caret ≤ length text → place_told (layout text (caret ∷ [])) ≡ place_of text caret
-caret_told caret text inside = place_told-some caret text (logical_lines text) (some_lines text) (concat-logical_lines text) inside
+place_there : (line : List ℕ) (p : ℕ → Bool) (from count gap : ℕ) → from ≤ gap → gap < from + count → from + count ≤ length line + 1 →
+    has (places line p from count) (place_of line gap) ≡ p gap
+place_there line p from zero gap low high inside = absurd (omega arith)
+place_there line p from (suc count) gap low high inside = elim (cases_lt from gap) [
+  | inl less ↦ later (p from) less (place_there line p (from + 1) count gap (omega arith) (omega arith) (omega arith))
+  | inr more ↦ let same : from ≡ gap = omega arith in here (p from) same (ap p same)
+]
+  where
+    rest : List ℕ
+    rest = filter p (range_with_len (from + 1) count)
 
--- texts and carets that have one layout are one
-pub layout_tells : (text other : List ℕ) (caret place : ℕ) → caret ≤ length text → place ≤ length other →
-    layout text (caret ∷ []) ≡ layout other (place ∷ []) → (text ≡ other) × (caret ≡ place)
-layout_tells text other caret place inside within is =
-    let same : text ≡ other =
-    sym (text_told (caret ∷ []) text) ∙ ap (λ lines. concat (map (λ (line : Line). line.text) lines)) is ∙ text_told (place ∷ []) other in
-    let places : place_of text caret ≡ place_of other place =
-    sym (caret_told caret text inside) ∙ ap place_told is ∙ caret_told place other within in
-    let found : Some caret ≡ Some place =
-    ap Some (omega arith) ∙ sym (gap_from-place 0 text caret inside) ∙ ap₂ (gap_from 0) same places ∙ gap_from-place 0 other place within ∙
-    ap Some (omega arith) in
-    (same, cc)
+    later : (b : Bool) → from < gap → has (map (place_of line) rest) (place_of line gap) ≡ p gap →
+        has (map (place_of line) (cond b (from ∷ rest) rest)) (place_of line gap) ≡ p gap
+    later true less found =
+        has-other (place_of line from) (place_of line gap) _ (place-apart line from gap (omega arith) (omega arith) (λ same. omega arith)) ∙ found
+    later false less found = found
+
+    here : (b : Bool) → from ≡ gap → b ≡ p gap → has (map (place_of line) (cond b (from ∷ rest) rest)) (place_of line gap) ≡ p gap
+    here true same is = has-first (place_of line from) (place_of line gap) _ (ap (place_of line) same) ∙ is
+    here false same is = no_place line p (from + 1) count gap (omega arith) (omega arith) ∙ is
+
+-- a gap of the line's own is one of a caret exactly where its place is told
+own-told : (carets : List ℕ) (start gaps gap : ℕ) (line : List ℕ) → start ≤ gap → gap < start + gaps → gaps ≤ length line + 1 →
+    has (cursor_of carets start gaps line) (place_of line (gap - start)) ≡ has carets gap
+own-told carets start gaps gap line low high inside =
+    place_there line (λ g. has carets (start + g)) 0 gaps (gap - start) (omega arith) (omega arith) (omega arith) ∙
+    ap (has carets) (let back : start + (gap - start) ≡ gap = omega arith in back)
+
+-- ---- the carets of a layout
+
+own_gaps-le : (last : Bool) (len : ℕ) → own_gaps last len ≤ len + 1
+own_gaps-le true len = omega arith
+own_gaps-le false len = omega arith
+
+slice-inside : {X : Type 0} (xs : List X) (index : ℕ) → index < length xs → (x : X) × (slice_get xs index ≡ Some x)
+slice-inside [] index inside = absurd (omega arith)
+slice-inside (x ∷ xs) zero inside = (x, refl)
+slice-inside (x ∷ xs) (suc index) inside = slice-inside xs index (omega arith)
+
+slice-map : {X Y : Type 0} (f : X → Y) (xs : List X) (index : ℕ) → slice_get (map f xs) index ≡ option_map f (slice_get xs index)
+slice-map f [] index = refl
+slice-map f (x ∷ xs) zero = refl
+slice-map f (x ∷ xs) (suc index) = slice-map f xs index
+
+lines-same : (text : List ℕ) (pieces : List Piece) (regions others : List Region) (index : ℕ) (piece : Piece) →
+    layout text pieces regions ≡ layout text pieces others → slice_get pieces index ≡ Some piece → layout_line text regions piece ≡ layout_line text others piece
+lines-same text pieces regions others index piece same is =
+    let at : option_map (layout_line text regions) (slice_get pieces index) ≡ option_map (layout_line text others) (slice_get pieces index) =
+    sym (slice-map (layout_line text regions) pieces index) ∙ ap (λ ls. slice_get ls index) same ∙ slice-map (layout_line text others) pieces index in
+    ap (λ o. unwrap_or o (layout_line text regions piece))
+    (sym (ap (option_map (layout_line text regions)) is) ∙ at ∙ ap (option_map (layout_line text others)) is)
+
+carets-told : (text : List ℕ) (pieces : List Piece) (regions others : List Region) (gap : ℕ) → ArePieces text pieces →
+    layout text pieces regions ≡ layout text pieces others → gap ≤ length text → has (carets_of regions) gap ≡ has (carets_of others) gap
+carets-told text pieces regions others gap are same inside =
+    let index = layout_line_of pieces gap in
+    let there = slice-inside pieces index (IsLayoutLineOf-layout_line_of text pieces gap are).inside in
+    let piece = there.0 in
+    let line = text_of_piece text piece in
+    let gaps = own_gaps (is_last_piece text piece) (length line) in
+    let own = (own-layout_line_of text pieces index piece gap are there.1 inside).1 refl in
+    let fits = own_gaps-le (is_last_piece text piece) (length line) in
+    sym (own-told (carets_of regions) piece.start gaps gap line own.0 own.1 fits) ∙
+    ap (λ (l : Line). has l.cursor (place_of line (gap - piece.start))) (lines-same text pieces regions others index piece same there.1) ∙
+    own-told (carets_of others) piece.start gaps gap line own.0 own.1 fits
+
+pub layouts-tell : (text other : List ℕ) (regions others : List Region) →
+    layout text (whole_lines text) regions ≡ layout other (whole_lines other) others →
+    (text ≡ other) × ((gap : ℕ) → gap ≤ length text → has (carets_of regions) gap ≡ has (carets_of others) gap)
+layouts-tell text other regions others same = (texts, λ gap inside. carets-told text (whole_lines text) regions others gap (ArePieces-whole_lines text) one inside)
+  where
+    texts : text ≡ other
+    texts =
+        sym (text-layout text (whole_lines text) regions (ArePieces-whole_lines text)) ∙
+        ap (λ lines. concat (map (λ (line : Line). line.text) lines)) same ∙
+        text-layout other (whole_lines other) others (ArePieces-whole_lines other)
+
+    one : layout text (whole_lines text) regions ≡ layout text (whole_lines text) others
+    one = same ∙ ap (λ t. layout t (whole_lines t) others) (sym texts)

@@ -1,44 +1,25 @@
--- The layout of a text with its carets. (A line has no styles yet and is not wrapped.)
-use Rattle.std.specs.Prelude.{ℕ, ◌+◌, ◌-◌, if◌then◌else◌, nat_lt, List, [], ◌∷◌, length, map, Some}
-use Rattle.std.specs.List.{filter, range_with_len}
+-- The layout of a text that is cut into pieces, with the carets of regions, and the place of a gap on it. (A line has no styles yet.)
+use Rattle.std.specs.Prelude.{ℕ, List, [], map}
+use Rattle.plain_text.specs.declared.selection.Region.{Region}
+use Rattle.plain_screen.specs.declared.piece.Piece.{Piece}
 use Rattle.plain_screen.specs.declared.screen.Line.{Line}
-use Rattle.plain_text.specs.Numbers.{has}
-use Rattle.plain_text.specs.Text.{place_of}
-use Rattle.plain_text.specs.Lines.{logical_lines}
+use Rattle.plain_screen.specs.View.{layout_line_of}
+use Rattle.line_render.specs.Rendered.{rendered}
+use Rattle.plain_view.specs.Viewed.{byte_column_of}
 
--- the byte offsets of the carets in a line that starts at gap `start` and has `gaps` gaps of its own
-abbrev pub cursor_of : List ℕ → ℕ → ℕ → List ℕ → List ℕ
-cursor_of carets start gaps line = map (place_of line) (filter (λ gap. has carets (start + gap)) (range_with_len 0 gaps))
+-- a line of the layout: that of its piece, with the carets of these regions that are its own; what is selected is not shown yet
+abbrev pub layout_line : List ℕ → List Region → Piece → Line
+layout_line text regions piece = record (rendered text piece regions []) { styles = [] }
 
--- a line of the layout
-abbrev pub layout_line : List ℕ → ℕ → ℕ → ℕ → List ℕ → Line
-layout_line carets number start gaps line =
-    record { text = line; ln = Some number; cursor = cursor_of carets start gaps line; styles = [] }
-
--- the layout of lines, the first of which has this number and starts at gap `start`: a gap belongs to the last line that starts by it
-abbrev pub layout_from : List ℕ → ℕ → ℕ → List (List ℕ) → List Line
-layout_from carets number start [] = []
-layout_from carets number start (line ∷ []) = layout_line carets number start (length line + 1) line ∷ []
-layout_from carets number start (line ∷ next ∷ lines) =
-    layout_line carets number start (length line) line ∷ layout_from carets (number + 1) (start + length line) (next ∷ lines)
-
--- THE LAYOUT of a text with carets at these gaps
-abbrev pub layout : List ℕ → List ℕ → List Line
-layout text carets = layout_from carets 1 0 (logical_lines text)
+-- THE LAYOUT of a text in these pieces, with the carets of these regions
+abbrev pub layout : List ℕ → List Piece → List Region → List Line
+layout text pieces regions = map (layout_line text regions) pieces
 
 -- a place on the layout: a line, from 0, and a byte offset in it
 pub record Position : Type 0 where
   pub line : ℕ
   pub col : ℕ
 
--- the place of a gap in lines, the first of which has this index
-abbrev pub position_from : ℕ → ℕ → List (List ℕ) → Position
-position_from index gap [] = record { line = index; col = 0 }
-position_from index gap (line ∷ []) = record { line = index; col = place_of line gap }
-position_from index gap (line ∷ next ∷ lines) =
-    if nat_lt gap (length line) then record { line = index; col = place_of line gap }
-    else position_from (index + 1) (gap - length line) (next ∷ lines)
-
--- the place of a gap of the text
-abbrev pub position_of : List ℕ → ℕ → Position
-position_of text gap = position_from 0 gap (logical_lines text)
+-- THE PLACE of a gap of a text in these pieces
+abbrev pub position_of : List ℕ → List Piece → ℕ → Position
+position_of text pieces gap = record { line = layout_line_of pieces gap; col = byte_column_of text pieces gap }

@@ -2,7 +2,7 @@
 
 ghost use Rattle.doc_layout.specs.Laws.{LayoutsTell};
 
-/// A layout has the characters of its text and the place of its caret, and nothing else.
+/// A layout has the characters of its text and the places of its carets, and nothing else.
 pub fn layouts_tell()
     ensures { LayoutsTell }
 {}

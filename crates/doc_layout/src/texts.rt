@@ -1,39 +1,14 @@
 // Where gaps of a rope stand: each answer costs the height of the rope, and no walk over its text.
-ghost use Rattle.std.specs.Prelude.{◌≡◌, ◌<◌, IfNone, IfOk, IfSome, take};
+ghost use Rattle.std.specs.Prelude.{◌≡◌, ◌<◌, IfNone, IfOk, IfSome};
 ghost use Rattle.plain_text.specs.Text.{place_of};
-ghost use Rattle.rope_node.specs.Lengths.{lf_count};
 ghost use Rattle.rope_metrics.specs.Measure.{HasNone, IsConverted};
-ghost use Rattle.doc_layout.specs.Layout.{position_of};
-ghost use Rattle.doc_layout.specs.PositionView.{position_view};
 
 use plain_text::{NoMemory, Steps, Text};
-use rope_metrics::{Measure, convert, total};
+use rope_metrics::{Measure, convert};
 use rope_tree::Rope;
 use std::alloc::Global;
 use std::marker::Brand;
 use std::sync::ledger::{Blank, Ledger};
-
-/// The place of a gap on the layout: a line, and an offset in it in bytes.
-pub fn position_of(text: &Rope, gap: u64) -> (u64, u64)
-    ensures { position_view result ≡ position_of text.now gap }
-{
-    let line = lines_before(text, gap);
-    let place = place_of(text, gap);
-    match converted(text, Measure::Lines, Measure::Bytes, line) {
-        Some(start) => (line, place - start),
-        None => (line, place),
-    }
-}
-
-/// How many LFs stand left of a gap.
-fn lines_before(text: &Rope, gap: u64) -> u64
-    ensures { result ≡ lf_count (take gap text.now) }
-{
-    match converted(text, Measure::Chars, Measure::Lines, gap) {
-        Some(lines) => lines,
-        None => total(text.node(), Measure::Lines),
-    }
-}
 
 /// The byte offset of a gap, or of the end where there is no such gap.
 pub(crate) fn place_of(text: &Rope, gap: u64) -> u64

@@ -151,12 +151,12 @@ pub IsLeftOf-same : (typing : Option Typing) → IsLeftOf typing typing
 IsLeftOf-same None = tt
 IsLeftOf-same (Some run) = refl
 
-pub IsWhole-left : (engine : State) (groups : Groups) (typing : Option Typing) (caret : ℕ) (left : Option Typing) → IsLeftOf typing left →
-    IsWhole engine groups typing caret → IsWhole engine groups left caret
-IsWhole-left engine groups typing caret None is whole =
-    ∥∥₁_map whole (λ (s : (h : History) × IsWholeOf h engine groups typing caret).
+pub IsWhole-left : (engine : State) (groups : Groups) (typing : Option Typing) (shown : List ℕ) (left : Option Typing) → IsLeftOf typing left →
+    IsWhole engine groups typing shown → IsWhole engine groups left shown
+IsWhole-left engine groups typing shown None is whole =
+    ∥∥₁_map whole (λ (s : (h : History) × IsWholeOf h engine groups typing shown).
     (s.0, record { state = s.1.state; agree = Agree-ended s.0.revisions s.0.collected groups typing s.1.agree }))
-IsWhole-left engine groups typing caret (Some run) is whole = subst (λ t. IsWhole engine groups t caret) is whole
+IsWhole-left engine groups typing shown (Some run) is whole = subst (λ t. IsWhole engine groups t shown) is whole
 
 -- after the front end's edit
 pub Agree-front : (h : History) (groups : Groups) (typing : Option Typing) (kind : Option Kind) (group base priority author : ℕ) (left : Left) →
@@ -199,20 +199,20 @@ pub undone_by-turned : (h : History) (groups next : Groups) (typing : Option Typ
     IsTurned groups next group → undone_by h (group ∷ []) ≡ next.undone
 undone_by-turned h groups next typing group agree turn = ap (λ xs. turned xs group) agree.undone ∙ sym turn.undone
 
-module _ (engine : State) (groups : Groups) (typing : Option Typing) (caret : ℕ) (whole : IsWhole engine groups typing caret) where
+module _ (engine : State) (groups : Groups) (typing : Option Typing) (shown : List ℕ) (whole : IsWhole engine groups typing shown) where
   pub few-whole : groups.given ≤ head engine.revisions
   few-whole =
-      ∥∥₁_elim whole le_prop (λ (s : (h : History) × IsWholeOf h engine groups typing caret).
+      ∥∥₁_elim whole le_prop (λ (s : (h : History) × IsWholeOf h engine groups typing shown).
       omega (arith, s.1.agree.few, ap head s.1.state.stands.revisions))
 
   pub counts-whole : (joined : Option ℕ) → JoinsKnown groups joined → 1 ≤ group_by groups joined
   counts-whole joined known =
-      ∥∥₁_elim whole le_prop (λ (s : (h : History) × IsWholeOf h engine groups typing caret).
+      ∥∥₁_elim whole le_prop (λ (s : (h : History) × IsWholeOf h engine groups typing shown).
       counts-joined s.0.revisions s.0.collected groups typing s.1.agree joined known)
 
   pub kept-whole : (joined : Option ℕ) → JoinsKnown groups joined → has engine.revisions.collected (group_by groups joined) ≡ false
   kept-whole joined known =
-      ∥∥₁_elim whole (Bool-set _ _) (λ (s : (h : History) × IsWholeOf h engine groups typing caret).
+      ∥∥₁_elim whole (Bool-set _ _) (λ (s : (h : History) × IsWholeOf h engine groups typing shown).
       ap (λ (h : History). has h.collected (group_by groups joined)) s.1.state.stands.revisions ∙
       kept-joined s.0.revisions s.0.collected groups typing s.1.agree joined known)
 
@@ -220,7 +220,7 @@ module _ (engine : State) (groups : Groups) (typing : Option Typing) (caret : �
   pub open-whole : (kind : Option Kind) → IsOpenGroup engine.revisions (group_by groups (run_group (run_on typing kind)))
   open-whole kind =
       let joined = run_group (run_on typing kind) in
-      let Is : Type 0 = (h : History) × IsWholeOf h engine groups typing caret in
+      let Is : Type 0 = (h : History) × IsWholeOf h engine groups typing shown in
       record {
         counts =
             ∥∥₁_elim whole le_prop (λ (s : Is). let newest = JoinsNewest-run groups typing kind s.1.agree.newest in
@@ -242,7 +242,7 @@ module _ (engine : State) (groups : Groups) (typing : Option Typing) (caret : �
     MayAskUndo-whole numbered = record {
       known =
           ∥∥₁_elim whole (AllByRecursion-prop (IsKnown engine.revisions) (IsKnown-prop engine.revisions) _)
-          (λ (s : (h : History) × IsWholeOf h engine groups typing caret).
+          (λ (s : (h : History) × IsWholeOf h engine groups typing shown).
           let h = s.0 in
           let At : History → Type 0 = λ r. AllByRecursion (IsKnown r) (undone_by r (group ∷ [])) in
           subst At (sym s.1.state.stands.revisions)
@@ -256,7 +256,7 @@ module _ (engine : State) (groups : Groups) (typing : Option Typing) (caret : �
     pub agrees-whole : AgreesOnCollected engine.revisions (undone_by engine.revisions (group ∷ []))
     agrees-whole =
         ∥∥₁_elim whole (AllByRecursion-prop _ (λ g. Bool-set _ _) _)
-        (λ (s : (h : History) × IsWholeOf h engine groups typing caret).
+        (λ (s : (h : History) × IsWholeOf h engine groups typing shown).
         let h = s.0 in
         let rises : IsRising (undone_now h) = subst IsRising (sym s.1.agree.undone) s.1.agree.stack.undone_rise in
         let At : History → Type 0 = λ r. AgreesOnCollected r (undone_by r (group ∷ [])) in

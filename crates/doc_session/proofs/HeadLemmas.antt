@@ -1,7 +1,7 @@
 -- What the head of an engine shows is the head text of each history that the engine stands for.
-use Rattle.std.proofs.Common.{◌≡◌, ℕ, ◌≤◌, Bool, true, false, cond, List, [], ◌∷◌, length, map, filter, Option, refl, ap, ap₂, ◌∙◌, arith}
+use Rattle.std.proofs.Common.{◌≡◌, ℕ, Bool, true, false, cond, List, [], ◌∷◌, map, filter, Option, refl, ap, ap₂, sym, ◌∙◌, arith}
 use Rattle.std.proofs.Math.Logic.{∥∥₁_elim, ∥∥₁_map}
-use Rattle.std.specs.Coded.{le_prop}
+use Rattle.std.specs.Coded.{Coded-set, coded_list, coded_ℕ, le_prop}
 use Rattle.std.specs.Prelude.{not}
 use Rattle.subset_runs.specs.Subset.{items_outside}
 use Rattle.plain_edits.specs.History.{History, Tagged, head, is_visible, text_at}
@@ -40,24 +40,25 @@ head_shown-stands engine h stands =
 
 -- ---- what is whole
 
-pub state-whole : (engine : State) (groups : Groups) (typing : Option Typing) (caret : ℕ) → IsWhole engine groups typing caret → IsStateOfSome engine caret
-state-whole engine groups typing caret whole =
-    ∥∥₁_map whole (λ (s : (h : History) × IsWholeOf h engine groups typing caret). (s.0, s.1.state))
+pub state-whole : (engine : State) (groups : Groups) (typing : Option Typing) (shown : List ℕ) → IsWhole engine groups typing shown → IsStateOfSome engine shown
+state-whole engine groups typing shown whole =
+    ∥∥₁_map whole (λ (s : (h : History) × IsWholeOf h engine groups typing shown). (s.0, s.1.state))
 
-pub some-whole : (engine : State) (caret : ℕ) → IsStateOfSome engine caret → StandsForSome engine
-some-whole engine caret whole = ∥∥₁_map whole (λ (s : (h : History) × IsStateOf h engine caret). (s.0, s.1.stands))
+pub some-whole : (engine : State) (shown : List ℕ) → IsStateOfSome engine shown → StandsForSome engine
+some-whole engine shown whole = ∥∥₁_map whole (λ (s : (h : History) × IsStateOf h engine shown). (s.0, s.1.stands))
 
-pub inside-whole : (engine : State) (caret : ℕ) → IsStateOfSome engine caret → caret ≤ length (head_shown engine)
-inside-whole engine caret whole =
-    ∥∥₁_elim whole le_prop (λ (s : (h : History) × IsStateOf h engine caret).
-    omega (arith, s.1.inside, ap length (head_shown-stands engine s.0 s.1.stands)))
+-- the view is of what the head shows
+pub shown-whole : (engine : State) (shown : List ℕ) → IsStateOfSome engine shown → shown ≡ head_shown engine
+shown-whole engine shown whole =
+    ∥∥₁_elim whole (Coded-set (coded_list coded_ℕ) _ _) (λ (s : (h : History) × IsStateOf h engine shown).
+    s.1.shown_is ∙ sym (head_shown-stands engine s.0 s.1.stands))
 
 -- what is whole is that of each history that it stands for
-pub IsStateOf-whole : (h : History) (engine : State) (caret : ℕ) → IsStateOfSome engine caret → StandsFor engine h → IsStateOf h engine caret
-IsStateOf-whole h engine caret whole stands = record {
+pub IsStateOf-whole : (h : History) (engine : State) (shown : List ℕ) → IsStateOfSome engine shown → StandsFor engine h → IsStateOf h engine shown
+IsStateOf-whole h engine shown whole stands = record {
   stands = stands;
-  inside = omega (arith, inside-whole engine caret whole, ap length (head_shown-stands engine h stands));
-  within = ∥∥₁_elim whole le_prop (λ (s : (h : History) × IsStateOf h engine caret).
+  shown_is = shown-whole engine shown whole ∙ head_shown-stands engine h stands;
+  within = ∥∥₁_elim whole le_prop (λ (s : (h : History) × IsStateOf h engine shown).
       omega (arith, s.1.within, s.1.stands.spent, stands.spent));
-  bound = ∥∥₁_elim whole le_prop (λ (s : (h : History) × IsStateOf h engine caret). s.1.bound);
+  bound = ∥∥₁_elim whole le_prop (λ (s : (h : History) × IsStateOf h engine shown). s.1.bound);
 }

@@ -4,7 +4,10 @@ pub mod GroupLemmas
 pub mod HeadLemmas
 pub mod MoveLemmas
 pub mod LoadLemmas
-pub mod InsertLemmas
+pub mod FrontLemmas
+pub mod UntoldLemmas
+pub mod IdleLemmas
+pub mod SomeLemmas
 pub mod SettleLemmas
 pub mod StepLemmas
 pub mod FitLemmas

@@ -1,7 +1,7 @@
 -- A document on a text that was just loaded.
 use Rattle.std.proofs.Common.{◌≡◌, ℕ, ◌≤◌, List, [], ◌∷◌, None, refl, ap, sym, subst, arith}
 use Rattle.std.specs.Prelude.{◌^◌}
-use Rattle.plain_edits.specs.History.{loaded, text_at}
+use Rattle.plain_edits.specs.History.{head, loaded, text_at}
 use Rattle.rev_engine.specs.State.{State}
 use Rattle.rev_engine.specs.Engine.{StandsFor}
 use Rattle.rev_engine.proofs.ForCallers.{spent-loaded}
@@ -13,19 +13,22 @@ pub text_at-loaded : (text : List ℕ) → text_at (loaded text) 0 ≡ text
 text_at-loaded [] = refl
 text_at-loaded (c ∷ text) = ap (λ cs. c ∷ cs) (text_at-loaded text)
 
+text_of-loaded : (text : List ℕ) → text_at (loaded text) (head (loaded text)) ≡ text
+text_of-loaded text = text_at-loaded text
+
 pub IsStateOf-loaded : (text : List ℕ) (engine : State) (limit : ℕ) → StandsFor engine (loaded text) → engine.limit ≡ limit →
-    limit ≤ 2 ^ 60 → IsStateOf (loaded text) engine 0
+    limit ≤ 2 ^ 60 → IsStateOf (loaded text) engine text
 IsStateOf-loaded text engine limit stands limit_is bound = record {
   stands = stands;
-  inside = omega arith;
+  shown_is = sym (text_of-loaded text);
   within = omega (arith, spent-loaded text);
   bound = omega (arith, limit_is, bound);
 }
 
 pub IsWhole-loaded : (text : List ℕ) (engine : State) (limit : ℕ) (stack : Groups) → StandsFor engine (loaded text) → engine.limit ≡ limit →
-    limit ≤ 2 ^ 60 → stack ≡ no_groups → IsStack stack → IsWhole engine stack None 0
+    limit ≤ 2 ^ 60 → stack ≡ no_groups → IsStack stack → IsWhole engine stack None text
 IsWhole-loaded text engine limit stack stands limit_is bound stack_is sound =
-    let At : Groups → Type 0 = λ s. IsWhole engine s None 0 in
+    let At : Groups → Type 0 = λ s. IsWhole engine s None text in
     subst At (sym stack_is) (∣ (
       loaded text,
       record {

@@ -1,5 +1,5 @@
 -- What an edit that was taken leaves: the texts on both sides of its change, where it takes gaps, and its notice.
-use Rattle.std.proofs.Common.{◌≡◌, ℕ, zero, suc, ◌+◌, ◌<◌, ◌≤◌, Bool, true, false, cond, List, [], ◌∷◌, length, take, filter, Option, Some, None, refl, ap, ap₂, sym, ◌∙◌, subst, arith, inl, inr}
+use Rattle.std.proofs.Common.{◌≡◌, ℕ, zero, suc, ◌+◌, ◌<◌, ◌≤◌, Bool, true, false, cond, List, [], ◌∷◌, length, map, take, filter, Option, Some, None, refl, ap, ap₂, sym, ◌∙◌, subst, arith, inl, inr}
 use Rattle.std.proofs.Math.Nat.{ℕ_set}
 use Rattle.std.proofs.Math.Path.{fun_ext}
 use Rattle.std.proofs.Math.Logic.{∥∥₁_elim, ∥∥₁_map}
@@ -15,7 +15,8 @@ use Rattle.plain_edits.specs.declared.delta.Misfit.{Misfit}
 use Rattle.plain_text.specs.declared.run.Run.{Run}
 use Rattle.plain_edits.specs.declared.delta.Added.{Added}
 use Rattle.plain_edits.specs.declared.delta.UnitDelta.{UnitDelta}
-use Rattle.plain_edits.specs.Caret.{moved_caret}
+use Rattle.plain_text.specs.declared.selection.Region.{Region}
+use Rattle.plain_edits.specs.Caret.{moved_caret, moved_regions}
 use Rattle.plain_edits.specs.HistorySteps.{Step, edits, undoes, collects, after_step}
 use Rattle.plain_edits.specs.Delta.{misfit_of}
 use Rattle.plain_edits.specs.Edits.{undid, Refusal, unknown, collected, spent, edit_refusal, misfit_or_spent}
@@ -31,7 +32,8 @@ use Rattle.rev_engine.specs.declared.edit.UnitEdit.{UnitEdit}
 use Rattle.rev_engine.specs.Engine.{StandsFor, IsChange, IsSaidBy}
 use Rattle.rev_engine.specs.Given.{AskedEdit, after}
 use Rattle.rev_engine.proofs.ForCallers.{IsOfEngine-given, inserted_count-plain}
-use Rattle.selection_core.specs.Mapped.{new_gap}
+use Rattle.selection_core.specs.Mapped.{AreWithin, length_after, mapped_region, mapped_regions, new_gap}
+use Rattle.selection_core.specs.Selection.{merged_regions}
 use Rattle.selection_core.proofs.ForCallers.{new_gap-after_step}
 use Rattle.undo_groups.specs.Groups.{Groups}
 use Rattle.doc_session.specs.declared.left.Left.{Left}
@@ -93,6 +95,17 @@ module _ (h : History) (sound : IsSound h) (step : Step) (change : Change) (is :
   pub new_gap-le : (right : Bool) (gap : ℕ) → new_gap change.units right gap ≤ length (text_at next (head next))
   new_gap-le right gap =
       omega (arith, new_gap-moved right gap, moved_caret-le h next right gap, length-map (visible_at next (head next)) (λ (t : Tagged). t.character))
+
+  -- and regions where it takes regions
+  regions-moved : (right : Bool) (regions : List Region) → map (mapped_region change.units right) regions ≡ moved_regions h next right regions
+  regions-moved right [] = refl
+  regions-moved right (region ∷ regions) =
+      ap₂ (λ r rs. r ∷ rs)
+      (ap₂ (λ anchor caret. record region { anchor = anchor; caret = caret }) (new_gap-moved right region.anchor) (new_gap-moved right region.caret))
+      (regions-moved right regions)
+
+  pub mapped_regions-moved : (right : Bool) (regions : List Region) → mapped_regions change.units right regions ≡ merged_regions (moved_regions h next right regions)
+  mapped_regions-moved right regions = ap merged_regions (regions-moved right regions)
 
   -- the notice of the change
   pub notice-taken : (author : ℕ) (notice : Notice) → notice.view ≡ [] → notice.author ≡ author → notice.rev ≡ change.rev →
@@ -224,12 +237,16 @@ IsAfter-noticed h engine step now change author taken was one_more stands within
 
 -- ---- what a revision leaves, whatever the history
 
-module _ (engine : State) (groups : Groups) (typing : Option Typing) (caret : ℕ) (step : History → Step) (author : ℕ) (taken : Taken)
-    (whole : IsWhole engine groups typing caret)
-    (each : (h : History) → IsStateOf h engine caret → IsAfter h (after_step h (step h)) author taken) where
+AreWithin-more : (few many : ℕ) (regions : List Region) → few ≤ many → AreWithin few regions → AreWithin many regions
+AreWithin-more few many [] less are = tt
+AreWithin-more few many (region ∷ regions) less are = (omega (arith, are.0, less), AreWithin-more few many regions less are.1)
+
+module _ (engine : State) (groups : Groups) (typing : Option Typing) (shown : List ℕ) (step : History → Step) (author : ℕ) (taken : Taken)
+    (whole : IsWhole engine groups typing shown)
+    (each : (h : History) → IsStateOf h engine shown → IsAfter h (after_step h (step h)) author taken) where
   pub new_gap-taken : (right : Bool) (gap : ℕ) → new_gap taken.change.units right gap ≤ length (head_shown taken.engine)
   new_gap-taken right gap =
-      ∥∥₁_elim whole le_prop (λ (s : (h : History) × IsWholeOf h engine groups typing caret).
+      ∥∥₁_elim whole le_prop (λ (s : (h : History) × IsWholeOf h engine groups typing shown).
       let h = s.0 in
       let is = each h s.1.state in
       omega (
@@ -238,12 +255,16 @@ module _ (engine : State) (groups : Groups) (typing : Option Typing) (caret : �
         ap length (head_shown-stands taken.engine (after_step h (step h)) is.stands),
       ))
 
-  pub whole-taken : (left : Left) → taken.engine.limit ≡ engine.limit → left.caret ≤ length (head_shown taken.engine) →
+  -- regions that were moved lie in the text after it
+  pub within-taken : (regions : List Region) → AreWithin (length_after taken.change.units) regions → AreWithin (length (head_shown taken.engine)) regions
+  within-taken regions are = AreWithin-more _ _ regions (new_gap-taken false taken.change.units.base) are
+
+  pub whole-taken : (left : Left) → taken.engine.limit ≡ engine.limit →
       ((h : History) → Agree h.revisions h.collected groups typing →
       Agree (after_step h (step h)).revisions (after_step h (step h)).collected left.stack left.typing) →
-      IsWhole taken.engine left.stack left.typing left.caret
-  whole-taken left same inside agree =
-      ∥∥₁_map whole (λ (s : (h : History) × IsWholeOf h engine groups typing caret).
+      IsWhole taken.engine left.stack left.typing (head_shown taken.engine)
+  whole-taken left same agree =
+      ∥∥₁_map whole (λ (s : (h : History) × IsWholeOf h engine groups typing shown).
       let h = s.0 in
       let was = s.1.state in
       let is = each h was in (
@@ -251,7 +272,7 @@ module _ (engine : State) (groups : Groups) (typing : Option Typing) (caret : �
         record {
           state = record {
             stands = is.stands;
-            inside = omega (arith, inside, ap length (head_shown-stands taken.engine (after_step h (step h)) is.stands));
+            shown_is = head_shown-stands taken.engine (after_step h (step h)) is.stands;
             within = is.within;
             bound = omega (arith, was.bound, same);
           };

@@ -1,46 +1,123 @@
 -- The steps of the document in memory are those of the plain one.
-use Rattle.std.proofs.Common.{◌≡◌, ◌≢◌, ℕ, Bool, true, false, List, [], ◌∷◌, Option, None, refl, ap, ap₂, ◌∙◌, subst}
-use Rattle.std.specs.Prelude.{IsTrue}
+use Rattle.std.proofs.Common.{◌≡◌, ℕ, Bool, true, false, List, [], length, Option, Some, None, refl, ap, ap₂, sym, ◌∙◌, subst}
+use Rattle.std.specs.Prelude.{if◌then◌else◌, ◌&&◌}
+use Rattle.std.proofs.lemmas.Bool.{eq-eqb}
+use Rattle.plain_text.specs.declared.selection.Region.{Region}
+use Rattle.plain_screen.specs.View.{whole_lines}
 use Rattle.plain_edits.specs.History.{History}
 use Rattle.plain_edits.specs.HistorySteps.{Step, after_step}
+use Rattle.xi_plain.specs.declared.command.EditAct.{EditAct}
+use Rattle.xi_plain.specs.declared.command.EditAct.TheVariants as Acts
+use Rattle.xi_plain.specs.declared.config.Config.{Config}
+use Rattle.edit_ops.specs.declared.replacement.Replacement.{Replacement}
+use Rattle.plain_edits.specs.declared.delta.UnitDelta.{UnitDelta}
+use Rattle.edit_ops.specs.Commands.{Effect, IsEffect, copied_text, effect_of, selecting}
+use Rattle.edit_ops.specs.Replacements.{IsEditOf}
 use Rattle.rev_engine.specs.declared.edit.Edit.{Edit}
-use Rattle.rev_engine.specs.Engine.{StandsFor, asked_by}
+use Rattle.rev_engine.specs.declared.edit.UnitEdit.{UnitEdit}
+use Rattle.rev_engine.specs.Engine.{IsSaidBy, StandsFor, asked_by}
 use Rattle.rev_engine.specs.Given.{AskedEdit}
-use Rattle.selection_core.specs.Mapped.{new_gap}
 use Rattle.undo_groups.specs.Groups.{Groups}
+use Rattle.doc_layout.specs.Told.{is_same_point}
+use Rattle.doc_view.proofs.ForCallers.{do_nothing-none}
+use Rattle.doc_view.specs.Idle.{do_nothing}
+use Rattle.doc_view.specs.View.{pieces_in}
+use Rattle.doc_view.specs.Moved.{AreMoved, with_goals}
+use Rattle.doc_session.specs.declared.event.Body.TheVariants.{Copied, Null}
 use Rattle.doc_session.specs.InMemory.{Doc}
 use Rattle.doc_session.specs.declared.left.Left.{Left}
 use Rattle.doc_session.specs.declared.taken.Taken.{Taken}
 use Rattle.doc_session.specs.declared.typing.Kind.{Kind}
 use Rattle.doc_session.specs.declared.typing.Typing.{Typing}
-use Rattle.doc_session.specs.Asking.{front_edit, plugin_edit, asked_refusal}
-use Rattle.doc_session.specs.Document.{Document}
+use Rattle.doc_session.specs.Asking.{asked_refusal, replacing_edit, front_edit, plugin_edit}
+use Rattle.doc_session.specs.Document.{Document, caret_point, pieces_of, text_of}
 use Rattle.doc_session.specs.Grouping.{group_by, groups_by, named_group, run_group}
-use Rattle.doc_session.specs.Inner.{IsAfter, IsAfterEdit, insertion_in, known_group, next_document}
+use Rattle.doc_session.specs.Inner.{IsAfter, IsAfterEdit, IsLeftAlone, effect_in, known_group, next_document}
+use Rattle.doc_session.specs.Layout.{Position}
 use Rattle.doc_session.specs.Stands.{DocStandsFor}
-use Rattle.doc_session.specs.Step.{caret_by, front_step, typed_document, typing_refusal, typing_step}
+use Rattle.doc_session.specs.Step.{command_refusal, command_step, effect_on, first_config, going_on, idle_step, is_idle, other_step, regions_by, scroll_if, scrolls, selected_document, still_step, typed_step}
 use Rattle.doc_session.specs.Typing.{run_on}
+use Rattle.doc_session.proofs.ActLemmas.{text_act-left}
 use Rattle.doc_session.proofs.GroupLemmas.{known_group-named}
-use Rattle.doc_session.proofs.MoveLemmas.{new_gap-moved, sound-given}
+use Rattle.doc_session.proofs.MoveLemmas.{mapped_regions-moved, sound-given}
 
--- its caret is where the caret rule takes it
-pub caret-moved : (doc : Doc) (plain : Document) (step : Step) (author : ℕ) (taken : Taken) (right : Bool) (gap : ℕ) → DocStandsFor doc plain →
-    IsAfter plain.history (after_step plain.history step) author taken → gap ≡ new_gap taken.change.units right doc.caret →
-    gap ≡ caret_by plain (after_step plain.history step) right
-caret-moved doc plain step author taken right gap stands is gap_is =
-    gap_is ∙
-    new_gap-moved plain.history (sound-given doc.engine plain.history stands.parts.stands) step taken.change is.changes right doc.caret ∙
-    ap (λ gap. caret_by (record plain { caret = gap }) (after_step plain.history step) right) stands.caret
+-- its regions are where the caret rule takes them
+pub regions-moved : (doc : Doc) (plain : Document) (step : Step) (author : ℕ) (taken : Taken) (right goals : Bool) (moved : List Region) → DocStandsFor doc plain →
+    IsAfter plain.history (after_step plain.history step) author taken → AreMoved taken.change.units right goals doc.view.regions moved →
+    moved ≡ regions_by plain (after_step plain.history step) right (with_goals goals plain.regions)
+regions-moved doc plain step author taken right goals moved stands is are =
+    are.is ∙
+    mapped_regions-moved plain.history (sound-given doc.engine plain.history stands.parts.stands) step taken.change is.changes right (with_goals goals doc.view.regions) ∙
+    ap (λ rs. regions_by plain (after_step plain.history step) right (with_goals goals rs)) stands.regions
 
 -- the document that a revision leaves, by what it leaves beside the engine
-pub next_document-is : (plain : Document) (history : History) (left : Left) (groups : Groups) (typing : Option Typing) (caret : ℕ) →
-    left.stack ≡ groups → left.typing ≡ typing → left.caret ≡ caret →
-    next_document plain history left ≡ record plain { history = history; groups = groups; typing = typing; caret = caret }
-next_document-is plain history left groups typing caret stack_is typing_is caret_is =
-    ap (λ (g : Groups). record plain { history = history; groups = g; typing = left.typing; caret = left.caret }) stack_is ∙
-    ap₂ (λ (t : Option Typing) (c : ℕ). record plain { history = history; groups = groups; typing = t; caret = c }) typing_is caret_is
+pub next_document-is : (plain : Document) (history : History) (left : Left) (groups : Groups) (typing : Option Typing) (regions : List Region) →
+    left.stack ≡ groups → left.typing ≡ typing → left.sel.regions ≡ regions →
+    next_document plain history left ≡ record plain { history = history; groups = groups; typing = typing; regions = regions }
+next_document-is plain history left groups typing regions stack_is typing_is regions_is =
+    ap (λ (g : Groups). record plain { history = history; groups = g; typing = left.typing; regions = left.sel.regions }) stack_is ∙
+    ap₂ (λ (t : Option Typing) (rs : List Region). record plain { history = history; groups = groups; typing = t; regions = rs }) typing_is regions_is
+
+-- ---- commands
+
+-- the effect of a command is that on the plain document
+pub effect-is : (doc : Doc) (plain : Document) (act : EditAct) → DocStandsFor doc plain → effect_in doc.view act ≡ effect_on plain act
+effect-is doc plain act stands = ap₂ (λ text regions. effect_of first_config text (whole_lines text) regions act) stands.parts.shown_is stands.regions
+
+-- what the view made of a command is its effect
+pub effect-made : (doc now : Doc) (config : Config) (act : EditAct) (units : UnitDelta) (after : List Region) → doc ≡ now → config ≡ first_config →
+    IsEffect doc.view.text (effect_of config doc.view.text (pieces_in doc.view) doc.view.regions act) units after →
+    IsEffect now.view.text (effect_in now.view act) units after
+effect-made doc now config act units after same plain is =
+    subst (λ (d : Doc). IsEffect d.view.text (effect_in d.view act) units after) same
+    (subst (λ (k : Config). IsEffect doc.view.text (effect_of k doc.view.text (pieces_in doc.view) doc.view.regions act) units after) plain is)
+
+-- and it does nothing exactly where its unit delta does not
+pub idle-is : (doc : Doc) (plain : Document) (act : EditAct) (units : UnitDelta) (after : List Region) (idle : Bool) → DocStandsFor doc plain →
+    IsEffect doc.view.text (effect_in doc.view act) units after →
+    ((replacements : List Replacement) → IsEditOf units.base replacements units → idle ≡ do_nothing units.base replacements) →
+    idle ≡ is_idle plain (effect_on plain act)
+idle-is doc plain act units after idle stands is each =
+    let replacements = (effect_in doc.view act).replacements in
+    each replacements (subst (λ n. IsEditOf n replacements units) (sym is.edit.of) is.edit) ∙
+    ap (λ n. do_nothing n replacements) (is.edit.of ∙ ap length stands.parts.shown_is) ∙
+    ap (λ (e : Effect). do_nothing (length (text_of plain)) e.replacements) (effect-is doc plain act stands)
+
+pub copied-is : (doc : Doc) (plain : Document) → DocStandsFor doc plain → copied_text doc.view.text doc.view.regions ≡ copied_text (text_of plain) plain.regions
+copied-is doc plain stands = ap₂ copied_text stands.parts.shown_is stands.regions
 
 -- ---- the front end's edit
+
+-- an act that leaves text and regions alone is as a line that is no command
+same_point : (place : Position) → is_same_point place place ≡ true
+same_point place = ap₂ (λ a b. a && b) (eq-eqb place.line place.line refl) (eq-eqb place.col place.col refl)
+
+no_scroll : (asked : Bool) (plain : Document) → scroll_if asked plain (going_on plain None) ≡ None
+no_scroll true plain = ap (λ same. if same then None else Some (caret_point plain)) (same_point (caret_point plain))
+no_scroll false plain = refl
+
+alone-effect : (plain : Document) (act : EditAct) → IsLeftAlone act → effect_on plain act ≡ selecting plain.regions
+alone-effect plain act alone = alone.same (text_of plain) (pieces_of plain) plain.regions
+
+pub command_step-alone : (plain : Document) (act : EditAct) → IsLeftAlone act → command_step plain act (effect_on plain act) ≡ other_step plain
+command_step-alone plain act alone =
+    ap (command_step plain act) (alone-effect plain act alone) ∙
+    ap (λ b. if b then idle_step plain act (selecting plain.regions) else typed_step plain act (selecting plain.regions)) (do_nothing-none (length (text_of plain))) ∙
+    ap₂ (λ kind copied. still_step plain (selected_document plain kind plain.regions) (if copied then Copied (copied_text (text_of plain) plain.regions) else Null)
+    (scroll_if (scrolls act) plain (selected_document plain kind plain.regions))) alone.no_run alone.silent ∙
+    ap (still_step plain (going_on plain None) Null) (no_scroll (scrolls act) plain)
+
+pub command_refusal-alone : (plain : Document) (act : EditAct) → IsLeftAlone act → command_refusal plain (effect_on plain act) ≡ None
+command_refusal-alone plain act alone =
+    ap (command_refusal plain) (alone-effect plain act alone) ∙
+    ap (λ b. if b then None else asked_refusal plain (front_edit plain None [])) (do_nothing-none (length (text_of plain)))
+
+-- an undo and a redo are not refused
+pub refusal_undo : (plain : Document) → command_refusal plain (effect_on plain Acts.Undo) ≡ None
+refusal_undo plain = command_refusal-alone plain Acts.Undo (text_act-left Acts.Undo refl)
+
+pub refusal_redo : (plain : Document) → command_refusal plain (effect_on plain Acts.Redo) ≡ None
+refusal_redo plain = command_refusal-alone plain Acts.Redo (text_act-left Acts.Redo refl)
 
 -- the group of it, and the groups with it
 pub joined-front : (doc : Doc) (plain : Document) (kind : Option Kind) → DocStandsFor doc plain →
@@ -55,37 +132,19 @@ pub groups-front : (doc : Doc) (plain : Document) (kind : Option Kind) → DocSt
     groups_by doc.groups (run_group (run_on doc.typing kind)) ≡ groups_by plain.groups (run_group (run_on plain.typing kind))
 groups-front doc plain kind stands = ap₂ groups_by stands.groups (joined-front doc plain kind stands)
 
--- it is refused as any other insertion there
-pub asked-front : (doc : Doc) (plain : Document) (group : ℕ) (joined : Option ℕ) (chars : List ℕ) → DocStandsFor doc plain → group ≡ group_by plain.groups joined →
-    insertion_in group plain.history doc.caret chars ≡ front_edit plain joined chars
-asked-front doc plain group joined chars stands group_is = ap₂ (λ g gap. insertion_in g plain.history gap chars) group_is stands.caret
+-- it makes of the engine what it makes of the history
+pub IsAfter-front : (doc : Doc) (plain : Document) (edit : UnitEdit) (replacements : List Replacement) (joined : Option ℕ) (taken : Taken) → DocStandsFor doc plain →
+    IsSaidBy plain.history edit (replacing_edit edit.group plain.history replacements) → edit.group ≡ group_by plain.groups joined →
+    ((h : History) (asked : AskedEdit) → StandsFor doc.engine h → IsSaidBy h edit asked → IsAfterEdit h asked taken) →
+    IsAfterEdit plain.history (front_edit plain joined replacements) taken
+IsAfter-front doc plain edit replacements joined taken stands said group_is each =
+    let At : ℕ → Type 0 = λ group. IsAfterEdit plain.history (replacing_edit group plain.history replacements) taken in
+    subst At group_is (each plain.history (replacing_edit edit.group plain.history replacements) stands.parts.stands said)
 
-pub refusal-group : (plain : Document) (group other : ℕ) (caret : ℕ) (chars : List ℕ) →
-    asked_refusal plain (insertion_in group plain.history caret chars) ≡ asked_refusal plain (insertion_in other plain.history caret chars)
-refusal-group plain group other caret chars = refl
-
-pub IsAfter-front : (doc : Doc) (plain : Document) (group : ℕ) (joined : Option ℕ) (chars : List ℕ) (taken : Taken) → DocStandsFor doc plain →
-    group ≡ group_by plain.groups joined → ((h : History) → StandsFor doc.engine h → IsAfterEdit h (insertion_in group h doc.caret chars) taken) →
-    IsAfterEdit plain.history (front_edit plain joined chars) taken
-IsAfter-front doc plain group joined chars taken stands group_is each =
-    let At : AskedEdit → Type 0 = λ a. IsAfterEdit plain.history a taken in
-    subst At (asked-front doc plain group joined chars stands group_is) (each plain.history stands.parts.stands)
-
-pub typing_step-some : (plain : Document) (kind : Option Kind) (chars : List ℕ) → chars ≢ [] →
-    typing_step plain kind chars ≡ front_step plain (typed_document plain kind chars)
-typing_step-some plain kind [] some = absurd (some refl)
-typing_step-some plain kind (c ∷ chars) some = refl
-
-pub typing_refusal-some : (plain : Document) (chars : List ℕ) → chars ≢ [] → typing_refusal plain chars ≡ asked_refusal plain (front_edit plain None chars)
-typing_refusal-some plain [] some = absurd (some refl)
-typing_refusal-some plain (c ∷ chars) some = refl
-
-pub some_by : (b : Bool) (chars : List ℕ) → (chars ≡ [] → IsTrue b) → b ≡ false → chars ≢ []
-some_by true chars told off = absurd cc
-some_by false chars told off = λ none. apart (told none)
-  where
-    apart : IsTrue false → ⊥
-    apart is = cc
+-- in which group it goes is no cause of a refusal
+pub refusal-group : (plain : Document) (group other : ℕ) (replacements : List Replacement) →
+    asked_refusal plain (replacing_edit group plain.history replacements) ≡ asked_refusal plain (replacing_edit other plain.history replacements)
+refusal-group plain group other replacements = refl
 
 -- ---- the edit of a plugin
 

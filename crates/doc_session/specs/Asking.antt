@@ -1,40 +1,33 @@
 -- The edits that a document is asked for, and why one is refused.
-use Rattle.std.specs.Prelude.{ℕ, List, [], ◌∷◌, Option}
-use Rattle.plain_edits.specs.declared.delta.Delta.{Delta}
-use Rattle.plain_edits.specs.declared.delta.El.TheVariants.{Copy, Insert}
-use Rattle.plain_text.specs.Text.{byte_len, place_of}
-use Rattle.plain_edits.specs.History.{head}
+use Rattle.std.specs.Prelude.{ℕ, List, Option}
+use Rattle.plain_edits.specs.History.{History, head, text_at}
 use Rattle.plain_edits.specs.Edits.{Refusal, edit_refusal}
+use Rattle.edit_ops.specs.declared.replacement.Replacement.{Replacement}
+use Rattle.edit_ops.specs.Replacements.{added_by, kept_by}
 use Rattle.rev_engine.specs.declared.edit.Edit.{Edit}
 use Rattle.rev_engine.specs.Given.{AskedEdit}
-use Rattle.doc_session.specs.Document.{Document, text_of}
+use Rattle.doc_session.specs.Document.{Document}
+use Rattle.delta_core.specs.Elements.{delta_by}
 use Rattle.doc_session.specs.Grouping.{group_by}
 
 -- the priority of the front end's edits
 abbrev pub front_priority : ℕ
 front_priority = 65536
 
--- the delta that puts characters in at a gap: what stands left of it stays, and what stands right of it
-abbrev pub insertion_delta : List ℕ → ℕ → List ℕ → Delta
-insertion_delta text gap chars = record {
-  els = Copy 0 (place_of text gap) ∷ Insert chars ∷ Copy (place_of text gap) (byte_len text) ∷ [];
-  base_len = byte_len text;
-}
-
--- the insertion of characters at a gap of the head text, against the head, in this group
-abbrev pub insertion_at : ℕ → ℕ → List ℕ → ℕ → List ℕ → AskedEdit
-insertion_at group head text gap chars = record {
-  base = head;
-  delta = insertion_delta text gap chars;
+-- the edit that makes these replacements of the head text, against the head, in this group: element for element, with their text at each
+-- gap
+abbrev pub replacing_edit : ℕ → History → List Replacement → AskedEdit
+replacing_edit group history replacements = record {
+  base = head history;
+  delta = delta_by (kept_by replacements) (added_by replacements) (text_at history (head history));
   group = group;
   priority = front_priority;
   author = 0;
 }
 
--- that of the front end, at the caret, which joins a group or opens the next
-abbrev pub front_edit : Document → Option ℕ → List ℕ → AskedEdit
-front_edit document joined chars =
-    insertion_at (group_by document.groups joined) (head document.history) (text_of document) document.caret chars
+-- THE EDIT OF THE FRONT END, which joins a group or opens the next
+abbrev pub front_edit : Document → Option ℕ → List Replacement → AskedEdit
+front_edit document joined replacements = replacing_edit (group_by document.groups joined) document.history replacements
 
 -- the edit of a plugin, which says itself its base, its delta and its priority
 abbrev pub plugin_edit : Document → ℕ → Edit → Option ℕ → AskedEdit

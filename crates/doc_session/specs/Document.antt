@@ -1,8 +1,12 @@
 -- THE PLAIN DOCUMENT: what a document with one view is, by the history of its text.
 use Rattle.std.specs.Prelude.{ℕ, Bool, ◌==◌, List, [], ◌∷◌, Option, None}
 use Rattle.plain_text.specs.declared.run.Run.{Run}
+use Rattle.plain_text.specs.declared.selection.Region.{Region}
+use Rattle.plain_screen.specs.declared.piece.Piece.{Piece}
 use Rattle.plain_screen.specs.declared.screen.Line.{Line}
 use Rattle.plain_edits.specs.History.{History, head, loaded, text_at}
+use Rattle.plain_screen.specs.View.{whole_lines}
+use Rattle.selection_core.specs.Selection.{caret_of, last_caret}
 use Rattle.doc_session.specs.Layout.{layout, Position, position_of}
 pub use Rattle.doc_layout.specs.Told.{no_request}
 use Rattle.plain_screen.specs.Screen.{Screen}
@@ -10,7 +14,7 @@ use Rattle.undo_groups.specs.Groups.{Groups, no_groups}
 use Rattle.doc_session.specs.declared.typing.Typing.{Typing}
 
 -- a document: its history, the most characters that may be inserted after loading, how many plugins there are, its undo groups and its
--- run of typing, if there is one, its caret as a gap of the head text, the lines that its view shows, the revision that was loaded or
+-- run of typing, if there is one, the regions of its view on the head text, the lines that this shows, the revision that was loaded or
 -- last saved, and the screen that its front end has
 pub record Document : Type 0 where
   pub history : History
@@ -18,20 +22,24 @@ pub record Document : Type 0 where
   pub plugins : ℕ
   pub groups : Groups
   pub typing : Option Typing
-  pub caret : ℕ
+  pub regions : List Region
   pub window : Run
   pub saved : ℕ
   pub screen : Screen
 
--- the head text, its layout, the place of the caret, and whether the text is the one that was loaded or last saved
+-- the head text, the pieces that it is cut into (it is not wrapped yet), its layout with the carets of all regions, the place of the last
+-- one's caret, and whether the text is the one that was loaded or last saved
 abbrev pub text_of : Document → List ℕ
 text_of document = text_at document.history (head document.history)
 
+abbrev pub pieces_of : Document → List Piece
+pieces_of document = whole_lines (text_of document)
+
 abbrev pub layout_of : Document → List Line
-layout_of document = layout (text_of document) (document.caret ∷ [])
+layout_of document = layout (text_of document) (pieces_of document) document.regions
 
 abbrev pub caret_point : Document → Position
-caret_point document = position_of (text_of document) document.caret
+caret_point document = position_of (text_of document) (pieces_of document) (last_caret document.regions)
 
 abbrev pub is_pristine : Document → Bool
 is_pristine document = head document.history == document.saved
@@ -40,7 +48,7 @@ is_pristine document = head document.history == document.saved
 abbrev pub first_window : Run
 first_window = record { start = 0; end = 10 }
 
--- a document on a text that was just loaded: its front end was told nothing, and its screen is empty
+-- a document on a text that was just loaded: one caret at its start; its front end was told nothing, and its screen is empty
 abbrev pub loaded_document : List ℕ → ℕ → ℕ → Document
 loaded_document text plugins limit = record {
   history = loaded text;
@@ -48,7 +56,7 @@ loaded_document text plugins limit = record {
   plugins = plugins;
   groups = no_groups;
   typing = None;
-  caret = 0;
+  regions = caret_of 0 ∷ [];
   window = first_window;
   saved = 0;
   screen = [];

@@ -1,5 +1,5 @@
 -- What a front end and the plugins are told after a document changed.
-use Rattle.std.specs.Prelude.{ℕ, ◌+◌, Bool, true, false, not, ◌&&◌, ◌||◌, if◌then◌else◌, List, [], ◌∷◌, Option, Some, None, unwrap_or, is_some}
+use Rattle.std.specs.Prelude.{ℕ, ◌+◌, Bool, true, not, ◌&&◌, ◌||◌, if◌then◌else◌, List, [], ◌∷◌, Option, Some, None, unwrap_or, is_some}
 use Rattle.xi_plain.specs.declared.config.Notice.{Notice}
 use Rattle.plain_edits.specs.declared.delta.Delta.{Delta}
 use Rattle.plain_text.specs.declared.run.Run.{Run}
@@ -16,6 +16,7 @@ use Rattle.delta_core.specs.Wire.{wire_from}
 use Rattle.doc_session.specs.Document.{Document, layout_of, caret_point, is_pristine, no_request}
 use Rattle.doc_session.specs.SameLayout.{is_same_layout}
 pub use Rattle.doc_layout.specs.Told.{is_same_point}
+pub use Rattle.doc_view.specs.Told.{differ}
 
 -- the update of a document (no line has a partner yet)
 abbrev pub ops_of : Document → List Op
@@ -31,11 +32,6 @@ updated document = record document { screen = unwrap_or (screen_after document.s
 -- whether the layout changed
 abbrev pub is_laid_out_anew : Document → Document → Bool
 is_laid_out_anew before after = not (is_same_layout (layout_of before) (layout_of after))
-
--- whether two truths differ
-abbrev pub differ : Bool → Bool → Bool
-differ true truth = not truth
-differ false truth = truth
 
 -- whether each of these lines that is in the window is valid on the screen, of which the lines from this index on are left
 abbrev pub are_valid : Run → ℕ → List Line → Screen → Bool
@@ -60,7 +56,7 @@ update_after before after = if wants_update before after then Some (update_of af
 abbrev pub settled : Document → Document → Document
 settled before after = if wants_update before after then updated after else after
 
--- THE OCCASION OF A SCROLL, at an edit of the front end: line or byte column of the caret changed; and the place that is written
+-- THE OCCASION OF A SCROLL, at a command of the front end: line or byte column of the last caret changed; and the place that is written
 abbrev pub scroll_after : Document → Document → Option Position
 scroll_after before after = if is_same_point (caret_point before) (caret_point after) then None else Some (caret_point after)
 

@@ -1,34 +1,37 @@
 -- What private functions say: the steps of an event.
-use Rattle.std.specs.Prelude.{◌≡◌, ℕ, ◌+◌, ◌^◌, ◌<◌, ◌≤◌, Bool, not, true, false, ◌||◌, if◌then◌else◌, nat_lt, ◌==◌, List, [], ◌∷◌, length, Option, Some, None, ⊤}
-use Rattle.std.specs.Str.{bytes_eq}
-use Rattle.plain_text.specs.declared.run.Run.{Run}
+use Rattle.std.specs.Prelude.{◌≡◌, ℕ, ◌+◌, ◌^◌, ◌<◌, ◌≤◌, Bool, true, false, if◌then◌else◌, ◌==◌, List, [], length, Option, Some, None, ⊤}
 use Rattle.plain_text.specs.Text.{byte_len}
 use Rattle.plain_text.specs.Numbers.{has, turned}
-use Rattle.plain_edits.specs.declared.delta.UnitDelta.{UnitDelta}
-use Rattle.plain_edits.specs.History.{History, head, text_at, inserted_count}
+use Rattle.plain_edits.specs.History.{History, head, inserted_count}
 use Rattle.plain_edits.specs.Undo.{undone_now}
-use Rattle.plain_edits.specs.UnitDelta.{IsCanonical}
-use Rattle.plain_screen.specs.declared.screen.Line.{Line}
-use Rattle.plain_screen.specs.declared.screen.Update.{Update}
+use Rattle.xi_plain.specs.declared.command.EditAct.{EditAct}
+use Rattle.xi_plain.specs.declared.command.EditAct.TheVariants as Acts
 use Rattle.delta_core.specs.Wire.{wire_of}
-use Rattle.doc_layout.specs.Changed.{IsChangeOf}
-use Rattle.doc_layout.specs.Told.{planned}
+use Rattle.plain_text.specs.declared.selection.Region.{Region}
+use Rattle.plain_screen.specs.declared.piece.Piece.{Piece}
+use Rattle.edit_ops.specs.Commands.{Effect, effect_of, selecting}
+use Rattle.edit_ops.specs.Replacements.{IsEditOf}
 use Rattle.rev_engine.specs.declared.edit.Change.{Change}
 use Rattle.rev_engine.specs.declared.edit.UnitEdit.{UnitEdit}
 use Rattle.rev_engine.specs.State.{State, shown_at}
 use Rattle.rev_engine.specs.Engine.{IsChange, IsSaidBy, StandsFor}
-use Rattle.rev_engine.specs.Given.{AskedEdit, MayAsk, after}
+use Rattle.rev_engine.specs.Given.{AskedEdit, after}
 use Rattle.undo_groups.specs.Groups.{Groups, IsStack, is_known}
+use Rattle.doc_layout.specs.Changed.{IsChangeOf}
+use Rattle.doc_view.specs.View.{View, pieces_in}
 use Rattle.doc_session.specs.declared.event.Effects.{Effects}
 use Rattle.doc_session.specs.declared.left.Left.{Left}
 use Rattle.doc_session.specs.declared.taken.Taken.{Taken}
 use Rattle.doc_session.specs.declared.typing.Typing.{Typing}
-use Rattle.doc_session.specs.Asking.{insertion_at}
-use Rattle.doc_session.specs.Document.{Document}
+use Rattle.doc_session.specs.Agree.{Agree}
+use Rattle.doc_session.specs.Asking.{front_priority}
+use Rattle.doc_session.specs.Document.{Document, text_of}
 use Rattle.doc_session.specs.Effects.{notice_of}
 use Rattle.doc_session.specs.InMemory.{Doc}
-use Rattle.doc_session.specs.Stands.{DocStandsFor}
-use Rattle.doc_session.specs.Step.{AreEffectsOf, EventStep}
+use Rattle.doc_session.specs.Stands.{AreRegionsOf, DocStandsFor}
+use Rattle.doc_session.specs.Step.{AreEffectsOf, EventStep, copies, first_config}
+use Rattle.doc_session.specs.Typing.{kind_of}
+use Rattle.doc_session.specs.Whole.{IsStateOf}
 
 -- ---- edits
 
@@ -49,12 +52,6 @@ pub record SaysSome (engine : State) (edit : UnitEdit) (history : History) (aske
 abbrev pub IsSaidOfSome : State → UnitEdit → Type 0
 IsSaidOfSome engine edit = ∥ ((history : History) × (asked : AskedEdit) × SaysSome engine edit history asked) ∥₁
 
--- an edit in characters can be made of what the head shows
-pub record IsHeadEdit (engine : State) (edit : UnitEdit) : Type 0 where
-  pub may : MayAsk engine.revisions edit.group
-  pub canonical : IsCanonical edit.units
-  pub base : edit.units.base ≡ length (head_shown engine)
-
 -- a change of this text was noticed: its delta is that of the notices
 pub record IsNoticed (text : List ℕ) (engine : State) (change : Change) (author : ℕ) (taken : Taken) : Type 0 where
   pub engine_is : taken.engine ≡ engine
@@ -64,10 +61,6 @@ pub record IsNoticed (text : List ℕ) (engine : State) (change : Change) (autho
   pub rev : taken.notice.rev ≡ change.rev
   pub new_len : taken.notice.new_len ≡ byte_len (head_shown engine)
   pub delta : taken.notice.delta ≡ wire_of text change.units
-
--- the insertion of characters at a gap of what the head of a history shows, in this group
-abbrev pub insertion_in : ℕ → History → ℕ → List ℕ → AskedEdit
-insertion_in group history gap chars = insertion_at group (head history) (text_at history (head history)) gap chars
 
 -- what every edit makes of an engine, whatever the history: a change of the head text, and 64 bits count the characters after it
 pub record IsTakenFrom (engine : State) (taken : Taken) : Type 0 where
@@ -119,32 +112,61 @@ abbrev pub IsLeftOf : Option Typing → Option Typing → Type 0
 IsLeftOf typing None = ⊤
 IsLeftOf typing (Some run) = typing ≡ Some run
 
--- the document with this history, and its groups, run and caret as they were left
+-- the document with this history, and its groups, run and regions as they were left
 abbrev pub next_document : Document → History → Left → Document
 next_document document history left =
-    record document { history = history; groups = left.stack; typing = left.typing; caret = left.caret }
+    record document { history = history; groups = left.stack; typing = left.typing; regions = left.sel.regions }
 
--- the whole text is kept, where there is any
-abbrev pub all_kept : ℕ → List Run
-all_kept len = if nat_lt 0 len then record { start = 0; end = len } ∷ [] else []
+-- ---- the next document in memory
 
--- characters are put in at a gap of a text of this length, and all of it stays
-abbrev pub insertion_units : ℕ → ℕ → List ℕ → UnitDelta
-insertion_units len gap chars = record { base = len; kept = all_kept len; added = record { gap = gap; text = chars } ∷ [] }
+-- the effect of a command on a view
+abbrev pub effect_in : View → EditAct → Effect
+effect_in view act = effect_of first_config view.text (pieces_in view) view.regions act
 
--- ---- what the front end is told
+-- an edit in characters is the front end's, and is that of a command on a view
+pub record IsFrontEdit (view : View) (act : EditAct) (edit : UnitEdit) : Type 0 where
+  pub edit_is : IsEditOf (length view.text) (effect_in view act).replacements edit.units
+  pub priority_is : edit.priority ≡ front_priority
+  pub author_is : edit.author ≡ 0
 
--- it has not the lines of the window, or caret or text are others than before, or the text was the one that was loaded or saved
-abbrev pub is_lacking : Doc → Bool → ℕ → Bool
-is_lacking doc same caret = not doc.view.valid || (not (doc.caret == caret) || (head doc.engine.revisions == doc.saved || not same))
+-- whether a command is done on the text and the regions alone
+abbrev pub is_text_act : EditAct → Bool
+is_text_act Acts.Undo = false
+is_text_act Acts.Redo = false
+is_text_act (Acts.Scroll first last) = false
+is_text_act (Acts.RequestLines first last) = false
+is_text_act (Acts.Find chars case_sensitive regex whole_words) = false
+is_text_act (Acts.FindNext wrap_around allow_same) = false
+is_text_act (Acts.FindPrevious wrap_around allow_same) = false
+is_text_act act = true
 
--- the text after an edit that left the caret here is the one before it, where that is asked: the caret stands where it stood
-abbrev pub is_same_after : Doc → State → ℕ → Bool
-is_same_after doc engine caret = if doc.caret == caret then bytes_eq (head_shown doc.engine) (head_shown engine) else false
+-- a command leaves text and regions as they are, belongs to no run and copies nothing
+pub record IsLeftAlone (act : EditAct) : Type 0 where
+  pub same : (text : List ℕ) (pieces : List Piece) (regions : List Region) → effect_of first_config text pieces regions act ≡ selecting regions
+  pub no_run : kind_of act ≡ None
+  pub silent : copies act ≡ false
 
--- what the front end is told of an edit that left the engine so, its head text laid out so, and the caret here
-abbrev pub told_of : Doc → State → List Line → ℕ → Option Update
-told_of doc engine lines caret = if is_lacking doc (is_same_after doc engine caret) caret then Some (planned doc.view.window lines false) else None
+-- whether its text is the one that was loaded or last saved
+abbrev pub is_pristine_in : Doc → Bool
+is_pristine_in doc = head doc.engine.revisions == doc.saved
+
+-- an event left the document in memory so, and its view as if the front end had been told: it stands for the plain one but for the screen,
+-- which is the one of the document before
+pub record IsUntold (doc : Doc) (before plain : Document) : Type 0 where
+  pub parts : IsStateOf plain.history doc.engine doc.view.text
+  pub limit : doc.engine.limit ≡ plain.limit
+  pub plugins : doc.plugins ≡ plain.plugins
+  pub groups : doc.groups ≡ plain.groups
+  pub typing : doc.typing ≡ plain.typing
+  pub agree : Agree plain.history.revisions plain.history.collected plain.groups plain.typing
+  pub regions : doc.view.regions ≡ plain.regions
+  pub regions_are : AreRegionsOf (text_of plain) plain.regions
+  pub saved : doc.saved ≡ plain.saved
+  pub saved_before : plain.saved ≤ head plain.history
+  pub window : plain.window ≡ doc.view.window
+  pub valid : doc.view.valid ≡ true
+  pub window_stays : plain.window ≡ before.window
+  pub screen_stays : plain.screen ≡ before.screen
 
 -- what an event makes is what its step gives: the document after it, and what those outside are told
 pub record IsStepped (step : EventStep) (made : Doc × Effects) : Type 0 where

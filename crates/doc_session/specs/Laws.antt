@@ -1,18 +1,19 @@
 -- Laws: what the definitions of a document come to, whatever the document.
-use Rattle.std.specs.Prelude.{◌≡◌, ℕ, ◌≤◌, List, ◌++◌, length, take, drop, Option, Some, None, ⊤}
+use Rattle.std.specs.Prelude.{◌≡◌, ℕ, Option, Some, None, ⊤}
 use Rattle.xi_plain.specs.declared.command.EditAct.{EditAct}
 use Rattle.plain_edits.specs.History.{History, text_at}
 use Rattle.plain_edits.specs.Delta.{Fits, keeps, adds, applied}
 use Rattle.plain_edits.specs.Edits.{Refusal, unknown, collected, misfit, spent}
 use Rattle.plain_screen.specs.Screen.{screen_after}
 use Rattle.plain_screen.specs.Plan.{shown_lines}
-use Rattle.doc_session.specs.Asking.{insertion_delta}
-use Rattle.doc_session.specs.Document.{Document, layout_of, no_request}
+use Rattle.edit_ops.specs.Replacements.{text_with}
+use Rattle.doc_session.specs.Asking.{front_edit}
+use Rattle.doc_session.specs.Document.{Document, layout_of, no_request, text_of}
 use Rattle.doc_session.specs.Effects.{ops_of, updated, change_delta}
 use Rattle.doc_session.specs.InMemory.{Doc}
 use Rattle.doc_session.specs.ScreenOf.{IsScreenOf}
 use Rattle.doc_session.specs.Stands.{DocStandsFor}
-use Rattle.doc_session.specs.Step.{refusal_at}
+use Rattle.doc_session.specs.Step.{effect_on, refusal_at}
 use Rattle.doc_session.specs.declared.event.Event.TheVariants.{Front}
 
 -- a screen that shows the lines of the window is a screen of the layout
@@ -30,11 +31,13 @@ NoticesLead = (history : History) (from to : ℕ) → Fits (text_at history from
     (applied (keeps (text_at history from) (change_delta history from to)) (adds (text_at history from) (change_delta history from to))
     (text_at history from) ≡ text_at history to)
 
--- the delta of an insertion fits the text, and puts the characters in at the gap
-abbrev pub InsertionsPut : Type 0
-InsertionsPut = (text chars : List ℕ) (gap : ℕ) → gap ≤ length text →
-    Fits text (insertion_delta text gap chars) ×
-    (applied (keeps text (insertion_delta text gap chars)) (adds text (insertion_delta text gap chars)) text ≡ take gap text ++ (chars ++ drop gap text))
+-- the delta of a command of the front end fits the head text, and leads to the text after the command's replacements
+abbrev pub CommandsPut : Type 0
+CommandsPut = (plain : Document) (act : EditAct) (joined : Option ℕ) →
+    let text = text_of plain in
+    let replacements = (effect_on plain act).replacements in
+    let delta = (front_edit plain joined replacements).delta in
+    Fits text delta × (applied (keeps text delta) (adds text delta) text ≡ text_with replacements text)
 
 -- the refusal, if there is one, is that the characters are spent
 abbrev pub IsSpentIfAny : Option Refusal → Type 0
@@ -44,6 +47,6 @@ IsSpentIfAny (Some (collected floor)) = ⊥
 IsSpentIfAny (Some (misfit first)) = ⊥
 IsSpentIfAny (Some (spent total)) = ⊤
 
--- what the front end types is refused only where its characters are spent: it is against the head, and its delta fits
-abbrev pub InsertionsFit : Type 0
-InsertionsFit = (doc : Doc) (plain : Document) (act : EditAct) → DocStandsFor doc plain → IsSpentIfAny (refusal_at plain (Front act))
+-- a command of the front end is refused only where its characters are spent: it is against the head, and its delta fits
+abbrev pub CommandsFit : Type 0
+CommandsFit = (doc : Doc) (plain : Document) (act : EditAct) → DocStandsFor doc plain → IsSpentIfAny (refusal_at plain (Front act))

@@ -1,2 +1,2 @@
--- The layout of a text with its carets.
-pub use Rattle.doc_layout.specs.Layout.{cursor_of, layout_line, layout_from, layout, Position, position_from, position_of}
+-- The layout of a text with the carets of regions, and the place of a gap on it.
+pub use Rattle.doc_layout.specs.Layout.{layout_line, layout, Position, position_of}

@@ -1,26 +1,35 @@
 -- What a document in memory stands for.
-use Rattle.std.specs.Prelude.{◌≡◌, ◌≤◌, if◌then◌else◌, [], true}
+use Rattle.std.specs.Prelude.{◌≡◌, ◌≢◌, ℕ, ◌≤◌, if◌then◌else◌, List, [], length, true}
+use Rattle.plain_text.specs.declared.selection.Region.{Region}
 use Rattle.plain_edits.specs.History.{head}
 use Rattle.plain_screen.specs.Plan.{is_within, shown_lines}
+use Rattle.selection_core.specs.Mapped.{AreWithin}
+use Rattle.selection_core.specs.Selection.{IsSelection}
 use Rattle.doc_session.specs.InMemory.{Doc}
-use Rattle.doc_session.specs.Document.{Document, layout_of, no_request}
+use Rattle.doc_session.specs.Document.{Document, layout_of, no_request, text_of}
 use Rattle.doc_session.specs.Agree.{Agree}
 use Rattle.doc_session.specs.Whole.{IsStateOf}
 
+-- the regions of a document: there is one at least, they are sorted, no two meet, and they lie in its text
+pub record AreRegionsOf (text : List ℕ) (regions : List Region) : Type 0 where
+  pub some : regions ≢ []
+  pub sound : IsSelection regions
+  pub inside : AreWithin (length text) regions
+
 -- the document in memory stands for the plain one: they have the same history, limit, plugins, undo groups, which agree with the history,
--- run of typing, caret, saved revision, layout and window, which shows the first line, and the front end's screen is as the last update
--- left it, or empty where there was none
+-- run of typing, regions on the head text, saved revision and window, which shows the first line, and the front end's screen is as the
+-- last update left it, or empty where there was none
 pub record DocStandsFor (doc : Doc) (plain : Document) : Type 0 where
-  pub parts : IsStateOf plain.history doc.engine doc.caret
+  pub parts : IsStateOf plain.history doc.engine doc.view.text
   pub limit : doc.engine.limit ≡ plain.limit
   pub plugins : doc.plugins ≡ plain.plugins
   pub groups : doc.groups ≡ plain.groups
   pub typing : doc.typing ≡ plain.typing
   pub agree : Agree plain.history.revisions plain.history.collected plain.groups plain.typing
-  pub caret : doc.caret ≡ plain.caret
+  pub regions : doc.view.regions ≡ plain.regions
+  pub regions_are : AreRegionsOf (text_of plain) plain.regions
   pub saved : doc.saved ≡ plain.saved
   pub saved_before : plain.saved ≤ head plain.history
-  pub lines : doc.view.lines ≡ layout_of plain
   pub window : plain.window ≡ doc.view.window
   pub shows_first : is_within plain.window 0 ≡ true
   pub screen : plain.screen ≡ (if doc.view.valid then shown_lines plain.window no_request (layout_of plain) else [])

@@ -1,23 +1,29 @@
 -- THE STEP: what an event comes to in a plain document.
-use Rattle.std.specs.Prelude.{◌≡◌, ℕ, ◌+◌, ◌≤◌, Bool, false, List, [], ◌∷◌, length, Option, Some, None, option_map, ⊤}
+use Rattle.std.specs.Prelude.{◌≡◌, ℕ, ◌+◌, ◌≤◌, Bool, true, false, if◌then◌else◌, List, length, map, Option, Some, None, option_map, ⊤}
+use Rattle.plain_text.specs.declared.selection.Region.{Region}
+use Rattle.xi_plain.specs.declared.config.Config.{Config}
 use Rattle.xi_plain.specs.declared.config.Notice.{Notice}
 use Rattle.xi_plain.specs.declared.command.EditAct.{EditAct}
-use Rattle.xi_plain.specs.declared.command.EditAct.TheVariants.{Insert, InsertNewline, Undo, Redo}
+use Rattle.xi_plain.specs.declared.command.EditAct.TheVariants.{Copy, Cut, Redo, SelectAll, Undo}
 use Rattle.plain_screen.specs.declared.screen.Update.{Update}
-use Rattle.plain_edits.specs.Caret.{moved_caret}
+use Rattle.plain_edits.specs.Caret.{moved_regions}
 use Rattle.plain_edits.specs.History.{History, head}
 use Rattle.plain_edits.specs.Edits.{Refusal, undid}
+use Rattle.selection_core.specs.Selection.{merged_regions}
+use Rattle.edit_ops.specs.Commands.{Effect, copied_text, effect_of}
+use Rattle.edit_ops.specs.Regions.{without_goal}
 use Rattle.undo_groups.specs.Groups.{Groups, next_undo, undone_one, next_redo, redone_one}
+use Rattle.doc_view.specs.Idle.{do_nothing}
 use Rattle.doc_session.specs.Layout.{Position}
 use Rattle.rev_engine.specs.declared.edit.Edit.{Edit as Given}
 use Rattle.rev_engine.specs.Given.{AskedEdit, after}
 use Rattle.doc_session.specs.declared.event.Body.{Body}
-use Rattle.doc_session.specs.declared.event.Body.TheVariants.{Null, Edited}
+use Rattle.doc_session.specs.declared.event.Body.TheVariants.{Null, Copied, Edited}
 use Rattle.doc_session.specs.declared.event.Effects.{Effects}
 use Rattle.doc_session.specs.declared.event.Event.{Event}
 use Rattle.doc_session.specs.declared.event.Event.TheVariants.{Front, Edit, Other}
 use Rattle.doc_session.specs.declared.typing.Kind.{Kind}
-use Rattle.doc_session.specs.Document.{Document}
+use Rattle.doc_session.specs.Document.{Document, pieces_of, text_of}
 use Rattle.doc_session.specs.Typing.{kind_of, run_on, run_with}
 use Rattle.doc_session.specs.Grouping.{named_group, run_group, groups_by}
 use Rattle.doc_session.specs.Asking.{front_edit, plugin_edit, asked_refusal}
@@ -32,66 +38,131 @@ pub record EventStep : Type 0 where
   pub scroll : Option Position
   pub notice : Option Notice
 
--- a revision was made, and the document is `next` then, before its front end was told: what is answered, and where to scroll, if anywhere
-abbrev pub revision_step : Document → Document → ℕ → Body → Option Position → EventStep
-revision_step document next author body scroll = record {
+-- an event after which the document is `next`, before its front end was told: what is answered, where to scroll, if anywhere, and what
+-- the plugins are told
+abbrev pub step_to : Document → Document → Body → Option Position → Option Notice → EventStep
+step_to document next body scroll notice = record {
   document = settled document next;
   body = body;
   update = update_after document next;
   scroll = scroll;
-  notice = Some (notice_of document.history next.history author);
+  notice = notice;
 }
 
--- one of the front end's own, which scrolls to the caret
-abbrev pub front_step : Document → Document → EventStep
-front_step document next = revision_step document next 0 Null (scroll_after document next)
+-- no revision is made
+abbrev pub still_step : Document → Document → Body → Option Position → EventStep
+still_step document next body scroll = step_to document next body scroll None
 
--- no revision is made; what the front end lacks it is told
-abbrev pub still_step : Document → EventStep
-still_step document = record {
-  document = settled document document;
-  body = Null;
-  update = update_after document document;
-  scroll = None;
-  notice = None;
-}
+-- a revision was made, by this author
+abbrev pub revision_step : Document → Document → ℕ → Body → Option Position → EventStep
+revision_step document next author body scroll =
+    step_to document next body scroll (Some (notice_of document.history next.history author))
 
 -- the document after a line that makes no revision: its run goes on where the line is a command of the run's kind, and else it ends
 abbrev pub going_on : Document → Option Kind → Document
 going_on document kind = record document { typing = run_on document.typing kind }
 
--- the document after an edit of this kind which joined a group or opened the next, with its caret at this gap
-abbrev pub edited_document : Document → AskedEdit → Option ℕ → Option Kind → ℕ → Document
-edited_document document asked joined kind gap = record document {
+-- a line that is no command of this document
+abbrev pub other_step : Document → EventStep
+other_step document = still_step document (going_on document None) Null None
+
+-- the document after an edit of this kind which joined a group or opened the next, with these regions
+abbrev pub edited_document : Document → AskedEdit → Option ℕ → Option Kind → List Region → Document
+edited_document document asked joined kind regions = record document {
   history = after document.history asked;
   groups = groups_by document.groups joined;
   typing = run_with kind asked.group;
-  caret = gap;
+  regions = regions;
 }
 
--- where the caret rule takes the caret: `after_cursor` or not
-abbrev pub caret_by : Document → History → Bool → ℕ
-caret_by document next after_cursor = moved_caret document.history next after_cursor document.caret
+-- ---- commands of the front end
 
--- the front end put characters in at its caret, which is left after them
-abbrev pub typed_document : Document → Option Kind → List ℕ → Document
-typed_document document kind chars =
-    edited_document document (front_edit document (run_group (run_on document.typing kind)) chars)
-    (run_group (run_on document.typing kind)) kind (document.caret + length chars)
+-- how texts are edited at first: tabs of four columns, which are typed as such, and lines that are not wrapped
+abbrev pub first_config : Config
+first_config = record { tab = 4; width = 0; spaces = false }
 
--- a plugin edited the text; the caret moves by the caret rule
-abbrev pub given_document : Document → AskedEdit → Option ℕ → Bool → Document
-given_document document asked joined after_cursor =
-    edited_document document asked joined None (caret_by document (after document.history asked) after_cursor)
+-- THE EFFECT OF A COMMAND on the text and the regions
+abbrev pub effect_on : Document → EditAct → Effect
+effect_on document act = effect_of first_config (text_of document) (pieces_of document) document.regions act
 
--- an undo or a redo left the groups so; the caret moves by the caret rule
+-- whether it makes no revision: it drops nothing, and adds nothing
+abbrev pub is_idle : Document → Effect → Bool
+is_idle document effect = do_nothing (length (text_of document)) effect.replacements
+
+-- whether it copies what is selected; and what it is answered: the copied text, or nothing
+abbrev pub copies : EditAct → Bool
+copies Cut = true
+copies Copy = true
+copies act = false
+
+abbrev pub answer_to : Document → EditAct → Body
+answer_to document act = if copies act then Copied (copied_text (text_of document) document.regions) else Null
+
+-- whether it scrolls to the last caret where that stands elsewhere then: one that selects all does not; and where it scrolls to
+abbrev pub scrolls : EditAct → Bool
+scrolls SelectAll = false
+scrolls act = true
+
+abbrev pub scroll_if : Bool → Document → Document → Option Position
+scroll_if asked document next = if asked then scroll_after document next else None
+
+-- the document after a command that makes no revision
+abbrev pub selected_document : Document → Option Kind → List Region → Document
+selected_document document kind regions = record (going_on document kind) { regions = regions }
+
+-- the document after one that makes a revision: its edit joins the group of the run that it goes on with, or opens the next
+abbrev pub typed_document : Document → Option Kind → Effect → Document
+typed_document document kind effect =
+    let joined = run_group (run_on document.typing kind) in
+    edited_document document (front_edit document joined effect.replacements) joined kind effect.regions
+
+-- a command that has this effect
+abbrev pub idle_step : Document → EditAct → Effect → EventStep
+idle_step document act effect =
+    let next = selected_document document (kind_of act) effect.regions in
+    still_step document next (answer_to document act) (scroll_if (scrolls act) document next)
+
+abbrev pub typed_step : Document → EditAct → Effect → EventStep
+typed_step document act effect =
+    let next = typed_document document (kind_of act) effect in
+    revision_step document next 0 (answer_to document act) (scroll_if (scrolls act) document next)
+
+abbrev pub command_step : Document → EditAct → Effect → EventStep
+command_step document act effect = if is_idle document effect then idle_step document act effect else typed_step document act effect
+
+-- ---- undo and redo
+
+-- where the caret rule takes regions: `after_cursor` or not; those that then meet are merged
+abbrev pub regions_by : Document → History → Bool → List Region → List Region
+regions_by document next after_cursor regions = merged_regions (moved_regions document.history next after_cursor regions)
+
+-- an undo or a redo left the groups so; the regions move by the caret rule, and their goals go
 abbrev pub undone_document : Document → Groups → Document
 undone_document document groups = record document {
   history = undid document.history groups.undone;
   groups = groups;
   typing = None;
-  caret = caret_by document (undid document.history groups.undone) false;
+  regions = regions_by document (undid document.history groups.undone) false (map without_goal document.regions);
 }
+
+-- an undo or a redo takes this group, where there is one, and leaves the groups so; at its end it makes no revision
+abbrev pub history_step : Document → Option ℕ → Groups → EventStep
+history_step document None groups = other_step document
+history_step document (Some group) groups =
+    revision_step document (undone_document document groups) 0 Null (scroll_after document (undone_document document groups))
+
+-- THE STEP OF A COMMAND of the front end
+abbrev pub act_step : Document → EditAct → EventStep
+act_step document Undo = history_step document (next_undo document.groups) (undone_one document.groups)
+act_step document Redo = history_step document (next_redo document.groups) (redone_one document.groups)
+act_step document act = command_step document act (effect_on document act)
+
+-- ---- plugins
+
+-- a plugin edited the text; the regions move by the caret rule and keep their goals
+abbrev pub given_document : Document → AskedEdit → Option ℕ → Bool → Document
+given_document document asked joined after_cursor =
+    edited_document document asked joined None (regions_by document (after document.history asked) after_cursor document.regions)
 
 -- the edit of a plugin is taken in the group that it joins or opens, which it is told, and scrolls nowhere
 abbrev pub given_step : Document → AskedEdit → Option ℕ → Bool → EventStep
@@ -104,42 +175,22 @@ plugin_step document caller edit named =
     given_step document (plugin_edit document caller edit (named_group document.history named))
     (named_group document.history named) edit.after_cursor
 
--- the characters that an act of the front end puts in at its caret; what is not done yet puts in none
-abbrev pub typed : EditAct → List ℕ
-typed (Insert chars) = chars
-typed InsertNewline = 10 ∷ []
-typed act = []
-
--- a command of the front end puts characters in; none make no revision
-abbrev pub typing_step : Document → Option Kind → List ℕ → EventStep
-typing_step document kind [] = still_step (going_on document kind)
-typing_step document kind (c ∷ chars) = front_step document (typed_document document kind (c ∷ chars))
-
--- an undo or a redo takes this group, where there is one, and leaves the groups so; at its end it makes no revision
-abbrev pub history_step : Document → Option ℕ → Groups → EventStep
-history_step document None groups = still_step (going_on document None)
-history_step document (Some group) groups = front_step document (undone_document document groups)
-
--- a command of the front end
-abbrev pub act_step : Document → EditAct → EventStep
-act_step document Undo = history_step document (next_undo document.groups) (undone_one document.groups)
-act_step document Redo = history_step document (next_redo document.groups) (redone_one document.groups)
-act_step document act = typing_step document (kind_of act) (typed act)
+-- ---- all events
 
 -- THE STEP of an event that is not refused
 abbrev pub event_step : Document → Event → EventStep
 event_step document (Front act) = act_step document act
 event_step document (Edit caller edit named) = plugin_step document caller edit named
-event_step document Other = still_step (going_on document None)
+event_step document Other = other_step document
 
--- why characters are refused
-abbrev pub typing_refusal : Document → List ℕ → Option Refusal
-typing_refusal document [] = None
-typing_refusal document (c ∷ chars) = asked_refusal document (front_edit document None (c ∷ chars))
+-- why a command is refused that has this effect
+abbrev pub command_refusal : Document → Effect → Option Refusal
+command_refusal document effect =
+    if is_idle document effect then None else asked_refusal document (front_edit document None effect.replacements)
 
 -- THE REFUSAL of an event. (In which group an edit goes is no cause.)
 abbrev pub refusal_at : Document → Event → Option Refusal
-refusal_at document (Front act) = typing_refusal document (typed act)
+refusal_at document (Front act) = command_refusal document (effect_on document act)
 refusal_at document (Edit caller edit named) = asked_refusal document (plugin_edit document caller edit None)
 refusal_at document Other = None
 

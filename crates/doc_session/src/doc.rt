@@ -1,36 +1,37 @@
-ghost use Rattle.std.specs.Prelude.{◌≡◌, ◌≢◌, ◌+◌, ◌-◌, ◌^◌, ◌<◌, ◌≤◌, ℕ, [], length, None, IfOk, IfErr, OnOk, OnErr, option_map};
+ghost use Rattle.std.specs.Prelude.{◌≡◌, ◌≢◌, ◌+◌, ◌-◌, ◌^◌, ◌<◌, ◌≤◌, ℕ, [], true, length, if◌then◌else◌, Some, None, IfOk, IfErr, OnOk, OnErr, option_map};
 ghost use Rattle.plain_edits.specs.Collection.{kept};
 ghost use Rattle.plain_edits.specs.History.{History, head};
+ghost use Rattle.edit_ops.specs.Commands.{IsEffect};
 ghost use Rattle.rev_engine.specs.Engine.{IsSaidBy, StandsFor};
-ghost use Rattle.doc_session.specs.Asking.{front_edit, plugin_edit, asked_refusal};
+ghost use Rattle.rev_engine.specs.Given.{AskedEdit, MayAsk};
+ghost use Rattle.selection_core.specs.Mapped.{AreWithin};
+ghost use Rattle.selection_core.specs.Selection.{IsSelection};
+ghost use Rattle.doc_session.specs.Asking.{front_edit, front_priority, plugin_edit, asked_refusal};
 ghost use Rattle.doc_session.specs.Document.{Document, layout_of, loaded_document, text_of};
 ghost use Rattle.doc_session.specs.Fault.{DocRefuses};
 ghost use Rattle.undo_groups.specs.Groups.{next_redo, next_undo, redone_one, undone_one};
 ghost use Rattle.doc_session.specs.Agree.{Agree};
-ghost use Rattle.doc_layout.specs.Changed.{IsChangeOf};
 ghost use Rattle.doc_layout.specs.Told.{scroll_between};
-ghost use Rattle.doc_session.specs.Inner.{IsAfter, IsAfterEdit, IsHeadEdit, IsLeftOf, IsMoved, IsOpenGroup, IsStepped, IsTakenFrom, IsTurned, head_shown, insertion_in, is_lacking, next_document, told_of};
-ghost use Rattle.doc_session.specs.Layout.{position_of};
+ghost use Rattle.doc_session.specs.Inner.{IsAfter, IsAfterEdit, IsFrontEdit, IsLeftOf, IsMoved, IsStepped, IsTakenFrom, IsTurned, IsUntold, effect_in, head_shown, is_pristine_in, next_document};
 ghost use Rattle.doc_session.specs.PositionView.{position_view};
 ghost use Rattle.doc_session.specs.ScreenOf.{IsUpToDate};
 ghost use Rattle.doc_session.specs.Stands.{DocStandsFor};
-ghost use Rattle.doc_session.specs.Step.{AreEffectsOf, HasCaller, act_step, event_step, front_step, going_on, history_step, plugin_step, refusal_at, revision_step, still_step, typed, typed_document, typing_refusal, typing_step, undone_document};
+ghost use Rattle.doc_session.specs.Step.{AreEffectsOf, HasCaller, act_step, answer_to, command_refusal, command_step, effect_on, event_step, history_step, idle_step, other_step, plugin_step, refusal_at, revision_step, scroll_if, step_to, typed_step};
 ghost use Rattle.doc_session.specs.Whole.{IsWhole};
+ghost use Rattle.doc_view.specs.View.{point_in};
 
+use crate::commands::{copies, first_config, is_done_on_text, scrolls};
 use crate::event::{Body, Effects, Event};
 use crate::fault::DocFault;
-use crate::insertion::insertion_of;
 use crate::left::{Left, joined_or_opened, left_by, named_or_opened};
+use crate::said::Said;
 use crate::taken::{Taken, taken_by, taken_head, taken_turn};
-use crate::told::update_if;
-use crate::typing::{Kind, Typing, kind_of, run_group, run_on, run_with};
-use crate::view::ViewState;
-use doc_layout::{is_same_if, layout_of, position_of, scroll_of, whole_text};
+use crate::typing::{Typing, kind_of, run_group, run_on, run_with};
+use doc_layout::{scroll_of, whole_text};
+use doc_view::{ViewState, does_nothing};
 use plain_edits::UnitDelta;
-use plain_screen::{Lines, Update};
-use plain_text::{NoMemory, Run, Steps, Text};
+use plain_text::{NoMemory, Run, Sel, Steps, Text};
 use rev_engine::{Edit, Engine, UnitEdit};
-use selection_core::gap_after;
 use std::alloc::Global;
 use std::marker::Model;
 use std::sync::ledger::Ledger;
@@ -51,13 +52,12 @@ pub struct Doc {
     stack: Stack,
     /// The run that the next command of the front end may join.
     typing: Option<Typing>,
-    /// As a gap of the head text.
-    caret: u64,
     /// The revision that was loaded or last saved.
     saved: u64,
-    /// How texts are laid out. Lines are not wrapped yet, and tabs are not laid out, so it is kept and not read.
+    /// How texts are laid out and edited. It is kept, and not read yet.
     config: Config,
     plugins: u32,
+    /// The view on the head text.
     view: ViewState,
 }
 
@@ -72,14 +72,13 @@ impl Model for Doc {
       engine = d.engine;
       groups = d.stack;
       typing = d.typing;
-      caret = d.caret;
       saved = d.saved;
       config = d.config;
       plugins = d.plugins;
       view = d.view;
     } };
 
-    ghost invariant = { λ d. IsWhole d.engine d.stack d.typing d.caret };
+    ghost invariant = { λ d. IsWhole d.engine d.stack d.typing d.view.text };
 }
 
 impl Doc {
@@ -93,27 +92,28 @@ impl Doc {
         config: Config,
     ) -> Result<Doc, NoMemory>
         requires { limit ≤ 2 ^ 60 }
-        ensures { IfOk result (λ made. DocStandsFor made (loaded_document text plugins limit)) }
+        ensures stands { IfOk result (λ made. DocStandsFor made (loaded_document text plugins limit)) }
+        ensures config { IfOk result (λ made. made.config ≡ config) }
     {
         let engine = Engine::of_text(alloc, text, limit)?;
-        let lines = layout_of(alloc, engine.head_rope(), 0)?;
+        let shown = whole_text(alloc, engine.head_rope())?;
         let stack = Stack::new(alloc);
         let _given = stack.given();
         Ok(Doc {
             engine,
             stack,
             typing: None,
-            caret: 0,
             saved: 0,
             config,
             plugins,
-            view: ViewState::new(alloc, lines, FIRST_WINDOW, false)?,
+            view: ViewState::of_text(alloc, shown, FIRST_WINDOW)?,
         })
     }
 
     /// The document after an event, beside this one, and what those outside are told of it. An edit costs its elements, each times the
-    /// height of the text, and the layout, which is made anew; one against an old revision the union and the runs of the later
-    /// revisions besides; an undo or a redo what `Engine::set_undone_by` does. No step is counted yet.
+    /// height of the text, and the layout, which is made anew, as it is where regions move; one against an old revision the union and
+    /// the runs of the later revisions besides; an undo or a redo what `Engine::set_undone_by` does; and a command what
+    /// `edit_ops::edit_of` does. No step is counted yet.
     pub fn after<L: Ledger>(
         &self,
         alloc: Global,
@@ -131,6 +131,7 @@ impl Doc {
             → IfErr result (DocRefuses (refusal_at plain event)) }
         ensures shown { (plain : Document) → DocStandsFor self.now plain → IsUpToDate (event_step plain event).document }
         ensures plugins { IfOk result (λ made. made.0.plugins ≡ self.now.plugins) }
+        ensures config { IfOk result (λ made. made.0.config ≡ self.now.config) }
         ensures steps { steps.new ≡ steps.old }
     {
         let _steps = steps;
@@ -156,6 +157,7 @@ impl Doc {
         ensures shown { (plain : Document) → DocStandsFor self.old plain → IsUpToDate (event_step plain event).document }
         ensures same { OnErr result (self.new ≡ self.old) }
         ensures plugins { self.new.plugins ≡ self.old.plugins }
+        ensures config { self.new.config ≡ self.old.config }
         ensures steps { steps.new ≡ steps.old }
     {
         let (next, effects) = self.after(alloc, event, steps)?;
@@ -173,6 +175,7 @@ impl Doc {
         ensures refused { (plain : Document) → DocStandsFor self.now plain
             → IfErr result (DocRefuses (refusal_at plain event)) }
         ensures plugins { IfOk result (λ made. made.0.plugins ≡ self.now.plugins) }
+        ensures config { IfOk result (λ made. made.0.config ≡ self.now.config) }
     {
         match event {
             Event::Front(act) => self.act(alloc, act),
@@ -181,110 +184,127 @@ impl Doc {
                 edit,
                 named,
             } => self.edit(alloc, caller, edit, named),
-            Event::Other => Ok(self.still(alloc, None)?),
+            Event::Other => Ok(self.other(alloc)?),
         }
     }
 
     // A command of the front end.
+    #[tactic(auto, using(crate::proofs::StepLemmas::refusal_undo, crate::proofs::StepLemmas::refusal_redo))]
     fn act(&self, alloc: Global, act: EditAct) -> Result<(Doc, Effects), DocFault>
         requires { head self.now.engine.revisions < 2 ^ 63 - 1 }
         ensures stepped { (plain : Document) → DocStandsFor self.now plain → IfOk result (IsStepped (act_step plain act)) }
         ensures accepted { (plain : Document) → DocStandsFor self.now plain
-            → OnOk result (typing_refusal plain (typed act) ≡ None) }
+            → OnOk result (command_refusal plain (effect_on plain act) ≡ None) }
         ensures refused { (plain : Document) → DocStandsFor self.now plain
-            → IfErr result (DocRefuses (typing_refusal plain (typed act))) }
+            → IfErr result (DocRefuses (command_refusal plain (effect_on plain act))) }
         ensures plugins { IfOk result (λ made. made.0.plugins ≡ self.now.plugins) }
+        ensures config { IfOk result (λ made. made.0.config ≡ self.now.config) }
     {
         match act {
             EditAct::Undo => Ok(self.undo(alloc)?),
             EditAct::Redo => Ok(self.redo(alloc)?),
-            act => self.insert(alloc, kind_of(&act), &typed(alloc, act)?),
+            act => self.command(alloc, &act),
         }
     }
 
-    // The front end puts characters in at its caret, against the head, by a command of this kind.
-    fn insert(
-        &self,
-        alloc: Global,
-        kind: Option<Kind>,
-        chars: &Text,
-    ) -> Result<(Doc, Effects), DocFault>
+    // A command that is no undo and no redo.
+    fn command(&self, alloc: Global, act: &EditAct) -> Result<(Doc, Effects), DocFault>
         requires { head self.now.engine.revisions < 2 ^ 63 - 1 }
         ensures stepped { (plain : Document) → DocStandsFor self.now plain
-            → IfOk result (IsStepped (typing_step plain kind chars.now)) }
+            → IfOk result (IsStepped (command_step plain act.now (effect_on plain act.now))) }
         ensures accepted { (plain : Document) → DocStandsFor self.now plain
-            → OnOk result (typing_refusal plain chars.now ≡ None) }
+            → OnOk result (command_refusal plain (effect_on plain act.now) ≡ None) }
         ensures refused { (plain : Document) → DocStandsFor self.now plain
-            → IfErr result (DocRefuses (typing_refusal plain chars.now)) }
+            → IfErr result (DocRefuses (command_refusal plain (effect_on plain act.now))) }
         ensures plugins { IfOk result (λ made. made.0.plugins ≡ self.now.plugins) }
+        ensures config { IfOk result (λ made. made.0.config ≡ self.now.config) }
     {
-        if chars.is_empty() {
-            return Ok(self.still(alloc, kind)?);
+        if !is_done_on_text(act) {
+            return Ok(self.other(alloc)?);
         }
-        self.put_in(alloc, kind, chars)
+        let (units, sel) = self.view.effect(alloc, act, &first_config())?;
+        if does_nothing(&units) {
+            return Ok(self.idle(alloc, act, sel)?);
+        }
+        self.typed(alloc, act, units, sel)
     }
 
-    // The same with one character at least.
-    fn put_in(
+    // A command that edits nothing left the regions so.
+    fn idle(&self, alloc: Global, act: &EditAct, sel: Sel) -> Result<(Doc, Effects), NoMemory>
+        requires regions { sel.regions ≡ (effect_in self.now.view act.now).regions }
+        requires sound { IsSelection sel.regions }
+        requires inside { AreWithin (length self.now.view.text) sel.regions }
+        ensures stepped { (plain : Document) → DocStandsFor self.now plain
+            → IfOk result (IsStepped (idle_step plain act.now (effect_on plain act.now))) }
+        ensures plugins { IfOk result (λ made. made.0.plugins ≡ self.now.plugins) }
+        ensures config { IfOk result (λ made. made.0.config ≡ self.now.config) }
+    {
+        let body = self.answer(alloc, act)?;
+        let view = self.view.with_regions(alloc, sel)?;
+        let next = self.with_view(alloc, view, run_on(self.typing, kind_of(act)))?;
+        let said = Said {
+            body,
+            scrolls: scrolls(act),
+            notice: None,
+        };
+        self.told(alloc, next, said)
+    }
+
+    // A command is this edit, and leaves the regions so.
+    fn typed(
         &self,
         alloc: Global,
-        kind: Option<Kind>,
-        chars: &Text,
+        act: &EditAct,
+        units: UnitDelta,
+        sel: Sel,
     ) -> Result<(Doc, Effects), DocFault>
-        requires some { chars.now ≢ [] }
+        requires effect { IsEffect self.now.view.text (effect_in self.now.view act.now) units sel.regions }
         requires has_number { head self.now.engine.revisions < 2 ^ 63 - 1 }
         ensures stepped { (plain : Document) → DocStandsFor self.now plain
-            → IfOk result (IsStepped (front_step plain (typed_document plain kind chars.now))) }
+            → IfOk result (IsStepped (typed_step plain act.now (effect_on plain act.now))) }
         ensures accepted { (plain : Document) → DocStandsFor self.now plain
-            → OnOk result (asked_refusal plain (front_edit plain None chars.now) ≡ None) }
+            → OnOk result (asked_refusal plain (front_edit plain None (effect_on plain act.now).replacements) ≡ None) }
         ensures refused { (plain : Document) → DocStandsFor self.now plain
-            → IfErr result (DocRefuses (asked_refusal plain (front_edit plain None chars.now))) }
+            → IfErr result (DocRefuses (asked_refusal plain (front_edit plain None (effect_on plain act.now).replacements))) }
         ensures plugins { IfOk result (λ made. made.0.plugins ≡ self.now.plugins) }
+        ensures config { IfOk result (λ made. made.0.config ≡ self.now.config) }
     {
-        let run = run_on(self.typing, kind);
-        let joined = run_group(run);
+        let kind = kind_of(act);
+        let joined = run_group(run_on(self.typing, kind));
         let made = joined_or_opened(alloc, &self.stack, joined)?;
-        let taken = self.inserted(alloc, made.group, chars)?;
-        let caret = self.caret + chars.char_count();
         let typing = run_with(kind, made.group);
-        let left = left_by(made, typing, caret);
-        let scroll = self.scroll_to(&taken.engine, caret);
-        Ok(self.settled(alloc, taken, left, Body::Null, scroll)?)
+        let edit = front_edit(units, made.group);
+        let body = self.answer(alloc, act)?;
+        let taken = self.front_taken(alloc, act, edit)?;
+        let left = left_by(made, typing, sel);
+        Ok(self.settled(alloc, taken, left, body, scrolls(act))?)
     }
 
-    // What the characters make, where they are put in at the caret, in this group.
-    fn inserted(&self, alloc: Global, group: u64, chars: &Text) -> Result<Taken, DocFault>
-        requires some { chars.now ≢ [] }
-        requires may { IsOpenGroup self.now.engine.revisions group }
-        requires has_number { head self.now.engine.revisions < 2 ^ 63 - 1 }
-        ensures taken { (history : History) → StandsFor self.now.engine history
-            → IfOk result (IsAfterEdit history (insertion_in group history self.now.caret chars.now)) }
+    // What the edit of a command makes of the engine.
+    fn front_taken(&self, alloc: Global, act: &EditAct, edit: UnitEdit) -> Result<Taken, DocFault>
+        requires may { MayAsk self.now.engine.revisions edit.group }
+        requires edit { IsFrontEdit self.now.view act.now edit }
+        ensures taken { (history : History) (asked : AskedEdit) → StandsFor self.now.engine history → IsSaidBy history edit asked
+            → IfOk result (IsAfterEdit history asked) }
         ensures made { IfOk result (IsTakenFrom self.now.engine) }
         ensures accepted { (plain : Document) → DocStandsFor self.now plain
-            → OnOk result (asked_refusal plain (front_edit plain None chars.now) ≡ None) }
+            → OnOk result (asked_refusal plain (front_edit plain None (effect_on plain act.now).replacements) ≡ None) }
         ensures refused { (plain : Document) → DocStandsFor self.now plain
-            → IfErr result (DocRefuses (asked_refusal plain (front_edit plain None chars.now))) }
+            → IfErr result (DocRefuses (asked_refusal plain (front_edit plain None (effect_on plain act.now).replacements))) }
     {
-        let typed = self.insertion(alloc, group, chars)?;
-        taken_head(alloc, &self.engine, typed)
+        let _act = act;
+        taken_head(alloc, &self.engine, edit)
     }
 
-    // The edit that puts characters in at the caret, in characters.
-    fn insertion(&self, alloc: Global, group: u64, chars: &Text) -> Result<UnitEdit, NoMemory>
-        requires some { chars.now ≢ [] }
-        requires may { IsOpenGroup self.now.engine.revisions group }
-        requires has_number { head self.now.engine.revisions < 2 ^ 63 - 1 }
-        ensures fits { IfOk result (IsHeadEdit self.now.engine) }
-        ensures said { (history : History) → StandsFor self.now.engine history
-            → IfOk result (λ edit. IsSaidBy history edit (insertion_in group history self.now.caret chars.now)) }
+    // What a command is answered.
+    fn answer(&self, alloc: Global, act: &EditAct) -> Result<Body, NoMemory>
+        ensures { (plain : Document) → DocStandsFor self.now plain → IfOk result (λ body. body ≡ answer_to plain act.now) }
     {
-        let units = insertion_of(alloc, self.engine.head_rope().len(), self.caret, chars)?;
-        Ok(UnitEdit {
-            units,
-            priority: FRONT_PRIORITY,
-            author: 0,
-            group,
-        })
+        if !copies(act) {
+            return Ok(Body::Null);
+        }
+        let text = self.view.copied(alloc)?;
+        Ok(Body::Copied { text })
     }
 
     // The newest live group that is not undone is undone.
@@ -293,6 +313,7 @@ impl Doc {
         ensures stepped { (plain : Document) → DocStandsFor self.now plain
             → IfOk result (IsStepped (history_step plain (next_undo plain.groups) (undone_one plain.groups))) }
         ensures plugins { IfOk result (λ made. made.0.plugins ≡ self.now.plugins) }
+        ensures config { IfOk result (λ made. made.0.config ≡ self.now.config) }
     {
         let _before = self.stack.given();
         let mut stack = self.stack.copy(alloc)?;
@@ -307,6 +328,7 @@ impl Doc {
         ensures stepped { (plain : Document) → DocStandsFor self.now plain
             → IfOk result (IsStepped (history_step plain (next_redo plain.groups) (redone_one plain.groups))) }
         ensures plugins { IfOk result (λ made. made.0.plugins ≡ self.now.plugins) }
+        ensures config { IfOk result (λ made. made.0.config ≡ self.now.config) }
     {
         let _before = self.stack.given();
         let mut stack = self.stack.copy(alloc)?;
@@ -327,10 +349,11 @@ impl Doc {
         ensures stepped { (plain : Document) → DocStandsFor self.now plain
             → IfOk result (IsStepped (history_step plain group stack)) }
         ensures plugins { IfOk result (λ made. made.0.plugins ≡ self.now.plugins) }
+        ensures config { IfOk result (λ made. made.0.config ≡ self.now.config) }
     {
         match group {
             Some(group) => self.turned(alloc, stack, group),
-            None => self.still(alloc, None),
+            None => self.other(alloc),
         }
     }
 
@@ -339,28 +362,18 @@ impl Doc {
         requires turned { IsTurned self.now.groups stack group }
         requires has_number { head self.now.engine.revisions < 2 ^ 63 - 1 }
         ensures stepped { (plain : Document) → DocStandsFor self.now plain
-            → IfOk result (IsStepped (front_step plain (undone_document plain stack))) }
+            → IfOk result (IsStepped (history_step plain (Some group) stack)) }
         ensures plugins { IfOk result (λ made. made.0.plugins ≡ self.now.plugins) }
+        ensures config { IfOk result (λ made. made.0.config ≡ self.now.config) }
     {
         let taken = taken_turn(alloc, &self.engine, group)?;
-        let caret = gap_after(&taken.change.units, false, self.caret);
-        let scroll = self.scroll_to(&taken.engine, caret);
+        let sel = self.view.moved(alloc, &taken.change.units, false, false)?;
         let left = Left {
             stack,
             typing: None,
-            caret,
+            sel,
         };
-        Ok(self.settled(alloc, taken, left, Body::Null, scroll)?)
-    }
-
-    // Where the caret stands after an edit, if that is another place on the layout than before.
-    fn scroll_to(&self, next: &Engine, caret: u64) -> Option<(u64, u64)>
-        ensures { option_map position_view result ≡ scroll_between (position_of (head_shown self.now.engine) self.now.caret)
-            (position_of (head_shown next.now) caret) }
-    {
-        let before = position_of(self.engine.head_rope(), self.caret);
-        let after = position_of(next.head_rope(), caret);
-        scroll_of(before, after)
+        self.settled(alloc, taken, left, Body::Null, true)
     }
 
     // A plugin edits the text, in the group that it names or in the next.
@@ -380,6 +393,7 @@ impl Doc {
         ensures refused { (plain : Document) → DocStandsFor self.now plain
             → IfErr result (DocRefuses (asked_refusal plain (plugin_edit plain caller edit None))) }
         ensures plugins { IfOk result (λ made. made.0.plugins ≡ self.now.plugins) }
+        ensures config { IfOk result (λ made. made.0.config ≡ self.now.config) }
     {
         let made = named_or_opened(alloc, &self.stack, named)?;
         let group = made.group;
@@ -387,132 +401,148 @@ impl Doc {
         let after_cursor = edit.after_cursor;
         let edit = given(edit, caller, group);
         let taken = taken_by(alloc, &self.engine, &edit)?;
-        let caret = gap_after(&taken.change.units, after_cursor, self.caret);
-        let left = left_by(made, None, caret);
-        Ok(self.settled(alloc, taken, left, Body::Edited { rev, group }, None)?)
+        let sel = self
+            .view
+            .moved(alloc, &taken.change.units, after_cursor, true)?;
+        let left = left_by(made, None, sel);
+        Ok(self.settled(alloc, taken, left, Body::Edited { rev, group }, false)?)
     }
 
-    // The document after a revision, laid out, and what the front end and the plugins are told.
+    // The document after a revision, and what the front end and the plugins are told.
     fn settled(
         &self,
         alloc: Global,
         taken: Taken,
         left: Left,
         body: Body,
-        scroll: Option<(u64, u64)>,
+        scrolls: bool,
     ) -> Result<(Doc, Effects), NoMemory>
-        requires whole { IsWhole taken.engine left.stack left.typing left.caret }
+        requires whole { IsWhole taken.engine left.stack left.typing (head_shown taken.engine) }
         requires made { IsTakenFrom self.now.engine taken }
+        requires sound { IsSelection left.sel.regions }
+        requires inside { AreWithin (length (head_shown taken.engine)) left.sel.regions }
         ensures stepped { (plain : Document) (history : History) (author : ℕ) → DocStandsFor self.now plain
             → IsAfter plain.history history author taken → Agree history.revisions history.collected left.stack left.typing
-            → IfOk result (IsStepped
-            (revision_step plain (next_document plain history left) author body (option_map position_view scroll))) }
+            → left.sel.regions ≢ [] → IfOk result (IsStepped (revision_step plain (next_document plain history left) author body
+            (scroll_if scrolls plain (next_document plain history left)))) }
         ensures plugins { IfOk result (λ made. made.0.plugins ≡ self.now.plugins) }
+        ensures config { IfOk result (λ made. made.0.config ≡ self.now.config) }
     {
         let Taken {
             engine,
-            change,
+            change: _,
             notice,
         } = taken;
-        let Left {
-            stack,
-            typing,
-            caret,
-        } = left;
-        let lines = layout_of(alloc, engine.head_rope(), caret)?;
-        let update = self.update_for(alloc, &engine, &change.units, &lines, caret)?;
-        let view = ViewState::new(alloc, lines, self.view.window(), true)?;
-        let next = Doc {
+        let next = self.revised(alloc, engine, left)?;
+        let said = Said {
+            body,
+            scrolls,
+            notice: Some(notice),
+        };
+        self.told(alloc, next, said)
+    }
+
+    // The document with another engine, and with groups, run and regions that were left so.
+    fn revised(&self, alloc: Global, engine: Engine, left: Left) -> Result<Doc, NoMemory>
+        requires whole { IsWhole engine left.stack left.typing (head_shown engine) }
+        requires sound { IsSelection left.sel.regions }
+        requires inside { AreWithin (length (head_shown engine)) left.sel.regions }
+        ensures { IfOk result (λ made. made ≡ record self.now {
+          engine = engine;
+          groups = left.stack;
+          typing = left.typing;
+          view = record self.now.view { text = head_shown engine; regions = left.sel.regions; valid = true };
+        }) }
+    {
+        let Left { stack, typing, sel } = left;
+        let shown = whole_text(alloc, engine.head_rope())?;
+        let view = self.view.with_text(alloc, shown, sel)?;
+        Ok(Doc {
             engine,
             stack,
             typing,
-            caret,
             saved: self.saved,
             config: self.config,
             plugins: self.plugins,
             view,
+        })
+    }
+
+    // A line that is no command of this document; the front end is told what it lacks.
+    fn other(&self, alloc: Global) -> Result<(Doc, Effects), NoMemory>
+        ensures stepped { (plain : Document) → DocStandsFor self.now plain → IfOk result (IsStepped (other_step plain)) }
+        ensures plugins { IfOk result (λ made. made.0.plugins ≡ self.now.plugins) }
+        ensures config { IfOk result (λ made. made.0.config ≡ self.now.config) }
+    {
+        let next = self.with_view(alloc, self.view.told()?, run_on(self.typing, None))?;
+        let said = Said {
+            body: Body::Null,
+            scrolls: false,
+            notice: None,
         };
+        self.told(alloc, next, said)
+    }
+
+    // The document is `next` after an event; the front end is told what it lacks.
+    fn told(&self, alloc: Global, next: Doc, said: Said) -> Result<(Doc, Effects), NoMemory>
+        ensures stepped { (plain later : Document) → DocStandsFor self.now plain → IsUntold next plain later
+            → IfOk result (IsStepped (step_to plain later said.body (scroll_if said.scrolls plain later) said.notice)) }
+        ensures plugins { IfOk result (λ made. made.0.plugins ≡ next.plugins) }
+        ensures config { IfOk result (λ made. made.0.config ≡ next.config) }
+    {
+        let was_pristine = self.is_pristine();
+        let is_pristine = next.is_pristine();
+        let update = self
+            .view
+            .update_to(alloc, &next.view, was_pristine, is_pristine)?;
+        let Said {
+            body,
+            scrolls,
+            notice,
+        } = said;
+        let scroll = self.scroll_to(&next, scrolls);
         let effects = Effects {
             body,
             update,
             scroll,
-            notice: Some(notice),
+            notice,
         };
         Ok((next, effects))
     }
 
-    // What the front end is told of a revision that made this change, left the engine and its layout so, and the caret here.
-    fn update_for(
-        &self,
-        alloc: Global,
-        engine: &Engine,
-        units: &UnitDelta,
-        lines: &Lines,
-        caret: u64,
-    ) -> Result<Option<Update>, NoMemory>
-        requires { IsChangeOf (head_shown self.now.engine) (head_shown engine.now) units.now }
-        ensures { IfOk result (λ made. made ≡ told_of self.now engine.now lines.now caret) }
+    // Whether the text is the one that was loaded or last saved.
+    fn is_pristine(&self) -> bool
+        ensures { result ≡ is_pristine_in self.now }
     {
-        let stays = self.caret == caret;
-        let same = is_same_if(
-            alloc,
-            stays,
-            self.engine.head_rope(),
-            engine.head_rope(),
-            units,
-        )?;
-        let wanted = self.lacks(same, caret);
-        let update = update_if(alloc, wanted, lines, self.view.window(), false)?;
-        Ok(update)
+        self.engine.head() == self.saved
     }
 
-    // Whether the front end has to be told of a revision that left the caret here, and the text as it was or not.
-    fn lacks(&self, same: bool, caret: u64) -> bool
-        ensures { result ≡ is_lacking self.now same caret }
+    // Where the last caret stands then, where that is asked and it is another place on the layout than before.
+    fn scroll_to(&self, next: &Doc, asked: bool) -> Option<(u64, u64)>
+        ensures { option_map position_view result
+            ≡ (if asked then scroll_between (point_in self.now.view) (point_in next.now.view) else None) }
     {
-        !self.view.is_valid() || self.caret != caret || self.engine.head() == self.saved || !same
+        if !asked {
+            return None;
+        }
+        scroll_of(self.view.point(), next.view.point())
     }
 
-    // No revision is made, by a command of this kind or by another line; the front end is told what it lacks.
-    fn still(&self, alloc: Global, kind: Option<Kind>) -> Result<(Doc, Effects), NoMemory>
-        ensures stepped { (plain : Document) → DocStandsFor self.now plain
-            → IfOk result (IsStepped (still_step (going_on plain kind))) }
-        ensures plugins { IfOk result (λ made. made.0.plugins ≡ self.now.plugins) }
-    {
-        let pristine = self.engine.head() == self.saved;
-        let wanted = !self.view.is_valid();
-        let update = update_if(
-            alloc,
-            wanted,
-            self.view.lines(),
-            self.view.window(),
-            pristine,
-        )?;
-        let next = self.with_view(alloc, self.view.told()?, run_on(self.typing, kind))?;
-        let effects = Effects {
-            body: Body::Null,
-            update,
-            scroll: None,
-            notice: None,
-        };
-        Ok((next, effects))
-    }
-
-    // The same document with another view, and the run or none.
+    // The same document with another view of its text, and the run or none.
     fn with_view(
         &self,
         alloc: Global,
         view: ViewState,
         typing: Option<Typing>,
     ) -> Result<Doc, NoMemory>
-        requires { IsLeftOf self.now.typing typing }
+        requires typing { IsLeftOf self.now.typing typing }
+        requires text { view.text ≡ self.now.view.text }
         ensures { IfOk result (λ made. made ≡ record self.now { view = view; typing = typing }) }
     {
         Ok(Doc {
             engine: self.engine.copy(alloc)?,
             stack: self.stack.copy(alloc)?,
             typing,
-            caret: self.caret,
             saved: self.saved,
             config: self.config,
             plugins: self.plugins,
@@ -546,7 +576,7 @@ impl Doc {
     pub fn lines(&self) -> u64
         ensures { (plain : Document) → DocStandsFor self.now plain → result ≡ length (layout_of plain) }
     {
-        self.view.lines().len() as u64
+        self.view.lines()
     }
 
     /// A second document that stands for the same, in O(1): it shares text, revisions and layout with this one.
@@ -567,13 +597,14 @@ fn given(edit: Edit, caller: u32, group: u64) -> Edit
     given
 }
 
-// The characters that an act of the front end puts in at the caret.
-fn typed(alloc: Global, act: EditAct) -> Result<Text, NoMemory>
-    ensures { IfOk result (λ chars. chars ≡ typed act) }
+// An edit of the front end, in this group.
+fn front_edit(units: UnitDelta, group: u64) -> UnitEdit
+    ensures { result ≡ record { units = units; priority = front_priority; author = 0; group = group } }
 {
-    match act {
-        EditAct::Insert { chars } => Ok(chars),
-        EditAct::InsertNewline => Text::from_ascii(alloc, "\n"),
-        _ => Ok(Text::new(alloc)),
+    UnitEdit {
+        units,
+        priority: FRONT_PRIORITY,
+        author: 0,
+        group,
     }
 }

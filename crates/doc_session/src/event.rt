@@ -1,4 +1,5 @@
 use plain_screen::Update;
+use plain_text::Text;
 use rev_engine::Edit;
 use xi_plain::{EditAct, Notice};
 
@@ -19,9 +20,11 @@ pub enum Event {
 }
 
 /// What an event is answered.
-#[derive(Clone, Copy, Debug, PartialEq, Eq)]
+#[derive(PartialEq, Eq, Drop)]
 pub enum Body {
     Null,
+    /// The texts of the regions that are no carets, with an LF between each two.
+    Copied { text: Text },
     /// The edit is this revision, in this undo group.
     Edited { rev: u64, group: u64 },
 }
@@ -31,7 +34,7 @@ pub enum Body {
 pub struct Effects {
     pub body: Body,
     pub update: Option<Update>,
-    /// The line, from 0, and the offset in it, in bytes, where the caret now stands.
+    /// The line, from 0, and the offset in it, in bytes, where the caret of the last region now stands.
     pub scroll: Option<(u64, u64)>,
     /// The change, for the plugins. A document does not know the id of its view, so `view` is empty.
     pub notice: Option<Notice>,

@@ -1,6 +1,6 @@
 //! Laws of the definitions, each the contract of a function: they hold of all documents.
 
-ghost use Rattle.doc_session.specs.Laws.{InsertionsFit, InsertionsPut, NoticesLead, ScreensShow, UpdatesShow};
+ghost use Rattle.doc_session.specs.Laws.{CommandsFit, CommandsPut, NoticesLead, ScreensShow, UpdatesShow};
 
 /// An updated screen shows the layout: its length, and no line of it is another; the lines of the window are there.
 pub fn screens_show()
@@ -17,12 +17,12 @@ pub fn notices_lead()
     ensures { NoticesLead }
 {}
 
-/// The front end's insertion is refused only where its characters are spent.
-pub fn insertions_fit()
-    ensures { InsertionsFit }
+/// A command of the front end is refused only where its characters are spent.
+pub fn commands_fit()
+    ensures { CommandsFit }
 {}
 
-/// The delta of the front end's insertion fits, and puts its characters in at its gap.
-pub fn insertions_put()
-    ensures { InsertionsPut }
+/// The delta of a command of the front end fits, and leads to the text after its replacements.
+pub fn commands_put()
+    ensures { CommandsPut }
 {}

@@ -5,16 +5,16 @@ ghost use Rattle.doc_session.specs.Grouping.{group_by, groups_by};
 ghost use Rattle.doc_session.specs.Inner.{known_group};
 
 use crate::typing::Typing;
-use plain_text::NoMemory;
+use plain_text::{NoMemory, Sel};
 use std::alloc::Global;
 use undo_groups::Stack;
 
-/// The undo groups, the run of typing and the caret that a revision leaves.
+/// The undo groups, the run of typing and the regions that a revision leaves.
 #[derive(Drop)]
 pub(crate) struct Left {
     pub(crate) stack: Stack,
     pub(crate) typing: Option<Typing>,
-    pub(crate) caret: u64,
+    pub(crate) sel: Sel,
 }
 
 /// The undo groups with one more edit, and the group of this.
@@ -24,16 +24,12 @@ pub(crate) struct Grouped {
     pub(crate) group: u64,
 }
 
-/// What an edit leaves: the groups with it, and this run and caret.
-pub(crate) fn left_by(made: Grouped, typing: Option<Typing>, caret: u64) -> Left
-    ensures { result ≡ record { stack = made.stack; typing = typing; caret = caret } }
+/// What an edit leaves: the groups with it, and this run and these regions.
+pub(crate) fn left_by(made: Grouped, typing: Option<Typing>, sel: Sel) -> Left
+    ensures { result ≡ record { stack = made.stack; typing = typing; sel = sel } }
 {
     let Grouped { stack, group: _ } = made;
-    Left {
-        stack,
-        typing,
-        caret,
-    }
+    Left { stack, typing, sel }
 }
 
 /// An edit joins this group, where there is one, or opens the next.

@@ -12,7 +12,7 @@ use rev_engine::Edit;
 use std::alloc::Global;
 use std::marker::Brand;
 use std::sync::ledger::{Blank, Ledger};
-use xi_plain::{Config, EditAct, Notice};
+use xi_plain::{Config, EditAct, Motion, Notice, Touch};
 
 // A text in the place of a range of a base of so many bytes, by the plugin, which may name a group.
 #[derive(Clone, Copy)]
@@ -29,9 +29,25 @@ pub(crate) struct Given {
 #[derive(Clone, Copy)]
 pub(crate) enum Ask {
     Type(&'static str),
+    Paste(&'static str),
     Line,
+    Tab,
+    Back,
+    Forward,
+    WordBack,
+    Cut,
+    Copy,
+    All,
     Undo,
     Redo,
+    // At a line and a byte column: a click, one that adds a caret or takes regions away, and one that takes the word.
+    Click(u64, u64),
+    Toggle(u64, u64),
+    Word(u64, u64),
+    Move(Motion),
+    Extend(Motion),
+    // A command that a document does not do.
+    Scroll,
     // A line of the front end that is none of the document's.
     End,
     Give(Given),
@@ -102,16 +118,64 @@ fn typing(chars: Text) -> Event
     Event::Front(EditAct::Insert { chars })
 }
 
+fn pasting(chars: Text) -> Event
+    ensures { HasCaller 1 result }
+{
+    Event::Front(EditAct::Paste { chars })
+}
+
+// A gesture at a line and a byte column.
+fn gesture(line: u64, col: u64, ty: Touch) -> EditAct {
+    EditAct::Gesture { line, col, ty }
+}
+
+fn click(line: u64, col: u64) -> EditAct {
+    EditAct::Click {
+        line,
+        col,
+        modifiers: 0,
+        count: 1,
+    }
+}
+
+// The command that is asked for, where it has no text.
+fn command_of(ask: Ask) -> EditAct {
+    match ask {
+        Ask::Line => EditAct::InsertNewline,
+        Ask::Tab => EditAct::InsertTab,
+        Ask::Back => EditAct::DeleteBackward,
+        Ask::Forward => EditAct::DeleteForward,
+        Ask::WordBack => EditAct::DeleteWordBackward,
+        Ask::Cut => EditAct::Cut,
+        Ask::Copy => EditAct::Copy,
+        Ask::All => EditAct::SelectAll,
+        Ask::Undo => EditAct::Undo,
+        Ask::Redo => EditAct::Redo,
+        Ask::Click(line, col) => click(line, col),
+        Ask::Toggle(line, col) => gesture(line, col, Touch::Toggle),
+        Ask::Word(line, col) => gesture(line, col, Touch::Word),
+        Ask::Move(motion) => EditAct::Move {
+            motion,
+            extend: false,
+        },
+        Ask::Extend(motion) => EditAct::Move {
+            motion,
+            extend: true,
+        },
+        Ask::Scroll => EditAct::Scroll { first: 0, last: 1 },
+        _ => EditAct::Nothing,
+    }
+}
+
 fn event_of(alloc: Global, ask: Ask) -> Result<Event, NoMemory>
     ensures { IfOk result (HasCaller 1) }
 {
     match ask {
         Ask::Type(chars) => Ok(typing(Text::from_str(alloc, chars)?)),
-        Ask::Line => Ok(Event::Front(EditAct::InsertNewline)),
-        Ask::Undo => Ok(Event::Front(EditAct::Undo)),
-        Ask::Redo => Ok(Event::Front(EditAct::Redo)),
+        Ask::Paste(chars) => Ok(pasting(Text::from_str(alloc, chars)?)),
         Ask::End => Ok(Event::Other),
         Ask::Give(given) => Ok(giving(els_of(alloc, given)?, given)),
+        ask => Ok(Event::Front(command_of(ask))),
     }
 }
 

@@ -7,4 +7,6 @@ mod asks;
 #[cfg(test)]
 mod documents;
 #[cfg(test)]
+mod regions;
+#[cfg(test)]
 mod steps;

@@ -39,7 +39,7 @@ fn joins(alloc: Global, asks: &[Ask], ask: Ask, want: (u64, u64)) -> bool {
     match last(alloc, "", asks, ask) {
         Ok(effects) => match effects.body {
             Body::Edited { rev, group } => (rev, group) == want,
-            Body::Null => false,
+            _ => false,
         },
         Err(_) => false,
     }

@@ -55,7 +55,7 @@ new_group_ends_redo plain event opened =
     let none : next_redo d.groups ≡ None = ap next_redo opened ∙ next_redo-opened plain.groups in (
       none,
       ap (λ o. (history_step d o (redone_one d.groups)).document.history) none ∙
-          part-settled (λ (x : Document). x.history) (going_on d None) (going_on d None) refl,
+          part-settled (λ (x : Document). x.history) d (going_on d None) refl,
     )
 
 -- the newest that is left
@@ -126,9 +126,9 @@ measure d =
         let still = going_on d None in
         let found : next_undo d.groups ≡ None =
         ap (λ b. if b then None else Some (slice_index d.groups.live (d.groups.index - 1))) (eq-eqb d.groups.index 0 none) in
-        let is : after_undo d ≡ settled still still = ap (λ o. (history_step d o (undone_one d.groups)).document) found in
-        ap₂ (λ a b. a + b) (ap (λ (x : Document). head x.history) is ∙ part-settled (λ (x : Document). head x.history) still still refl)
-        (ap (λ (x : Document). x.groups.index) is ∙ part-settled (λ (x : Document). x.groups.index) still still refl)
+        let is : after_undo d ≡ settled d still = ap (λ o. (history_step d o (undone_one d.groups)).document) found in
+        ap₂ (λ a b. a + b) (ap (λ (x : Document). head x.history) is ∙ part-settled (λ (x : Document). head x.history) d still refl)
+        (ap (λ (x : Document). x.groups.index) is ∙ part-settled (λ (x : Document). x.groups.index) d still refl)
 
 pub head-undos : (n : ℕ) (d : Document) → head (after_undos n d).history ≤ head d.history + d.groups.index
 head-undos zero d = omega arith

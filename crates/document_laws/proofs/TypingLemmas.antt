@@ -1,7 +1,11 @@
 -- An undo takes a run of typing back whole.
-use Rattle.std.proofs.Common.{◌≡◌, ◌≢◌, ℕ, ◌+◌, Bool, true, false, if◌then◌else◌, List, [], ◌∷◌, Option, Some, None, refl, ap, sym, ◌∙◌, arith}
+use Rattle.std.proofs.Common.{◌≡◌, ◌≢◌, ℕ, ◌+◌, ◌++◌, length, Bool, true, false, if◌then◌else◌, List, [], ◌∷◌, Option, Some, None, refl, ap, sym, ◌∙◌, arith}
 use Rattle.std.specs.List.{concat, list_any}
 use Rattle.plain_text.specs.Numbers.{with_number}
+use Rattle.plain_text.specs.declared.selection.Region.{Region}
+use Rattle.xi_plain.specs.declared.command.EditAct.TheVariants.{Insert}
+use Rattle.edit_ops.specs.Commands.{Effect}
+use Rattle.selection_core.specs.Mapped.{AreWithin}
 use Rattle.plain_edits.specs.Edits.{undid, is_edit_of}
 use Rattle.plain_edits.specs.History.{head, text_at, IsSound}
 use Rattle.plain_edits.specs.Undo.{undone_now}
@@ -11,13 +15,14 @@ use Rattle.doc_session.specs.declared.typing.Kind.{Kind}
 use Rattle.doc_session.specs.declared.typing.Kind.TheVariants as Kinds
 use Rattle.doc_session.specs.declared.typing.Typing.{Typing}
 use Rattle.doc_session.specs.Asking.{front_edit}
-use Rattle.doc_session.specs.Document.{Document, text_of}
+use Rattle.doc_session.specs.Document.{Document, pieces_of, text_of}
 use Rattle.doc_session.specs.Effects.{settled, updated, wants_update}
 use Rattle.doc_session.specs.Grouping.{group_by, groups_by, run_group}
-use Rattle.doc_session.specs.Step.{going_on, history_step, typed_document, undone_document}
+use Rattle.doc_session.specs.Step.{effect_on, first_config, history_step, idle_step, is_idle, selected_document, typed_document, typed_step, undone_document}
 use Rattle.doc_session.specs.Typing.{run_on, run_with}
-use Rattle.doc_session.proofs.ForCallers.{next_undo-opened}
-use Rattle.document_laws.specs.Laws.{after_typing, after_undo}
+use Rattle.doc_session.proofs.ForCallers.{effect-some, next_undo-opened, typing-some, typing-within}
+use Rattle.doc_session.specs.declared.event.Event.TheVariants.{Front}
+use Rattle.document_laws.specs.Laws.{after_event, after_typing, after_undo}
 use Rattle.document_laws.proofs.GroupLemmas.{head-undid, part-settled, undone-undone_one}
 use Rattle.document_laws.proofs.RunLemmas.{IsRun, IsRun-first, IsRun-more, text_at-run}
 
@@ -56,41 +61,53 @@ settled-IsBefore before after is = by (wants_update before after)
     by true = is
     by false = is
 
--- the first characters
-first_typed : (start : Document) (chars : List ℕ) → IsBefore start → IsInRun start (typed_document start inserts chars)
-first_typed start chars is =
+-- the effect of characters that are typed
+abbrev typing : Document → List ℕ → Effect
+typing document chars = effect_on document (Insert chars)
+
+-- the first edit
+first_typed : (start : Document) (effect : Effect) → IsBefore start → IsInRun start (typed_document start inserts effect)
+first_typed start effect is =
     let joined = run_group (run_on start.typing inserts) in
     let joined_is : joined ≡ None = ap run_group is.3 in
-    let asked = front_edit start joined chars in
+    let asked = front_edit start joined effect.replacements in
     let group_is : asked.group ≡ next_group start = ap (group_by start.groups) joined_is in (
       IsRun-first start.history (meant start.history asked) (next_group start) is.0 group_is,
       ap (groups_by start.groups) joined_is,
       ap (λ g. run_with inserts g) group_is,
     )
 
--- more characters
-more_typed : (start document : Document) (chars : List ℕ) → IsInRun start document → IsInRun start (typed_document document inserts chars)
-more_typed start document chars is =
+-- a further one
+more_typed : (start document : Document) (effect : Effect) → IsInRun start document → IsInRun start (typed_document document inserts effect)
+more_typed start document effect is =
     let joined = run_group (run_on document.typing inserts) in
     let joined_is : joined ≡ Some (next_group start) = ap (λ t. run_group (run_on t inserts)) is.2 in
-    let asked = front_edit document joined chars in
+    let asked = front_edit document joined effect.replacements in
     let group_is : asked.group ≡ next_group start = ap (group_by document.groups) joined_is in (
       IsRun-more start.history document.history (meant document.history asked) (next_group start) is.0 group_is,
       ap (groups_by document.groups) joined_is ∙ is.1,
       ap (λ g. run_with inserts g) group_is,
     )
 
-still_typed : (start document : Document) → IsInRun start document → IsInRun start (going_on document inserts)
-still_typed start document is = (is.0, is.1, ap (λ t. run_on t inserts) is.2)
+-- characters that are no edit
+still_typed : (start document : Document) (regions : List Region) → IsInRun start document → IsInRun start (selected_document document inserts regions)
+still_typed start document regions is = (is.0, is.1, ap (λ t. run_on t inserts) is.2)
+
+one_run : (start document : Document) (chars : List ℕ) → IsInRun start document → IsInRun start (after_event document (Front (Insert chars)))
+one_run start document chars is = by (is_idle document (typing document chars))
+  where
+    by : (idle : Bool) → IsInRun start
+        (if idle then idle_step document (Insert chars) (typing document chars) else typed_step document (Insert chars) (typing document chars)).document
+    by true =
+        let next = selected_document document inserts (typing document chars).regions in
+        settled-IsInRun start document next (still_typed start document (typing document chars).regions is)
+    by false =
+        let next = typed_document document inserts (typing document chars) in
+        settled-IsInRun start document next (more_typed start document (typing document chars) is)
 
 runs : (start : Document) (texts : List (List ℕ)) (document : Document) → IsInRun start document → IsInRun start (after_typing document texts)
 runs start [] document is = is
-runs start ([] ∷ texts) document is =
-    runs start texts (settled (going_on document inserts) (going_on document inserts))
-    (settled-IsInRun start (going_on document inserts) (going_on document inserts) (still_typed start document is))
-runs start ((c ∷ chars) ∷ texts) document is =
-    runs start texts (settled document (typed_document document inserts (c ∷ chars)))
-    (settled-IsInRun start document (typed_document document inserts (c ∷ chars)) (more_typed start document (c ∷ chars) is))
+runs start (chars ∷ texts) document is = runs start texts (after_event document (Front (Insert chars))) (one_run start document chars is)
 
 -- the undo
 run_undone : (start document : Document) → IsBefore start → IsInRun start document → text_of (after_undo document) ≡ text_of start
@@ -107,14 +124,41 @@ run_undone start document before is =
     ap (λ us. text_at (undid document.history us) (head document.history + 1)) set ∙
     text_at-run start.history document.history group is.0 (omega arith) before.2
 
-pub run_taken_back : (texts : List (List ℕ)) (plain : Document) → IsBefore plain → concat texts ≢ [] →
+-- there is a region, and regions lie in the text
+abbrev pub HasRegions : Document → Type 0
+HasRegions document = (document.regions ≢ []) × AreWithin (length (text_of document)) document.regions
+
+-- characters that are no edit leave the text
+settled-HasRegions : (before after : Document) → HasRegions after → HasRegions (settled before after)
+settled-HasRegions before after has = by (wants_update before after)
+  where
+    by : (b : Bool) → HasRegions (if b then updated after else after)
+    by true = has
+    by false = has
+
+-- they are none
+none_typed : (plain : Document) (chars : List ℕ) → HasRegions plain → is_idle plain (typing plain chars) ≡ true → chars ≡ []
+none_typed plain [] has idle = refl
+none_typed plain (c ∷ chars) has idle = absurd (typing-some (text_of plain) (c ∷ chars) plain.regions (λ none. cc) has.0 has.1 idle)
+
+pub run_taken_back : (texts : List (List ℕ)) (plain : Document) → IsBefore plain → HasRegions plain → concat texts ≢ [] →
     text_of (after_undo (after_typing plain texts)) ≡ text_of plain
-run_taken_back [] plain is some = absurd (some refl)
-run_taken_back ([] ∷ texts) plain is some =
-    let next = going_on plain inserts in
-    let still : IsBefore next = (is.0, is.1, is.2, ap (λ t. run_on t inserts) is.3) in
-    run_taken_back texts (settled next next) (settled-IsBefore next next still) some ∙ part-settled text_of next next refl
-run_taken_back ((c ∷ chars) ∷ texts) plain is some =
-    let next = typed_document plain inserts (c ∷ chars) in
-    run_undone plain (after_typing (settled plain next) texts) is
-    (runs plain texts (settled plain next) (settled-IsInRun plain plain next (first_typed plain (c ∷ chars) is)))
+run_taken_back [] plain is has some = absurd (some refl)
+run_taken_back (chars ∷ texts) plain is has some = by (is_idle plain (typing plain chars)) refl
+  where
+    effect : Effect
+    effect = typing plain chars
+
+    by : (idle : Bool) → is_idle plain effect ≡ idle → text_of (after_undo (after_typing
+        (if idle then idle_step plain (Insert chars) effect else typed_step plain (Insert chars) effect).document texts)) ≡ text_of plain
+    by true idle =
+        let next = selected_document plain inserts effect.regions in
+        let still : IsBefore next = (is.0, is.1, is.2, ap (λ t. run_on t inserts) is.3) in
+        let left : HasRegions next =
+        (effect-some first_config (text_of plain) (pieces_of plain) plain.regions has.0 (Insert chars), typing-within (text_of plain) chars plain.regions has.1 idle) in
+        let rest : concat texts ≢ [] = λ empty. some (ap (λ t. t ++ concat texts) (none_typed plain chars has idle) ∙ empty) in
+        run_taken_back texts (settled plain next) (settled-IsBefore plain next still) (settled-HasRegions plain next left) rest ∙ part-settled text_of plain next refl
+    by false idle =
+        let next = typed_document plain inserts effect in
+        run_undone plain (after_typing (settled plain next) texts) is
+        (runs plain texts (settled plain next) (settled-IsInRun plain plain next (first_typed plain effect is)))

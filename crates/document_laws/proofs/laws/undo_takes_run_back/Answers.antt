@@ -12,4 +12,4 @@ returns c = λ doc plain texts stands ended some.
       agree.undone,
       agree.given (groups.given + 1) ∙ fresh plain.history.revisions plain.history.collected groups plain.typing agree,
       ended,
-    ) some
+    ) (stands.regions_are.some, stands.regions_are.inside) some

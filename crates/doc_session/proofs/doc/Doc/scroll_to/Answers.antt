@@ -1,9 +1,16 @@
-use Rattle.std.proofs.Common.{◌∙◌}
-use Rattle.doc_session.proofs.SettleLemmas.{scroll-inside}
+use Rattle.std.proofs.Common.{None, ap, ap₂, sym, ◌∙◌}
+use Rattle.std.specs.Prelude.{if◌then◌else◌}
+use Rattle.doc_layout.specs.Told.{scroll_between}
+use Rattle.doc_view.specs.View.{point_in}
+use Rattle.doc_session.specs.InMemory.{Doc}
 use Rattle.doc_session.proofs.doc.Doc.scroll_to.Goals as goal
+
+pub returns-then-not-asked : goal.returns-then-not-asked
+returns-then-not-asked c =
+    sym (ap (λ b. if b then scroll_between (point_in c.args.self.now.view) (point_in c.args.next.now.view) else None) c.if-not-asked.true)
 
 pub returns : goal.returns
 returns c =
     c.scroll_of.ensures ∙
-    scroll-inside _ c.args.self.now c.args.next.now c.head_rope.result.now c.head_rope-2.result.now c.args.caret _ _ c.self.view_is c.head_rope.ensures.shown
-    c.head_rope-2.ensures.shown c.position_of-before.ensures c.position_of-after.ensures
+    ap₂ scroll_between (c.point.ensures ∙ ap (λ (d : Doc). point_in d.view) c.self.view_is) (c.point-2.ensures ∙ ap (λ (d : Doc). point_in d.view) c.next.view_is) ∙
+    sym (ap (λ b. if b then scroll_between (point_in c.args.self.now.view) (point_in c.args.next.now.view) else None) c.if-not-asked.false)

@@ -1,0 +1,86 @@
+-- What an event leaves of a document in memory, before its front end was told.
+use Rattle.std.proofs.Common.{◌≡◌, ◌≢◌, ℕ, true, List, [], length, Option, refl, ap, sym, ◌∙◌, subst, arith}
+use Rattle.plain_text.specs.declared.selection.Region.{Region}
+use Rattle.plain_edits.specs.History.{History}
+use Rattle.rev_engine.specs.State.{State}
+use Rattle.doc_session.specs.declared.left.Left.{Left}
+use Rattle.doc_session.specs.declared.taken.Taken.{Taken}
+use Rattle.doc_session.specs.declared.typing.Kind.{Kind}
+use Rattle.doc_session.specs.Agree.{Agree}
+use Rattle.selection_core.specs.Mapped.{AreWithin}
+use Rattle.selection_core.specs.Selection.{IsSelection}
+use Rattle.doc_session.specs.Document.{Document, text_of}
+use Rattle.doc_session.specs.InMemory.{Doc}
+use Rattle.doc_session.specs.Inner.{IsAfter, IsUntold, head_shown, next_document}
+use Rattle.doc_session.specs.Stands.{AreRegionsOf, DocStandsFor}
+use Rattle.doc_session.specs.Step.{selected_document}
+use Rattle.doc_session.specs.Typing.{run_on}
+use Rattle.doc_session.proofs.AgreeLemmas.{Agree-still}
+use Rattle.doc_session.proofs.HeadLemmas.{head_shown-stands}
+
+-- no revision, what is left of the run, and other regions
+abbrev pub still_doc : Doc → Option Kind → List Region → Doc
+still_doc doc kind regions =
+    record doc { typing = run_on doc.typing kind; view = record doc.view { regions = regions; valid = true } }
+
+pub IsUntold-still : (doc made : Doc) (plain : Document) (kind : Option Kind) (regions others : List Region) → DocStandsFor doc plain →
+    made ≡ still_doc doc kind regions → regions ≡ others → AreRegionsOf (text_of plain) others → IsUntold made plain (selected_document plain kind others)
+IsUntold-still doc made plain kind regions others stands is same are =
+    let At : Doc → Type 0 = λ d. IsUntold d plain (selected_document plain kind others) in
+    subst At (sym is) (record {
+      parts = stands.parts;
+      limit = stands.limit;
+      plugins = stands.plugins;
+      groups = stands.groups;
+      typing = ap (λ typing. run_on typing kind) stands.typing;
+      agree = Agree-still plain.history.revisions plain.history.collected plain.groups plain.typing stands.agree kind;
+      regions = same;
+      regions_are = are;
+      saved = stands.saved;
+      saved_before = stands.saved_before;
+      window = stands.window;
+      valid = refl;
+      window_stays = refl;
+      screen_stays = refl;
+    })
+
+-- a revision, and what it leaves beside the engine
+abbrev pub revised_doc : Doc → State → Left → Doc
+revised_doc doc engine left = record doc {
+  engine = engine;
+  groups = left.stack;
+  typing = left.typing;
+  view = record doc.view { text = head_shown engine; regions = left.sel.regions; valid = true };
+}
+
+pub IsUntold-revised : (doc made : Doc) (plain : Document) (history : History) (author : ℕ) (taken : Taken) (left : Left) → DocStandsFor doc plain →
+    IsAfter plain.history history author taken → Agree history.revisions history.collected left.stack left.typing →
+    taken.engine.limit ≡ doc.engine.limit → made ≡ revised_doc doc taken.engine left → left.sel.regions ≢ [] → IsSelection left.sel.regions →
+    AreWithin (length (head_shown taken.engine)) left.sel.regions → IsUntold made plain (next_document plain history left)
+IsUntold-revised doc made plain history author taken left stands after agree limit is some sound inside =
+    let At : Doc → Type 0 = λ d. IsUntold d plain (next_document plain history left) in
+    subst At (sym is) (record {
+      parts = record {
+        stands = after.stands;
+        shown_is = head_shown-stands taken.engine history after.stands;
+        within = after.within;
+        bound = omega (arith, stands.parts.bound, limit);
+      };
+      limit = limit ∙ stands.limit;
+      plugins = stands.plugins;
+      groups = refl;
+      typing = refl;
+      agree = agree;
+      regions = refl;
+      regions_are = record {
+        some = some;
+        sound = sound;
+        inside = subst (λ t. AreWithin (length t) left.sel.regions) (head_shown-stands taken.engine history after.stands) inside;
+      };
+      saved = stands.saved;
+      saved_before = omega (arith, stands.saved_before, after.one_more);
+      window = stands.window;
+      valid = refl;
+      window_stays = refl;
+      screen_stays = refl;
+    })

@@ -1,0 +1,53 @@
+ghost use Rattle.std.specs.Prelude.{◌≡◌};
+ghost use Rattle.doc_session.specs.Inner.{is_text_act};
+ghost use Rattle.doc_session.specs.Step.{copies, first_config, scrolls};
+
+use xi_plain::{Config, EditAct};
+
+/// How texts are edited at first: tabs of four columns, which are typed as such, and lines that are not wrapped.
+pub(crate) fn first_config() -> Config
+    ensures { result ≡ first_config }
+{
+    Config {
+        tab: 4,
+        width: 0,
+        spaces: false,
+    }
+}
+
+/// Whether a command is done on the text and the regions alone. The others leave these as they are.
+pub(crate) fn is_done_on_text(act: &EditAct) -> bool
+    ensures { result ≡ is_text_act act.now }
+{
+    match act {
+        EditAct::Undo => false,
+        EditAct::Redo => false,
+        EditAct::Scroll { .. } => false,
+        EditAct::RequestLines { .. } => false,
+        EditAct::Find { .. } => false,
+        EditAct::FindNext { .. } => false,
+        EditAct::FindPrevious { .. } => false,
+        _ => true,
+    }
+}
+
+/// Whether a command scrolls to the last caret, where that stands elsewhere then.
+pub(crate) fn scrolls(act: &EditAct) -> bool
+    ensures { result ≡ scrolls act.now }
+{
+    match act {
+        EditAct::SelectAll => false,
+        _ => true,
+    }
+}
+
+/// Whether a command copies.
+pub(crate) fn copies(act: &EditAct) -> bool
+    ensures { result ≡ copies act.now }
+{
+    match act {
+        EditAct::Cut => true,
+        EditAct::Copy => true,
+        _ => false,
+    }
+}

@@ -1,0 +1,11 @@
+use crate::event::Body;
+use xi_plain::Notice;
+
+/// What is said of an event beside its update: what it is answered, whether the front end scrolls to the last caret where that stands
+/// elsewhere then, and what the plugins are told.
+#[derive(Drop)]
+pub(crate) struct Said {
+    pub(crate) body: Body,
+    pub(crate) scrolls: bool,
+    pub(crate) notice: Option<Notice>,
+}

@@ -1,0 +1,46 @@
+-- Two lists are the same exactly where they are equally long and each two items are.
+use Rattle.std.proofs.Common.{◌≡◌, ◌≢◌, ℕ, zero, suc, ◌<◌, Bool, true, false, List, [], ◌∷◌, length, take, refl, ap, ap₂, sym, ◌∙◌, arith}
+use Rattle.std.specs.Prelude.{◌&&◌, get_or}
+use Rattle.std.specs.Cmp.Lexicographic.{pointwise}
+
+-- lists of two lengths are not
+pub apart : {X : Type 0} (same : X → X → Bool) (xs ys : List X) → length xs ≢ length ys → pointwise same xs ys ≡ false
+apart same [] [] differ = absurd (differ refl)
+apart same [] (y ∷ ys) differ = refl
+apart same (x ∷ xs) [] differ = refl
+apart same (x ∷ xs) (y ∷ ys) differ =
+    ap (λ b. same x y && b) (apart same xs ys (λ long. differ (let one = long in omega arith))) ∙ none (same x y)
+  where
+    none : (a : Bool) → (a && false) ≡ false
+    none true = refl
+    none false = refl
+
+-- nor are those of which two items differ
+pub one-differs : {X : Type 0} (same : X → X → Bool) (xs ys : List X) (index : ℕ) (x y : X) → index < length xs → index < length ys →
+    x ≡ get_or xs index x → y ≡ get_or ys index y → same x y ≡ false → pointwise same xs ys ≡ false
+one-differs same [] ys index x y here there one other differ = absurd (omega (arith, here))
+one-differs same (a ∷ xs) [] index x y here there one other differ = absurd (omega (arith, there))
+one-differs same (a ∷ xs) (b ∷ ys) zero x y here there one other differ =
+    ap (λ c. c && pointwise same xs ys) (ap₂ same (sym one) (sym other) ∙ differ)
+one-differs same (a ∷ xs) (b ∷ ys) (suc index) x y here there one other differ =
+    ap (λ c. same a b && c) (one-differs same xs ys index x y (omega (arith, here)) (omega (arith, there)) one other differ) ∙ none (same a b)
+  where
+    none : (c : Bool) → (c && false) ≡ false
+    none true = refl
+    none false = refl
+
+-- the items so far are, and so are these two
+pub one-more : {X : Type 0} (same : X → X → Bool) (xs ys : List X) (index : ℕ) (x y : X) → index < length xs → index < length ys →
+    x ≡ get_or xs index x → y ≡ get_or ys index y → same x y ≡ true → pointwise same (take index xs) (take index ys) ≡ true →
+    pointwise same (take (suc index) xs) (take (suc index) ys) ≡ true
+one-more same [] ys index x y here there one other is so_far = absurd (omega (arith, here))
+one-more same (a ∷ xs) [] index x y here there one other is so_far = absurd (omega (arith, there))
+one-more same (a ∷ xs) (b ∷ ys) zero x y here there one other is so_far = ap (λ c. c && true) (ap₂ same (sym one) (sym other) ∙ is)
+one-more same (a ∷ xs) (b ∷ ys) (suc index) x y here there one other is so_far =
+    by (same a b) so_far (one-more same xs ys index x y (omega (arith, here)) (omega (arith, there)) one other is)
+  where
+    by : (c : Bool) → (c && pointwise same (take index xs) (take index ys)) ≡ true →
+        (pointwise same (take index xs) (take index ys) ≡ true → pointwise same (take (suc index) xs) (take (suc index) ys) ≡ true) →
+        (c && pointwise same (take (suc index) xs) (take (suc index) ys)) ≡ true
+    by true so_far rest = rest so_far
+    by false so_far rest = absurd cc

@@ -1,0 +1,5 @@
+pub mod View
+pub mod Moved
+pub mod Told
+pub mod Idle
+pub mod Inner

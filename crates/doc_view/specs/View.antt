@@ -1,0 +1,26 @@
+-- THE VIEW of a text: what a document keeps for who is shown its head text.
+use Rattle.std.specs.Prelude.{ℕ, Bool, List}
+use Rattle.plain_text.specs.declared.run.Run.{Run}
+use Rattle.plain_text.specs.declared.selection.Region.{Region}
+use Rattle.plain_screen.specs.declared.piece.Piece.{Piece}
+use Rattle.plain_screen.specs.declared.screen.Line.{Line}
+use Rattle.plain_screen.specs.View.{whole_lines}
+use Rattle.selection_core.specs.Selection.{last_caret}
+use Rattle.doc_layout.specs.Layout.{layout, Position, position_of}
+
+-- the text, the regions on it, the lines that are shown, and whether the front end has these
+pub record View : Type 0 where
+  pub text : List ℕ
+  pub regions : List Region
+  pub window : Run
+  pub valid : Bool
+
+-- the pieces of the text (it is not wrapped yet), its layout, and the place of the last region's caret
+abbrev pub pieces_in : View → List Piece
+pieces_in view = whole_lines view.text
+
+abbrev pub layout_in : View → List Line
+layout_in view = layout view.text (pieces_in view) view.regions
+
+abbrev pub point_in : View → Position
+point_in view = position_of view.text (pieces_in view) (last_caret view.regions)
