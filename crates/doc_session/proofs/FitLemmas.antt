@@ -8,7 +8,7 @@ use Rattle.plain_edits.specs.History.{head, inserted_count}
 use Rattle.edit_ops.specs.declared.replacement.Replacement.{Replacement}
 use Rattle.edit_ops.specs.Commands.{Effect}
 use Rattle.edit_ops.specs.Replacements.{added_by, kept_by}
-use Rattle.rev_engine.proofs.ForCallers.{IsOfEngine-given, refusal-kept}
+use Rattle.rev_engine.proofs.ForCallers.{formed-stands, refusal-kept}
 use Rattle.doc_session.specs.InMemory.{Doc}
 use Rattle.doc_session.specs.declared.event.Event.TheVariants.{Front}
 use Rattle.doc_session.specs.Asking.{asked_refusal, front_edit}
@@ -31,7 +31,7 @@ edit_fits doc plain replacements stands =
     let h = plain.history in
     let delta = (front_edit plain None replacements).delta in
     let total = inserted_count h + inserted_len delta.els in
-    let low : h.floor ≤ head h = (IsOfEngine-given doc.engine.limit h stands.parts.stands.given).formed.floor in
+    let low : h.floor ≤ head h = (formed-stands doc.engine h stands.parts.stands).floor in
     let high : head h ≤ head h = omega arith in
     let same : asked_refusal plain (front_edit plain None replacements) ≡ misfit_or_spent None plain.limit total =
     refusal-kept h plain.limit (head h) delta low high ∙

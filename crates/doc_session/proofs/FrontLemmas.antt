@@ -18,6 +18,7 @@ use Rattle.rev_engine.specs.declared.edit.UnitEdit.{UnitEdit}
 use Rattle.rev_engine.specs.Engine.{IsSaidBy, StandsFor}
 use Rattle.rev_engine.specs.Given.{AskedEdit, after, meant}
 use Rattle.rev_engine.specs.State.{State}
+use Rattle.rev_engine.proofs.ForCallers.{undone_now-stands}
 use Rattle.doc_session.specs.Asking.{replacing_edit, front_priority}
 use Rattle.delta_core.specs.Elements.{delta_by, delta_of}
 use Rattle.doc_session.specs.declared.taken.Taken.{Taken}
@@ -79,7 +80,7 @@ text_at-front h engine edit replacements stands shown is =
     let units = subst Says (delta-same text replacements edit.units is) (IsUnitsOf-delta_of text edit.units is.canonical is.of) in
     ap (text_at (after h asked)) (head-after h asked) ∙
     text_at-edited_at_head h (meant h asked) (sound-given engine h stands) refl
-    (ap (λ groups. has groups edit.group) (sym (ap undone_now stands.revisions)) ∙ shown) ∙
+    (ap (λ (groups : List ℕ). has groups edit.group) (sym (undone_now-stands engine h stands)) ∙ shown) ∙
     sym units.leads ∙ text_after-front text replacements edit.units is
 
 -- so many characters has the text after it

@@ -8,7 +8,7 @@ use Rattle.std.specs.List.{AllByRecursion, AllByRecursion-prop, list_any}
 use Rattle.std.proofs.lemmas.Bool.{or_left, or_right, eqb-true}
 use Rattle.std.proofs.lemmas.Bool.Decides.{nat_tests}
 use Rattle.std.proofs.lemmas.List.{drop_more}
-use Rattle.plain_text.specs.Numbers.{has, turned, with_number, without_number, IsRising}
+use Rattle.plain_text.specs.Numbers.{flipped, has, turned, with_number, without_number, IsRising}
 use Rattle.plain_text.proofs.callers.NumberLemmas.{has-flipped}
 use Rattle.number_set.proofs.ForCallers.{absent, has-own, has-one, has-take, has-drop, no}
 use Rattle.plain_edits.specs.Edits.{is_edit_of}
@@ -18,6 +18,7 @@ use Rattle.rev_list.specs.Edit.{undone_by}
 use Rattle.rev_undo.specs.Under.{AgreesOnCollected}
 use Rattle.rev_engine.specs.Asked.{IsKnown, MayAskUndo}
 use Rattle.rev_engine.specs.State.{State}
+use Rattle.rev_engine.proofs.ForCallers.{IsKnown-stands, collected-stands, head-stands, undone_now-stands}
 use Rattle.undo_groups.specs.Groups.{Groups, IsStack, is_known, next_undo, undone_one, next_redo, redone_one}
 use Rattle.doc_session.specs.declared.left.Left.{Left}
 use Rattle.doc_session.specs.declared.typing.Kind.{Kind}
@@ -203,7 +204,7 @@ module _ (engine : State) (groups : Groups) (typing : Option Typing) (shown : Li
   pub few-whole : groups.given ≤ head engine.revisions
   few-whole =
       ∥∥₁_elim whole le_prop (λ (s : (h : History) × IsWholeOf h engine groups typing shown).
-      omega (arith, s.1.agree.few, ap head s.1.state.stands.revisions))
+      omega (arith, s.1.agree.few, head-stands engine s.0 s.1.state.stands))
 
   pub counts-whole : (joined : Option ℕ) → JoinsKnown groups joined → 1 ≤ group_by groups joined
   counts-whole joined known =
@@ -213,7 +214,7 @@ module _ (engine : State) (groups : Groups) (typing : Option Typing) (shown : Li
   pub kept-whole : (joined : Option ℕ) → JoinsKnown groups joined → has engine.revisions.collected (group_by groups joined) ≡ false
   kept-whole joined known =
       ∥∥₁_elim whole (Bool-set _ _) (λ (s : (h : History) × IsWholeOf h engine groups typing shown).
-      ap (λ (h : History). has h.collected (group_by groups joined)) s.1.state.stands.revisions ∙
+      ap (λ (set : List ℕ). has set (group_by groups joined)) (collected-stands engine s.0 s.1.state.stands) ∙
       kept-joined s.0.revisions s.0.collected groups typing s.1.agree joined known)
 
   -- the group of the run that goes on, or the next one
@@ -228,12 +229,12 @@ module _ (engine : State) (groups : Groups) (typing : Option Typing) (shown : Li
             (JoinsKnown-newest s.0.revisions s.0.collected groups typing s.1.agree joined newest));
         kept =
             ∥∥₁_elim whole (Bool-set _ _) (λ (s : Is). let newest = JoinsNewest-run groups typing kind s.1.agree.newest in
-            ap (λ (h : History). has h.collected (group_by groups joined)) s.1.state.stands.revisions ∙
+            ap (λ (set : List ℕ). has set (group_by groups joined)) (collected-stands engine s.0 s.1.state.stands) ∙
             kept-joined s.0.revisions s.0.collected groups typing s.1.agree joined
             (JoinsKnown-newest s.0.revisions s.0.collected groups typing s.1.agree joined newest));
         shown =
             ∥∥₁_elim whole (Bool-set _ _) (λ (s : Is). let newest = JoinsNewest-run groups typing kind s.1.agree.newest in
-            ap (λ (h : History). has (undone_now h) (group_by groups joined)) s.1.state.stands.revisions ∙
+            ap (λ (set : List ℕ). has set (group_by groups joined)) (undone_now-stands engine s.0 s.1.state.stands) ∙
             shown-joined s.0.revisions s.0.collected groups typing s.1.agree joined newest);
       }
 
@@ -244,12 +245,13 @@ module _ (engine : State) (groups : Groups) (typing : Option Typing) (shown : Li
           ∥∥₁_elim whole (AllByRecursion-prop (IsKnown engine.revisions) (IsKnown-prop engine.revisions) _)
           (λ (s : (h : History) × IsWholeOf h engine groups typing shown).
           let h = s.0 in
-          let At : History → Type 0 = λ r. AllByRecursion (IsKnown r) (undone_by r (group ∷ [])) in
-          subst At (sym s.1.state.stands.revisions)
-          (subst (AllByRecursion (IsKnown h)) (sym (undone_by-turned h groups next typing group s.1.agree turn))
-          (all_known (IsKnown h) next.undone (λ g there.
+          let same : undone_by engine.revisions (group ∷ []) ≡ next.undone =
+          ap (λ (set : List ℕ). flipped set (group ∷ [])) (undone_now-stands engine h s.1.state.stands) ∙
+          undone_by-turned h groups next typing group s.1.agree turn in
+          subst (AllByRecursion (IsKnown engine.revisions)) (sym same)
+          (all_known (IsKnown engine.revisions) next.undone (λ g there.
           let is = edits-turned h.revisions h.collected groups typing s.1.agree next group turn g there in
-          (is.0, or_left (list_any (is_edit_of g) h.revisions) (has h.collected g) is.1)))));
+          IsKnown-stands engine h s.1.state.stands g (is.0, or_left (list_any (is_edit_of g) h.revisions) (has h.collected g) is.1))));
       has_number = numbered;
     }
 
@@ -259,12 +261,14 @@ module _ (engine : State) (groups : Groups) (typing : Option Typing) (shown : Li
         (λ (s : (h : History) × IsWholeOf h engine groups typing shown).
         let h = s.0 in
         let rises : IsRising (undone_now h) = subst IsRising (sym s.1.agree.undone) s.1.agree.stack.undone_rise in
-        let At : History → Type 0 = λ r. AgreesOnCollected r (undone_by r (group ∷ [])) in
-        subst At (sym s.1.state.stands.revisions)
+        let At : List ℕ → List ℕ → Type 0 = λ undone collected.
+        AllByRecursion (λ g. has (flipped undone (group ∷ [])) g ≡ has undone g) collected in
+        subst (λ undone. At undone engine.revisions.collected) (sym (undone_now-stands engine h s.1.state.stands))
+        (subst (At (undone_now h)) (sym (collected-stands engine h s.1.state.stands))
         (all_known (λ g. has (undone_by h (group ∷ [])) g ≡ has (undone_now h) g) h.collected (λ g gone.
         has-flipped (undone_now h) (group ∷ []) g rises (tt, tt) ∙
         ap (λ b. if b then not (has (undone_now h) g) else has (undone_now h) g)
-        (other h.collected g (kept-turned h.revisions h.collected groups typing s.1.agree next group turn) gone))))
+        (other h.collected g (kept-turned h.revisions h.collected groups typing s.1.agree next group turn) gone)))))
       where
         other : (collected : List ℕ) (g : ℕ) → has collected group ≡ false → has collected g ≡ true → has (group ∷ []) g ≡ false
         other collected g kept gone =

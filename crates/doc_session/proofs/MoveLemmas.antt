@@ -31,7 +31,7 @@ use Rattle.rev_engine.specs.State.{State}
 use Rattle.rev_engine.specs.declared.edit.UnitEdit.{UnitEdit}
 use Rattle.rev_engine.specs.Engine.{StandsFor, IsChange, IsSaidBy}
 use Rattle.rev_engine.specs.Given.{AskedEdit, after}
-use Rattle.rev_engine.proofs.ForCallers.{IsOfEngine-given, inserted_count-plain}
+use Rattle.rev_engine.proofs.ForCallers.{formed-stands, inserted_count-plain}
 use Rattle.selection_core.specs.Mapped.{AreWithin, length_after, mapped_region, mapped_regions, new_gap}
 use Rattle.selection_core.specs.Selection.{merged_regions}
 use Rattle.selection_core.proofs.ForCallers.{new_gap-after_step}
@@ -50,7 +50,7 @@ pub head-after : (h : History) (asked : AskedEdit) → head (after h asked) ≡ 
 head-after h asked = length_push h.revisions _
 
 pub sound-given : (engine : State) (h : History) → StandsFor engine h → IsSound h
-sound-given engine h stands = (IsOfEngine-given engine.limit h stands.given).formed.sound
+sound-given engine h stands = (formed-stands engine h stands).sound
 
 -- an undo makes a revision too
 pub head-undid : (h : History) (groups : List ℕ) → head (undid h groups) ≡ head h + 1
