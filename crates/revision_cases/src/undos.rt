@@ -9,7 +9,7 @@ use subset_runs::Subset;
 type Ranges<'a> = &'a [(u64, u64)];
 
 // Has the group insert and delete the positions in the ranges, of `len` positions after it, and tells whether it came.
-fn push(
+pub(crate) fn push(
     alloc: Global,
     revs: &mut RevList,
     base: u64,
@@ -56,7 +56,7 @@ fn put(alloc: Global, revs: &mut RevList, edit: RevEdit) -> bool {
     revs.push_edit(alloc, edit).is_ok()
 }
 
-fn set_of(alloc: Global, groups: &[u64]) -> Result<BTreeSet<u64>, AllocError> {
+pub(crate) fn set_of(alloc: Global, groups: &[u64]) -> Result<BTreeSet<u64>, AllocError> {
     let mut set = BTreeSet::new(alloc);
     for group in groups {
         set.insert(*group)?;
@@ -65,7 +65,7 @@ fn set_of(alloc: Global, groups: &[u64]) -> Result<BTreeSet<u64>, AllocError> {
 }
 
 // Whether the groups hide at the head what is in these ranges.
-fn hides(alloc: Global, revs: &RevList, groups: &[u64], ranges: Ranges<'_>) -> bool {
+pub(crate) fn hides(alloc: Global, revs: &RevList, groups: &[u64], ranges: Ranges<'_>) -> bool {
     let Ok(set) = set_of(alloc, groups) else {
         return false;
     };
@@ -79,7 +79,7 @@ fn hides(alloc: Global, revs: &RevList, groups: &[u64], ranges: Ranges<'_>) -> b
 }
 
 // Undoes exactly these groups, and tells whether they may be undone.
-fn undo(alloc: Global, revs: &mut RevList, groups: &[u64]) -> bool {
+pub(crate) fn undo(alloc: Global, revs: &mut RevList, groups: &[u64]) -> bool {
     let Ok(set) = set_of(alloc, groups) else {
         return false;
     };
@@ -93,7 +93,7 @@ fn undo(alloc: Global, revs: &mut RevList, groups: &[u64]) -> bool {
 }
 
 // Whether what is dead at the revision is in these ranges.
-fn shows(alloc: Global, revs: &RevList, rev: u64, ranges: Ranges<'_>) -> bool {
+pub(crate) fn shows(alloc: Global, revs: &RevList, rev: u64, ranges: Ranges<'_>) -> bool {
     match revs.dead_at(alloc, rev) {
         Ok(dead) => dead.runs() == ranges,
         Err(_) => false,
