@@ -144,21 +144,22 @@ none_typed plain (c ∷ chars) has idle = absurd (typing-some (text_of plain) (c
 pub run_taken_back : (texts : List (List ℕ)) (plain : Document) → IsBefore plain → HasRegions plain → concat texts ≢ [] →
     text_of (after_undo (after_typing plain texts)) ≡ text_of plain
 run_taken_back [] plain is has some = absurd (some refl)
-run_taken_back (chars ∷ texts) plain is has some = by (is_idle plain (typing plain chars)) refl
+run_taken_back (chars ∷ texts) plain is has some = by (run_taken_back texts) (is_idle plain (typing plain chars)) refl
   where
     effect : Effect
     effect = typing plain chars
 
-    by : (idle : Bool) → is_idle plain effect ≡ idle → text_of (after_undo (after_typing
+    by : ((document : Document) → IsBefore document → HasRegions document → concat texts ≢ [] →
+        text_of (after_undo (after_typing document texts)) ≡ text_of document) → (idle : Bool) → is_idle plain effect ≡ idle → text_of (after_undo (after_typing
         (if idle then idle_step plain (Insert chars) effect else typed_step plain (Insert chars) effect).document texts)) ≡ text_of plain
-    by true idle =
+    by later true idle =
         let next = selected_document plain inserts effect.regions in
         let still : IsBefore next = (is.0, is.1, is.2, ap (λ t. run_on t inserts) is.3) in
         let left : HasRegions next =
         (effect-some first_config (text_of plain) (pieces_of plain) plain.regions has.0 (Insert chars), typing-within (text_of plain) chars plain.regions has.1 idle) in
         let rest : concat texts ≢ [] = λ empty. some (ap (λ t. t ++ concat texts) (none_typed plain chars has idle) ∙ empty) in
-        run_taken_back texts (settled plain next) (settled-IsBefore plain next still) (settled-HasRegions plain next left) rest ∙ part-settled text_of plain next refl
-    by false idle =
+        later (settled plain next) (settled-IsBefore plain next still) (settled-HasRegions plain next left) rest ∙ part-settled text_of plain next refl
+    by later false idle =
         let next = typed_document plain inserts effect in
         run_undone plain (after_typing (settled plain next) texts) is
         (runs plain texts (settled plain next) (settled-IsInRun plain plain next (first_typed plain effect is)))
