@@ -156,8 +156,7 @@ impl Doc {
             → IfErr result (DocRefuses (refusal_at plain event)) }
         ensures shown { (plain : Document) → DocStandsFor self.old plain → IsUpToDate (event_step plain event).document }
         ensures same { OnErr result (self.new ≡ self.old) }
-        ensures plugins { self.new.plugins ≡ self.old.plugins }
-        ensures config { self.new.config ≡ self.old.config }
+        ensures kept { (self.new.plugins ≡ self.old.plugins) × (self.new.config ≡ self.old.config) }
         ensures steps { steps.new ≡ steps.old }
     {
         let (next, effects) = self.after(alloc, event, steps)?;
