@@ -24,7 +24,7 @@ fn deletion(rev: u64, len: u64, from: u64, to: u64) -> Ask {
 // Whether it is answered with this text.
 fn copies(alloc: Global, text: &str, asks: &[Ask], ask: Ask, want: &str) -> bool {
     match last(alloc, text, asks, ask) {
-        Ok(effects) => match effects.body {
+        Ok(effects) => match &effects.body {
             Body::Copied { text } => text.as_str() == want,
             _ => false,
         },
