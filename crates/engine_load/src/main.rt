@@ -9,6 +9,8 @@
 //! | `cut N` | N times a group at the end of the text, its undo by difference and a new group in the middle, so that N groups stay undone and their characters stand together |
 //! | `cut_apart N` | the same with the new group at the end too, so that each undone character stands between two that are shown |
 //! | `stale N` | N insertions of one character at the start, each against the revision 100 before the head, or the first |
+//! | `collect N` | N groups at the end of the text: each inserts a character, but every tenth deletes ten; from the twenty-first on the oldest is collected after each |
+//! | `catch_up N` | N groups of one insertion each; then all but the last twenty are collected at once |
 //! | `all N` | each of these in its turn |
 //!
 //! Nothing stands on it. It is for measuring: its output says only what was run, and its time is taken from outside.
@@ -16,6 +18,9 @@
 //! `cut` and `cut_apart` undo the same groups at the same revisions. That a group was undone before costs nothing in either; but each
 //! revision goes through what is dead run by run, and that is a run or two in `cut`, and as many runs as undone groups in `cut_apart`. So
 //! `cut` takes a time like N, and `cut_apart` one like its square.
+//!
+//! What `collect` holds does not grow with N but by the numbers of the collected groups and the text that is shown. `catch_up` says how
+//! long the one collection takes that a slow caller held back.
 #![tactic(auto)]
 
 use anyhow::{bail, ensure};
@@ -38,9 +43,11 @@ enum Load {
     Cut,
     CutApart,
     Stale,
+    Collect,
+    CatchUp,
 }
 
-const ALL: [Load; 7] = [
+const ALL: [Load; 9] = [
     Load::Typing,
     Load::Groups,
     Load::Group,
@@ -48,6 +55,8 @@ const ALL: [Load; 7] = [
     Load::Cut,
     Load::CutApart,
     Load::Stale,
+    Load::Collect,
+    Load::CatchUp,
 ];
 
 impl Load {
@@ -60,6 +69,8 @@ impl Load {
             Load::Cut => "cut",
             Load::CutApart => "cut_apart",
             Load::Stale => "stale",
+            Load::Collect => "collect",
+            Load::CatchUp => "catch_up",
         }
     }
 }
@@ -77,10 +88,18 @@ const LONG_TURNS: u64 = 100;
 
 const SETS: u64 = 100;
 
+/// How many groups stay when the older ones are collected.
+const LIVE: u64 = 20;
+
+/// After how many groups one deletes, and how many characters.
+const TENTH: u64 = 10;
+
 fn main(rt: HostRuntime) -> anyhow::Result<()> {
     let mut words = env::args(&rt)?.skip(1);
     let (Some(kind), Some(count)) = (words.next(), words.next()) else {
-        bail!("usage: engine_load typing|groups|group|sets|cut|cut_apart|stale|all N");
+        bail!(
+            "usage: engine_load typing|groups|group|sets|cut|cut_apart|stale|collect|catch_up|all N"
+        );
     };
     run_named(&rt, kind.as_str(), count.as_str())
 }
@@ -122,6 +141,7 @@ fn go_through(alloc: Global, engine: &mut Engine, load: Load, count: u64) -> any
         Load::Groups => turn(alloc, engine, newest, TURNS),
         Load::Group => turn(alloc, engine, 1, LONG_TURNS),
         Load::Sets => undo_sets(alloc, engine, newest),
+        Load::CatchUp => collect(alloc, engine, 1, newest.saturating_sub(LIVE)),
         _ => Ok(()),
     }
 }
@@ -131,7 +151,7 @@ fn insert(alloc: Global, engine: &mut Engine, load: Load) -> anyhow::Result<()> 
     let next = engine.head().saturating_add(1);
     match load {
         Load::Typing | Load::Group => append(alloc, engine, 1),
-        Load::Groups | Load::Sets => append(alloc, engine, next),
+        Load::Groups | Load::Sets | Load::CatchUp => append(alloc, engine, next),
         Load::Cut => {
             undo_new(alloc, engine, next)?;
             let middle = engine.head_rope().len() / 2;
@@ -142,6 +162,11 @@ fn insert(alloc: Global, engine: &mut Engine, load: Load) -> anyhow::Result<()> 
             append(alloc, engine, next.saturating_add(2))
         }
         Load::Stale => insert_back(alloc, engine),
+        Load::Collect => {
+            append_or_delete(alloc, engine, next)?;
+            let oldest = next.saturating_sub(LIVE);
+            collect(alloc, engine, oldest, oldest)
+        }
     }
 }
 
@@ -165,6 +190,17 @@ fn insert_at(alloc: Global, engine: &mut Engine, at: u64, group: u64) -> anyhow:
     take(alloc, engine, &edit)
 }
 
+/// One character more at the end of the head text, or, every tenth time, the last ten less.
+fn append_or_delete(alloc: Global, engine: &mut Engine, group: u64) -> anyhow::Result<()> {
+    if group % TENTH != 0 {
+        return append(alloc, engine, group);
+    }
+    let rev = engine.head();
+    let len = engine.head_rope().len();
+    let edit = deletion(alloc, rev, len, len.saturating_sub(TENTH), group)?;
+    take(alloc, engine, &edit)
+}
+
 /// One character more at the start of an older text, which has as many characters as the number of its revision.
 fn insert_back(alloc: Global, engine: &mut Engine) -> anyhow::Result<()> {
     let rev = engine.head().saturating_sub(BACK);
@@ -180,7 +216,7 @@ fn take(alloc: Global, engine: &mut Engine, edit: &Edit) -> anyhow::Result<()> {
     Ok(())
 }
 
-/// One character more at a gap of the text of a revision.
+/// One character more at a gap of the text of a revision. Each character has one byte.
 fn insertion(alloc: Global, rev: u64, len: u64, at: u64, group: u64) -> Result<Edit, NoMemory> {
     let mut els = Els::new(alloc);
     els.push(El::Copy { a: 0, b: at })?;
@@ -188,14 +224,39 @@ fn insertion(alloc: Global, rev: u64, len: u64, at: u64, group: u64) -> Result<E
         text: Text::from_ascii(alloc, "x")?,
     })?;
     els.push(El::Copy { a: at, b: len })?;
-    Ok(Edit {
+    Ok(edit_of(rev, els, len, group))
+}
+
+/// The characters from a gap on less.
+fn deletion(alloc: Global, rev: u64, len: u64, from: u64, group: u64) -> Result<Edit, NoMemory> {
+    let mut els = Els::new(alloc);
+    els.push(El::Copy { a: 0, b: from })?;
+    Ok(edit_of(rev, els, len, group))
+}
+
+fn edit_of(rev: u64, els: Els, len: u64, group: u64) -> Edit {
+    Edit {
         rev,
         delta: Delta { els, base_len: len },
         priority: 0,
         after_cursor: false,
         author: 0,
         group,
-    })
+    }
+}
+
+/// Collects those of the groups from `first` to `last` that are at rest.
+fn collect(alloc: Global, engine: &mut Engine, first: u64, last: u64) -> anyhow::Result<()> {
+    let mut retired = BTreeSet::new(alloc);
+    for group in first.max(1)..=last {
+        retired.insert(group)?;
+    }
+    let head = engine.head();
+    let _floor = engine.floor();
+    if let Some((floor, groups)) = engine.collectable(alloc, head, &retired)? {
+        engine.collect(alloc, floor, &groups)?;
+    }
+    Ok(())
 }
 
 /// Undoes the group and redoes it, so often.
