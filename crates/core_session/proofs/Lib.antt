@@ -5,7 +5,7 @@ pub mod StepLemmas
 pub mod RevisionLemmas
 pub mod ShowsLemmas
 pub mod OpenLemmas
-pub mod InsertLemmas
+pub mod FaultLemmas
 pub mod PrepareLemmas
 pub mod LawLemmas
 pub mod OnlyViewLemmas

@@ -1,23 +1,24 @@
 -- What the opening of the first view comes to, and which view a text names.
 use Rattle.std.proofs.Common.{◌≡◌, ℕ, Bool, true, false, List, [], ◌∷◌, ◌++◌, Option, Some, None, refl, sym, ◌∙◌, ap, subst, arith, append-nil}
 use Rattle.plain_edits.specs.History.{loaded}
-use Rattle.std.specs.Prelude.{is_some, if◌then◌else◌, Result, IfOk}
+use Rattle.std.specs.Prelude.{is_some, if◌then◌else◌, Result, IfOk, option_map}
 use Rattle.std.specs.Str.{encode_utf8_all, bytes_eq}
 use Rattle.doc_session.specs.InMemory.{Doc}
 use Rattle.doc_session.specs.declared.event.Effects.{Effects}
 use Rattle.doc_session.specs.declared.event.Event.TheVariants.{Front, Other}
 use Rattle.doc_session.specs.Document.{loaded_document}
+use Rattle.doc_session.specs.PositionView.{position_view}
 use Rattle.doc_session.specs.Stands.{DocStandsFor}
 use Rattle.doc_session.specs.Step.{AreEffectsOf, EventStep, event_step, refusal_at}
 use Rattle.doc_session.proofs.ForCallers.{head-stands}
 use Rattle.core_session.specs.declared.act.ActEffects.{ActEffects}
 use Rattle.core_session.specs.declared.act.Reply.{Reply as ReplyInMemory}
-use Rattle.core_session.specs.declared.act.Reply.TheVariants.{Opened, Accepted}
+use Rattle.core_session.specs.declared.act.Reply.TheVariants.{Opened}
 use Rattle.xi_plain.specs.declared.command.EditAct.{EditAct}
 use Rattle.plain_edits.specs.Edits.{Refusal}
-use Rattle.core_session.specs.Answer.{Reply}
+use Rattle.core_session.specs.Answer.{Reply, accepted, result_of}
 use Rattle.core_session.specs.Core.{ServesDocument, ServesView, Stands}
-use Rattle.core_session.specs.Inner.{TakesEvents, IsOutcome, reply_of}
+use Rattle.core_session.specs.Inner.{TakesEvents, IsOutcome, document_then, reply_of}
 use Rattle.core_session.specs.Session.{OpenView, view_id, named_view, first_document, open_outcome, text_limit, updates_for, scroll_for, keeping, front_outcome, edit_came, spent_total, other_step}
 use Rattle.core_session.proofs.ViewLemmas.{same_id}
 
@@ -65,25 +66,27 @@ IsOutcome-other doc reply view made effects came serves kept shown is =
 -- an edit of the only view that is taken
 pub IsOutcome-own : (doc : Doc) (view : OpenView) (act : EditAct) (made : Doc) (effects : Effects) (came : ActEffects) →
     ServesView doc view → refusal_at view.document (Front act) ≡ None → ServesDocument made (event_step view.document (Front act)).document →
-    AreEffectsOf (event_step view.document (Front act)) effects →
-    came ≡ record { reply = Accepted; next = Some made; update = effects.update; scroll = effects.scroll } →
-    IsOutcome (Some doc) (front_outcome (view ∷ []) view act) came
-IsOutcome-own doc view act made effects came serves accepted kept shown is =
+    AreEffectsOf (event_step view.document (Front act)) effects → reply_of came.reply ≡ accepted (result_of effects.body) → came.next ≡ Some made →
+    came.update ≡ effects.update → came.scroll ≡ effects.scroll → IsOutcome (Some doc) (front_outcome (view ∷ []) view act) came
+IsOutcome-own doc view act made effects came serves taken kept shown reply next update scroll =
     let own = event_step view.document (Front act) in
     let At : EventStep → Type 0 = λ s. IsOutcome (Some doc) (record {
-      reply = reply_of Accepted;
+      reply = accepted (result_of own.body);
       views = record view { document = s.document } ∷ [];
       updates = updates_for view.id s.update ++ [];
       scroll = scroll_for view.id own.scroll;
     }) came in
-    let here : At own = rw is (record {
-      reply = refl;
-      updates = told_only view own effects serves.id shown;
-      scroll = ap (scroll_for view_id) shown.scroll ∙ ap (λ id. scroll_for id own.scroll) (sym serves.id);
-      stands = record { id = serves.id; serves = kept };
-    }) in
+    let Put : Option Doc → Type 0 = λ there. Stands (document_then there (Some doc)) (record view { document = own.document } ∷ []) in
+    let here : At own = record {
+      reply = reply ∙ ap (λ body. accepted (result_of body)) shown.body;
+      updates = ap (updates_for view_id) update ∙ told_only view own effects serves.id shown;
+      scroll =
+          ap (λ place. scroll_for view_id (option_map position_view place)) scroll ∙ ap (scroll_for view_id) shown.scroll ∙
+          ap (λ id. scroll_for id own.scroll) (sym serves.id);
+      stands = subst Put (sym next) (record { id = serves.id; serves = kept });
+    } in
     let By : Option Refusal → Type 0 = λ refusal. IsOutcome (Some doc) (edit_came (view ∷ []) view (spent_total refusal) own) came in
-    subst By (sym accepted) (subst At (sym (ap (λ b. if b then own else other_step view) (same_id view.id))) here)
+    subst By (sym taken) (subst At (sym (ap (λ b. if b then own else other_step view) (same_id view.id))) here)
 
 -- the same answer
 pub keeping_same : {E : Type 0} (before : Option Doc) (views : List OpenView) (one other : Reply) (result : Result ActEffects E) → one ≡ other →

@@ -20,8 +20,8 @@ use Rattle.doc_session.specs.Document.{Document, layout_of, no_request}
 use Rattle.doc_session.specs.Effects.{ops_of, update_of, updated, wants_update}
 use Rattle.doc_session.specs.Step.{EventStep, event_step, act_step, going_on, refusal_at}
 use Rattle.doc_session.proofs.ForCallers.{by_front}
-use Rattle.core_session.specs.Answer.{Reply}
-use Rattle.core_session.specs.Session.{OpenView, view_of, named_view, Outcome, outcome, taking, leaving, keeping, opening_outcome, first_view, other_step, own_step, edit_came, edit_outcome, undone_outcome, spent_total, is_done, front_outcome, answer_undone, step, views_after}
+use Rattle.core_session.specs.Answer.{Reply, not_built}
+use Rattle.core_session.specs.Session.{OpenView, view_of, named_view, Outcome, outcome, taking, leaving, keeping, opening_outcome, first_view, other_step, own_step, edit_came, edit_outcome, undone_outcome, spent_total, is_done, front_outcome, step, views_after}
 use Rattle.core_session.specs.Shows.{SendsWithin}
 use Rattle.core_session.proofs.PlanLemmas.{sends-plan_from}
 use Rattle.core_session.proofs.ViewLemmas.{same_id, found_only, AtMostFirst, Stays, stays_same, first_stepped}
@@ -112,7 +112,7 @@ module _ (P : List OpenView → Outcome → Type 0)
       (keep_own views id own (act_step own.document act) first found (keeps_act own.document act))
 
   done_or_not : (done : Bool) (views : List OpenView) (id : List ℕ) (own : OpenView) (act : EditAct) → AtMostFirst views → view_of views id ≡ Some own →
-      P views (if done then front_outcome views own act else keeping views (answer_undone act))
+      P views (if done then front_outcome views own act else keeping views not_built)
   done_or_not true views id own act first found = came views id own (spent_total (refusal_at own.document (Front act))) act first found
   done_or_not false views id own act first found = still views _ first
 

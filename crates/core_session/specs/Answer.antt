@@ -1,11 +1,13 @@
 -- What an entry is answered.
 use Rattle.std.specs.Prelude.{ℕ, ℤ, pos, List, [], ◌∷◌, codes}
-use Rattle.serde_json.specs.Data.{Data}
+use Rattle.serde_json.specs.Data.{Data, null}
 use Rattle.xi_plain.specs.declared.command.Id.{Id}
 use Rattle.xi_plain.specs.declared.command.Id.TheVariants.{NoId, Num, Word}
 use Rattle.xi_plain.specs.declared.command.Fault.{Fault}
 use Rattle.xi_plain.specs.declared.command.Fault.TheVariants.{Parse, Invalid, NoMethod, BadParams}
-use Rattle.json_rpc.specs.Response.{reply_data, error_data}
+use Rattle.json_rpc.specs.Response.{reply_data, error_data, text_data}
+use Rattle.doc_session.specs.declared.event.Body.{Body}
+use Rattle.doc_session.specs.declared.event.Body.TheVariants.{Null, Copied, Edited}
 use Rattle.view_update.specs.Notes.{alert_data}
 use Rattle.json_rpc.specs.Refusal.{code_of, message_of}
 
@@ -17,6 +19,12 @@ pub data Reply : Type 0 where
   spent : Reply
   not_built : Reply
   silent : Reply
+
+-- the result of an edit of the front end: what was copied, and else null. (The number of a revision is told to plugins alone.)
+abbrev pub result_of : Body → Data
+result_of Null = null
+result_of (Copied text) = text_data text
+result_of (Edited rev group) = null
 
 -- a refusal with this number that says this, by the id of the request, or as an alert where it has none
 abbrev pub refused_by : Id → ℤ → List ℕ → Data

@@ -21,7 +21,7 @@ use Rattle.doc_session.specs.declared.fault.DocFault.{DocFault}
 use Rattle.doc_session.specs.declared.fault.DocFault.TheVariants as Fault
 use Rattle.doc_session.specs.PositionView.{position_view}
 use Rattle.core_session.specs.declared.act.Reply.{Reply as ReplyInMemory}
-use Rattle.core_session.specs.declared.act.Reply.TheVariants.{Opened, Accepted, Refused, Spent, NotBuilt, Silent}
+use Rattle.core_session.specs.declared.act.Reply.TheVariants.{Opened, Accepted, Copied, Refused, Spent, NotBuilt, Silent}
 use Rattle.core_session.specs.declared.act.ActEffects.{ActEffects}
 use Rattle.core_session.specs.Answer.{Reply, accepted, refused, spent, not_built, silent}
 use Rattle.core_session.specs.Core.{ServesDocument, Stands}
@@ -70,6 +70,7 @@ pub record IsPrepared (before : Option Doc) (views : List OpenView) (made : Prep
 abbrev pub reply_of : ReplyInMemory → Reply
 reply_of Opened = accepted (text_data view_id)
 reply_of Accepted = accepted null
+reply_of (Copied text) = accepted (text_data text)
 reply_of (Refused fault) = refused fault
 reply_of Spent = spent
 reply_of NotBuilt = not_built

@@ -7,7 +7,6 @@ use Rattle.xi_plain.specs.declared.command.Id.{Id}
 use Rattle.xi_plain.specs.declared.command.Fault.{Fault}
 use Rattle.xi_plain.specs.declared.command.Fault.TheVariants.{BadParams}
 use Rattle.xi_plain.specs.declared.command.EditAct.{EditAct}
-use Rattle.xi_plain.specs.declared.command.EditAct.TheVariants.{Insert, InsertNewline, Undo, Redo}
 use Rattle.xi_plain.specs.declared.command.EditAct.TheVariants as Edits
 use Rattle.xi_plain.specs.declared.command.Act.{Act}
 use Rattle.xi_plain.specs.declared.command.Act.TheVariants.{Bad, Nothing, NewView, CloseView, Save, Edit, Closing}
@@ -24,7 +23,7 @@ use Rattle.view_update.specs.Reading.{ViewUpdate, Scroll}
 use Rattle.doc_session.specs.declared.event.Event.TheVariants.{Front, Other}
 use Rattle.doc_session.specs.Document.{Document, loaded_document}
 use Rattle.doc_session.specs.Step.{EventStep, event_step, refusal_at}
-use Rattle.core_session.specs.Answer.{Reply, accepted, refused, spent, not_built, silent, answers}
+use Rattle.core_session.specs.Answer.{Reply, accepted, refused, result_of, spent, not_built, silent, answers}
 
 -- A VIEW that is open: its id, which is of ASCII, and its document
 pub record OpenView : Type 0 where
@@ -126,10 +125,10 @@ abbrev pub spent_total : Option Refusal → Option ℕ
 spent_total (Some (spent_by total)) = Some total
 spent_total refusal = None
 
--- an edit of the front end in a view, where its characters would be spent or not: it is the view's own step, unless it is refused. (The
--- front end's edits are never refused for another reason.)
+-- an edit of the front end in a view, where its characters would be spent or not: it is the view's own step, and answered as that says,
+-- unless it is refused. (The front end's edits are never refused for another reason.)
 abbrev pub edit_came : List OpenView → OpenView → Option ℕ → EventStep → Outcome
-edit_came views view None step = taking (accepted null) (scroll_for view.id step.scroll) (own_step view step) views
+edit_came views view None step = taking (accepted (result_of step.body)) (scroll_for view.id step.scroll) (own_step view step) views
 edit_came views view (Some total) step = keeping views spent
 
 -- a view is edited
@@ -137,23 +136,19 @@ abbrev pub front_outcome : List OpenView → OpenView → EditAct → Outcome
 front_outcome views view act =
     edit_came views view (spent_total (refusal_at view.document (Front act))) (event_step view.document (Front act))
 
--- whether the edits of this kind are done yet
+-- whether the edits of this kind are done yet: all but those that show other lines, and those that search
 abbrev pub is_done : EditAct → Bool
-is_done (Insert chars) = true
-is_done InsertNewline = true
-is_done Undo = true
-is_done Redo = true
-is_done act = false
-
--- what is answered to an edit that is not done: one without effect is accepted
-abbrev pub answer_undone : EditAct → Reply
-answer_undone Edits.Nothing = accepted null
-answer_undone act = not_built
+is_done (Edits.Scroll first last) = false
+is_done (Edits.RequestLines first last) = false
+is_done (Edits.Find chars case_sensitive regex whole_words) = false
+is_done (Edits.FindNext wrap_around allow_same) = false
+is_done (Edits.FindPrevious wrap_around allow_same) = false
+is_done act = true
 
 -- an edit of the view that was named, where it is open
 abbrev pub edit_outcome : List OpenView → Option OpenView → EditAct → Outcome
 edit_outcome views None act = refusing_view views
-edit_outcome views (Some view) act = if is_done act then front_outcome views view act else keeping views (answer_undone act)
+edit_outcome views (Some view) act = if is_done act then front_outcome views view act else keeping views not_built
 
 -- what is not done yet of a view is refused, where the view is open
 abbrev pub undone_outcome : List OpenView → Option OpenView → Outcome

@@ -7,9 +7,10 @@ ghost use Rattle.doc_session.specs.InMemory.{Doc};
 ghost use Rattle.doc_session.specs.Step.{EventStep, HasCaller};
 ghost use Rattle.core_session.specs.Core.{ServesView, Stands};
 ghost use Rattle.core_session.specs.Inner.{IsMade, IsOutcome, IsSpentOrLack, MayBeAsked, TakesEvents, reply_of};
-ghost use Rattle.core_session.specs.Session.{OpenView, view_id, named_view, outcome, edit_came, edit_outcome, undone_outcome, answer_undone, open_outcome, is_done, front_outcome, keeping, refusing, refusing_view, spent_total};
+ghost use Rattle.core_session.specs.Answer.{accepted, result_of};
+ghost use Rattle.core_session.specs.Session.{OpenView, view_id, named_view, outcome, edit_came, edit_outcome, undone_outcome, open_outcome, is_done, front_outcome, keeping, refusing, refusing_view, spent_total};
 
-use doc_session::{Doc, DocFault, Effects, Event};
+use doc_session::{Body, Doc, DocFault, Effects, Event};
 use plain_screen::Update;
 use plain_text::{NoMemory, Steps, Text, TryClone};
 use std::alloc::Global;
@@ -40,6 +41,8 @@ pub enum Reply {
     Opened,
     /// It was accepted, and has no result.
     Accepted,
+    /// It was accepted, and its result is this text.
+    Copied(Text),
     /// It was refused.
     Refused(Fault),
     /// It would insert more characters than may be.
@@ -183,16 +186,7 @@ fn edit_view(alloc: Global, doc: &Doc, act: &EditAct) -> Result<ActEffects, NoMe
     if is_done(act) {
         edit_document(alloc, doc, act)
     } else {
-        other(alloc, doc, answer_undone(act))
-    }
-}
-
-fn answer_undone(act: &EditAct) -> Reply
-    ensures { reply_of result ≡ answer_undone act.now }
-{
-    match act {
-        EditAct::Nothing => Reply::Accepted,
-        _ => Reply::NotBuilt,
+        other(alloc, doc, Reply::NotBuilt)
     }
 }
 
@@ -206,9 +200,13 @@ fn is_first_view(name: &Text) -> bool
 fn is_done(act: &EditAct) -> bool
     ensures { result ≡ is_done act.now }
 {
-    matches!(
+    !matches!(
         act,
-        EditAct::Insert { .. } | EditAct::InsertNewline | EditAct::Undo | EditAct::Redo
+        EditAct::Scroll { .. }
+            | EditAct::RequestLines { .. }
+            | EditAct::Find { .. }
+            | EditAct::FindNext { .. }
+            | EditAct::FindPrevious { .. }
     )
 }
 
@@ -218,13 +216,13 @@ fn edit_document(alloc: Global, doc: &Doc, act: &EditAct) -> Result<ActEffects, 
         → IfOk result (IsOutcome (Some doc.now) (front_outcome (view ∷ []) view act.now)) }
 {
     match after_alone(alloc, doc, Event::Front(act.copy(alloc)?)) {
-        Ok((next, effects)) => Ok(taken(Reply::Accepted, next, effects)),
-        Err(fault) => not_inserted(alloc, doc, fault),
+        Ok((next, effects)) => Ok(edited(next, effects)),
+        Err(fault) => not_edited(alloc, doc, fault),
     }
 }
 
-/// What the fault of an insertion comes to. An insertion is against the head, and its delta fits.
-fn not_inserted(alloc: Global, doc: &Doc, fault: DocFault) -> Result<ActEffects, NoMemory>
+/// What the fault of an edit comes to. The front end's edits are against the head, and their deltas fit.
+fn not_edited(alloc: Global, doc: &Doc, fault: DocFault) -> Result<ActEffects, NoMemory>
     requires fault { IsSpentOrLack fault }
     requires asked { MayBeAsked (Some doc.now) }
     ensures { (view : OpenView) (refusal : Option Refusal) (step : EventStep)
@@ -252,6 +250,36 @@ fn taken(reply: Reply, next: Doc, effects: Effects) -> ActEffects
         next: Some(next),
         update,
         scroll,
+    }
+}
+
+/// What an edit of the view came to, which is answered as the document says.
+fn edited(next: Doc, effects: Effects) -> ActEffects
+    ensures reply { reply_of result.reply ≡ accepted (result_of effects.body) }
+    ensures next { result.next ≡ Some next }
+    ensures update { result.update ≡ effects.update }
+    ensures scroll { result.scroll ≡ effects.scroll }
+{
+    let Effects {
+        body,
+        update,
+        scroll,
+        notice: _,
+    } = effects;
+    ActEffects {
+        reply: answer_of(body),
+        next: Some(next),
+        update,
+        scroll,
+    }
+}
+
+fn answer_of(body: Body) -> Reply
+    ensures { reply_of result ≡ accepted (result_of body) }
+{
+    match body {
+        Body::Copied { text } => Reply::Copied(text),
+        Body::Null | Body::Edited { .. } => Reply::Accepted,
     }
 }
 

@@ -49,6 +49,7 @@ fn answer(alloc: Global, id: &Id, reply: &Reply) -> Result<Text, NoMemory>
         Reply::Refused(fault) => refusal(alloc, id, fault),
         Reply::Opened => result_line(alloc, id, view_value(alloc)?),
         Reply::Accepted => result_line(alloc, id, Value::Null),
+        Reply::Copied(text) => result_line(alloc, id, text_value(alloc, text)?),
         Reply::Spent => refused_by(alloc, id, SPENT, &Text::from_ascii(alloc, "spent")?),
         Reply::NotBuilt => {
             refused_by(alloc, id, NOT_BUILT, &Text::from_ascii(alloc, "not built")?)
@@ -99,6 +100,12 @@ fn view_value(alloc: Global) -> Result<Value, NoMemory>
     ensures { IfOk result (λ value. view value ≡ text_data view_id) }
 {
     Ok(Value::try_from_str(alloc, FIRST_VIEW)?)
+}
+
+fn text_value(alloc: Global, text: &Text) -> Result<Value, NoMemory>
+    ensures { IfOk result (λ value. view value ≡ text_data text.now) }
+{
+    Ok(Value::try_from_str(alloc, text.as_str())?)
 }
 
 fn refusal(alloc: Global, id: &Id, fault: &Fault) -> Result<Text, NoMemory>

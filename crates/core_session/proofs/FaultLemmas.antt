@@ -1,4 +1,4 @@
--- What an insertion comes to where it is refused.
+-- What an edit comes to where it is refused.
 use Rattle.std.proofs.Common.{◌≡◌, ◌≢◌, Option, refl, subst}
 use Rattle.std.proofs.Math.Logic.{∥∥₁_elim}
 use Rattle.xi_plain.specs.declared.command.EditAct.{EditAct}
@@ -40,9 +40,9 @@ prop (Misfit first) p q = absurd p
 prop (Spent total) p q = refl
 prop NoMemory p q = refl
 
--- the fault of an insertion that a document refuses
-pub IsSpentOrLack-inserted : (doc : Doc) (act : EditAct) (fault : DocFault) → ∥ ((plain : Document) × DocStandsFor doc plain) ∥₁ →
+-- the fault of an edit that a document refuses
+pub IsSpentOrLack-edited : (doc : Doc) (act : EditAct) (fault : DocFault) → ∥ ((plain : Document) × DocStandsFor doc plain) ∥₁ →
     ((plain : Document) → DocStandsFor doc plain → DocRefuses (refusal_at plain (Front act)) fault) → IsSpentOrLack fault
-IsSpentOrLack-inserted doc act fault known refuses =
+IsSpentOrLack-edited doc act fault known refuses =
     ∥∥₁_elim known (prop fault) (λ (s : (plain : Document) × DocStandsFor doc plain).
     spent_fault (refusal_at s.0 (Front act)) fault (command_fits doc s.0 act s.1) (refuses s.0 s.1))
