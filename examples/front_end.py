@@ -1,11 +1,23 @@
 #!/usr/bin/env python3
-"""A front end: it opens a view, types each line of its own input, and rebuilds the screen from the updates. A line that is Ctrl-Z alone
-is an undo, and one that is Ctrl-Y alone a redo.
+"""A front end: it opens a view, types each line of its own input, and rebuilds the screen from the updates. The keys of a terminal in the
+input are commands, and a line of keys alone types no LF.
 
     printf 'one\\ntwo' | python3 examples/front_end.py CORE             prints the screen, with the caret as |
     printf 'one\\ntwo' | python3 examples/front_end.py CORE --script    prints the session, as a script of protocol_cases
 """
-import json, queue, subprocess, sys, threading
+import json, queue, re, subprocess, sys, threading
+
+ARROWS = {"A": "move_up", "B": "move_down", "C": "move_right", "D": "move_left", "H": "move_to_left_end_of_line", "F": "move_to_right_end_of_line"}
+WORDS = {"C": "move_word_right", "D": "move_word_left", "H": "move_to_beginning_of_document", "F": "move_to_end_of_document"}
+KEYS = {
+    "\x7f": "delete_backward", "\x1b[3~": "delete_forward", "\x17": "delete_word_backward", "\x1b[3;5~": "delete_word_forward",
+    "\x01": "select_all", "\x03": "copy", "\x18": "cut", "\x16": "paste", "\x1a": "undo", "\x19": "redo",
+    **{f"\x1b[{key}": motion for key, motion in ARROWS.items()},
+    **{f"\x1b[1;5{key}": motion for key, motion in WORDS.items()},
+    **{f"\x1b[1;2{key}": motion + "_and_modify_selection" for key, motion in ARROWS.items()},
+    **{f"\x1b[1;6{key}": motion + "_and_modify_selection" for key, motion in WORDS.items()},
+}
+KEY = re.compile("(" + "|".join(map(re.escape, KEYS)) + ")")
 
 core = subprocess.Popen([sys.argv[1], "alone"], stdin=subprocess.PIPE, stdout=subprocess.PIPE)
 sent, got, screen, answers = [], [], [], queue.Queue()
@@ -50,10 +62,16 @@ def read():
 
 
 threading.Thread(target=read, daemon=True).start()
-view = request("new_view", {})
-for typed in sys.stdin:
-    key = {"\x1a\n": "undo", "\x19\n": "redo"}.get(typed)
-    request("edit", {"view_id": view, "method": key} if key else {"view_id": view, "method": "insert", "params": {"chars": typed}})
+view, clipboard = request("new_view", {}), ""
+for line in sys.stdin:
+    typed = [part for part in KEY.split(line) if part]
+    if typed[0] in KEYS and all(part in KEYS for part in typed[:-1]) and typed[-1] == "\n": typed.pop()
+    for part in typed:
+        method = KEYS.get(part, "insert")
+        chars = clipboard if method == "paste" else part
+        members = {"params": {"chars": chars}} if method in ("insert", "paste") else {}
+        result = request("edit", {"view_id": view, "method": method, **members})
+        if method in ("copy", "cut"): clipboard = result
 core.stdin.close()
 while answers.get() is not None: pass
 for line in [] if "--script" in sys.argv else screen:
