@@ -7,6 +7,8 @@ mod collections;
 #[cfg(test)]
 mod elements;
 #[cfg(test)]
+mod engine_collects;
+#[cfg(test)]
 mod engines;
 #[cfg(test)]
 mod groups;
