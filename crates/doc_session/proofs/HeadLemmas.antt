@@ -10,7 +10,6 @@ use Rattle.doc_session.specs.Inner.{StandsForSome, head_shown}
 use Rattle.undo_groups.specs.Groups.{Groups}
 use Rattle.doc_session.specs.declared.typing.Typing.{Typing}
 use Rattle.doc_session.specs.Whole.{IsStateOf, IsStateOfSome, IsWhole, IsWholeOf}
-
 pub use Rattle.rev_engine.proofs.ForCallers.{head-stands}
 
 pub head_shown-stands : (engine : State) (h : History) → StandsFor engine h → head_shown engine ≡ text_at h (head h)
