@@ -1,14 +1,16 @@
 -- What bodies are compared by, beside the plain history.
-use Rattle.std.specs.Prelude.{◌≡◌, ℕ, ◌-◌, ◌≤◌, Bool, ◌==◌, [], ◌∷◌, length, map, Option, Some, None}
+use Rattle.std.specs.Prelude.{◌≡◌, ℕ, ◌-◌, ◌≤◌, Bool, ◌==◌, not, List, [], ◌∷◌, length, map, Option, Some, None}
+use Rattle.std.specs.List.{filter}
 use Rattle.plain_text.specs.Numbers.{has}
 use Rattle.plain_edits.specs.declared.delta.UnitDelta.{UnitDelta}
 use Rattle.plain_edits.specs.declared.fault.EditFault.{EditFault}
 use Rattle.plain_edits.specs.UnitDelta.{unit_keeps, unit_adds}
 use Rattle.plain_edits.specs.History.{Tagged, History, head, text_at}
 use Rattle.plain_edits.specs.Edits.{PlainEdit, edit_refusal, merged}
-use Rattle.plain_edits.specs.Collection.{kept}
+use Rattle.plain_edits.specs.Collection.{MayCollect, is_dropped, kept}
 use Rattle.plain_edits.specs.EditFault.{refusal_of}
 use Rattle.rev_list.specs.Hidden.{is_hidden, hidden_at}
+use Rattle.rev_list.specs.Under.{is_hidden_under}
 use Rattle.rev_rebase.specs.declared.stale.Rebased.{Rebased}
 use Rattle.rev_engine.specs.declared.edit.Edit.{Edit}
 use Rattle.rev_engine.specs.State.{State}
@@ -22,14 +24,31 @@ is_marked plain (InsertedBy rev) tagged = tagged.inserted == rev
 is_marked plain (DeletedBy rev) tagged = has tagged.deleted rev
 is_marked plain (HiddenAt rev) tagged = is_hidden plain rev tagged
 
+-- the characters that some kept revision can show
+abbrev pub kept_characters : History → List Tagged
+kept_characters plain = filter (λ tagged. not (is_dropped plain tagged)) plain.characters
+
+-- which of them are marked
+abbrev pub marked : History → Marks → List Bool
+marked plain marks = map (is_marked plain marks) (kept_characters plain)
+
+-- which of them the groups hide at the head
+abbrev pub hidden_by : History → List ℕ → List Bool
+hidden_by plain groups = map (is_hidden_under plain groups (head plain)) (kept_characters plain)
+
 -- the places are those at which the last revision inserted and deleted
 pub record AreOfHead (plain : History) (made : Rebased) : Type 0 where
-  pub inserted : made.inserted ≡ map (is_marked plain (InsertedBy (head plain))) plain.characters
-  pub deleted : made.deleted ≡ map (is_marked plain (DeletedBy (head plain))) plain.characters
+  pub inserted : made.inserted ≡ marked plain (InsertedBy (head plain))
+  pub deleted : made.deleted ≡ marked plain (DeletedBy (head plain))
 
--- the list hides at each revision up to this one what the plain history does
+-- the list hides at each revision from the floor up to this one what the plain history does of the characters that are kept
 abbrev pub AgreeUpTo : ℕ → History → History → Type 0
-AgreeUpTo last plain list = (rev : ℕ) → rev ≤ last → hidden_at list rev ≡ hidden_at plain rev
+AgreeUpTo last plain list = (rev : ℕ) → plain.floor ≤ rev → rev ≤ last → hidden_at list rev ≡ marked plain (HiddenAt rev)
+
+-- the collection may come, and its floor is the head
+pub record IsTakenAtHead (history : History) (floor : ℕ) (groups : List ℕ) : Type 0 where
+  pub may : MayCollect history floor groups
+  pub at_head : floor ≡ head history
 
 -- each history that the engine stands for has the property
 abbrev pub EachIs : State → (History → Type 0) → Type 0

@@ -1,19 +1,20 @@
 //! The list of revisions, and the places of edits in it, beside the plain history.
 
-ghost use Rattle.std.specs.Prelude.{◌≡◌, ◌≤◌, [], IsTrue, IfOk, OnOk, map};
+ghost use Rattle.std.specs.Prelude.{◌≡◌, ◌≤◌, [], IsTrue, IfOk, IfSome, OnOk};
 ghost use Rattle.std.specs.List.{fold};
 ghost use Rattle.plain_text.specs.Numbers.{with_number};
 ghost use Rattle.plain_edits.specs.History.{head};
 ghost use Rattle.rev_list.specs.Under.{hidden_under};
 ghost use Rattle.rev_list.specs.Hidden.{hidden_at};
-ghost use Rattle.history_cases.specs.Inner.{is_marked, AgreeUpTo, AreOfHead};
+ghost use Rattle.history_cases.specs.Inner.{hidden_by, is_marked, marked, AgreeUpTo, AreOfHead, IsTakenAtHead};
 
 use crate::case_run::MOST;
 use anyhow::{bail, ensure};
 use delta_core::{fits, to_units};
-use plain_collection::is_visible_under;
-use plain_history::{PlainHistory, Tagged, has, is_visible};
+use plain_collection::{is_dropped, is_visible_under, kept};
+use plain_history::{PlainHistory, Tagged, has, is_visible, undone};
 use plain_text::{List, NoMemory};
+use rev_collect::{collect, collectable};
 use rev_engine::Edit;
 use rev_list::{RevEdit, RevList};
 use rev_rebase::{Rebased, may_rebase, rebase};
@@ -22,8 +23,8 @@ use std::alloc::{AllocError, Global};
 use std::collections::BTreeSet;
 use subset_runs::Subset;
 
-/// The groups of which every set is compared.
-const FIRST_GROUPS: [u64; 4] = [1, 2, 3, 4];
+/// Of so many groups every set is compared.
+const MOST_GROUPS: u64 = 4;
 
 /// Takes the last edit of the plain history into the list, where `rebase` puts it, and compares both with the plain history.
 pub fn follow(
@@ -57,11 +58,71 @@ pub fn follow_undo(
     compare(alloc, plain, list)
 }
 
-/// Whether `rev_undo` hides under every set of the first groups what the plain history does.
+/// The list that is left where it can take the last collection of the plain history, of these groups at the floor, and none where it
+/// cannot: the floor is below the head, or rises alone.
+pub fn collected(
+    alloc: Global,
+    plain: &PlainHistory,
+    list: &RevList,
+    floor: u64,
+    groups: &[u64],
+) -> anyhow::Result<Option<RevList>>
+    ensures { IfOk result (λ made. IfSome made (AgreeUpTo (head plain.now) plain.now)) }
+{
+    let retired = set_of(alloc, groups)?;
+    match taken(alloc, list, &retired)? {
+        Some((at, resting)) if at == floor => {
+            let (left, _) = collect(alloc, list, at, &resting)?;
+            compare(alloc, plain, &left)?;
+            Ok(Some(left))
+        }
+        _ => Ok(None),
+    }
+}
+
+/// What is collected at the head, where these groups are retired.
+fn taken(
+    alloc: Global,
+    list: &RevList,
+    retired: &BTreeSet<u64>,
+) -> Result<Option<(u64, BTreeSet<u64>)>, NoMemory>
+    ensures { IfOk result (λ found. IfSome found (λ some. IsTakenAtHead list.now some.0 some.1.keys)) }
+{
+    let _floor = list.floor();
+    collectable(alloc, list, list.head(), retired)
+}
+
+/// Whether `rev_undo` hides under every set of the first groups that are not collected what the plain history does.
 fn compare_sets(alloc: Global, plain: &PlainHistory, list: &RevList) -> anyhow::Result<()> {
+    let live = live_groups(alloc, plain)?;
     for chosen in 0..16_u64 {
-        let some = chosen_of(alloc, &FIRST_GROUPS, chosen)?;
+        let mut some = chosen_of(alloc, live.as_slice(), chosen)?;
+        add_frozen(plain, &mut some)?;
         compare_set(alloc, plain, list, some.as_slice())?;
+    }
+    Ok(())
+}
+
+/// The first groups that are not collected.
+fn live_groups(alloc: Global, plain: &PlainHistory) -> Result<List<u64>, NoMemory> {
+    let collected = plain.collected();
+    let mut live = List::new(alloc);
+    let mut left = MOST_GROUPS;
+    for group in 1..=(collected.len() as u64).saturating_add(MOST_GROUPS) {
+        if left > 0 && !has(collected, group) {
+            live.push(group)?;
+            left -= 1;
+        }
+    }
+    Ok(live)
+}
+
+/// Adds the collected groups that are undone.
+fn add_frozen(plain: &PlainHistory, groups: &mut List<u64>) -> Result<(), NoMemory> {
+    for group in plain.collected() {
+        if has(undone(plain.revisions(), plain.head()), *group) {
+            groups.push(*group)?;
+        }
     }
     Ok(())
 }
@@ -77,15 +138,28 @@ fn chosen_of(alloc: Global, groups: &[u64], chosen: u64) -> Result<List<u64>, No
     Ok(some)
 }
 
+/// Whether it hides under this set what the plain history does, where the collected groups are in it as they are at the head.
+pub fn compare_said(
+    alloc: Global,
+    plain: &PlainHistory,
+    list: &RevList,
+    groups: &[u64],
+) -> anyhow::Result<()> {
+    if agrees_on_collected(list, &set_of(alloc, groups)?) {
+        compare_set(alloc, plain, list, groups)?;
+    }
+    Ok(())
+}
+
 /// Whether it hides under this set what the plain history does.
-pub fn compare_set(
+fn compare_set(
     alloc: Global,
     plain: &PlainHistory,
     list: &RevList,
     groups: &[u64],
 ) -> anyhow::Result<()>
     ensures { OnOk result (hidden_under list.now (fold with_number [] groups.now) (head list.now)
-        ≡ hidden_under plain.now groups.now (head plain.now)) }
+        ≡ hidden_by plain.now groups.now) }
 {
     let set = set_of(alloc, groups)?;
     ensure!(
@@ -117,12 +191,14 @@ fn is_hidden_set(
     groups: &[u64],
     set: &Subset,
 ) -> Result<bool, AllocError>
-    ensures { IfOk result (λ same. IsTrue same → set.now ≡ hidden_under plain.now groups.now (head plain.now)) }
+    ensures { IfOk result (λ same. IsTrue same → set.now ≡ hidden_by plain.now groups.now) }
 {
     let head = plain.head();
     let mut hidden = Subset::none(alloc, 0);
     for tagged in plain.characters() {
-        hidden.append(1, !is_visible_under(plain, groups, head, tagged))?;
+        if !is_dropped(plain, tagged) {
+            hidden.append(1, !is_visible_under(plain, groups, head, tagged))?;
+        }
     }
     Ok(is_same_set(set, &hidden))
 }
@@ -170,20 +246,25 @@ fn compare_places(alloc: Global, plain: &PlainHistory, made: &Rebased) -> anyhow
     Ok(())
 }
 
-/// Whether the list hides at each revision, and under every set of the first groups, what the plain history does.
+/// Whether the list keeps as many characters as the plain history, and hides of them at each revision from the floor on, and under every
+/// set of the first groups, what that does.
 fn compare(alloc: Global, plain: &PlainHistory, list: &RevList) -> anyhow::Result<()>
     ensures { OnOk result (AgreeUpTo (head plain.now) plain.now list.now) }
 {
+    ensure!(
+        list.union_len() == kept(plain),
+        "rev_list keeps another number of characters"
+    );
     compare_sets(alloc, plain, list)?;
     let head = plain.head();
-    for rev in 0..head {
+    for rev in plain.floor()..head {
         compare_at(alloc, plain, list, rev)?;
     }
     compare_at(alloc, plain, list, head)
 }
 
 fn compare_at(alloc: Global, plain: &PlainHistory, list: &RevList, rev: u64) -> anyhow::Result<()>
-    ensures { OnOk result (hidden_at list.now rev ≡ hidden_at plain.now rev) }
+    ensures { OnOk result (hidden_at list.now rev ≡ marked plain.now (Marks.HiddenAt rev)) }
 {
     let dead = list.dead_at(alloc, rev)?;
     ensure!(
@@ -223,11 +304,13 @@ fn is_set_of(
     marks: Marks,
     set: &Subset,
 ) -> Result<bool, AllocError>
-    ensures { IfOk result (λ same. IsTrue same → set.now ≡ map (is_marked plain.now marks) plain.now.characters) }
+    ensures { IfOk result (λ same. IsTrue same → set.now ≡ marked plain.now marks) }
 {
     let mut marked = Subset::none(alloc, 0);
     for tagged in plain.characters() {
-        marked.append(1, marks.marks(plain, tagged))?;
+        if !is_dropped(plain, tagged) {
+            marked.append(1, marks.marks(plain, tagged))?;
+        }
     }
     Ok(is_same_set(set, &marked))
 }

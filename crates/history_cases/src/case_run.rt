@@ -32,12 +32,13 @@ pub struct Count {
 #[derive(Drop)]
 pub struct CaseRun {
     pub plain: PlainHistory,
-    /// It takes edits and undos, so there is none after a collection.
+    /// It takes edits, undos and collections at the head, so there is none after another collection.
     list: Option<RevList>,
-    /// It takes the same, under the limit that it began with.
+    /// It takes edits and undos, under the limit that it began with.
     engine: Option<Engine>,
     limit: u64,
-    count: Count,
+    /// How many steps were taken.
+    pub count: Count,
 }
 
 impl Model for CaseRun {
@@ -60,11 +61,6 @@ impl CaseRun {
             limit,
             count,
         })
-    }
-
-    /// How many steps were taken.
-    pub fn count(&self) -> Count {
-        self.count
     }
 
     /// Takes what a line says, or says why it does not hold.
@@ -231,7 +227,7 @@ impl CaseRun {
         Ok(())
     }
 
-    /// Collects groups, or the case says that it is refused. No other body can take it yet.
+    /// Collects groups, or the case says that it is refused.
     pub fn collect(
         &mut self,
         alloc: Global,
@@ -249,17 +245,22 @@ impl CaseRun {
             return Ok(());
         }
         self.plain.collect(alloc, floor, groups.as_slice())?;
-        self.go_on_alone();
-        Ok(())
+        self.follow_collection(alloc, floor, groups.as_slice())
     }
 
-    /// Counts a step that the plain history alone can take, where the others stop.
-    fn go_on_alone(&mut self)
-        ensures { self.new ≡ self.old }
+    /// Has the list take the collection that the plain history took, where it can, and compares it with the plain history after it. The
+    /// engine stops.
+    fn follow_collection(&mut self, alloc: Global, floor: u64, groups: &[u64]) -> anyhow::Result<()>
+        ensures { OnOk result (self.new ≡ self.old) }
     {
-        self.list = None;
         self.engine = None;
+        let left = match &self.list {
+            Some(list) => by_rev_list::collected(alloc, &self.plain, list, floor, groups)?,
+            None => None,
+        };
+        self.list = left;
         self.note_step();
+        Ok(())
     }
 
     /// A revision shows what the case says.
@@ -288,7 +289,7 @@ impl CaseRun {
     /// Compares what the groups hide at the head, where the list is still there.
     fn compare_set(&self, alloc: Global, groups: &[u64]) -> anyhow::Result<()> {
         match &self.list {
-            Some(list) => by_rev_list::compare_set(alloc, &self.plain, list, groups),
+            Some(list) => by_rev_list::compare_said(alloc, &self.plain, list, groups),
             None => Ok(()),
         }
     }
@@ -312,5 +313,5 @@ pub fn run_case(alloc: Global, lines: &[Line]) -> anyhow::Result<Count>
         run.take(alloc, &line.step)
             .context(format_args!("line {number}"))?;
     }
-    Ok(run.count())
+    Ok(run.count)
 }

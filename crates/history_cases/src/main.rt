@@ -25,12 +25,14 @@
 //! In a text `\n` is the end of a line, `\t` a tab, `\s` a space and `\\` a backslash; after `insert` a text is one word. What is
 //! refused changes nothing, and its refusal has to stand in the line after it. No edit may be of a collected group.
 //!
-//! For each edit `delta_core` has to find the first misfit of the plain history. As long as a history has edits and undos, `rev_rebase`
-//! has to put the edits where the plain history has them, `rev_undo` to say what an undo hides and, after each step, what every set of
-//! the groups 1 to 4 hides, beside that of a line `under`, and a `rev_list` to hide at each revision what is hidden there. An engine has
-//! to answer as the plain history does, to keep as many characters, to show the same at each revision, and to tell of each edit and undo
-//! a change that leads from the text before to that after. List and engine stop at a collection, and go on with the next history: the
-//! line that is printed says how many steps were taken in all, and how many of them each took.
+//! For each edit `delta_core` has to find the first misfit of the plain history. As long as a history has edits, undos and collections
+//! at the head, `rev_rebase` has to put the edits where the plain history has them, `rev_undo` to say what an undo hides and, after each
+//! step, what every set of the first four groups that are not collected hides, beside that of a line `under`, `rev_collect` to give the
+//! list that is left, and a `rev_list` to keep as many characters, and to hide of them at each revision from the floor on what is hidden
+//! there. An engine has to answer as the plain history does, to keep as many characters, to show the same at each revision, and to tell
+//! of each edit and undo a change that leads from the text before to that after. The list stops at a collection below the head, or one
+//! that raises the floor alone, and the engine at each one; both go on with the next history: the line that is printed says how many
+//! steps were taken in all, and how many of them each took.
 //!
 //! That a case passes only where each of its lines holds says the contract of `run_case`; how lines are read and which steps are
 //! drawn, the output alone shows. A new case is a new file in `data/`, and its line in `stdout`.

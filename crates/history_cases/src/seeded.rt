@@ -51,7 +51,8 @@ impl Draws {
     }
 }
 
-/// Takes drawn steps over a drawn text, whether they are refused or not.
+/// Takes drawn steps over a drawn text, whether they are refused or not. It has no clause: which steps a seed draws is said by no
+/// definition, and what each step has to be is the contract of the call of [`CaseRun`] that takes it.
 pub fn run_seed(alloc: Global, seed: u64, drawn: &mut Drawn) -> anyhow::Result<Count> {
     let words = Lcg64Xsh32::seed_from_u64(seed);
     let mut draws = Draws { words };
@@ -71,7 +72,7 @@ pub fn run_seed(alloc: Global, seed: u64, drawn: &mut Drawn) -> anyhow::Result<C
         }
         .context(format_args!("step {number}"))?;
     }
-    Ok(list.run.count())
+    Ok(list.run.count)
 }
 
 /// A list that is being drawn, as far as it has come.
