@@ -1,6 +1,7 @@
 //! Deltas.
 
 ghost use Rattle.std.specs.Prelude.{◌≡◌, length, IfOk};
+ghost use Rattle.plain_edits.specs.Delta.{Fits};
 ghost use Rattle.plain_edits.specs.UnitDelta.{IsUnitDelta};
 ghost use Rattle.text_cases.specs.Edit.{edit_of_abc};
 
@@ -8,37 +9,59 @@ use delta_core::{apply, carry_ins, factor, fits, synthesize, to_delta, to_units,
 use plain_edits::{Added, Adds, Delta, El, Els, Misfit, UnitDelta};
 use plain_text::{NoMemory, Run, Runs, Text};
 use std::alloc::Global;
-use std::test::Fail;
-use subset_runs::Subset;
+use subset_runs::{Subset, SubsetFault};
 
 // An element of a row: a copy, or an insertion.
 #[derive(Clone, Copy)]
-enum Row<'a> {
+enum Row {
     Copy(u64, u64),
-    Insert(&'a str),
+    Insert(&'static str),
 }
 
 use Row::{Copy, Insert};
 
-fn element(alloc: Global, row: Row<'_>) -> Result<El, NoMemory> {
+fn insertion(alloc: Global, text: &str) -> Result<El, NoMemory> {
+    let text = Text::from_str(alloc, text)?;
+    Ok(El::Insert { text })
+}
+
+fn element(alloc: Global, row: Row) -> Result<El, NoMemory> {
     match row {
         Copy(a, b) => Ok(El::Copy { a, b }),
         Insert(text) => insertion(alloc, text),
     }
 }
 
-fn insertion(alloc: Global, text: &str) -> Result<El, NoMemory> {
-    Ok(El::Insert {
-        text: Text::from_str(alloc, text)?,
-    })
-}
-
-fn delta(alloc: Global, base_len: u64, rows: &[Row<'_>]) -> Result<Delta, NoMemory> {
+fn delta(alloc: Global, base_len: u64, rows: &[Row]) -> Result<Delta, NoMemory> {
     let mut els = Els::new(alloc);
     for row in rows {
         els.push(element(alloc, *row)?)?;
     }
     Ok(Delta { els, base_len })
+}
+
+fn runs_of(alloc: Global, runs: &[(u64, u64)]) -> Result<Runs, NoMemory> {
+    let mut made = Runs::new(alloc);
+    for (start, end) in runs {
+        made.push(Run {
+            start: *start,
+            end: *end,
+        })?;
+    }
+    Ok(made)
+}
+
+fn addition(alloc: Global, gap: u64, text: &str) -> Result<Added, NoMemory> {
+    let text = Text::from_str(alloc, text)?;
+    Ok(Added { gap, text })
+}
+
+fn adds_of(alloc: Global, additions: &[(u64, &str)]) -> Result<Adds, NoMemory> {
+    let mut made = Adds::new(alloc);
+    for (gap, text) in additions {
+        made.push(addition(alloc, *gap, text)?)?;
+    }
+    Ok(made)
 }
 
 fn units(
@@ -47,77 +70,101 @@ fn units(
     runs: &[(u64, u64)],
     additions: &[(u64, &str)],
 ) -> Result<UnitDelta, NoMemory> {
-    let mut kept = Runs::new(alloc);
-    for run in runs {
-        kept.push(Run {
-            start: run.0,
-            end: run.1,
-        })?;
-    }
-    let mut added = Adds::new(alloc);
-    for addition in additions {
-        added.push(Added {
-            gap: addition.0,
-            text: Text::from_str(alloc, addition.1)?,
-        })?;
-    }
+    let kept = runs_of(alloc, runs)?;
+    let added = adds_of(alloc, additions)?;
     Ok(UnitDelta { base, kept, added })
 }
 
 // A delta over a text: its elements, what they are in characters, on the wire again, gap by gap and as in notices, and the text after
 // it.
-#[derive(Clone, Copy)]
-struct Form<'a> {
-    text: &'a str,
-    els: &'a [Row<'a>],
-    runs: &'a [(u64, u64)],
-    additions: &'a [(u64, &'a str)],
-    by_gaps: &'a [Row<'a>],
-    wire: &'a [Row<'a>],
-    after: &'a str,
-}
-
-// Whether the delta fits, and has these forms.
-fn holds(alloc: Global, form: Form<'_>) -> Result<bool, NoMemory> {
-    let text = Text::from_str(alloc, form.text)?;
-    let given = delta(alloc, text.byte_len(), form.els)?;
-    if fits(&text, &given).is_err() {
-        return Ok(false);
-    }
-    let in_units = to_units(alloc, &text, &given)?;
-    let after = apply(alloc, &text, &in_units)?;
-    Ok(
-        after.as_str() == form.after
-            && are_units(alloc, &in_units, form)?
-            && is_written(alloc, &text, &in_units, form)?,
-    )
-}
-
-// Whether the unit delta is on the wire as the form has it.
-fn is_written(
-    alloc: Global,
-    text: &Text,
-    in_units: &UnitDelta,
-    form: Form<'_>,
-) -> Result<bool, NoMemory>
-    requires well_formed { IsUnitDelta in_units.now }
-    requires base { in_units.now.base ≡ length text.now }
-{
-    let by_gaps = to_delta(alloc, text, in_units)?;
-    let wire = to_wire(alloc, text, in_units)?;
-    Ok(
-        by_gaps == delta(alloc, text.byte_len(), form.by_gaps)?
-            && wire == delta(alloc, text.byte_len(), form.wire)?,
-    )
+struct Form {
+    text: &'static str,
+    els: &'static [Row],
+    runs: &'static [(u64, u64)],
+    additions: &'static [(u64, &'static str)],
+    by_gaps: &'static [Row],
+    wire: &'static [Row],
+    after: &'static str,
 }
 
 // Whether these are the runs and the additions of the form.
-fn are_units(alloc: Global, found: &UnitDelta, form: Form<'_>) -> Result<bool, NoMemory> {
-    let wanted = units(alloc, found.base, form.runs, form.additions)?;
-    Ok(*found == wanted)
+fn are_units(alloc: Global, found: &UnitDelta, form: &Form) -> bool {
+    match units(alloc, found.base, form.runs, form.additions) {
+        Ok(wanted) => *found == wanted,
+        Err(_) => false,
+    }
 }
 
-const REPLACED: Form<'static> = Form {
+// Whether the delta over the text has these elements.
+fn has_elements(alloc: Global, text: &Text, found: &Delta, rows: &[Row]) -> bool {
+    match delta(alloc, text.byte_len(), rows) {
+        Ok(wanted) => *found == wanted,
+        Err(_) => false,
+    }
+}
+
+// Whether these are the elements as in notices.
+fn is_noticed(alloc: Global, text: &Text, units: &UnitDelta, form: &Form) -> bool
+    requires well_formed { IsUnitDelta units.now }
+    requires base { units.now.base ≡ length text.now }
+{
+    match to_wire(alloc, text, units) {
+        Ok(found) => has_elements(alloc, text, &found, form.wire),
+        Err(_) => false,
+    }
+}
+
+// Whether these are the elements gap by gap.
+fn is_written(alloc: Global, text: &Text, units: &UnitDelta, form: &Form) -> bool
+    requires well_formed { IsUnitDelta units.now }
+    requires base { units.now.base ≡ length text.now }
+{
+    match to_delta(alloc, text, units) {
+        Ok(found) => has_elements(alloc, text, &found, form.by_gaps),
+        Err(_) => false,
+    }
+}
+
+fn gives_the_text(alloc: Global, text: &Text, units: &UnitDelta, form: &Form) -> bool
+    requires well_formed { IsUnitDelta units.now }
+    requires base { units.now.base ≡ length text.now }
+{
+    match apply(alloc, text, units) {
+        Ok(after) => after.as_str() == form.after,
+        Err(_) => false,
+    }
+}
+
+fn has_forms(alloc: Global, text: &Text, given: &Delta, form: &Form) -> bool
+    requires { Fits text.now given.now }
+{
+    match to_units(alloc, text, given) {
+        Ok(units) => {
+            are_units(alloc, &units, form)
+                && is_written(alloc, text, &units, form)
+                && is_noticed(alloc, text, &units, form)
+                && gives_the_text(alloc, text, &units, form)
+        }
+        Err(_) => false,
+    }
+}
+
+// Whether the delta of the form fits, and has the form.
+fn has_form(alloc: Global, text: &Text, form: &Form) -> bool {
+    match delta(alloc, text.byte_len(), form.els) {
+        Ok(given) => fits(text, &given).is_ok() && has_forms(alloc, text, &given, form),
+        Err(_) => false,
+    }
+}
+
+fn holds(alloc: Global, form: &Form) -> bool {
+    match Text::from_str(alloc, form.text) {
+        Ok(text) => has_form(alloc, &text, form),
+        Err(_) => false,
+    }
+}
+
+const REPLACED: Form = Form {
     text: "abc",
     els: &[Copy(0, 1), Insert("X"), Copy(2, 3)],
     runs: &[(0, 1), (2, 3)],
@@ -127,7 +174,7 @@ const REPLACED: Form<'static> = Form {
     after: "aXc",
 };
 
-const NOTHING: Form<'static> = Form {
+const NOTHING: Form = Form {
     text: "ab",
     els: &[],
     runs: &[],
@@ -138,7 +185,7 @@ const NOTHING: Form<'static> = Form {
 };
 
 // An empty copy fixes a gap inside a deleted range; a notice has no trace of it.
-const EMPTY_COPY: Form<'static> = Form {
+const EMPTY_COPY: Form = Form {
     text: "aébc",
     els: &[Copy(0, 1), Copy(3, 3), Insert("X"), Copy(4, 5)],
     runs: &[(0, 1), (3, 4)],
@@ -149,7 +196,7 @@ const EMPTY_COPY: Form<'static> = Form {
 };
 
 // Insertions before any copy, several at one gap, empty ones, and copies that touch.
-const SEVERAL: Form<'static> = Form {
+const SEVERAL: Form = Form {
     text: "a𝄞b",
     els: &[
         Insert("X"),
@@ -168,7 +215,7 @@ const SEVERAL: Form<'static> = Form {
 };
 
 // An insertion between two kept neighbours parts them on the wire, and insertions round a dropped character are one in a notice.
-const PARTED: Form<'static> = Form {
+const PARTED: Form = Form {
     text: "abcd",
     els: &[
         Copy(0, 1),
@@ -201,38 +248,52 @@ const PARTED: Form<'static> = Form {
 };
 
 #[test]
-fn a_delta_in_all_its_forms(rt: HostRuntime) -> Result<(), Fail> {
+fn a_delta_in_all_its_forms(rt: HostRuntime) {
     let alloc = rt.alloc();
-    assert!(rt; holds(alloc, REPLACED).unwrap_or(false));
-    assert!(rt; holds(alloc, NOTHING).unwrap_or(false));
-    assert!(rt; holds(alloc, EMPTY_COPY).unwrap_or(false));
-    assert!(rt; holds(alloc, SEVERAL).unwrap_or(false));
-    assert!(rt; holds(alloc, PARTED).unwrap_or(false));
-    Ok(())
+    assert!(rt; holds(alloc, &REPLACED));
+    assert!(rt; holds(alloc, &NOTHING));
+    assert!(rt; holds(alloc, &EMPTY_COPY));
+    assert!(rt; holds(alloc, &SEVERAL));
+    assert!(rt; holds(alloc, &PARTED));
 }
 
 // Whether this is the first misfit of the delta.
-fn is_misfit(
+fn misfits(text: &Text, given: &Delta, kind: u8, at: u64) -> bool {
+    match fits(text, given) {
+        Ok(()) => false,
+        Err(found) => found == Misfit { kind, at },
+    }
+}
+
+fn delta_misfits(
     alloc: Global,
-    text: &str,
+    text: &Text,
     base_len: u64,
-    els: &[Row<'_>],
+    els: &[Row],
     misfit: (u8, u64),
-) -> Result<bool, NoMemory> {
-    let text = Text::from_str(alloc, text)?;
-    let given = delta(alloc, base_len, els)?;
-    let (kind, at) = misfit;
-    Ok(fits(&text, &given) == Err(Misfit { kind, at }))
+) -> bool {
+    match delta(alloc, base_len, els) {
+        Ok(given) => misfits(text, &given, misfit.0, misfit.1),
+        Err(_) => false,
+    }
+}
+
+// Whether this is the first misfit of the elements over the text, with this length of its base.
+fn is_misfit(alloc: Global, text: &str, base_len: u64, els: &[Row], misfit: (u8, u64)) -> bool {
+    match Text::from_str(alloc, text) {
+        Ok(text) => delta_misfits(alloc, &text, base_len, els, misfit),
+        Err(_) => false,
+    }
 }
 
 #[test]
-fn misfits_come_in_their_order(rt: HostRuntime) -> Result<(), Fail> {
+fn misfits_come_in_their_order(rt: HostRuntime) {
     let alloc = rt.alloc();
-    assert!(rt; is_misfit(alloc, "aé", 4, &[Copy(0, 9)], (1, 4)).unwrap_or(false));
-    assert!(rt; is_misfit(alloc, "aé", 3, &[Copy(0, 1), Copy(0, 3)], (2, 0)).unwrap_or(false));
-    assert!(rt; is_misfit(alloc, "aé", 3, &[Copy(2, 1)], (2, 2)).unwrap_or(false));
-    assert!(rt; is_misfit(alloc, "aé", 3, &[Copy(0, 4)], (3, 4)).unwrap_or(false));
-    assert!(rt; is_misfit(alloc, "aé", 3, &[Copy(2, 4)], (3, 4)).unwrap_or(false));
+    assert!(rt; is_misfit(alloc, "aé", 4, &[Copy(0, 9)], (1, 4)));
+    assert!(rt; is_misfit(alloc, "aé", 3, &[Copy(0, 1), Copy(0, 3)], (2, 0)));
+    assert!(rt; is_misfit(alloc, "aé", 3, &[Copy(2, 1)], (2, 2)));
+    assert!(rt; is_misfit(alloc, "aé", 3, &[Copy(0, 4)], (3, 4)));
+    assert!(rt; is_misfit(alloc, "aé", 3, &[Copy(2, 4)], (3, 4)));
     assert!(rt;
         is_misfit(
             alloc,
@@ -241,20 +302,18 @@ fn misfits_come_in_their_order(rt: HostRuntime) -> Result<(), Fail> {
             &[Copy(0, 1), Insert("X"), Copy(2, 2), Copy(9, 0)],
             (4, 2)
         )
-        .unwrap_or(false)
     );
-    Ok(())
 }
 
 #[test]
 fn offsets_inside_a_character_are_misfits(rt: HostRuntime) {
     let alloc = rt.alloc();
-    assert!(rt; is_misfit(alloc, "aé", 3, &[Copy(0, 2)], (4, 2)).unwrap_or(false));
-    assert!(rt; is_misfit(alloc, "€", 3, &[Copy(1, 2)], (4, 1)).unwrap_or(false));
-    assert!(rt; is_misfit(alloc, "€", 3, &[Copy(0, 2)], (4, 2)).unwrap_or(false));
-    assert!(rt; is_misfit(alloc, "a𝄞", 5, &[Copy(1, 2)], (4, 2)).unwrap_or(false));
-    assert!(rt; is_misfit(alloc, "a𝄞", 5, &[Copy(3, 5)], (4, 3)).unwrap_or(false));
-    assert!(rt; is_misfit(alloc, "a𝄞", 5, &[Copy(4, 4)], (4, 4)).unwrap_or(false));
+    assert!(rt; is_misfit(alloc, "aé", 3, &[Copy(0, 2)], (4, 2)));
+    assert!(rt; is_misfit(alloc, "€", 3, &[Copy(1, 2)], (4, 1)));
+    assert!(rt; is_misfit(alloc, "€", 3, &[Copy(0, 2)], (4, 2)));
+    assert!(rt; is_misfit(alloc, "a𝄞", 5, &[Copy(1, 2)], (4, 2)));
+    assert!(rt; is_misfit(alloc, "a𝄞", 5, &[Copy(3, 5)], (4, 3)));
+    assert!(rt; is_misfit(alloc, "a𝄞", 5, &[Copy(4, 4)], (4, 4)));
 }
 
 // The edit of `abc` that has `X` in the place of `b`.
@@ -275,98 +334,122 @@ fn edit_of_abc(alloc: Global) -> Result<UnitDelta, NoMemory>
     })
 }
 
+// Whether these are the positions, of so many, that the set has.
+fn are(set: &Subset, len: u64, runs: &[(u64, u64)]) -> bool {
+    set.len() == len && set.runs() == runs
+}
+
 // Whether that edit drops the one and inserts the other.
-fn is_factored(
-    alloc: Global,
-    dropped: &[(u64, u64)],
-    inserted: &[(u64, u64)],
-) -> Result<bool, NoMemory> {
-    let edit = edit_of_abc(alloc)?;
-    let (gone, come) = factor(alloc, &edit)?;
-    Ok(gone.len() == 3 && gone.runs() == dropped && come.len() == 4 && come.runs() == inserted)
+fn is_factored(alloc: Global, dropped: &[(u64, u64)], inserted: &[(u64, u64)]) -> bool {
+    let Ok(edit) = edit_of_abc(alloc) else {
+        return false;
+    };
+    match factor(alloc, &edit) {
+        Ok((gone, come)) => are(&gone, 3, dropped) && are(&come, 4, inserted),
+        Err(_) => false,
+    }
 }
 
 #[test]
 fn a_unit_delta_as_two_subsets(rt: HostRuntime) {
-    assert!(rt; is_factored(rt.alloc(), &[(1, 2)], &[(1, 2)]).unwrap_or(false));
+    assert!(rt; is_factored(rt.alloc(), &[(1, 2)], &[(1, 2)]));
 }
 
-// What leads from the one set of positions being dead to the other: the base, and whether these are its runs and additions.
+// Whether the edit has a base of so many characters, these runs and these additions.
+fn is_edit(
+    alloc: Global,
+    made: &UnitDelta,
+    base: u64,
+    runs: &[(u64, u64)],
+    additions: &[(u64, &str)],
+) -> bool {
+    match units(alloc, base, runs, additions) {
+        Ok(wanted) => *made == wanted,
+        Err(_) => false,
+    }
+}
+
+// What leads from the one set of positions being dead to the other.
+fn between(alloc: Global, union: &Text, dead: [(u64, u64); 2]) -> Option<UnitDelta> {
+    let [before, after] = dead;
+    let Ok(before) = Subset::of_ranges(alloc, union.char_count(), &[before]) else {
+        return None;
+    };
+    let Ok(after) = Subset::of_ranges(alloc, union.char_count(), &[after]) else {
+        return None;
+    };
+    synthesize(alloc, union, &before, &after).ok()
+}
+
+// Whether an edit of so many characters with these runs and additions leads there.
 fn leads(
     alloc: Global,
     union: &str,
     dead: [(u64, u64); 2],
+    base: u64,
     runs: &[(u64, u64)],
     additions: &[(u64, &str)],
-) -> Result<bool, NoMemory> {
-    let union = Text::from_str(alloc, union)?;
-    let [before, after] = dead;
-    let Ok(before) = Subset::of_ranges(alloc, union.char_count(), &[before]) else {
-        return Ok(false);
+) -> bool {
+    let Ok(union) = Text::from_str(alloc, union) else {
+        return false;
     };
-    let Ok(after) = Subset::of_ranges(alloc, union.char_count(), &[after]) else {
-        return Ok(false);
-    };
-    let made = synthesize(alloc, &union, &before, &after)?;
-    let wanted = units(
-        alloc,
-        union.char_count().saturating_sub(before.count()),
-        runs,
-        additions,
-    )?;
-    Ok(made == wanted)
+    match between(alloc, &union, dead) {
+        Some(made) => is_edit(alloc, &made, base, runs, additions),
+        None => false,
+    }
 }
 
 #[test]
-fn two_subsets_as_a_unit_delta(rt: HostRuntime) -> Result<(), Fail> {
+fn two_subsets_as_a_unit_delta(rt: HostRuntime) {
     let alloc = rt.alloc();
-    assert!(rt; leads(alloc, "XYZ", [(1, 2), (2, 3)], &[(0, 1)], &[(1, "Y")]).unwrap_or(false));
-    assert!(rt; leads(alloc, "XYéb", [(0, 2), (3, 4)], &[(0, 1)], &[(0, "XY")]).unwrap_or(false));
-    assert!(rt; leads(alloc, "abc", [(1, 2), (1, 2)], &[(0, 2)], &[]).unwrap_or(false));
-    Ok(())
+    assert!(rt; leads(alloc, "XYZ", [(1, 2), (2, 3)], 2, &[(0, 1)], &[(1, "Y")]));
+    assert!(rt; leads(alloc, "XYéb", [(0, 2), (3, 4)], 2, &[(0, 1)], &[(0, "XY")]));
+    assert!(rt; leads(alloc, "abc", [(1, 2), (1, 2)], 2, &[(0, 2)], &[]));
 }
 
 // Insertions of a base of so many characters: all of a subset from one position up to another.
 type Ins = (u64, u64, u64);
 
-// The runs that the insertions have among the later ones.
-fn carried(alloc: Global, ins: Ins, later: Ins, after: bool) -> Result<Option<Subset>, NoMemory> {
-    let Ok(ins) = Subset::of_ranges(alloc, ins.0, &[(ins.1, ins.2)]) else {
-        return Ok(None);
-    };
-    let Ok(later) = Subset::of_ranges(alloc, later.0, &[(later.1, later.2)]) else {
-        return Ok(None);
-    };
+fn insertions(alloc: Global, ins: Ins) -> Result<Subset, SubsetFault> {
+    Subset::of_ranges(alloc, ins.0, &[(ins.1, ins.2)])
+}
+
+// Whether the insertions are carried among the later ones to these positions.
+fn are_carried(
+    alloc: Global,
+    ins: &Subset,
+    later: &Subset,
+    after: bool,
+    runs: &[(u64, u64)],
+) -> bool {
     let (long, more) = (ins.len(), later.count());
     let (other, some) = (later.len(), ins.count());
     if long > 9 || more > 9 || other > 9 || some > 9 || long + more != other + some {
-        return Ok(None);
+        return false;
     }
-    Ok(Some(carry_ins(alloc, &ins, &later, after)?))
+    match carry_ins(alloc, ins, later, after) {
+        Ok(made) => made.runs() == runs,
+        Err(_) => false,
+    }
 }
 
-// Whether the insertions are carried to these positions.
-fn go(
-    alloc: Global,
-    ins: Ins,
-    later: Ins,
-    after: bool,
-    runs: &[(u64, u64)],
-) -> Result<bool, NoMemory> {
-    match carried(alloc, ins, later, after)? {
-        Some(made) => Ok(made.runs() == runs),
-        None => Ok(false),
+fn go(alloc: Global, ins: Ins, later: Ins, after: bool, runs: &[(u64, u64)]) -> bool {
+    let Ok(ins) = insertions(alloc, ins) else {
+        return false;
+    };
+    match insertions(alloc, later) {
+        Ok(later) => are_carried(alloc, &ins, &later, after, runs),
+        Err(_) => false,
     }
 }
 
 #[test]
-fn ties_go_by_after(rt: HostRuntime) -> Result<(), Fail> {
+fn ties_go_by_after(rt: HostRuntime) {
     let alloc = rt.alloc();
-    assert!(rt; go(alloc, (2, 0, 1), (2, 0, 1), true, &[(1, 2)]).unwrap_or(false));
-    assert!(rt; go(alloc, (2, 0, 1), (2, 0, 1), false, &[(0, 1)]).unwrap_or(false));
-    assert!(rt; go(alloc, (4, 1, 3), (3, 0, 1), true, &[(2, 4)]).unwrap_or(false));
-    assert!(rt; go(alloc, (4, 1, 3), (3, 1, 2), false, &[(1, 3)]).unwrap_or(false));
-    assert!(rt; go(alloc, (4, 1, 3), (3, 1, 2), true, &[(2, 4)]).unwrap_or(false));
-    assert!(rt; go(alloc, (2, 2, 2), (3, 2, 3), true, &[]).unwrap_or(false));
-    Ok(())
+    assert!(rt; go(alloc, (2, 0, 1), (2, 0, 1), true, &[(1, 2)]));
+    assert!(rt; go(alloc, (2, 0, 1), (2, 0, 1), false, &[(0, 1)]));
+    assert!(rt; go(alloc, (4, 1, 3), (3, 0, 1), true, &[(2, 4)]));
+    assert!(rt; go(alloc, (4, 1, 3), (3, 1, 2), false, &[(1, 3)]));
+    assert!(rt; go(alloc, (4, 1, 3), (3, 1, 2), true, &[(2, 4)]));
+    assert!(rt; go(alloc, (2, 2, 2), (3, 2, 3), true, &[]));
 }

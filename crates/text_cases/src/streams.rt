@@ -5,9 +5,9 @@ ghost use Rattle.std.specs.Prelude.{◌≤◌, IfOk};
 use outside::{
     CalmSink, CalmSource, MemSink, MemSource, Pulled, Pushed, Sink, Source, StdSink, StdSource,
 };
+use std::alloc::{AllocError, Global};
 use std::io;
 use std::io::{ErrorKind, Read, Write};
-use std::test::Fail;
 
 /// Whether a read gives this much, and the sink that takes what it gave then has these bytes.
 fn moves(source: &mut CalmSource, sink: &mut CalmSink, pulled: Pulled, held: &[u8]) -> bool {
@@ -21,15 +21,22 @@ fn moves(source: &mut CalmSource, sink: &mut CalmSink, pulled: Pulled, held: &[u
     found == pulled && sink.bytes() == Some(held)
 }
 
+fn all_moves(source: &mut CalmSource, sink: &mut CalmSink) -> bool {
+    moves(source, sink, Pulled::Got(2), b"ab")
+        && moves(source, sink, Pulled::Got(1), b"abc")
+        && moves(source, sink, Pulled::End, b"abc")
+}
+
+fn calm_ones_move(alloc: Global) -> bool {
+    let Ok(bytes) = Vec::from_slice(alloc, b"abc") else {
+        return false;
+    };
+    all_moves(&mut CalmSource::new(bytes), &mut CalmSink::new(alloc))
+}
+
 #[test]
-fn calm_ones_move_all_that_there_is_room_for(rt: HostRuntime) -> Result<(), Fail> {
-    let alloc = rt.alloc();
-    let mut source = CalmSource::new(Vec::from_slice(alloc, b"abc")?);
-    let mut sink = CalmSink::new(alloc);
-    assert!(rt; moves(&mut source, &mut sink, Pulled::Got(2), b"ab"));
-    assert!(rt; moves(&mut source, &mut sink, Pulled::Got(1), b"abc"));
-    assert!(rt; moves(&mut source, &mut sink, Pulled::End, b"abc"));
-    Ok(())
+fn calm_ones_move_all_that_there_is_room_for(rt: HostRuntime) {
+    assert!(rt; calm_ones_move(rt.alloc()));
 }
 
 /// Whether a read comes to this, and leaves these bytes and so many faults.
@@ -38,17 +45,31 @@ fn gives(source: &mut MemSource, pulled: Pulled, left: &[u8], faults: u64) -> bo
     found == pulled && source.left() == left && source.faults() == faults
 }
 
-#[test]
-fn memory_gives_small_pieces_and_fails_when_told(rt: HostRuntime) -> Result<(), Fail> {
-    let alloc = rt.alloc();
+/// A source of three bytes, of which two are given at a time, and whose second and fifth read fail.
+fn small_source(alloc: Global) -> Result<MemSource, AllocError> {
     let failing = Vec::from_slice(alloc, &[2, 5])?;
-    let mut source = MemSource::new(Vec::from_slice(alloc, b"abc")?, 2, failing);
-    assert!(rt; gives(&mut source, Pulled::Got(2), b"c", 0));
-    assert!(rt; gives(&mut source, Pulled::Failed, b"c", 1));
-    assert!(rt; gives(&mut source, Pulled::Got(1), b"", 1));
-    assert!(rt; gives(&mut source, Pulled::End, b"", 1));
-    assert!(rt; gives(&mut source, Pulled::Failed, b"", 2));
-    Ok(())
+    let bytes = Vec::from_slice(alloc, b"abc")?;
+    Ok(MemSource::new(bytes, 2, failing))
+}
+
+fn gives_by_its_reads(source: &mut MemSource) -> bool {
+    gives(source, Pulled::Got(2), b"c", 0)
+        && gives(source, Pulled::Failed, b"c", 1)
+        && gives(source, Pulled::Got(1), b"", 1)
+        && gives(source, Pulled::End, b"", 1)
+        && gives(source, Pulled::Failed, b"", 2)
+}
+
+fn small_source_gives(alloc: Global) -> bool {
+    match small_source(alloc) {
+        Ok(mut source) => gives_by_its_reads(&mut source),
+        Err(_) => false,
+    }
+}
+
+#[test]
+fn memory_gives_small_pieces_and_fails_when_told(rt: HostRuntime) {
+    assert!(rt; small_source_gives(rt.alloc()));
 }
 
 /// Whether a write comes to this, and leaves these bytes.
@@ -56,16 +77,31 @@ fn takes(sink: &mut MemSink, piece: &[u8], pushed: Pushed, held: &[u8]) -> bool 
     !piece.is_empty() && sink.write(piece) == pushed && sink.bytes() == Some(held)
 }
 
+/// A sink that takes three bytes at a time, and whose first and third write fail.
+fn small_sink(alloc: Global) -> Result<MemSink, AllocError> {
+    let failing = Vec::from_slice(alloc, &[1, 3])?;
+    Ok(MemSink::new(alloc, 3, failing))
+}
+
+fn takes_by_its_writes(sink: &mut MemSink) -> bool {
+    takes(sink, b"ab", Pushed::Failed, b"")
+        && takes(sink, b"abcd", Pushed::Took(3), b"abc")
+        && takes(sink, b"d", Pushed::Failed, b"abc")
+        && takes(sink, b"d", Pushed::Took(1), b"abcd")
+        && sink.calls() == 4
+        && sink.faults() == 2
+}
+
+fn small_sink_takes(alloc: Global) -> bool {
+    match small_sink(alloc) {
+        Ok(mut sink) => takes_by_its_writes(&mut sink),
+        Err(_) => false,
+    }
+}
+
 #[test]
-fn memory_takes_small_pieces_and_fails_when_told(rt: HostRuntime) -> Result<(), Fail> {
-    let alloc = rt.alloc();
-    let mut sink = MemSink::new(alloc, 3, Vec::from_slice(alloc, &[1, 3])?);
-    assert!(rt; takes(&mut sink, b"ab", Pushed::Failed, b""));
-    assert!(rt; takes(&mut sink, b"abcd", Pushed::Took(3), b"abc"));
-    assert!(rt; takes(&mut sink, b"d", Pushed::Failed, b"abc"));
-    assert!(rt; takes(&mut sink, b"d", Pushed::Took(1), b"abcd"));
-    assert_eq!(rt; (sink.calls(), sink.faults()), (4, 2));
-    Ok(())
+fn memory_takes_small_pieces_and_fails_when_told(rt: HostRuntime) {
+    assert!(rt; small_sink_takes(rt.alloc()));
 }
 
 /// A pipe whose calls are interrupted twice, move one byte, break, and then move nothing.
