@@ -5,7 +5,7 @@ use Rattle.plain_text.specs.Numbers.{has}
 use Rattle.plain_edits.specs.declared.delta.UnitDelta.{UnitDelta}
 use Rattle.plain_edits.specs.declared.fault.EditFault.{EditFault}
 use Rattle.plain_edits.specs.UnitDelta.{unit_keeps, unit_adds}
-use Rattle.plain_edits.specs.History.{Tagged, History, head, text_at}
+use Rattle.plain_edits.specs.History.{Tagged, History, group_of, head, text_at}
 use Rattle.plain_edits.specs.Edits.{PlainEdit, edit_refusal, merged}
 use Rattle.plain_edits.specs.Collection.{MayCollect, is_dropped, kept}
 use Rattle.plain_edits.specs.EditFault.{refusal_of}
@@ -54,11 +54,22 @@ pub record IsTakenAtHead (history : History) (floor : ℕ) (groups : List ℕ) :
 abbrev pub EachIs : State → (History → Type 0) → Type 0
 EachIs engine P = (history : History) → StandsFor engine history → P history
 
--- the history has the revisions of the plain one, shows the same at each of them, and keeps as many characters
+-- the history has collected the group of the revision exactly where the plain one has
+abbrev pub AgreesOnGroup : History → History → ℕ → Type 0
+AgreesOnGroup plain history rev = has history.collected (group_of plain.revisions rev) ≡ has plain.collected (group_of plain.revisions rev)
+
+-- the same of each revision
+abbrev pub AgreeOnGroups : History → History → Type 0
+AgreeOnGroups plain history = (rev : ℕ) → rev ≤ head plain → AgreesOnGroup plain history rev
+
+-- the history has the floor, the revisions and the collected groups of the plain one, shows the same at each revision from the floor on, and
+-- keeps as many characters
 pub record Matches (plain history : History) : Type 0 where
+  pub first : history.floor ≡ plain.floor
   pub last : head history ≡ head plain
+  pub groups : AgreeOnGroups plain history
   pub as_many : kept history ≡ kept plain
-  pub texts : (rev : ℕ) → rev ≤ head plain → text_at history rev ≡ text_at plain rev
+  pub texts : (rev : ℕ) → plain.floor ≤ rev → rev ≤ head plain → text_at history rev ≡ text_at plain rev
 
 -- the engine answers an edit as the plain history did: it takes it and then is as that is, or refuses it for the same cause
 abbrev pub Answers : State → State → History → Edit → Option EditFault → Type 0

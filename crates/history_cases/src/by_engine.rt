@@ -1,16 +1,16 @@
 //! The revision engine beside the plain history.
 
-ghost use Rattle.std.specs.Prelude.{◌≡◌, ◌≤◌, IfOk, OnOk};
+ghost use Rattle.std.specs.Prelude.{◌≡◌, ◌≤◌, IfOk, IfSome, OnOk};
 ghost use Rattle.plain_edits.specs.History.{loaded, text_at};
 ghost use Rattle.rev_engine.specs.Engine.{StandsFor};
-ghost use Rattle.history_cases.specs.Inner.{Answers, EachIs, IsLastChange, Matches};
+ghost use Rattle.history_cases.specs.Inner.{AgreeOnGroups, AgreesOnGroup, Answers, EachIs, IsLastChange, Matches};
 
 use crate::by_rev_list::set_of;
 use crate::case_run::MOST;
 use anyhow::{bail, ensure};
 use plain_collection::kept;
 use plain_edits::{EditFault, UnitDelta};
-use plain_history::{PlainHistory, UnitEdit, merged};
+use plain_history::{PlainHistory, UnitEdit, group_of, has, merged};
 use plain_text::{Text, TryClone};
 use rev_engine::{Change, Edit, Engine};
 use std::alloc::Global;
@@ -63,7 +63,32 @@ pub fn follow_undo(
     compare(alloc, plain, engine, change)
 }
 
-/// Whether the engine has the revisions of the plain history and shows the same at each, and the change is its last one.
+/// The engine that is left where it can take the last collection of the plain history, of these groups at the floor, and none where it
+/// cannot: the floor is below the head, or rises alone.
+pub fn collected(
+    alloc: Global,
+    plain: &PlainHistory,
+    engine: &Engine,
+    floor: u64,
+    groups: &[u64],
+) -> anyhow::Result<Option<Engine>>
+    ensures { IfOk result (λ made. IfSome made (λ left. EachIs left (Matches plain.now))) }
+{
+    let retired = set_of(alloc, groups)?;
+    let head = engine.head();
+    let _floor = engine.floor();
+    match engine.collectable(alloc, head, &retired)? {
+        Some((at, resting)) if at == floor => {
+            let mut left = engine.copy(alloc)?;
+            left.collect(alloc, at, &resting)?;
+            compare_state(alloc, plain, &left)?;
+            Ok(Some(left))
+        }
+        _ => Ok(None),
+    }
+}
+
+/// Whether the engine is as the plain history is after its last revision, and the change is that of this revision.
 fn compare(
     alloc: Global,
     plain: &PlainHistory,
@@ -72,15 +97,52 @@ fn compare(
 ) -> anyhow::Result<()>
     ensures { OnOk result (EachIs engine.now (Matches plain.now)) }
 {
+    let Change { rev, units } = change;
+    ensure!(
+        rev == plain.head(),
+        "the engine gives the change to revision {rev}"
+    );
+    compare_change(alloc, plain, units)?;
+    compare_state(alloc, plain, engine)
+}
+
+/// Whether the engine has the floor, the revisions and the collected groups of the plain history, and keeps and shows the same.
+fn compare_state(alloc: Global, plain: &PlainHistory, engine: &Engine) -> anyhow::Result<()>
+    ensures { OnOk result (EachIs engine.now (Matches plain.now)) }
+{
+    let floor = plain.floor();
     let head = plain.head();
-    if change.rev != head || engine.head() != head || engine.kept() != kept(plain) {
-        bail!("the engine has another head, or keeps another number of characters");
+    if engine.floor() != floor || engine.head() != head || engine.kept() != kept(plain) {
+        bail!("the engine has another floor or head, or keeps another number of characters");
     }
-    compare_change(alloc, plain, change.units)?;
-    for rev in 0..head {
+    compare_groups(plain, engine)?;
+    for rev in floor..head {
         compare_at(alloc, plain, engine, rev)?;
     }
     compare_at(alloc, plain, engine, head)
+}
+
+/// Whether the engine has collected the groups of the same revisions.
+fn compare_groups(plain: &PlainHistory, engine: &Engine) -> anyhow::Result<()>
+    ensures { OnOk result (EachIs engine.now (AgreeOnGroups plain.now)) }
+{
+    let head = plain.head();
+    for rev in 0..head {
+        compare_group(plain, engine, rev)?;
+    }
+    compare_group(plain, engine, head)
+}
+
+/// Whether the engine has collected the group of the revision exactly where the plain history has.
+fn compare_group(plain: &PlainHistory, engine: &Engine, rev: u64) -> anyhow::Result<()>
+    ensures { OnOk result (EachIs engine.now (λ history. AgreesOnGroup plain.now history rev)) }
+{
+    let group = group_of(plain.revisions(), rev);
+    ensure!(
+        engine.is_collected(group) == has(plain.collected(), group),
+        "whether group {group} is collected: the engine says it otherwise"
+    );
+    Ok(())
 }
 
 /// Whether the engine shows the text of the plain history at the revision.

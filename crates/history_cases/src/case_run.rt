@@ -34,7 +34,7 @@ pub struct CaseRun {
     pub plain: PlainHistory,
     /// It takes edits, undos and collections at the head, so there is none after another collection.
     list: Option<RevList>,
-    /// It takes edits and undos, under the limit that it began with.
+    /// It takes the same, under the limit that it began with.
     engine: Option<Engine>,
     limit: u64,
     /// How many steps were taken.
@@ -248,17 +248,21 @@ impl CaseRun {
         self.follow_collection(alloc, floor, groups.as_slice())
     }
 
-    /// Has the list take the collection that the plain history took, where it can, and compares it with the plain history after it. The
-    /// engine stops.
+    /// Has each other body take the collection that the plain history took, and compares it with the plain history after it. A body that
+    /// cannot take it stops.
     fn follow_collection(&mut self, alloc: Global, floor: u64, groups: &[u64]) -> anyhow::Result<()>
         ensures { OnOk result (self.new ≡ self.old) }
     {
-        self.engine = None;
-        let left = match &self.list {
+        let engine = match &self.engine {
+            Some(engine) => by_engine::collected(alloc, &self.plain, engine, floor, groups)?,
+            None => None,
+        };
+        self.engine = engine;
+        let list = match &self.list {
             Some(list) => by_rev_list::collected(alloc, &self.plain, list, floor, groups)?,
             None => None,
         };
-        self.list = left;
+        self.list = list;
         self.note_step();
         Ok(())
     }

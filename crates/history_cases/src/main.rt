@@ -29,10 +29,10 @@
 //! at the head, `rev_rebase` has to put the edits where the plain history has them, `rev_undo` to say what an undo hides and, after each
 //! step, what every set of the first four groups that are not collected hides, beside that of a line `under`, `rev_collect` to give the
 //! list that is left, and a `rev_list` to keep as many characters, and to hide of them at each revision from the floor on what is hidden
-//! there. An engine has to answer as the plain history does, to keep as many characters, to show the same at each revision, and to tell
-//! of each edit and undo a change that leads from the text before to that after. The list stops at a collection below the head, or one
-//! that raises the floor alone, and the engine at each one; both go on with the next history: the line that is printed says how many
-//! steps were taken in all, and how many of them each took.
+//! there. An engine has to answer as the plain history does, to have its floor and its collected groups, to keep as many characters, to
+//! show the same at each revision from the floor on, and to tell of each edit and undo a change that leads from the text before to that
+//! after. The list and the engine stop at a collection below the head, or one that raises the floor alone, and go on with the next
+//! history: the line that is printed says how many steps were taken in all, and how many of them each took.
 //!
 //! That a case passes only where each of its lines holds says the contract of `run_case`; how lines are read and which steps are
 //! drawn, the output alone shows. A new case is a new file in `data/`, and its line in `stdout`.

@@ -1,7 +1,0 @@
-use Rattle.std.proofs.Common.{◌≡◌, ℕ, ◌<◌}
-use Rattle.plain_edits.specs.History.{History, text_at}
-use Rattle.history_cases.specs.Inner.{EachIs}
-use Rattle.history_cases.proofs.by_engine.compare.Given as goal
-
-abbrev pub invariant-loop-rev : goal.invariant-loop-rev
-invariant-loop-rev l = (before : ℕ) → before < l.rev → EachIs l.engine (λ (history : History). text_at history before ≡ text_at l.plain before)
