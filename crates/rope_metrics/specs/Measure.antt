@@ -1,9 +1,16 @@
 -- How long a text is in a measure, and the front of a text that an offset ends.
-use Rattle.std.specs.Prelude.{◌≡◌, ◌≢◌, ℕ, ◌<◌, List, ◌∷◌, ◌++◌, refl}
+use Rattle.std.specs.Prelude.{◌≡◌, ◌≢◌, ℕ, ◌<◌, Bool, true, false, List, ◌∷◌, ◌++◌, refl}
 use Rattle.rope_metrics.specs.declared.measure.Measure.{Measure}
 use Rattle.rope_metrics.specs.declared.measure.Measure.TheVariants.{Chars, Bytes, Utf16, Lines}
 use Rattle.rope_node.specs.declared.lengths.Lengths.{Lengths}
 use Rattle.rope_node.specs.Lengths.{lengths_of, no_lengths}
+
+-- whether it is one of characters or of bytes, which are the same where each character takes one byte
+abbrev pub is_plain : Measure → Bool
+is_plain Chars = true
+is_plain Bytes = true
+is_plain Utf16 = false
+is_plain Lines = false
 
 -- the length in this measure
 abbrev pub long_by : Measure → Lengths → ℕ

@@ -1,5 +1,5 @@
 ghost use Rattle.std.specs.Prelude.{◌≡◌, ◌∷◌, []};
-ghost use Rattle.rope_metrics.specs.Measure.{long};
+ghost use Rattle.rope_metrics.specs.Measure.{is_plain, long};
 
 use rope_node::Lengths;
 
@@ -33,6 +33,16 @@ impl shared_tree::Measure<Lengths> for Measure {
 }
 
 impl Measure {
+    /// Whether it is one of characters or of bytes, which are the same where each character takes one byte.
+    pub(crate) fn is_plain(self) -> bool
+        ensures { result ≡ is_plain self }
+    {
+        match self {
+            Measure::Chars | Measure::Bytes => true,
+            Measure::Utf16 | Measure::Lines => false,
+        }
+    }
+
     /// How long one character is.
     pub(crate) fn of_char(self, c: char) -> u64
         ensures { result ≡ long self (c ∷ []) }

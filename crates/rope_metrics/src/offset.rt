@@ -1,14 +1,15 @@
-ghost use Rattle.std.specs.Prelude.{◌≡◌, ◌+◌, ◌<◌, ◌≤◌, IfNone, IfSome, IsTrue};
+ghost use Rattle.std.specs.Prelude.{◌≡◌, ◌+◌, ◌<◌, ◌≤◌, length, true, IfNone, IfSome, IsTrue};
 ghost use Rattle.std.specs.Str.{chars};
 ghost use Rattle.rope_node.specs.Lengths.{is_countable, lengths_of, together};
 ghost use Rattle.rope_node.specs.Node.{text_of};
-ghost use Rattle.rope_metrics.specs.Measure.{long, long_by, HasNone, IsConverted};
+ghost use Rattle.rope_metrics.specs.Measure.{is_plain, long, long_by, HasNone, IsConverted};
 ghost use Rattle.rope_metrics.specs.Inner.{HasNoneIn, IsChunkAt, IsConvertedIn};
+ghost use Rattle.plain_text.specs.Text.{byte_len};
 
 use crate::Measure;
 use plain_text::Steps;
 use rope_node::{Chunk, Lengths, Node};
-use shared_tree::Measure as _;
+use shared_tree::{Leaf, Measure as _};
 use std::sync::ledger::Ledger;
 
 /// How long the text is, in O(1).
@@ -19,7 +20,7 @@ pub fn total(node: &Node, m: Measure) -> u64
 }
 
 /// The offset in another measure of the first gap that has this one; `None` where there is no such gap. One step a node on the way,
-/// and a walk over the characters of one leaf.
+/// and a walk over the characters of one leaf; none from bytes to characters or back where each of them takes one byte.
 pub fn convert<L: Ledger>(
     node: &Node,
     from: Measure,
@@ -38,7 +39,7 @@ pub fn convert<L: Ledger>(
         return None;
     }
     let (chunk, before) = chunk_at(node, from, at, steps);
-    within(chunk.text().as_str(), from, to, at, &before)
+    in_chunk(chunk, from, to, at, &before)
 }
 
 /// The leaf in which the measure passes `at`, and the lengths of all before it.
@@ -70,7 +71,42 @@ fn chunk_at<'a, L: Ledger>(
     }
 }
 
-/// The same of the text of a leaf, where `before` are the lengths of all before it.
+/// The same of a leaf, where `before` are the lengths of all before it. Where each character takes one byte, none is read.
+fn in_chunk(chunk: &Chunk, from: Measure, to: Measure, at: u64, before: &Lengths) -> Option<u64>
+    requires passed { long_by from before.now < at }
+    requires reached { at ≤ long_by from (together before.now (lengths_of chunk.now)) }
+    requires fits { IsTrue (is_countable (together before.now (lengths_of chunk.now))) }
+    ensures some { IfSome result (λ offset. IsConvertedIn from to before.now chunk.now at offset) }
+    ensures none { IfNone result (HasNoneIn from before.now chunk.now at) }
+{
+    if from.is_plain() && to.is_plain() && is_plain(chunk) {
+        return Some(plain_offset(chunk, from, to, at, before));
+    }
+    within(chunk.text().as_str(), from, to, at, before)
+}
+
+/// Whether each character takes one byte.
+fn is_plain(chunk: &Chunk) -> bool
+    ensures { IsTrue result → byte_len chunk.now ≡ length chunk.now }
+{
+    chunk.text().byte_len() == chunk.len()
+}
+
+/// The offset in the other measure, where each character takes one byte.
+fn plain_offset(chunk: &Chunk, from: Measure, to: Measure, at: u64, before: &Lengths) -> u64
+    requires passed { long_by from before.now < at }
+    requires reached { at ≤ long_by from (together before.now (lengths_of chunk.now)) }
+    requires fits { IsTrue (is_countable (together before.now (lengths_of chunk.now))) }
+    requires plain { byte_len chunk.now ≡ length chunk.now }
+    requires from { is_plain from ≡ true }
+    requires to { is_plain to ≡ true }
+    ensures { IsConvertedIn from to before.now chunk.now at result }
+{
+    let _chunk = chunk;
+    to.width(before) + (at - from.width(before))
+}
+
+/// The same of the text of a leaf, character by character.
 fn within(text: &str, from: Measure, to: Measure, at: u64, before: &Lengths) -> Option<u64>
     requires passed { long_by from before.now < at }
     requires reached { at ≤ long_by from (together before.now (lengths_of (chars text.now))) }

@@ -8,10 +8,8 @@ returns-then-at-total-clause-none g c = none-past c.args.from (text_of c.args.no
 
 pub returns-clause-some : goal.returns-clause-some
 returns-clause-some g c =
-    let inner = rw (c.as_str.ensures.characters, c.text.ensures.text) at c.within.ensures.some in
-    some-answer c.args.from (text_of c.args.node.now) c.args.at c.chunk_at.result.0.now c.chunk_at.result.1 c.chunk_at.ensures.found c.args.to c.within.result inner
+    some-answer c.args.from (text_of c.args.node.now) c.args.at c.chunk_at.result.0.now c.chunk_at.result.1 c.chunk_at.ensures.found c.args.to c.in_chunk.result c.in_chunk.ensures.some
 
 pub returns-clause-none : goal.returns-clause-none
 returns-clause-none g c =
-    let inner = rw (c.as_str.ensures.characters, c.text.ensures.text) at c.within.ensures.none in
-    none-answer c.args.from (text_of c.args.node.now) c.args.at c.chunk_at.result.0.now c.chunk_at.result.1 c.chunk_at.ensures.found c.within.result inner
+    none-answer c.args.from (text_of c.args.node.now) c.args.at c.chunk_at.result.0.now c.chunk_at.result.1 c.chunk_at.ensures.found c.in_chunk.result c.in_chunk.ensures.none
