@@ -3,6 +3,9 @@ pub mod ActLemmas
 pub mod GroupLemmas
 pub mod HeadLemmas
 pub mod MoveLemmas
+pub mod SessionLemmas
+pub mod CollectLemmas
+pub mod ForgetLemmas
 pub mod LoadLemmas
 pub mod FrontLemmas
 pub mod UntoldLemmas

@@ -218,15 +218,16 @@ IsTakenFrom-noticed engine now before change author taken noticed changes counte
 
 -- what the revision makes
 pub IsAfter-noticed : (h : History) (engine : State) (step : Step) (now : State) (change : Change) (author : ℕ) (taken : Taken) →
-    StandsFor engine h → head (after_step h step) ≡ head h + 1 → StandsFor now (after_step h step) → inserted_count (after_step h step) ≤ now.limit →
+    StandsFor engine h → head (after_step h step) ≡ head h + 1 → (after_step h step).floor ≡ h.floor → StandsFor now (after_step h step) → inserted_count (after_step h step) ≤ now.limit →
     IsChange h (after_step h step) change → IsNoticed (head_shown engine) now change author taken →
     IsAfter h (after_step h step) author taken
-IsAfter-noticed h engine step now change author taken was one_more stands within changes noticed =
+IsAfter-noticed h engine step now change author taken was one_more same_floor stands within changes noticed =
     let next = after_step h step in
     let At : State → Type 0 = λ e. StandsFor e next in
     let Few : State → Type 0 = λ e. inserted_count next ≤ e.limit in
     record {
       one_more = one_more;
+      same_floor = same_floor;
       stands = subst At (sym noticed.engine_is) stands;
       within = subst Few (sym noticed.engine_is) within;
       changes = subst (IsChange h next) (sym noticed.change_is) changes;

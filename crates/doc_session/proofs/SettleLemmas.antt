@@ -20,7 +20,7 @@ use Rattle.doc_view.specs.View.{View, layout_in, point_in}
 use Rattle.doc_session.specs.Document.{Document, caret_point, is_pristine, layout_of, no_request, text_of}
 use Rattle.doc_session.specs.Effects.{are_valid, differ, is_window_valid, ops_of, settled, update_after, update_of, updated, wants_update}
 use Rattle.doc_session.specs.InMemory.{Doc}
-use Rattle.doc_session.specs.Inner.{IsUntold, is_pristine_in}
+use Rattle.doc_session.specs.Inner.{IsUncollected, IsUntold, is_pristine_in}
 use Rattle.doc_session.specs.Layout.{Position, layout, position_of}
 use Rattle.doc_session.specs.SameLayout.{is_same_layout}
 use Rattle.doc_session.specs.Stands.{DocStandsFor}
@@ -174,8 +174,8 @@ module _ (doc made : Doc) (plain next : Document) (stands : DocStandsFor doc pla
       is ∙ ap₂ (λ was now. if asked then scroll_between was now else None) (view-point doc.view plain stands.parts.shown_is stands.regions)
       (view-point made.view next untold.parts.shown_is untold.regions)
 
-  pub DocStandsFor-told : DocStandsFor made (settled plain next)
-  DocStandsFor-told = by (wants_update plain next) refl
+  pub IsUncollected-told : IsUncollected made (settled plain next)
+  IsUncollected-told = by (wants_update plain next) refl
     where
       shown : (settled plain next).screen ≡ shown_lines next.window no_request (layout_of next)
       shown =
@@ -185,11 +185,12 @@ module _ (doc made : Doc) (plain next : Document) (stands : DocStandsFor doc pla
       shows : is_within next.window 0 ≡ true
       shows = ap (λ window. is_within window 0) untold.window_stays ∙ stands.shows_first
 
-      by : (b : Bool) → wants_update plain next ≡ b → DocStandsFor made (if b then updated next else next)
+      by : (b : Bool) → wants_update plain next ≡ b → IsUncollected made (if b then updated next else next)
       by true wants = record {
         parts = untold.parts;
         limit = untold.limit;
-        plugins = untold.plugins;
+        sessions = untold.sessions;
+        acknowledged = untold.acknowledged;
         groups = untold.groups;
         typing = untold.typing;
         agree = untold.agree;
@@ -204,7 +205,8 @@ module _ (doc made : Doc) (plain next : Document) (stands : DocStandsFor doc pla
       by false wants = record {
         parts = untold.parts;
         limit = untold.limit;
-        plugins = untold.plugins;
+        sessions = untold.sessions;
+        acknowledged = untold.acknowledged;
         groups = untold.groups;
         typing = untold.typing;
         agree = untold.agree;

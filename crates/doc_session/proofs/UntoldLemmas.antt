@@ -17,6 +17,7 @@ use Rattle.doc_session.specs.Step.{selected_document}
 use Rattle.doc_session.specs.Typing.{run_on}
 use Rattle.doc_session.proofs.AgreeLemmas.{Agree-still}
 use Rattle.doc_session.proofs.HeadLemmas.{head_shown-stands}
+use Rattle.doc_session.proofs.SessionLemmas.{AreAcknowledged-later}
 
 -- no revision, what is left of the run, and other regions
 abbrev pub still_doc : Doc → Option Kind → List Region → Doc
@@ -30,7 +31,8 @@ IsUntold-still doc made plain kind regions others stands is same are =
     subst At (sym is) (record {
       parts = stands.parts;
       limit = stands.limit;
-      plugins = stands.plugins;
+      sessions = stands.sessions;
+      acknowledged = stands.acknowledged;
       groups = stands.groups;
       typing = ap (λ typing. run_on typing kind) stands.typing;
       agree = Agree-still plain.history.revisions plain.history.collected plain.groups plain.typing stands.agree kind;
@@ -67,7 +69,8 @@ IsUntold-revised doc made plain history author taken left stands after agree lim
         bound = omega (arith, stands.parts.bound, limit);
       };
       limit = limit ∙ stands.limit;
-      plugins = stands.plugins;
+      sessions = stands.sessions;
+      acknowledged = AreAcknowledged-later plain.history history plain.sessions after.same_floor (omega (arith, after.one_more)) stands.acknowledged;
       groups = refl;
       typing = refl;
       agree = agree;

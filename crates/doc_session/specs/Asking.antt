@@ -1,7 +1,7 @@
--- The edits that a document is asked for, and why one is refused.
-use Rattle.std.specs.Prelude.{ℕ, List, Option}
+-- The edits that a document is asked for, and why one is refused; and why an acknowledgement is.
+use Rattle.std.specs.Prelude.{ℕ, if◌then◌else◌, nat_lt, List, Option, Some, None}
 use Rattle.plain_edits.specs.History.{History, head, text_at}
-use Rattle.plain_edits.specs.Edits.{Refusal, edit_refusal}
+use Rattle.plain_edits.specs.Edits.{Refusal, collected, edit_refusal, unknown}
 use Rattle.edit_ops.specs.declared.replacement.Replacement.{Replacement}
 use Rattle.edit_ops.specs.Replacements.{added_by, kept_by}
 use Rattle.rev_engine.specs.declared.edit.Edit.{Edit}
@@ -42,3 +42,9 @@ plugin_edit document caller edit joined = record {
 -- why an edit is refused, if it is
 abbrev pub asked_refusal : Document → AskedEdit → Option Refusal
 asked_refusal document asked = edit_refusal document.history document.limit asked.base asked.delta
+
+-- why an acknowledgement is refused, if it is: its revision is above the head, or below the floor
+abbrev pub acknowledgement_refusal : History → ℕ → Option Refusal
+acknowledgement_refusal history rev =
+    if nat_lt (head history) rev then Some (unknown (head history)) else (
+    if nat_lt rev history.floor then Some (collected history.floor) else None)

@@ -1,5 +1,5 @@
 -- THE PLAIN DOCUMENT: what a document with one view is, by the history of its text.
-use Rattle.std.specs.Prelude.{ℕ, Bool, ◌==◌, List, [], ◌∷◌, Option, None}
+use Rattle.std.specs.Prelude.{ℕ, Bool, ◌==◌, List, [], ◌∷◌, replicate, Option, Some, None}
 use Rattle.plain_text.specs.declared.run.Run.{Run}
 use Rattle.plain_text.specs.declared.selection.Region.{Region}
 use Rattle.plain_screen.specs.declared.piece.Piece.{Piece}
@@ -13,13 +13,13 @@ use Rattle.plain_screen.specs.Screen.{Screen}
 use Rattle.undo_groups.specs.Groups.{Groups, no_groups}
 use Rattle.doc_session.specs.declared.typing.Typing.{Typing}
 
--- a document: its history, the most characters that may be inserted after loading, how many plugins there are, its undo groups and its
--- run of typing, if there is one, the regions of its view on the head text, the lines that this shows, the revision that was loaded or
--- last saved, and the screen that its front end has
+-- a document: its history, the most characters that may be inserted after loading, for each plugin, in order, the revision that its
+-- session has acknowledged, or nothing where that has ended, its undo groups and its run of typing, if there is one, the regions of its
+-- view on the head text, the lines that this shows, the revision that was loaded or last saved, and the screen that its front end has
 pub record Document : Type 0 where
   pub history : History
   pub limit : ℕ
-  pub plugins : ℕ
+  pub sessions : List (Option ℕ)
   pub groups : Groups
   pub typing : Option Typing
   pub regions : List Region
@@ -48,12 +48,13 @@ is_pristine document = head document.history == document.saved
 abbrev pub first_window : Run
 first_window = record { start = 0; end = 10 }
 
--- a document on a text that was just loaded: one caret at its start; its front end was told nothing, and its screen is empty
+-- a document on a text that was just loaded, with so many plugins: each session is open and has acknowledged revision 0; one caret at the
+-- start; its front end was told nothing, and its screen is empty
 abbrev pub loaded_document : List ℕ → ℕ → ℕ → Document
 loaded_document text plugins limit = record {
   history = loaded text;
   limit = limit;
-  plugins = plugins;
+  sessions = replicate plugins (Some 0);
   groups = no_groups;
   typing = None;
   regions = caret_of 0 ∷ [];

@@ -1,5 +1,6 @@
 -- What private functions say: the steps of an event.
 use Rattle.std.specs.Prelude.{◌≡◌, ℕ, ◌+◌, ◌^◌, ◌<◌, ◌≤◌, Bool, true, false, if◌then◌else◌, ◌==◌, List, [], length, Option, Some, None, ⊤}
+use Rattle.std.specs.List.{AllByRecursion}
 use Rattle.plain_text.specs.Text.{byte_len}
 use Rattle.plain_text.specs.Numbers.{has, turned}
 use Rattle.plain_edits.specs.History.{History, head, inserted_count}
@@ -9,12 +10,14 @@ use Rattle.xi_plain.specs.declared.command.EditAct.TheVariants as Acts
 use Rattle.delta_core.specs.Wire.{wire_of}
 use Rattle.plain_text.specs.declared.selection.Region.{Region}
 use Rattle.plain_screen.specs.declared.piece.Piece.{Piece}
+use Rattle.plain_screen.specs.Plan.{is_within, shown_lines}
 use Rattle.edit_ops.specs.Commands.{Effect, effect_of, selecting}
 use Rattle.edit_ops.specs.Replacements.{IsEditOf}
 use Rattle.rev_engine.specs.declared.edit.Change.{Change}
 use Rattle.rev_engine.specs.declared.edit.UnitEdit.{UnitEdit}
 use Rattle.rev_engine.specs.State.{State, shown_at}
 use Rattle.rev_engine.specs.Engine.{IsChange, IsSaidBy, StandsFor}
+use Rattle.rev_engine.specs.Asked.{IsCollectionTaken}
 use Rattle.rev_engine.specs.Given.{AskedEdit, after}
 use Rattle.undo_groups.specs.Groups.{Groups, IsStack, is_known}
 use Rattle.doc_layout.specs.Changed.{IsChangeOf}
@@ -25,10 +28,11 @@ use Rattle.doc_session.specs.declared.taken.Taken.{Taken}
 use Rattle.doc_session.specs.declared.typing.Typing.{Typing}
 use Rattle.doc_session.specs.Agree.{Agree}
 use Rattle.doc_session.specs.Asking.{front_priority}
-use Rattle.doc_session.specs.Document.{Document, text_of}
+use Rattle.doc_session.specs.Collecting.{AreAcknowledged}
+use Rattle.doc_session.specs.Document.{Document, layout_of, no_request, text_of}
 use Rattle.doc_session.specs.Effects.{notice_of}
 use Rattle.doc_session.specs.InMemory.{Doc}
-use Rattle.doc_session.specs.Stands.{AreRegionsOf, DocStandsFor}
+use Rattle.doc_session.specs.Stands.{AreRegionsOf}
 use Rattle.doc_session.specs.Step.{AreEffectsOf, EventStep, copies, first_config}
 use Rattle.doc_session.specs.Typing.{kind_of}
 use Rattle.doc_session.specs.Whole.{IsStateOf}
@@ -71,6 +75,7 @@ pub record IsTakenFrom (engine : State) (taken : Taken) : Type 0 where
 -- what a revision makes is that of the history after it: the engine, the change, and the notice of it
 pub record IsAfter (history next : History) (author : ℕ) (taken : Taken) : Type 0 where
   pub one_more : head next ≡ head history + 1
+  pub same_floor : next.floor ≡ history.floor
   pub stands : StandsFor taken.engine next
   pub within : inserted_count next ≤ taken.engine.limit
   pub changes : IsChange history next taken.change
@@ -155,7 +160,8 @@ is_pristine_in doc = head doc.engine.revisions == doc.saved
 pub record IsUntold (doc : Doc) (before plain : Document) : Type 0 where
   pub parts : IsStateOf plain.history doc.engine doc.view.text
   pub limit : doc.engine.limit ≡ plain.limit
-  pub plugins : doc.plugins ≡ plain.plugins
+  pub sessions : doc.sessions ≡ plain.sessions
+  pub acknowledged : AreAcknowledged plain.history plain.sessions
   pub groups : doc.groups ≡ plain.groups
   pub typing : doc.typing ≡ plain.typing
   pub agree : Agree plain.history.revisions plain.history.collected plain.groups plain.typing
@@ -168,7 +174,29 @@ pub record IsUntold (doc : Doc) (before plain : Document) : Type 0 where
   pub window_stays : plain.window ≡ before.window
   pub screen_stays : plain.screen ≡ before.screen
 
--- what an event makes is what its step gives: the document after it, and what those outside are told
+-- these groups may be collected at the floor: the engine takes it, and the stack has retired them
+pub record MayCollectIn (doc : Doc) (floor : ℕ) (groups : List ℕ) : Type 0 where
+  pub taken : IsCollectionTaken doc.engine.revisions floor groups
+  pub retired : AllByRecursion (λ group. has doc.groups.retired group ≡ true) groups
+
+-- the document in memory stands for the plain one, but that groups may be left that are to be collected
+pub record IsUncollected (doc : Doc) (plain : Document) : Type 0 where
+  pub parts : IsStateOf plain.history doc.engine doc.view.text
+  pub limit : doc.engine.limit ≡ plain.limit
+  pub sessions : doc.sessions ≡ plain.sessions
+  pub acknowledged : AreAcknowledged plain.history plain.sessions
+  pub groups : doc.groups ≡ plain.groups
+  pub typing : doc.typing ≡ plain.typing
+  pub agree : Agree plain.history.revisions plain.history.collected plain.groups plain.typing
+  pub regions : doc.view.regions ≡ plain.regions
+  pub regions_are : AreRegionsOf (text_of plain) plain.regions
+  pub saved : doc.saved ≡ plain.saved
+  pub saved_before : plain.saved ≤ head plain.history
+  pub window : plain.window ≡ doc.view.window
+  pub shows_first : is_within plain.window 0 ≡ true
+  pub screen : plain.screen ≡ (if doc.view.valid then shown_lines plain.window no_request (layout_of plain) else [])
+
+-- what an event makes is what its step gives, before anything is collected: the document after it, and what those outside are told
 pub record IsStepped (step : EventStep) (made : Doc × Effects) : Type 0 where
-  pub stands : DocStandsFor made.0 step.document
+  pub stands : IsUncollected made.0 step.document
   pub effects : AreEffectsOf step made.1

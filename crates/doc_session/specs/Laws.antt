@@ -8,6 +8,7 @@ use Rattle.plain_screen.specs.Screen.{screen_after}
 use Rattle.plain_screen.specs.Plan.{shown_lines}
 use Rattle.edit_ops.specs.Replacements.{text_with}
 use Rattle.doc_session.specs.Asking.{front_edit}
+use Rattle.doc_session.specs.Collecting.{HasNoneLeft}
 use Rattle.doc_session.specs.Document.{Document, layout_of, no_request, text_of}
 use Rattle.doc_session.specs.Effects.{ops_of, updated, change_delta}
 use Rattle.doc_session.specs.InMemory.{Doc}
@@ -50,3 +51,7 @@ IsSpentIfAny (Some (spent total)) = ⊤
 -- a command of the front end is refused only where its characters are spent: it is against the head, and its delta fits
 abbrev pub CommandsFit : Type 0
 CommandsFit = (doc : Doc) (plain : Document) (act : EditAct) → DocStandsFor doc plain → IsSpentIfAny (refusal_at plain (Front act))
+
+-- where no session is open, no group is left that no undo reaches any more
+abbrev pub NoneIsLeft : Type 0
+NoneIsLeft = (doc : Doc) (plain : Document) → DocStandsFor doc plain → HasNoneLeft plain

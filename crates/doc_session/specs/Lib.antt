@@ -2,6 +2,7 @@ pub mod Layout
 pub mod Typing
 pub mod Grouping
 pub mod Document
+pub mod Collecting
 pub mod Asking
 pub mod SameLayout
 pub mod Effects

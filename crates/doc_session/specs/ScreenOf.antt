@@ -1,10 +1,12 @@
 -- What a front end's screen shows of a layout.
-use Rattle.std.specs.Prelude.{◌≡◌, ℕ, true, List, length, Some, slice_get, option_map}
+use Rattle.std.specs.Prelude.{◌≡◌, ℕ, true, false, List, length, Some, slice_get, option_map}
 use Rattle.plain_text.specs.declared.run.Run.{Run}
 use Rattle.plain_screen.specs.declared.screen.Line.{Line}
 use Rattle.plain_screen.specs.Screen.{Screen}
 use Rattle.plain_screen.specs.Plan.{is_within}
+use Rattle.doc_session.specs.declared.event.Event.{Event}
 use Rattle.doc_session.specs.Document.{Document, layout_of}
+use Rattle.doc_session.specs.Step.{event_step, tells}
 
 -- the screen has as many lines as the layout, each valid line of it is the layout's line, and each line of the window is valid
 pub record IsScreenOf (screen : Screen) (window : Run) (lines : List Line) : Type 0 where
@@ -15,3 +17,7 @@ pub record IsScreenOf (screen : Screen) (window : Run) (lines : List Line) : Typ
 -- the screen that the front end has of the document shows its layout
 abbrev pub IsUpToDate : Document → Type 0
 IsUpToDate document = IsScreenOf document.screen document.window (layout_of document)
+
+-- after an event it does; where the front end is told nothing, if it did before
+abbrev pub IsShownAfter : Document → Event → Type 0
+IsShownAfter document event = (tells event ≡ false → IsUpToDate document) → IsUpToDate (event_step document event).document

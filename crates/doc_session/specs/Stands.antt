@@ -8,6 +8,7 @@ use Rattle.selection_core.specs.Selection.{IsSelection}
 use Rattle.doc_session.specs.InMemory.{Doc}
 use Rattle.doc_session.specs.Document.{Document, layout_of, no_request, text_of}
 use Rattle.doc_session.specs.Agree.{Agree}
+use Rattle.doc_session.specs.Collecting.{AreAcknowledged, HasNoneLeft}
 use Rattle.doc_session.specs.Whole.{IsStateOf}
 
 -- the regions of a document: there is one at least, they are sorted, no two meet, and they lie in its text
@@ -16,14 +17,17 @@ pub record AreRegionsOf (text : List ℕ) (regions : List Region) : Type 0 where
   pub sound : IsSelection regions
   pub inside : AreWithin (length text) regions
 
--- the document in memory stands for the plain one: they have the same history, limit, plugins, undo groups, which agree with the history,
--- run of typing, regions on the head text, saved revision and window, which shows the first line, and the front end's screen is as the
--- last update left it, or empty where there was none
+-- the document in memory stands for the plain one: they have the same history, limit, sessions, which have acknowledged kept revisions,
+-- undo groups, which agree with the history and of which no retired one is left where no session is open, run of typing, regions on the
+-- head text, saved revision and window, which shows the first line, and the front end's screen is as the last update left it, or empty
+-- where there was none
 pub record DocStandsFor (doc : Doc) (plain : Document) : Type 0 where
   pub parts : IsStateOf plain.history doc.engine doc.view.text
   pub limit : doc.engine.limit ≡ plain.limit
-  pub plugins : doc.plugins ≡ plain.plugins
+  pub sessions : doc.sessions ≡ plain.sessions
+  pub acknowledged : AreAcknowledged plain.history plain.sessions
   pub groups : doc.groups ≡ plain.groups
+  pub none_left : HasNoneLeft plain
   pub typing : doc.typing ≡ plain.typing
   pub agree : Agree plain.history.revisions plain.history.collected plain.groups plain.typing
   pub regions : doc.view.regions ≡ plain.regions

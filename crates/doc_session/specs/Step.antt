@@ -21,12 +21,13 @@ use Rattle.doc_session.specs.declared.event.Body.{Body}
 use Rattle.doc_session.specs.declared.event.Body.TheVariants.{Null, Copied, Edited}
 use Rattle.doc_session.specs.declared.event.Effects.{Effects}
 use Rattle.doc_session.specs.declared.event.Event.{Event}
-use Rattle.doc_session.specs.declared.event.Event.TheVariants.{Front, Edit, Other}
+use Rattle.doc_session.specs.declared.event.Event.TheVariants.{Ack, Edit, Ended, Front, Other}
 use Rattle.doc_session.specs.declared.typing.Kind.{Kind}
 use Rattle.doc_session.specs.Document.{Document, pieces_of, text_of}
 use Rattle.doc_session.specs.Typing.{kind_of, run_on, run_with}
 use Rattle.doc_session.specs.Grouping.{named_group, run_group, groups_by}
-use Rattle.doc_session.specs.Asking.{front_edit, plugin_edit, asked_refusal}
+use Rattle.doc_session.specs.Asking.{acknowledgement_refusal, front_edit, plugin_edit, asked_refusal}
+use Rattle.doc_session.specs.Collecting.{acknowledged_document, collected_document, ended_document}
 use Rattle.doc_session.specs.Effects.{update_after, settled, scroll_after, notice_of}
 use Rattle.doc_session.specs.PositionView.{position_view}
 
@@ -175,13 +176,30 @@ plugin_step document caller edit named =
     given_step document (plugin_edit document caller edit (named_group document.history named))
     (named_group document.history named) edit.after_cursor
 
+-- what a session tells is answered null, and nothing is written
+abbrev pub silent_step : Document → EventStep
+silent_step next = record { document = next; body = Null; update = None; scroll = None; notice = None }
+
 -- ---- all events
 
--- THE STEP of an event that is not refused
+-- what an event that is not refused comes to, before anything is collected
+abbrev pub taken_step : Document → Event → EventStep
+taken_step document (Front act) = act_step document act
+taken_step document (Edit caller edit named) = plugin_step document caller edit named
+taken_step document (Ack caller rev) = silent_step (acknowledged_document document caller rev)
+taken_step document (Ended caller) = silent_step (ended_document document caller)
+taken_step document Other = other_step document
+
+-- THE STEP of an event that is not refused: then old groups are collected
 abbrev pub event_step : Document → Event → EventStep
-event_step document (Front act) = act_step document act
-event_step document (Edit caller edit named) = plugin_step document caller edit named
-event_step document Other = other_step document
+event_step document event =
+    record (taken_step document event) { document = collected_document (taken_step document event).document }
+
+-- whether the front end is told what it lacks
+abbrev pub tells : Event → Bool
+tells (Ack caller rev) = false
+tells (Ended caller) = false
+tells event = true
 
 -- why a command is refused that has this effect
 abbrev pub command_refusal : Document → Effect → Option Refusal
@@ -192,12 +210,16 @@ command_refusal document effect =
 abbrev pub refusal_at : Document → Event → Option Refusal
 refusal_at document (Front act) = command_refusal document (effect_on document act)
 refusal_at document (Edit caller edit named) = asked_refusal document (plugin_edit document caller edit None)
+refusal_at document (Ack caller rev) = acknowledgement_refusal document.history rev
+refusal_at document (Ended caller) = None
 refusal_at document Other = None
 
 -- an event of a plugin is one of those that there are
 abbrev pub HasCaller : ℕ → Event → Type 0
 HasCaller plugins (Front act) = ⊤
 HasCaller plugins (Edit caller edit named) = (1 ≤ caller) × (caller ≤ plugins)
+HasCaller plugins (Ack caller rev) = (1 ≤ caller) × (caller ≤ plugins)
+HasCaller plugins (Ended caller) = (1 ≤ caller) × (caller ≤ plugins)
 HasCaller plugins Other = ⊤
 
 -- the effects are those of the step

@@ -1,30 +1,34 @@
-ghost use Rattle.std.specs.Prelude.{◌≡◌, ◌≢◌, ◌+◌, ◌-◌, ◌^◌, ◌<◌, ◌≤◌, ℕ, [], true, length, if◌then◌else◌, Some, None, IfOk, IfErr, OnOk, OnErr, option_map};
+ghost use Rattle.std.specs.Prelude.{◌≡◌, ◌≢◌, ◌+◌, ◌-◌, ◌^◌, ◌<◌, ◌≤◌, ℕ, [], true, length, if◌then◌else◌, Some, None, IfOk, IfErr, IfSome, OnOk, OnErr, option_map};
 ghost use Rattle.plain_edits.specs.Collection.{kept};
+ghost use Rattle.rev_collect.specs.Choice.{collection_said};
 ghost use Rattle.plain_edits.specs.History.{History, head};
 ghost use Rattle.edit_ops.specs.Commands.{IsEffect};
 ghost use Rattle.rev_engine.specs.Engine.{IsSaidBy, StandsFor};
 ghost use Rattle.rev_engine.specs.Given.{AskedEdit, MayAsk};
 ghost use Rattle.selection_core.specs.Mapped.{AreWithin};
 ghost use Rattle.selection_core.specs.Selection.{IsSelection};
-ghost use Rattle.doc_session.specs.Asking.{front_edit, front_priority, plugin_edit, asked_refusal};
+ghost use Rattle.doc_session.specs.Asking.{acknowledgement_refusal, front_edit, front_priority, plugin_edit, asked_refusal};
+ghost use Rattle.doc_session.specs.Collecting.{acknowledged_document, collected_document, collection_after, ended_document, least_acknowledged, with_collection};
 ghost use Rattle.doc_session.specs.Document.{Document, layout_of, loaded_document, text_of};
 ghost use Rattle.doc_session.specs.Fault.{DocRefuses};
 ghost use Rattle.undo_groups.specs.Groups.{next_redo, next_undo, redone_one, undone_one};
 ghost use Rattle.doc_session.specs.Agree.{Agree};
 ghost use Rattle.doc_layout.specs.Told.{scroll_between};
-ghost use Rattle.doc_session.specs.Inner.{IsAfter, IsAfterEdit, IsFrontEdit, IsLeftOf, IsMoved, IsStepped, IsTakenFrom, IsTurned, IsUntold, effect_in, head_shown, is_pristine_in, next_document};
+ghost use Rattle.doc_session.specs.Inner.{IsAfter, IsAfterEdit, IsFrontEdit, IsLeftOf, IsMoved, IsStepped, IsTakenFrom, IsTurned, IsUncollected, IsUntold, MayCollectIn, effect_in, head_shown, is_pristine_in, next_document};
 ghost use Rattle.doc_session.specs.PositionView.{position_view};
-ghost use Rattle.doc_session.specs.ScreenOf.{IsUpToDate};
+ghost use Rattle.doc_session.specs.ScreenOf.{IsShownAfter};
 ghost use Rattle.doc_session.specs.Stands.{DocStandsFor};
-ghost use Rattle.doc_session.specs.Step.{AreEffectsOf, HasCaller, act_step, answer_to, command_refusal, command_step, effect_on, event_step, history_step, idle_step, other_step, plugin_step, refusal_at, revision_step, scroll_if, step_to, typed_step};
+ghost use Rattle.doc_session.specs.Step.{AreEffectsOf, HasCaller, act_step, answer_to, command_refusal, command_step, effect_on, event_step, history_step, idle_step, other_step, plugin_step, refusal_at, revision_step, scroll_if, silent_step, step_to, taken_step, typed_step};
 ghost use Rattle.doc_session.specs.Whole.{IsWhole};
 ghost use Rattle.doc_view.specs.View.{point_in};
 
+use crate::collecting::{forgetting, retired_groups};
 use crate::commands::{copies, first_config, is_done_on_text, scrolls};
 use crate::event::{Body, Effects, Event};
 use crate::fault::DocFault;
 use crate::left::{Left, joined_or_opened, left_by, named_or_opened};
 use crate::said::Said;
+use crate::sessions::Sessions;
 use crate::taken::{Taken, taken_by, taken_head, taken_turn};
 use crate::typing::{Typing, kind_of, run_group, run_on, run_with};
 use doc_layout::{scroll_of, whole_text};
@@ -33,6 +37,7 @@ use plain_edits::UnitDelta;
 use plain_text::{NoMemory, Run, Sel, Steps, Text};
 use rev_engine::{Edit, Engine, UnitEdit};
 use std::alloc::Global;
+use std::collections::BTreeSet;
 use std::marker::Model;
 use std::sync::ledger::Ledger;
 use undo_groups::Stack;
@@ -56,7 +61,8 @@ pub struct Doc {
     saved: u64,
     /// How texts are laid out and edited. It is kept, and not read yet.
     config: Config,
-    plugins: u32,
+    /// What the sessions of the plugins have acknowledged.
+    sessions: Sessions,
     /// The view on the head text.
     view: ViewState,
 }
@@ -74,7 +80,7 @@ impl Model for Doc {
       typing = d.typing;
       saved = d.saved;
       config = d.config;
-      plugins = d.plugins;
+      sessions = d.sessions;
       view = d.view;
     } };
 
@@ -95,6 +101,7 @@ impl Doc {
         ensures stands { IfOk result (λ made. DocStandsFor made (loaded_document text plugins limit)) }
         ensures config { IfOk result (λ made. made.config ≡ config) }
     {
+        let sessions = Sessions::open(alloc, plugins)?;
         let engine = Engine::of_text(alloc, text, limit)?;
         let shown = whole_text(alloc, engine.head_rope())?;
         let stack = Stack::new(alloc);
@@ -105,7 +112,7 @@ impl Doc {
             typing: None,
             saved: 0,
             config,
-            plugins,
+            sessions,
             view: ViewState::of_text(alloc, shown, FIRST_WINDOW)?,
         })
     }
@@ -120,7 +127,7 @@ impl Doc {
         event: Event,
         steps: &mut Steps<L>,
     ) -> Result<(Doc, Effects), DocFault>
-        requires caller { HasCaller self.now.plugins event }
+        requires caller { HasCaller (length self.now.sessions) event }
         requires has_number { head self.now.engine.revisions < 2 ^ 63 - 1 }
         ensures stands { (plain : Document) → DocStandsFor self.now plain
             → IfOk result (λ made. DocStandsFor made.0 (event_step plain event).document) }
@@ -129,13 +136,14 @@ impl Doc {
         ensures accepted { (plain : Document) → DocStandsFor self.now plain → OnOk result (refusal_at plain event ≡ None) }
         ensures refused { (plain : Document) → DocStandsFor self.now plain
             → IfErr result (DocRefuses (refusal_at plain event)) }
-        ensures shown { (plain : Document) → DocStandsFor self.now plain → IsUpToDate (event_step plain event).document }
-        ensures plugins { IfOk result (λ made. made.0.plugins ≡ self.now.plugins) }
-        ensures config { IfOk result (λ made. made.0.config ≡ self.now.config) }
+        ensures shown { (plain : Document) → DocStandsFor self.now plain → IsShownAfter plain event }
+        ensures kept { IfOk result (λ made. (length made.0.sessions ≡ length self.now.sessions) × (made.0.config ≡ self.now.config)) }
         ensures steps { steps.new ≡ steps.old }
     {
         let _steps = steps;
-        self.next(alloc, event)
+        let (next, effects) = self.next(alloc, event)?;
+        let made = after_collection(alloc, next)?;
+        Ok((made, effects))
     }
 
     /// The same, in place of this document: it is put there last, so after an `Err` the document is as before, for want of memory too.
@@ -145,7 +153,7 @@ impl Doc {
         event: Event,
         steps: &mut Steps<L>,
     ) -> Result<Effects, DocFault>
-        requires caller { HasCaller self.old.plugins event }
+        requires caller { HasCaller (length self.old.sessions) event }
         requires has_number { head self.old.engine.revisions < 2 ^ 63 - 1 }
         ensures stands { (plain : Document) → DocStandsFor self.old plain
             → OnOk result (DocStandsFor self.new (event_step plain event).document) }
@@ -154,9 +162,9 @@ impl Doc {
         ensures accepted { (plain : Document) → DocStandsFor self.old plain → OnOk result (refusal_at plain event ≡ None) }
         ensures refused { (plain : Document) → DocStandsFor self.old plain
             → IfErr result (DocRefuses (refusal_at plain event)) }
-        ensures shown { (plain : Document) → DocStandsFor self.old plain → IsUpToDate (event_step plain event).document }
+        ensures shown { (plain : Document) → DocStandsFor self.old plain → IsShownAfter plain event }
         ensures same { OnErr result (self.new ≡ self.old) }
-        ensures kept { (self.new.plugins ≡ self.old.plugins) × (self.new.config ≡ self.old.config) }
+        ensures kept { (length self.new.sessions ≡ length self.old.sessions) × (self.new.config ≡ self.old.config) }
         ensures steps { steps.new ≡ steps.old }
     {
         let (next, effects) = self.after(alloc, event, steps)?;
@@ -164,16 +172,16 @@ impl Doc {
         Ok(effects)
     }
 
-    // The document after an event, and what those outside are told of it.
+    // The document after an event, before anything is collected, and what those outside are told of it.
     fn next(&self, alloc: Global, event: Event) -> Result<(Doc, Effects), DocFault>
-        requires caller { HasCaller self.now.plugins event }
+        requires caller { HasCaller (length self.now.sessions) event }
         requires has_number { head self.now.engine.revisions < 2 ^ 63 - 1 }
         ensures stepped { (plain : Document) → DocStandsFor self.now plain
-            → IfOk result (IsStepped (event_step plain event)) }
+            → IfOk result (IsStepped (taken_step plain event)) }
         ensures accepted { (plain : Document) → DocStandsFor self.now plain → OnOk result (refusal_at plain event ≡ None) }
         ensures refused { (plain : Document) → DocStandsFor self.now plain
             → IfErr result (DocRefuses (refusal_at plain event)) }
-        ensures plugins { IfOk result (λ made. made.0.plugins ≡ self.now.plugins) }
+        ensures plugins { IfOk result (λ made. length made.0.sessions ≡ length self.now.sessions) }
         ensures config { IfOk result (λ made. made.0.config ≡ self.now.config) }
     {
         match event {
@@ -183,6 +191,8 @@ impl Doc {
                 edit,
                 named,
             } => self.edit(alloc, caller, edit, named),
+            Event::Ack { caller, rev } => self.acknowledged(alloc, caller, rev),
+            Event::Ended { caller } => Ok(self.ended(alloc, caller)?),
             Event::Other => Ok(self.other(alloc)?),
         }
     }
@@ -196,7 +206,7 @@ impl Doc {
             → OnOk result (command_refusal plain (effect_on plain act) ≡ None) }
         ensures refused { (plain : Document) → DocStandsFor self.now plain
             → IfErr result (DocRefuses (command_refusal plain (effect_on plain act))) }
-        ensures plugins { IfOk result (λ made. made.0.plugins ≡ self.now.plugins) }
+        ensures sessions { IfOk result (λ made. made.0.sessions ≡ self.now.sessions) }
         ensures config { IfOk result (λ made. made.0.config ≡ self.now.config) }
     {
         match act {
@@ -215,7 +225,7 @@ impl Doc {
             → OnOk result (command_refusal plain (effect_on plain act.now) ≡ None) }
         ensures refused { (plain : Document) → DocStandsFor self.now plain
             → IfErr result (DocRefuses (command_refusal plain (effect_on plain act.now))) }
-        ensures plugins { IfOk result (λ made. made.0.plugins ≡ self.now.plugins) }
+        ensures sessions { IfOk result (λ made. made.0.sessions ≡ self.now.sessions) }
         ensures config { IfOk result (λ made. made.0.config ≡ self.now.config) }
     {
         if !is_done_on_text(act) {
@@ -235,7 +245,7 @@ impl Doc {
         requires inside { AreWithin (length self.now.view.text) sel.regions }
         ensures stepped { (plain : Document) → DocStandsFor self.now plain
             → IfOk result (IsStepped (idle_step plain act.now (effect_on plain act.now))) }
-        ensures plugins { IfOk result (λ made. made.0.plugins ≡ self.now.plugins) }
+        ensures sessions { IfOk result (λ made. made.0.sessions ≡ self.now.sessions) }
         ensures config { IfOk result (λ made. made.0.config ≡ self.now.config) }
     {
         let body = self.answer(alloc, act)?;
@@ -265,7 +275,7 @@ impl Doc {
             → OnOk result (asked_refusal plain (front_edit plain None (effect_on plain act.now).replacements) ≡ None) }
         ensures refused { (plain : Document) → DocStandsFor self.now plain
             → IfErr result (DocRefuses (asked_refusal plain (front_edit plain None (effect_on plain act.now).replacements))) }
-        ensures plugins { IfOk result (λ made. made.0.plugins ≡ self.now.plugins) }
+        ensures sessions { IfOk result (λ made. made.0.sessions ≡ self.now.sessions) }
         ensures config { IfOk result (λ made. made.0.config ≡ self.now.config) }
     {
         let kind = kind_of(act);
@@ -311,7 +321,7 @@ impl Doc {
         requires { head self.now.engine.revisions < 2 ^ 63 - 1 }
         ensures stepped { (plain : Document) → DocStandsFor self.now plain
             → IfOk result (IsStepped (history_step plain (next_undo plain.groups) (undone_one plain.groups))) }
-        ensures plugins { IfOk result (λ made. made.0.plugins ≡ self.now.plugins) }
+        ensures sessions { IfOk result (λ made. made.0.sessions ≡ self.now.sessions) }
         ensures config { IfOk result (λ made. made.0.config ≡ self.now.config) }
     {
         let _before = self.stack.given();
@@ -326,7 +336,7 @@ impl Doc {
         requires { head self.now.engine.revisions < 2 ^ 63 - 1 }
         ensures stepped { (plain : Document) → DocStandsFor self.now plain
             → IfOk result (IsStepped (history_step plain (next_redo plain.groups) (redone_one plain.groups))) }
-        ensures plugins { IfOk result (λ made. made.0.plugins ≡ self.now.plugins) }
+        ensures sessions { IfOk result (λ made. made.0.sessions ≡ self.now.sessions) }
         ensures config { IfOk result (λ made. made.0.config ≡ self.now.config) }
     {
         let _before = self.stack.given();
@@ -347,7 +357,7 @@ impl Doc {
         requires has_number { head self.now.engine.revisions < 2 ^ 63 - 1 }
         ensures stepped { (plain : Document) → DocStandsFor self.now plain
             → IfOk result (IsStepped (history_step plain group stack)) }
-        ensures plugins { IfOk result (λ made. made.0.plugins ≡ self.now.plugins) }
+        ensures sessions { IfOk result (λ made. made.0.sessions ≡ self.now.sessions) }
         ensures config { IfOk result (λ made. made.0.config ≡ self.now.config) }
     {
         match group {
@@ -362,7 +372,7 @@ impl Doc {
         requires has_number { head self.now.engine.revisions < 2 ^ 63 - 1 }
         ensures stepped { (plain : Document) → DocStandsFor self.now plain
             → IfOk result (IsStepped (history_step plain (Some group) stack)) }
-        ensures plugins { IfOk result (λ made. made.0.plugins ≡ self.now.plugins) }
+        ensures sessions { IfOk result (λ made. made.0.sessions ≡ self.now.sessions) }
         ensures config { IfOk result (λ made. made.0.config ≡ self.now.config) }
     {
         let taken = taken_turn(alloc, &self.engine, group)?;
@@ -383,7 +393,7 @@ impl Doc {
         edit: Edit,
         named: Option<u64>,
     ) -> Result<(Doc, Effects), DocFault>
-        requires caller { (1 ≤ caller) × (caller ≤ self.now.plugins) }
+        requires caller { (1 ≤ caller) × (caller ≤ length self.now.sessions) }
         requires has_number { head self.now.engine.revisions < 2 ^ 63 - 1 }
         ensures stepped { (plain : Document) → DocStandsFor self.now plain
             → IfOk result (IsStepped (plugin_step plain caller edit named)) }
@@ -391,7 +401,7 @@ impl Doc {
             → OnOk result (asked_refusal plain (plugin_edit plain caller edit None) ≡ None) }
         ensures refused { (plain : Document) → DocStandsFor self.now plain
             → IfErr result (DocRefuses (asked_refusal plain (plugin_edit plain caller edit None))) }
-        ensures plugins { IfOk result (λ made. made.0.plugins ≡ self.now.plugins) }
+        ensures sessions { IfOk result (λ made. made.0.sessions ≡ self.now.sessions) }
         ensures config { IfOk result (λ made. made.0.config ≡ self.now.config) }
     {
         let made = named_or_opened(alloc, &self.stack, named)?;
@@ -424,7 +434,7 @@ impl Doc {
             → IsAfter plain.history history author taken → Agree history.revisions history.collected left.stack left.typing
             → left.sel.regions ≢ [] → IfOk result (IsStepped (revision_step plain (next_document plain history left) author body
             (scroll_if scrolls plain (next_document plain history left)))) }
-        ensures plugins { IfOk result (λ made. made.0.plugins ≡ self.now.plugins) }
+        ensures sessions { IfOk result (λ made. made.0.sessions ≡ self.now.sessions) }
         ensures config { IfOk result (λ made. made.0.config ≡ self.now.config) }
     {
         let Taken {
@@ -453,6 +463,7 @@ impl Doc {
           view = record self.now.view { text = head_shown engine; regions = left.sel.regions; valid = true };
         }) }
     {
+        let sessions = self.sessions.copy(alloc)?;
         let Left { stack, typing, sel } = left;
         let shown = whole_text(alloc, engine.head_rope())?;
         let view = self.view.with_text(alloc, shown, sel)?;
@@ -462,7 +473,7 @@ impl Doc {
             typing,
             saved: self.saved,
             config: self.config,
-            plugins: self.plugins,
+            sessions,
             view,
         })
     }
@@ -470,7 +481,7 @@ impl Doc {
     // A line that is no command of this document; the front end is told what it lacks.
     fn other(&self, alloc: Global) -> Result<(Doc, Effects), NoMemory>
         ensures stepped { (plain : Document) → DocStandsFor self.now plain → IfOk result (IsStepped (other_step plain)) }
-        ensures plugins { IfOk result (λ made. made.0.plugins ≡ self.now.plugins) }
+        ensures sessions { IfOk result (λ made. made.0.sessions ≡ self.now.sessions) }
         ensures config { IfOk result (λ made. made.0.config ≡ self.now.config) }
     {
         let next = self.with_view(alloc, self.view.told()?, run_on(self.typing, None))?;
@@ -486,7 +497,7 @@ impl Doc {
     fn told(&self, alloc: Global, next: Doc, said: Said) -> Result<(Doc, Effects), NoMemory>
         ensures stepped { (plain later : Document) → DocStandsFor self.now plain → IsUntold next plain later
             → IfOk result (IsStepped (step_to plain later said.body (scroll_if said.scrolls plain later) said.notice)) }
-        ensures plugins { IfOk result (λ made. made.0.plugins ≡ next.plugins) }
+        ensures sessions { IfOk result (λ made. made.0.sessions ≡ next.sessions) }
         ensures config { IfOk result (λ made. made.0.config ≡ next.config) }
     {
         let was_pristine = self.is_pristine();
@@ -527,6 +538,116 @@ impl Doc {
         scroll_of(self.view.point(), next.view.point())
     }
 
+    // The session of a plugin acknowledges this revision.
+    fn acknowledged(&self, alloc: Global, caller: u32, rev: u64) -> Result<(Doc, Effects), DocFault>
+        requires { (1 ≤ caller) × (caller ≤ length self.now.sessions) }
+        ensures stepped { (plain : Document) → DocStandsFor self.now plain
+            → IfOk result (IsStepped (silent_step (acknowledged_document plain caller rev))) }
+        ensures accepted { (plain : Document) → DocStandsFor self.now plain
+            → OnOk result (acknowledgement_refusal plain.history rev ≡ None) }
+        ensures refused { (plain : Document) → DocStandsFor self.now plain
+            → IfErr result (DocRefuses (acknowledgement_refusal plain.history rev)) }
+        ensures plugins { IfOk result (λ made. length made.0.sessions ≡ length self.now.sessions) }
+        ensures config { IfOk result (λ made. made.0.config ≡ self.now.config) }
+    {
+        self.acknowledgeable(rev)?;
+        let sessions = self.sessions.acknowledged(alloc, caller, rev)?;
+        Ok(self.silent(alloc, sessions)?)
+    }
+
+    // Whether this revision may be acknowledged: from the floor to the head.
+    fn acknowledgeable(&self, rev: u64) -> Result<(), DocFault>
+        ensures accepted { (plain : Document) → DocStandsFor self.now plain
+            → OnOk result (acknowledgement_refusal plain.history rev ≡ None) }
+        ensures refused { (plain : Document) → DocStandsFor self.now plain
+            → IfErr result (DocRefuses (acknowledgement_refusal plain.history rev)) }
+    {
+        let head = self.engine.head();
+        if head < rev {
+            return Err(DocFault::Unknown(head));
+        }
+        let floor = self.engine.floor();
+        if rev < floor {
+            return Err(DocFault::Collected(floor));
+        }
+        Ok(())
+    }
+
+    // The session of a plugin ends.
+    fn ended(&self, alloc: Global, caller: u32) -> Result<(Doc, Effects), NoMemory>
+        requires { (1 ≤ caller) × (caller ≤ length self.now.sessions) }
+        ensures stepped { (plain : Document) → DocStandsFor self.now plain
+            → IfOk result (IsStepped (silent_step (ended_document plain caller))) }
+        ensures plugins { IfOk result (λ made. length made.0.sessions ≡ length self.now.sessions) }
+        ensures config { IfOk result (λ made. made.0.config ≡ self.now.config) }
+    {
+        let sessions = self.sessions.ended(alloc, caller)?;
+        self.silent(alloc, sessions)
+    }
+
+    // The document with other sessions; nobody is told.
+    fn silent(&self, alloc: Global, sessions: Sessions) -> Result<(Doc, Effects), NoMemory>
+        ensures stepped { (later : Document) → IsUncollected (record self.now { sessions = sessions }) later
+            → IfOk result (IsStepped (silent_step later)) }
+        ensures sessions { IfOk result (λ made. made.0.sessions ≡ sessions) }
+        ensures config { IfOk result (λ made. made.0.config ≡ self.now.config) }
+    {
+        let next = Doc {
+            engine: self.engine.copy(alloc)?,
+            stack: self.stack.copy(alloc)?,
+            typing: self.typing,
+            saved: self.saved,
+            config: self.config,
+            sessions,
+            view: self.view.copy()?,
+        };
+        let effects = Effects {
+            body: Body::Null,
+            update: None,
+            scroll: None,
+            notice: None,
+        };
+        Ok((next, effects))
+    }
+
+    // What is collected now, if anything: the groups of a floor. That is nothing where no group is retired, and where a session lags.
+    fn collectable(&self, alloc: Global) -> Result<Option<(u64, BTreeSet<u64>)>, NoMemory>
+        ensures found { (plain : Document) → IsUncollected self.now plain
+            → IfOk result (λ found. collection_said found ≡ collection_after plain) }
+        ensures may { IfOk result (λ found. IfSome found (λ some. MayCollectIn self.now some.0 some.1.keys)) }
+    {
+        let head = self.engine.head();
+        let _floor = self.engine.floor();
+        if !self.stack.has_retired() || self.sessions.least(head) < head {
+            return Ok(None);
+        }
+        let retired = retired_groups(alloc, &self.stack)?;
+        self.engine.collectable(alloc, head, &retired)
+    }
+
+    // The document after a collection, which the engine makes and the stack too.
+    fn without(&self, alloc: Global, floor: u64, groups: &BTreeSet<u64>) -> Result<Doc, NoMemory>
+        requires { MayCollectIn self.now floor groups.now.keys }
+        ensures stands { (plain : Document) → IsUncollected self.now plain
+            → floor ≤ least_acknowledged (head plain.history) plain.sessions → IfOk result (λ made.
+            IsUncollected made (with_collection plain (Some (record { floor = floor; groups = groups.now.keys })))) }
+        ensures sessions { IfOk result (λ made. made.sessions ≡ self.now.sessions) }
+        ensures config { IfOk result (λ made. made.config ≡ self.now.config) }
+    {
+        let mut engine = self.engine.copy(alloc)?;
+        engine.collect(alloc, floor, groups)?;
+        let stack = forgetting(alloc, &self.stack, groups)?;
+        Ok(Doc {
+            engine,
+            stack,
+            typing: self.typing,
+            saved: self.saved,
+            config: self.config,
+            sessions: self.sessions.copy(alloc)?,
+            view: self.view.copy()?,
+        })
+    }
+
     // The same document with another view of its text, and the run or none.
     fn with_view(
         &self,
@@ -544,7 +665,7 @@ impl Doc {
             typing,
             saved: self.saved,
             config: self.config,
-            plugins: self.plugins,
+            sessions: self.sessions.copy(alloc)?,
             view,
         })
     }
@@ -583,6 +704,18 @@ impl Doc {
         ensures { IfOk result (λ made. made ≡ self.now) }
     {
         self.with_view(alloc, self.view.copy()?, self.typing)
+    }
+}
+
+// The document in which what may be collected is collected: the same, where that is nothing.
+fn after_collection(alloc: Global, doc: Doc) -> Result<Doc, NoMemory>
+    ensures stands { (plain : Document) → IsUncollected doc plain → IfOk result (λ made. DocStandsFor made (collected_document plain)) }
+    ensures sessions { IfOk result (λ made. made.sessions ≡ doc.sessions) }
+    ensures config { IfOk result (λ made. made.config ≡ doc.config) }
+{
+    match doc.collectable(alloc)? {
+        Some((floor, groups)) => doc.without(alloc, floor, &groups),
+        None => Ok(doc),
     }
 }
 

@@ -15,6 +15,16 @@ pub enum Event {
         edit: Edit,
         named: Option<u64>,
     },
+    /// The plugin with this number, from 1, has the text of this revision, and needs no older one any more. Where its session has
+    /// ended, or has acknowledged that much, this changes nothing.
+    Ack {
+        caller: u32,
+        rev: u64,
+    },
+    /// The session of the plugin with this number, from 1, has ended: what it acknowledged counts no more.
+    Ended {
+        caller: u32,
+    },
     /// A line of the front end that is none of this document's, or the one that opens its view: it ends the run of typing.
     Other,
 }

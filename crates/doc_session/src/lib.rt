@@ -5,6 +5,7 @@
 //! what the front end and the plugins are told.
 #![tactic(auto)]
 
+mod collecting;
 mod commands;
 mod doc;
 mod event;
@@ -12,6 +13,7 @@ mod fault;
 pub mod laws;
 mod left;
 mod said;
+mod sessions;
 mod taken;
 mod typing;
 

@@ -1,4 +1,4 @@
-use Rattle.std.proofs.Common.{◌≡◌, ◌≤◌, List, ℕ, None, ap, sym, ◌∙◌, subst, arith}
+use Rattle.std.proofs.Common.{◌≡◌, ◌≤◌, List, ℕ, None, refl, ap, sym, ◌∙◌, subst, arith}
 use Rattle.plain_edits.specs.Edits.{edit_refusal}
 use Rattle.plain_edits.specs.History.{History, inserted_count}
 use Rattle.rev_engine.specs.Engine.{StandsFor, asked_by}
@@ -29,7 +29,7 @@ returns-clause-taken c = λ history stands.
     omega (arith, spent-within history c.in_ok-next.next.limit asked (c.in_ok-change.ensures.accepted history was), c.in_ok-change.ensures.limit) in
     let Noticed : List ℕ → Type 0 = λ text. IsNoticed text c.edit.new.self c.in_ok-change.change c.args.edit.now.author c.in_ok-noticed.field-0 in
     IsAfter-noticed history c.args.engine.now (edits (meant history asked)) c.edit.new.self c.in_ok-change.change c.args.edit.now.author c.in_ok-noticed.field-0 stands
-    (head-after history asked) (c.in_ok-change.ensures.stands history was) within (c.in_ok-change.ensures.change history was)
+    (head-after history asked) refl (c.in_ok-change.ensures.stands history was) within (c.in_ok-change.ensures.change history was)
     (subst Noticed c.head_rope.ensures.shown c.in_ok-noticed.ensures.noticed)
 
 pub returns-clause-made : goal.returns-clause-made

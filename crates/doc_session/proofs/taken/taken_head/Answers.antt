@@ -1,4 +1,4 @@
-use Rattle.std.proofs.Common.{◌≤◌, List, ℕ, length, ap, sym, ◌∙◌, subst, arith}
+use Rattle.std.proofs.Common.{◌≤◌, List, ℕ, length, refl, ap, sym, ◌∙◌, subst, arith}
 use Rattle.plain_edits.specs.History.{History, inserted_count}
 use Rattle.rev_engine.specs.Engine.{StandsFor}
 use Rattle.plain_edits.specs.HistorySteps.{edits}
@@ -30,7 +30,7 @@ returns-clause-taken c = λ history asked stands said.
     omega (arith, spent-within history c.in_ok-next.next.limit asked (c.in_ok-change.ensures.accepted history asked was said), c.in_ok-change.ensures.limit) in
     let Noticed : List ℕ → Type 0 = λ text. IsNoticed text c.edit_head.new.self c.in_ok-change.change asked.author c.in_ok-noticed.field-0 in
     IsAfter-noticed history c.args.engine.now (edits (meant history asked)) c.edit_head.new.self c.in_ok-change.change asked.author c.in_ok-noticed.field-0 stands
-    (head-after history asked) (c.in_ok-change.ensures.stands history asked was said) within (c.in_ok-change.ensures.change history asked was said)
+    (head-after history asked) refl (c.in_ok-change.ensures.stands history asked was said) within (c.in_ok-change.ensures.change history asked was said)
     (subst Noticed c.head_rope.ensures.shown
     (subst (λ author. IsNoticed c.head_rope.result.now c.edit_head.new.self c.in_ok-change.change author c.in_ok-noticed.field-0) (sym said.author)
     c.in_ok-noticed.ensures.noticed))

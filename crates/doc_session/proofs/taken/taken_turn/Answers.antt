@@ -1,4 +1,4 @@
-use Rattle.std.proofs.Common.{◌≤◌, List, ℕ, [], ◌∷◌, ap, sym, ◌∙◌, subst, arith}
+use Rattle.std.proofs.Common.{◌≤◌, List, ℕ, [], ◌∷◌, refl, ap, sym, ◌∙◌, subst, arith}
 use Rattle.plain_edits.specs.Edits.{undid}
 use Rattle.plain_edits.specs.History.{History, inserted_count}
 use Rattle.plain_edits.specs.HistorySteps.{undoes}
@@ -35,7 +35,7 @@ returns-clause-taken c = λ history stands few.
     omega (arith, few, c.in_ok-change.ensures.limit, ap (λ (e : State). e.limit) c.in_ok-next.ensures) in
     let Noticed : List ℕ → Type 0 = λ text. IsNoticed text c.turn.new.engine c.in_ok-change.change 0 c.in_ok-noticed.field-0 in
     IsAfter-noticed history c.args.engine.now (undoes groups) c.turn.new.engine c.in_ok-change.change 0 c.in_ok-noticed.field-0 stands
-    (head-undid history groups) (c.in_ok-change.ensures.stands history was) within (c.in_ok-change.ensures.change history was)
+    (head-undid history groups) refl (c.in_ok-change.ensures.stands history was) within (c.in_ok-change.ensures.change history was)
     (subst Noticed c.head_rope.ensures.shown c.in_ok-noticed.ensures.noticed)
 
 pub returns-clause-made : goal.returns-clause-made

@@ -11,6 +11,6 @@ returns-in_default c = record {
       (c.command.ensures.stepped plain stands);
   accepted = c.command.ensures.accepted;
   refused = c.command.ensures.refused;
-  plugins = c.command.ensures.plugins;
+  sessions = c.command.ensures.sessions;
   config = c.command.ensures.config;
 }

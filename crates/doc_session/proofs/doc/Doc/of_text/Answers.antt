@@ -8,6 +8,7 @@ use Rattle.doc_session.specs.Stands.{DocStandsFor}
 use Rattle.doc_session.specs.Whole.{IsStateOf, IsWhole}
 use Rattle.doc_session.proofs.AgreeLemmas.{Agree-loaded}
 use Rattle.doc_session.proofs.LoadLemmas.{IsStateOf-loaded, IsWhole-loaded, text_at-loaded}
+use Rattle.doc_session.proofs.SessionLemmas.{AreAcknowledged-loaded}
 use Rattle.doc_session.proofs.doc.Doc.of_text.Goals as goal
 
 pub returns-clause-stands : goal.returns-clause-stands
@@ -17,14 +18,16 @@ returns-clause-stands c =
     let text_is = ap (λ (v : View). v.text) c.in_ok-of_text.ensures ∙ c.in_ok-shown.ensures ∙ c.head_rope.ensures.text (loaded c.args.text) c.in_ok-engine.ensures.stands ∙
     text_at-loaded c.args.text in
     let Made : State → Type 0 =
-    λ e. DocStandsFor (record { engine = e; groups = c.new-stack.result; typing = None; saved = 0; config = c.args.config; plugins = c.args.plugins; view = view })
+    λ e. DocStandsFor (record { engine = e; groups = c.new-stack.result; typing = None; saved = 0; config = c.args.config; sessions = c.sessions.inside.each.items; view = view })
     (loaded_document c.args.text c.args.plugins c.args.limit) in
     subst Made (sym c.engine.view_is) (record {
       parts = subst (IsStateOf (loaded c.args.text) c.in_ok-engine.engine) (sym text_is)
           (IsStateOf-loaded c.args.text c.in_ok-engine.engine c.args.limit c.in_ok-engine.ensures.stands c.in_ok-engine.ensures.limit c.requires);
       limit = c.in_ok-engine.ensures.limit;
-      plugins = refl;
+      sessions = c.sessions.view_is ∙ c.in_ok-sessions.ensures;
+      acknowledged = AreAcknowledged-loaded c.args.text c.args.plugins;
       groups = c.new-stack.ensures;
+      none_left = λ ended. refl;
       typing = refl;
       agree = Agree-loaded stack;
       regions = ap (λ (v : View). v.regions) c.in_ok-of_text.ensures;

@@ -1,4 +1,4 @@
-use Rattle.std.proofs.Common.{ℕ, true, List, length, ap, ap₂, sym, ◌∙◌, subst}
+use Rattle.std.proofs.Common.{ℕ, true, List, Option, length, ap, ap₂, sym, ◌∙◌, subst}
 use Rattle.selection_core.specs.Mapped.{AreWithin}
 use Rattle.doc_view.specs.View.{View}
 use Rattle.doc_session.specs.InMemory.{Doc}
@@ -22,4 +22,14 @@ returns c =
     let view_is =
     c.in_ok-view.ensures ∙
     ap₂ (λ (d : Doc) (t : List ℕ). record d.view { text = t; regions = left.sel.regions; valid = true }) c.self.view_is shown_is in
+    let with_sessions : List (Option ℕ) → Doc = λ s. record {
+      engine = engine;
+      groups = left.stack;
+      typing = left.typing;
+      saved = c.self.inside.saved;
+      config = c.self.inside.config;
+      sessions = s;
+      view = c.in_ok-view.view;
+    } in
+    ap with_sessions c.in_ok-sessions.ensures ∙
     ap₂ (λ (d : Doc) (v : View). record d { engine = engine; groups = left.stack; typing = left.typing; view = v }) c.self.view_is view_is

@@ -2,7 +2,7 @@ use Rattle.std.proofs.Common.{refl, ap₂, ◌∙◌}
 use Rattle.doc_view.specs.Told.{told}
 use Rattle.doc_session.specs.InMemory.{Doc}
 use Rattle.doc_session.specs.Inner.{is_pristine_in}
-use Rattle.doc_session.proofs.SettleLemmas.{DocStandsFor-told, scroll-told, update-told}
+use Rattle.doc_session.proofs.SettleLemmas.{IsUncollected-told, scroll-told, update-told}
 use Rattle.doc_session.proofs.doc.Doc.told.Goals as goal
 
 pub returns-clause-stepped : goal.returns-clause-stepped
@@ -14,7 +14,7 @@ returns-clause-stepped c = λ plain later stands untold.
     ap₂ (λ was is. told c.self.inside.view c.next.inside.view was is) c.is_pristine-was_pristine.ensures c.is_pristine-is_pristine.ensures ∙
     ap₂ (λ (d e : Doc). told d.view e.view (is_pristine_in now) (is_pristine_in next)) c.self.view_is c.next.view_is in
     record {
-      stands = DocStandsFor-told now next plain later stands untold;
+      stands = IsUncollected-told now next plain later stands untold;
       effects = record {
         body = refl;
         update = update-told now next plain later stands untold c.in_ok-update.update update_is;

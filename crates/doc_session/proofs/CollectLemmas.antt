@@ -1,0 +1,450 @@
+-- What a collection makes of the undo groups of a document, and of the document.
+use Rattle.std.proofs.Common.{◌≡◌, ℕ, ◌<◌, ◌≤◌, Bool, true, false, not, ◌&&◌, ◌||◌, cond, if◌then◌else◌, ◌==◌, List, [], ◌∷◌, fold, length, Option, Some, None, Result, Ok, Err, IfOk, refl, ap, ap₂, sym, ◌∙◌, subst, inl, inr, arith}
+use Rattle.std.specs.Prelude.{IfSome}
+use Rattle.std.specs.BTreeSet.{BTreeSet}
+use Rattle.std.specs.List.{AllByRecursion, filter, list_all, list_any}
+use Rattle.std.specs.Ordering.{is_eq, nat_cmp}
+use Rattle.std.proofs.Math.Logic.{∥∥₁_map}
+use Rattle.std.proofs.Math.Seq.{drop-length}
+use Rattle.std.proofs.lemmas.Bool.{cases_eq, cases_lt, and_parts, and_from, or_right, eqb-true, eq-eqb, ne_eqb}
+use Rattle.std.proofs.lemmas.Bool.Decides.{nat_tests}
+use Rattle.plain_text.specs.Numbers.{has, with_number, without_number, IsRising}
+use Rattle.plain_text.proofs.callers.NumberLemmas.{IsRising-without, has-with_numbers}
+use Rattle.number_set.proofs.ForCallers.{above, absent, has-own, no}
+use Rattle.plain_edits.specs.Collection.{Collection, clean_floor, collected_at, collection_at, collection_of, is_at_rest, is_based_from, is_clean, resting_groups}
+use Rattle.plain_edits.specs.Edits.{is_edit_of}
+use Rattle.plain_edits.specs.History.{History, Revision, head, undone}
+use Rattle.plain_edits.proofs.callers.CollectionLemmas.{all_has, greatest_clean_floor, is_at_rest_iff}
+use Rattle.undo_groups.specs.Groups.{Groups, IsStack, forgotten, is_known}
+use Rattle.rev_collect.specs.Choice.{collection_said}
+use Rattle.rev_engine.specs.Asked.{IsCollectionTaken}
+use Rattle.rev_engine.specs.State.{State}
+use Rattle.rev_engine.specs.Engine.{StandsFor}
+use Rattle.doc_session.specs.declared.typing.Typing.{Typing}
+use Rattle.doc_session.specs.Agree.{Agree, IsNewest, is_given}
+use Rattle.doc_session.specs.Collecting.{AreAcknowledged, AreEnded, HasNoneLeft, collected_document, collection_after, least_acknowledged, with_collection}
+use Rattle.doc_session.specs.Document.{Document}
+use Rattle.doc_session.specs.InMemory.{Doc}
+use Rattle.doc_session.specs.Inner.{IsUncollected, MayCollectIn}
+use Rattle.doc_session.specs.Stands.{DocStandsFor}
+use Rattle.doc_session.specs.Whole.{IsWhole, IsWholeOf}
+use Rattle.doc_session.proofs.HeadLemmas.{head-stands}
+use Rattle.doc_session.proofs.SessionLemmas.{AreAcknowledged-raised, least-ended, least-within}
+
+-- ---- numbers without some
+
+same_order : (n : ℕ) → is_eq (nat_cmp n n) ≡ true
+same_order n = grind (arith, nat_tests)
+
+other_order : (n m : ℕ) → (n ≡ m → ⊥) → is_eq (nat_cmp n m) ≡ false
+other_order n m other = grind (arith, nat_tests)
+
+either : (m x : Bool) (rest : Bool) → (m ≡ true → x ≡ false) → (x || (if m then false else rest)) ≡ (if m then false else x || rest)
+either true x rest apart = ap (λ b. b || false) (apart refl)
+either false x rest apart = refl
+
+pub has-removed : (xs : List ℕ) (n m : ℕ) → IsRising xs → has (without_number xs n) m ≡ (if n == m then false else has xs m)
+has-removed [] n m up = by (n == m)
+  where
+    by : (same : Bool) → false ≡ (if same then false else false)
+    by true = refl
+    by false = refl
+has-removed (x ∷ xs) n m up =
+    elim (cases_eq n x) [
+      | inl is ↦
+          ap (λ b. has (cond b xs (x ∷ without_number xs n)) m) (ap (λ k. is_eq (nat_cmp n k)) (sym is) ∙ same_order n) ∙
+          elim (cases_eq n m) [
+            | inl own ↦
+                absent (has xs m) (λ there. absurd (omega (arith, above x m xs up.0 there, is, own))) ∙
+                ap (λ b. if b then false else has (x ∷ xs) m) (sym (eq-eqb n m own))
+            | inr other ↦
+                ap (λ b. b || has xs m) (sym (ne_eqb x m (λ same. other (is ∙ same)))) ∙
+                ap (λ b. if b then false else has (x ∷ xs) m) (sym (ne_eqb n m other))
+          ]
+      | inr differs ↦
+          ap (λ b. has (cond b xs (x ∷ without_number xs n)) m) (other_order n x differs) ∙
+          ap (λ b. x == m || b) (has-removed xs n m up.1) ∙
+          either (n == m) (x == m) (has xs m) (λ own. ne_eqb x m (λ same. differs (eqb-true n m own ∙ sym same)))
+    ]
+
+in_turn : (a b rest : Bool) → (if b then false else (if a then false else rest)) ≡ (if a || b then false else rest)
+in_turn true true rest = refl
+in_turn true false rest = refl
+in_turn false true rest = refl
+in_turn false false rest = refl
+
+pub has-without_numbers : (xs gone : List ℕ) (m : ℕ) → IsRising xs → has (fold without_number xs gone) m ≡ (if has gone m then false else has xs m)
+has-without_numbers xs [] m up = refl
+has-without_numbers xs (n ∷ gone) m up =
+    has-without_numbers (without_number xs n) gone m (IsRising-without xs n up) ∙
+    ap (λ b. if has gone m then false else b) (has-removed xs n m up) ∙ in_turn (n == m) (has gone m) (has xs m)
+
+-- without all of them
+without_all : (xs : List ℕ) → fold without_number xs xs ≡ []
+without_all [] = refl
+without_all (x ∷ xs) =
+    ap (λ b. fold without_number (cond b xs (x ∷ without_number xs x)) xs) (same_order x) ∙ without_all xs
+
+-- ---- forgotten groups
+
+pub fold_forgotten : (s : Groups) (gone : List ℕ) → fold forgotten s gone ≡ record s { retired = fold without_number s.retired gone }
+fold_forgotten s [] = refl
+fold_forgotten s (group ∷ gone) = fold_forgotten (forgotten s group) gone
+
+-- ---- stack and history go on to agree
+
+known-by : (live retired gone given collected : Bool) → (live || retired) ≡ (given && not collected) → (gone ≡ true → retired ≡ true) →
+    (live ≡ true → retired ≡ false) → (live || (if gone then false else retired)) ≡ (given && not (collected || gone))
+known-by true true gone given collected known there apart = absurd (no true refl (apart refl))
+known-by true false true given collected known there apart = absurd (no false (there refl) refl)
+known-by true false false given collected known there apart = known ∙ ap (λ b. given && not b) (sym (kept collected))
+  where
+    kept : (b : Bool) → (b || false) ≡ b
+    kept true = refl
+    kept false = refl
+known-by false retired true given collected known there apart = sym (none given collected)
+  where
+    none : (g c : Bool) → (g && not (c || true)) ≡ false
+    none true true = refl
+    none true false = refl
+    none false c = refl
+known-by false retired false given collected known there apart = known ∙ ap (λ b. given && not b) (sym (kept collected))
+  where
+    kept : (b : Bool) → (b || false) ≡ b
+    kept true = refl
+    kept false = refl
+
+newest-retired : (s : Groups) (retired : List ℕ) (typing : Option Typing) → IsNewest s typing → IsNewest (record s { retired = retired }) typing
+newest-retired s retired None newest = tt
+newest-retired s retired (Some run) newest = newest
+
+module _ (revisions : List Revision) (collected : List ℕ) (groups : Groups) (typing : Option Typing) (agree : Agree revisions collected groups typing)
+    (gone : List ℕ) (all : AllByRecursion (λ group. has groups.retired group ≡ true) gone) where
+  abbrev less : Groups
+  less = record groups { retired = fold without_number groups.retired gone }
+
+  there : (group : ℕ) → has gone group ≡ true → has groups.retired group ≡ true
+  there group is = all_has (λ g. has groups.retired g ≡ true) gone group all is
+
+  known-less : (group : ℕ) → is_known less group ≡ (is_given groups group && not (has (fold with_number collected gone) group))
+  known-less group =
+      ap (λ b. has groups.live group || b) (has-without_numbers groups.retired gone group agree.stack.retired_rise) ∙
+      known-by (has groups.live group) (has groups.retired group) (has gone group) (is_given groups group) (has collected group) (agree.known group) (there group)
+      (agree.stack.reachable group) ∙
+      ap (λ b. is_given groups group && not b) (sym (has-with_numbers collected gone group))
+
+  given-less : (group : ℕ) → has (fold with_number collected gone) group ≡ true → is_given groups group ≡ true
+  given-less group is = by (has collected group) (has gone group) refl refl (sym (has-with_numbers collected gone group) ∙ is)
+    where
+      by : (old new : Bool) → has collected group ≡ old → has gone group ≡ new → (has collected group || has gone group) ≡ true → is_given groups group ≡ true
+      by true new old_is new_is either = agree.collected_given group old_is
+      by false true old_is new_is either =
+          (and_parts (is_given groups group) (not (has collected group))
+          (sym (agree.known group) ∙ or_right (has groups.live group) (has groups.retired group) (there group new_is))).0
+      by false false old_is new_is either = absurd (no (has collected group || has gone group) either (ap₂ (λ a b. a || b) old_is new_is))
+
+  Agree-less : IsStack less → Agree revisions (fold with_number collected gone) less typing
+  Agree-less stack = record {
+    stack = stack;
+    undone = agree.undone;
+    given = agree.given;
+    few = agree.few;
+    known = known-less;
+    collected_given = given-less;
+    newest = newest-retired groups (fold without_number groups.retired gone) typing agree.newest;
+  }
+
+  pub Agree-collected : (stack : Groups) → stack ≡ fold forgotten groups gone → IsStack stack → Agree revisions (fold with_number collected gone) stack typing
+  Agree-collected stack is sound =
+      let less_is : stack ≡ less = is ∙ fold_forgotten groups gone in
+      subst (λ s. Agree revisions (fold with_number collected gone) s typing) (sym less_is) (Agree-less (subst IsStack less_is sound))
+
+-- ---- what is collected
+
+module _ (h : History) (retired : List ℕ) where
+  groups-at : (floor : ℕ) (groups : List ℕ) (found : Collection) → collection_at h floor groups ≡ Some found → (found.floor ≡ floor) × (found.groups ≡ groups)
+  groups-at floor [] found is = absurd cc
+  groups-at floor (group ∷ groups) found is = by (floor == head h) is
+    where
+      by : (here : Bool) → (if here then Some (record { floor = floor; groups = group ∷ groups }) else None) ≡ Some found →
+          (found.floor ≡ floor) × (found.groups ≡ group ∷ groups)
+      by true is =
+          let same : record { floor = floor; groups = group ∷ groups } ≡ found = cc in
+          (sym (ap (λ (c : Collection). c.floor) same), sym (ap (λ (c : Collection). c.groups) same))
+      by false is = absurd cc
+
+  among : (p : ℕ → Bool) (xs all : List ℕ) → ((g : ℕ) → has xs g ≡ true → has all g ≡ true) → AllByRecursion (λ g. has all g ≡ true) (filter p xs)
+  among p [] all each = tt
+  among p (x ∷ xs) all each = by (p x) (each x (has-own x xs)) (among p xs all (λ g there. each g (or_right (x == g) (has xs g) there)))
+    where
+      by : (b : Bool) → has all x ≡ true → AllByRecursion (λ g. has all g ≡ true) (filter p xs) →
+          AllByRecursion (λ g. has all g ≡ true) (cond b (x ∷ filter p xs) (filter p xs))
+      by true here rest = (here, rest)
+      by false here rest = rest
+
+  -- its floor is at most what was acknowledged, and its groups are retired
+  pub floor-found : (most : ℕ) (found : Collection) → collection_of h retired most ≡ Some found → found.floor ≤ most
+  floor-found most found is =
+      let floor = clean_floor h.revisions most in
+      omega (
+        arith,
+        (groups-at floor (resting_groups h retired floor) found is).0,
+        (greatest_clean_floor h.revisions most).is_within,
+      )
+
+  pub retired-found : (most : ℕ) (found : Collection) → collection_of h retired most ≡ Some found →
+      AllByRecursion (λ group. has retired group ≡ true) found.groups
+  retired-found most found is =
+      let floor = clean_floor h.revisions most in
+      subst (AllByRecursion (λ group. has retired group ≡ true)) (sym (groups-at floor (resting_groups h retired floor) found is).1)
+      (among _ retired retired (λ g there. there))
+
+  -- nothing where a session lags behind the head
+  lags : (floor : ℕ) (groups : List ℕ) → floor < head h → collection_at h floor groups ≡ None
+  lags floor [] below = refl
+  lags floor (group ∷ groups) below =
+      ap (λ here. if here then Some (record { floor = floor; groups = group ∷ groups }) else None)
+      (ne_eqb floor (head h) (λ same. absurd (omega (arith, same, below))))
+
+  pub collection_of-lags : (most : ℕ) → most < head h → collection_of h retired most ≡ None
+  collection_of-lags most below =
+      let floor = clean_floor h.revisions most in
+      lags floor (resting_groups h retired floor) (omega (arith, (greatest_clean_floor h.revisions most).is_within, below))
+
+-- nor where no group is retired
+pub collection_of-nothing : (h : History) (retired : List ℕ) (most : ℕ) → retired ≡ [] → collection_of h retired most ≡ None
+collection_of-nothing h retired most none = ap (λ groups. collection_of h groups most) none
+
+-- ---- at the head
+
+-- it is clean, and a group is at rest there
+clean-head : (revisions : List Revision) → clean_floor revisions (length revisions) ≡ length revisions
+clean-head revisions =
+    let n = length revisions in
+    let is = greatest_clean_floor revisions n in
+    let clean : is_clean revisions n ≡ true = ap (list_all (is_based_from n)) (drop-length revisions) in
+    let low : n ≤ clean_floor revisions n = is.greatest n (omega arith) clean in
+    let high : clean_floor revisions n ≤ n = is.is_within in
+    omega (arith, low, high)
+
+rests-head : (h : History) (group : ℕ) → is_at_rest h (head h) group ≡ true
+rests-head h group =
+    (is_at_rest_iff h (head h) group).1 (record {
+      is_over = ap (list_any (is_edit_of group)) (drop-length h.revisions);
+      is_settled = λ rev low high.
+          let here : rev ≡ head h = omega (arith, low, high) in
+          ap (λ at. has (undone h.revisions at) group) here;
+    })
+
+all_pass : (p : ℕ → Bool) (xs : List ℕ) → ((x : ℕ) → has xs x ≡ true → p x ≡ true) → filter p xs ≡ xs
+all_pass p [] each = refl
+all_pass p (x ∷ xs) each =
+    ap (λ b. cond b (x ∷ filter p xs) (filter p xs)) (each x (has-own x xs)) ∙
+    ap (λ ys. x ∷ ys) (all_pass p xs (λ y there. each y (or_right (x == y) (has xs y) there)))
+
+-- all retired groups are collected there
+collection_of-head : (h : History) (groups : Groups) (typing : Option Typing) → Agree h.revisions h.collected groups typing →
+    collection_of h groups.retired (head h) ≡ collection_at h (head h) groups.retired
+collection_of-head h groups typing agree =
+    let kept : (g : ℕ) → has groups.retired g ≡ true → not (has h.collected g) ≡ true =
+    λ g there. (and_parts (is_given groups g) (not (has h.collected g)) (sym (agree.known g) ∙ or_right (has groups.live g) (has groups.retired g) there)).1 in
+    ap (λ floor. collection_at h floor (resting_groups h groups.retired floor)) (clean-head h.revisions) ∙
+    ap (collection_at h (head h))
+    (all_pass (λ g. not (has h.collected g) && is_at_rest h (head h) g) groups.retired
+    (λ g there. and_from (not (has h.collected g)) (is_at_rest h (head h) g) (kept g there) (rests-head h g)))
+
+-- ---- documents
+
+-- no retired group is left where no session is open
+left-at : (plain : Document) (retired : List ℕ) → plain.groups.retired ≡ retired →
+    (with_collection plain (collection_at plain.history (head plain.history) retired)).groups.retired ≡ []
+left-at plain [] is = is
+left-at plain (group ∷ retired) is =
+    let head_is = head plain.history in
+    ap (λ here. (with_collection plain (if here then Some (record { floor = head_is; groups = group ∷ retired }) else None)).groups.retired) (eq-eqb head_is head_is refl) ∙
+    ap (λ (s : Groups). s.retired) (fold_forgotten plain.groups (group ∷ retired)) ∙
+    ap (λ xs. fold without_number xs (group ∷ retired)) is ∙ without_all (group ∷ retired)
+
+sessions-with : (plain : Document) (found : Option Collection) → (with_collection plain found).sessions ≡ plain.sessions
+sessions-with plain None = refl
+sessions-with plain (Some found) = refl
+
+pub HasNoneLeft-collected : (doc : Doc) (plain : Document) → IsUncollected doc plain → HasNoneLeft (collected_document plain)
+HasNoneLeft-collected doc plain stands = λ ended.
+    let all = subst AreEnded (sessions-with plain (collection_after plain)) ended in
+    let h = plain.history in
+    ap (λ found. (with_collection plain found).groups.retired)
+    (ap (collection_of h plain.groups.retired) (least-ended (head h) plain.sessions all) ∙
+    collection_of-head h plain.groups plain.typing stands.agree) ∙
+    left-at plain plain.groups.retired refl
+
+-- THE DOCUMENT IN MEMORY after a collection
+abbrev pub less_doc : Doc → State → Groups → Doc
+less_doc doc engine groups = record doc { engine = engine; groups = groups }
+
+pub IsUncollected-collected : (doc made : Doc) (plain : Document) (engine : State) (stack : Groups) (found : Collection) → IsUncollected doc plain →
+    made ≡ less_doc doc engine stack → engine.limit ≡ doc.engine.limit →
+    StandsFor engine (collected_at plain.history found.floor found.groups) → stack ≡ fold forgotten doc.groups found.groups → IsStack stack →
+    AllByRecursion (λ group. has doc.groups.retired group ≡ true) found.groups → found.floor ≤ least_acknowledged (head plain.history) plain.sessions →
+    IsUncollected made (with_collection plain (Some found))
+IsUncollected-collected doc made plain engine stack found stands is limit engine_stands stack_is sound retired floor =
+    let At : Doc → Type 0 = λ d. IsUncollected d (with_collection plain (Some found)) in
+    let groups_is : stack ≡ fold forgotten plain.groups found.groups = stack_is ∙ ap (λ s. fold forgotten s found.groups) stands.groups in
+    let gone = subst (λ (s : Groups). AllByRecursion (λ group. has s.retired group ≡ true) found.groups) stands.groups retired in
+    subst At (sym is) (record {
+      parts = record {
+        stands = engine_stands;
+        shown_is = stands.parts.shown_is;
+        within = omega (arith, stands.parts.within, limit);
+        bound = omega (arith, stands.parts.bound, limit);
+      };
+      limit = limit ∙ stands.limit;
+      sessions = stands.sessions;
+      acknowledged = AreAcknowledged-raised plain.history (collected_at plain.history found.floor found.groups) plain.sessions floor refl stands.acknowledged;
+      groups = groups_is;
+      typing = stands.typing;
+      agree = subst (λ s. Agree plain.history.revisions (fold with_number plain.history.collected found.groups) s plain.typing) groups_is
+          (Agree-collected plain.history.revisions plain.history.collected plain.groups plain.typing stands.agree found.groups gone stack groups_is sound);
+      regions = stands.regions;
+      regions_are = stands.regions_are;
+      saved = stands.saved;
+      saved_before = stands.saved_before;
+      window = stands.window;
+      shows_first = stands.shows_first;
+      screen = stands.screen;
+    })
+
+-- and what holds of it in memory, whatever its history
+pub IsWhole-collected : (engine later : State) (groups stack : Groups) (typing : Option Typing) (shown : List ℕ) (floor : ℕ) (gone : List ℕ) →
+    IsWhole engine groups typing shown → ((h : History) → StandsFor engine h → StandsFor later (collected_at h floor gone)) → later.limit ≡ engine.limit →
+    stack ≡ fold forgotten groups gone → IsStack stack → AllByRecursion (λ group. has groups.retired group ≡ true) gone → IsWhole later stack typing shown
+IsWhole-collected engine later groups stack typing shown floor gone whole each limit is sound retired =
+    ∥∥₁_map whole (λ (s : (h : History) × IsWholeOf h engine groups typing shown). (
+      collected_at s.0 floor gone,
+      record {
+        state = record {
+          stands = each s.0 s.1.state.stands;
+          shown_is = s.1.state.shown_is;
+          within = omega (arith, s.1.state.within, limit);
+          bound = omega (arith, s.1.state.bound, limit);
+        };
+        agree = Agree-collected s.0.revisions s.0.collected groups typing s.1.agree gone retired stack is sound;
+      },
+    ))
+
+-- ---- what a document in memory collects
+
+module _ (doc : Doc) (plain : Document) (stands : IsUncollected doc plain) where
+  head-uncollected : head doc.engine.revisions ≡ head plain.history
+  head-uncollected = head-stands doc.engine plain.history stands.parts.stands
+
+  least-uncollected : least_acknowledged (head doc.engine.revisions) doc.sessions ≡ least_acknowledged (head plain.history) plain.sessions
+  least-uncollected = ap₂ least_acknowledged head-uncollected stands.sessions
+
+  empty : (groups : List ℕ) → (0 < length groups → ⊥) → groups ≡ []
+  empty [] none = refl
+  empty (group ∷ groups) none = absurd (none (omega arith))
+
+  -- nothing where no group is retired
+  pub nothing-retired : (0 < length doc.groups.retired → ⊥) → None ≡ collection_after plain
+  nothing-retired none =
+      sym (collection_of-nothing plain.history plain.groups.retired (least_acknowledged (head plain.history) plain.sessions)
+      (sym (ap (λ (s : Groups). s.retired) stands.groups) ∙ empty doc.groups.retired none))
+
+  -- nor where a session lags
+  pub nothing-lags : least_acknowledged (head doc.engine.revisions) doc.sessions < head doc.engine.revisions → None ≡ collection_after plain
+  nothing-lags below =
+      sym (collection_of-lags plain.history plain.groups.retired (least_acknowledged (head plain.history) plain.sessions)
+      (omega (arith, below, least-uncollected, head-uncollected)))
+
+  -- and else what there is at the head
+  pub found-head : (least_acknowledged (head doc.engine.revisions) doc.sessions < head doc.engine.revisions → ⊥) →
+      collection_of plain.history doc.groups.retired (head doc.engine.revisions) ≡ collection_after plain
+  found-head none =
+      let within = least-within (head doc.engine.revisions) doc.sessions in
+      let here : head doc.engine.revisions ≡ least_acknowledged (head plain.history) plain.sessions =
+      not_below (least_acknowledged (head doc.engine.revisions) doc.sessions) (head doc.engine.revisions) within none ∙ least-uncollected in
+      ap₂ (collection_of plain.history) (ap (λ (s : Groups). s.retired) stands.groups) here
+    where
+      not_below : (a b : ℕ) → a ≤ b → (a < b → ⊥) → b ≡ a
+      not_below a b within none = elim (cases_lt a b) [ inl below ↦ absurd (none below) | inr over ↦ omega (arith, over, within) ]
+
+-- what the engine finds may be collected
+pub MayCollectIn-found : {E : Type 0} (doc : Doc) (retired : List ℕ) (most : ℕ) (result : Result (Option (ℕ × BTreeSet ℕ)) E) → retired ≡ doc.groups.retired →
+    IfOk result (λ found. collection_said found ≡ collection_of doc.engine.revisions retired most) →
+    IfOk result (λ found. IfSome found (λ some. IsCollectionTaken doc.engine.revisions some.0 some.1.keys)) →
+    IfOk result (λ found. IfSome found (λ some. MayCollectIn doc some.0 some.1.keys))
+MayCollectIn-found doc retired most (Err lack) is said taken = tt
+MayCollectIn-found doc retired most (Ok None) is said taken = tt
+MayCollectIn-found doc retired most (Ok (Some found)) is said taken = record {
+  taken = taken;
+  retired = subst (λ groups. AllByRecursion (λ group. has groups group ≡ true) found.1.keys) is
+      (retired-found doc.engine.revisions retired most (record { floor = found.0; groups = found.1.keys }) (sym said));
+}
+
+-- ---- what nothing waits in
+
+DocStandsFor-whole : (doc : Doc) (plain : Document) → IsUncollected doc plain → HasNoneLeft plain → DocStandsFor doc plain
+DocStandsFor-whole doc plain stands none = record {
+  parts = stands.parts;
+  limit = stands.limit;
+  sessions = stands.sessions;
+  acknowledged = stands.acknowledged;
+  groups = stands.groups;
+  none_left = none;
+  typing = stands.typing;
+  agree = stands.agree;
+  regions = stands.regions;
+  regions_are = stands.regions_are;
+  saved = stands.saved;
+  saved_before = stands.saved_before;
+  window = stands.window;
+  shows_first = stands.shows_first;
+  screen = stands.screen;
+}
+
+module _ (doc : Doc) (plain : Document) (stands : IsUncollected doc plain) (found : Option Collection) (is : found ≡ collection_after plain) where
+  -- what is collected leaves none
+  pub DocStandsFor-collected : (made : Doc) → IsUncollected made (with_collection plain found) → DocStandsFor made (collected_document plain)
+  DocStandsFor-collected made uncollected =
+      DocStandsFor-whole made (collected_document plain) (subst (λ f. IsUncollected made (with_collection plain f)) is uncollected)
+      (HasNoneLeft-collected doc plain stands)
+
+pub DocStandsFor-found : {E : Type 0} (doc : Doc) (plain : Document) (found : Collection) (result : Result Doc E) → IsUncollected doc plain →
+    Some found ≡ collection_after plain →
+    (found.floor ≤ least_acknowledged (head plain.history) plain.sessions → IfOk result (λ made. IsUncollected made (with_collection plain (Some found)))) →
+    IfOk result (λ made. DocStandsFor made (collected_document plain))
+DocStandsFor-found doc plain found (Err lack) stands is made = tt
+DocStandsFor-found doc plain found (Ok made) stands is each =
+    DocStandsFor-collected doc plain stands (Some found) is made
+    (each (floor-found plain.history plain.groups.retired (least_acknowledged (head plain.history) plain.sessions) found (sym is)))
+
+-- ---- the document with other sessions
+
+pub IsUncollected-sessions : (doc : Doc) (plain : Document) (sessions others : List (Option ℕ)) → DocStandsFor doc plain → sessions ≡ others →
+    AreAcknowledged plain.history others → IsUncollected (record doc { sessions = sessions }) (record plain { sessions = others })
+IsUncollected-sessions doc plain sessions others stands same are = record {
+  parts = stands.parts;
+  limit = stands.limit;
+  sessions = same;
+  acknowledged = are;
+  groups = stands.groups;
+  typing = stands.typing;
+  agree = stands.agree;
+  regions = stands.regions;
+  regions_are = stands.regions_are;
+  saved = stands.saved;
+  saved_before = stands.saved_before;
+  window = stands.window;
+  shows_first = stands.shows_first;
+  screen = stands.screen;
+}
+
+-- WHAT A COLLECTION LEAVES ALONE
+pub part-collected : {X : Type 0} (f : Document → X) (plain : Document) → ((found : Collection) → f (with_collection plain (Some found)) ≡ f plain) →
+    f (collected_document plain) ≡ f plain
+part-collected f plain same = by (collection_after plain)
+  where
+    by : (found : Option Collection) → f (with_collection plain found) ≡ f plain
+    by None = refl
+    by (Some found) = same found

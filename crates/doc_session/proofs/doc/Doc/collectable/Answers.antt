@@ -1,0 +1,43 @@
+use Rattle.std.proofs.Common.{◌≡◌, ◌<◌, IfOk, ap, ap₂, sym, ◌∙◌, subst, arith}
+use Rattle.std.specs.Prelude.{IfSome}
+use Rattle.number_set.proofs.ForCallers.{no}
+use Rattle.plain_edits.specs.Collection.{collection_of}
+use Rattle.plain_edits.specs.History.{head}
+use Rattle.rev_collect.specs.Choice.{collection_said}
+use Rattle.doc_session.specs.Collecting.{least_acknowledged}
+use Rattle.doc_session.specs.InMemory.{Doc}
+use Rattle.doc_session.specs.Inner.{IsUncollected, MayCollectIn}
+use Rattle.doc_session.proofs.CollectLemmas.{MayCollectIn-found, found-head, nothing-lags, nothing-retired}
+use Rattle.doc_session.proofs.doc.Doc.collectable.Goals.{then-not-has_retired-via-then-not-has_retired, then-not-has_retired-via-else-not-has_retired+then-least-head}
+use Rattle.doc_session.proofs.doc.Doc.collectable.Goals as goal
+
+pub returns-then-not-has_retired-clause-found : goal.returns-then-not-has_retired-clause-found
+returns-then-not-has_retired-clause-found c = λ plain stands.
+    let doc = c.self.inside in
+    let was = subst (λ (d : Doc). IsUncollected d plain) (sym c.self.view_is) stands in
+    let head_is = c.head-head.ensures.revisions in
+    elim c.then-not-has_retired.branch [
+      | then-not-has_retired-via-then-not-has_retired w ↦
+          nothing-retired _ plain was (λ some. no c.has_retired.result (c.has_retired.ensures.1 some) w.if-not-has_retired.true)
+      | then-not-has_retired-via-else-not-has_retired+then-least-head w ↦
+          nothing-lags _ plain was
+          (subst (λ n. least_acknowledged n doc.sessions < n) head_is (subst (λ n. n < c.head-head.result) w.least.ensures w.if-least-head.true))
+    ]
+
+pub returns-clause-found : goal.returns-clause-found
+returns-clause-found c = λ plain stands.
+    let doc = c.self.inside in
+    let was = subst (λ (d : Doc). IsUncollected d plain) (sym c.self.view_is) stands in
+    let head_is = c.head-head.ensures.revisions in
+    let least_is : c.least.result ≡ least_acknowledged (head doc.engine.revisions) doc.sessions =
+    c.least.ensures ∙ ap (λ n. least_acknowledged n doc.sessions) head_is in
+    let same =
+    ap₂ (collection_of plain.history) c.in_ok-retired.ensures head_is ∙
+    found-head _ plain was (λ below. absurd (omega (arith, below, least_is, head_is, c.if-least-head.false))) in
+    subst (λ found. IfOk c.collectable.result (λ said. collection_said said ≡ found)) same (c.collectable.ensures.collected plain.history was.parts.stands)
+
+pub returns-clause-may : goal.returns-clause-may
+returns-clause-may c =
+    subst (λ (d : Doc). IfOk c.collectable.result (λ found. IfSome found (λ some. MayCollectIn d some.0 some.1.keys))) c.self.view_is
+    (MayCollectIn-found _ c.in_ok-retired.retired.keys c.head-head.result c.collectable.result c.in_ok-retired.ensures c.collectable.ensures.revisions
+    c.collectable.ensures.may)
