@@ -1,16 +1,21 @@
--- What an undo and a redo make of the groups of a document, and what a step leaves beside the screen.
+-- What an undo and a redo make of the groups of a document, and what a step leaves beside the screen and what it collects.
 use Rattle.std.proofs.Common.{◌≡◌, ℕ, ◌+◌, ◌-◌, ◌<◌, ◌≤◌, Bool, true, false, if◌then◌else◌, ◌==◌, List, length, Some, None, refl, ap, ◌∙◌, arith}
 use Rattle.std.specs.Prelude.{slice_index}
+use Rattle.std.specs.List.{fold}
 use Rattle.std.proofs.lemmas.Bool.{eq-eqb, ne_eqb}
 use Rattle.std.proofs.lemmas.List.{length_push}
 use Rattle.plain_text.specs.Numbers.{with_number}
+use Rattle.plain_edits.specs.Collection.{Collection}
 use Rattle.plain_edits.specs.Edits.{undid}
 use Rattle.plain_edits.specs.History.{History, head, undo, undone}
 use Rattle.plain_edits.specs.Undo.{undone_now}
 use Rattle.plain_edits.proofs.callers.HistoryLemmas.{undone-undo}
-use Rattle.undo_groups.specs.Groups.{Groups, after_opening, next_redo, next_undo, undone_one, groups_of}
+use Rattle.undo_groups.specs.Groups.{Groups, after_opening, forgotten, next_redo, next_undo, undone_one, groups_of}
+use Rattle.doc_session.specs.Collecting.{collected_document, with_collection}
 use Rattle.doc_session.specs.Document.{Document}
 use Rattle.doc_session.specs.Effects.{settled, updated, wants_update}
+use Rattle.doc_session.proofs.ForCallers.{fold_forgotten, part-collected}
+use Rattle.document_laws.specs.Laws.{bare_groups}
 
 -- ---- what is told leaves everything but the screen
 
@@ -20,6 +25,17 @@ part-settled {X} f before after same = by (wants_update before after)
     by : (b : Bool) → f (if b then updated after else after) ≡ f after
     by true = same
     by false = refl
+
+-- ---- a collection leaves what does not read what it collects
+
+-- groups but for the retired ones
+pub bare-forgotten : (groups : List ℕ) (s : Groups) → bare_groups (fold forgotten s groups) ≡ bare_groups s
+bare-forgotten groups s = ap bare_groups (fold_forgotten s groups)
+
+-- what a step leaves beside its screen and what it collects
+pub part-stepped : {X : Type 0} (f : Document → X) (before after : Document) → f (updated after) ≡ f after →
+    ((d : Document) (collection : Collection) → f (with_collection d (Some collection)) ≡ f d) → f (collected_document (settled before after)) ≡ f after
+part-stepped f before after same leaves = part-collected f (settled before after) (leaves (settled before after)) ∙ part-settled f before after same
 
 -- ---- undid
 

@@ -1,61 +1,105 @@
 -- Undo and redo after one another, and how many undos there are.
-use Rattle.std.proofs.Common.{◌≡◌, ℕ, zero, suc, ◌+◌, ◌-◌, ◌<◌, ◌≤◌, true, false, if◌then◌else◌, [], ◌∷◌, ◌++◌, length, take, drop, Some, None, refl, ap, ap₂, sym, ◌∙◌, inl, inr, arith}
+use Rattle.std.proofs.Common.{◌≡◌, ◌⊎◌, ℕ, zero, suc, ◌+◌, ◌-◌, ◌<◌, ◌≤◌, true, false, if◌then◌else◌, List, [], ◌∷◌, ◌++◌, length, take, drop, Option, Some, None, refl, ap, ap₂, sym, ◌∙◌, inl, inr, arith}
 use Rattle.std.specs.Prelude.{slice_index}
+use Rattle.std.proofs.Math.Nat.{min-le_left}
 use Rattle.std.proofs.lemmas.Bool.{cases_lt, or_cases, eq-eqb}
 use Rattle.std.proofs.lemmas.List.{take-append-drop, take_more, drop_more}
 use Rattle.plain_text.specs.Numbers.{has, with_number}
 use Rattle.number_set.proofs.ForCallers.{has-append, has-one, has-own, has-take, no, parted}
 use Rattle.plain_edits.specs.Edits.{undid}
-use Rattle.plain_edits.specs.History.{head, text_at, IsSound}
+use Rattle.plain_edits.specs.History.{History, head, text_at, IsSound}
 use Rattle.plain_edits.specs.Undo.{undone_now}
 use Rattle.plain_edits.proofs.callers.HistoryLemmas.{text_at-undid_back}
 use Rattle.undo_groups.specs.Groups.{Groups, IsStack, next_redo, next_undo, redone_one, undone_one}
 use Rattle.undo_groups.specs.Laws.{RedoTakesUndoBack as StackLaw}
+use Rattle.doc_session.specs.Collecting.{AreAcknowledged, AreEnded, HasNoneLeft, collected_document, collection_after, least_acknowledged, with_collection}
 use Rattle.doc_session.specs.Document.{Document, text_of}
-use Rattle.doc_session.specs.Effects.{settled}
-use Rattle.doc_session.specs.Step.{going_on, history_step, undone_document}
-use Rattle.doc_session.proofs.ForCallers.{IsLast-next_undo, has-next_undo}
+use Rattle.doc_session.specs.Effects.{settled, updated}
+use Rattle.doc_session.specs.Step.{going_on, history_step, taken_step, undone_document}
+use Rattle.doc_session.proofs.ForCallers.{IsLast-next_undo, collection_of-lags, collection_of-nothing, fold_forgotten, has-next_undo}
 use Rattle.document_laws.specs.Laws.{IsNewestLeft, NewGroupEndsRedo, after_event, after_redo, after_undo, after_undos}
-use Rattle.document_laws.proofs.GroupLemmas.{head-undid, next_redo-opened, next_redo-undone, part-settled, some_undo, undone-undone_one, undone_now-undid, undone_one-some}
+use Rattle.document_laws.proofs.GroupLemmas.{head-undid, next_redo-opened, next_redo-undone, part-settled, part-stepped, some_undo, undone-undone_one, undone_now-undid, undone_one-some}
+use Rattle.document_laws.proofs.OnceLemmas.{collected_once}
 
 -- the document after an undo, where there is one
-after_undo-some : (d : Document) (group : ℕ) → next_undo d.groups ≡ Some group → after_undo d ≡ settled d (undone_document d (undone_one d.groups))
-after_undo-some d group found = ap (λ o. (history_step d o (undone_one d.groups)).document) found
+after_undo-some : (d : Document) (group : ℕ) → next_undo d.groups ≡ Some group →
+    after_undo d ≡ collected_document (settled d (undone_document d (undone_one d.groups)))
+after_undo-some d group found = ap (λ o. collected_document (history_step d o (undone_one d.groups)).document) found
 
-after_redo-some : (d : Document) (group : ℕ) → next_redo d.groups ≡ Some group → after_redo d ≡ settled d (undone_document d (redone_one d.groups))
-after_redo-some d group found = ap (λ o. (history_step d o (redone_one d.groups)).document) found
+after_redo-some : (d : Document) (group : ℕ) → next_redo d.groups ≡ Some group →
+    after_redo d ≡ collected_document (settled d (undone_document d (redone_one d.groups)))
+after_redo-some d group found = ap (λ o. collected_document (history_step d o (redone_one d.groups)).document) found
 
-pub redo_after_undo : (d : Document) → StackLaw → IsSound d.history → undone_now d.history ≡ d.groups.undone → IsStack d.groups → 0 < d.groups.index →
-    (text_of (after_redo (after_undo d)) ≡ text_of d) × ((after_redo (after_undo d)).groups ≡ d.groups)
-redo_after_undo d law sound undone stack some =
-    let s = d.groups in
-    let group = slice_index s.live (s.index - 1) in
-    let next = undone_document d (undone_one s) in
-    let d1 = after_undo d in
-    let is1 : d1 ≡ settled d next = after_undo-some d group (some_undo s some) in
-    let groups1 : d1.groups ≡ undone_one s = ap (λ (x : Document). x.groups) is1 ∙ part-settled (λ (x : Document). x.groups) d next refl in
-    let history1 : d1.history ≡ undid d.history (undone_one s).undone = ap (λ (x : Document). x.history) is1 ∙ part-settled (λ (x : Document). x.history) d next refl in
-    let found : next_redo d1.groups ≡ Some group = ap next_redo groups1 ∙ next_redo-undone s some stack.reached in
-    let next2 = undone_document d1 (redone_one d1.groups) in
-    let is2 : after_redo d1 ≡ settled d1 next2 = after_redo-some d1 group found in
-    let back : redone_one d1.groups ≡ s = ap redone_one groups1 ∙ law s stack some in
-    let history2 : (after_redo d1).history ≡ undid (undid d.history (undone_one s).undone) (undone_now d.history) =
-    ap (λ (x : Document). x.history) is2 ∙ part-settled (λ (x : Document). x.history) d1 next2 refl ∙
-    ap₂ (λ h (g : Groups). undid h g.undone) history1 back ∙ ap (undid (undid d.history (undone_one s).undone)) (sym undone) in
-    let once = undid d.history (undone_one s).undone in
-    let heads : head (undid once (undone_now d.history)) ≡ head d.history + 2 =
-    omega (arith, head-undid once (undone_now d.history), head-undid d.history (undone_one s).undone) in (
-      ap (λ h. text_at h (head h)) history2 ∙ ap (text_at (undid once (undone_now d.history))) heads ∙ text_at-undid_back d.history (undone_one s).undone sound,
-      ap (λ (x : Document). x.groups) is2 ∙ part-settled (λ (x : Document). x.groups) d1 next2 refl ∙ back,
-    )
+-- ---- nothing is collected at a new revision, where nothing waited before
+
+-- all sessions ended, or one has acknowledged no later revision
+lags_or_ended : (h : History) (most : ℕ) (sessions : List (Option ℕ)) → AreAcknowledged h sessions →
+    AreEnded sessions ⊎ (least_acknowledged most sessions ≤ head h)
+lags_or_ended h most [] are = inl tt
+lags_or_ended h most (None ∷ sessions) are =
+    elim (lags_or_ended h most sessions are.1) [ inl ended ↦ inl (refl, ended) | inr lags ↦ inr lags ]
+lags_or_ended h most (Some rev ∷ sessions) are = inr (omega (arith, min-le_left rev (least_acknowledged most sessions), are.0.1))
+
+module _ (d : Document) (are : AreAcknowledged d.history d.sessions) (left : HasNoneLeft d) where
+  none_collected : (e : Document) → e.sessions ≡ d.sessions → e.groups.retired ≡ d.groups.retired → head d.history < head e.history →
+      collected_document e ≡ e
+  none_collected e sessions retired later =
+      let most = least_acknowledged (head e.history) e.sessions in
+      let none : collection_after e ≡ None =
+      elim (lags_or_ended d.history (head e.history) d.sessions are) [
+        | inl ended ↦ collection_of-nothing e.history e.groups.retired most (retired ∙ left ended)
+        | inr lags ↦ collection_of-lags e.history e.groups.retired most
+            (omega (arith, ap (least_acknowledged (head e.history)) sessions, lags, later))
+      ] in
+      ap (with_collection e) none
+
+  pub redo_after_undo : StackLaw → IsSound d.history → undone_now d.history ≡ d.groups.undone → IsStack d.groups → 0 < d.groups.index →
+      (text_of (after_redo (after_undo d)) ≡ text_of d) × ((after_redo (after_undo d)).groups ≡ d.groups)
+  redo_after_undo law sound undone stack some =
+      let s = d.groups in
+      let group = slice_index s.live (s.index - 1) in
+      let next = undone_document d (undone_one s) in
+      let d1 = after_undo d in
+      let heads1 : head (settled d next).history ≡ head d.history + 1 =
+      part-settled (λ (x : Document). head x.history) d next refl ∙ head-undid d.history (undone_one s).undone in
+      let is1 : d1 ≡ settled d next =
+      after_undo-some d group (some_undo s some) ∙
+      none_collected (settled d next) (part-settled (λ (x : Document). x.sessions) d next refl)
+      (part-settled (λ (x : Document). x.groups.retired) d next refl ∙ ap (λ (g : Groups). g.retired) (undone_one-some s some)) (omega (arith, heads1)) in
+      let groups1 : d1.groups ≡ undone_one s = ap (λ (x : Document). x.groups) is1 ∙ part-settled (λ (x : Document). x.groups) d next refl in
+      let history1 : d1.history ≡ undid d.history (undone_one s).undone = ap (λ (x : Document). x.history) is1 ∙ part-settled (λ (x : Document). x.history) d next refl in
+      let found : next_redo d1.groups ≡ Some group = ap next_redo groups1 ∙ next_redo-undone s some stack.reached in
+      let next2 = undone_document d1 (redone_one d1.groups) in
+      let back : redone_one d1.groups ≡ s = ap redone_one groups1 ∙ law s stack some in
+      let heads2 : head (settled d1 next2).history ≡ head d1.history + 1 =
+      part-settled (λ (x : Document). head x.history) d1 next2 refl ∙ head-undid d1.history (redone_one d1.groups).undone in
+      let is2 : after_redo d1 ≡ settled d1 next2 =
+      after_redo-some d1 group found ∙
+      none_collected (settled d1 next2)
+      (part-settled (λ (x : Document). x.sessions) d1 next2 refl ∙ ap (λ (x : Document). x.sessions) is1 ∙
+      part-settled (λ (x : Document). x.sessions) d next refl)
+      (part-settled (λ (x : Document). x.groups.retired) d1 next2 refl ∙ ap (λ (g : Groups). g.retired) back)
+      (omega (arith, heads2, ap (λ (x : Document). head x.history) is1, heads1)) in
+      let history2 : (after_redo d1).history ≡ undid (undid d.history (undone_one s).undone) (undone_now d.history) =
+      ap (λ (x : Document). x.history) is2 ∙ part-settled (λ (x : Document). x.history) d1 next2 refl ∙
+      ap₂ (λ h (g : Groups). undid h g.undone) history1 back ∙ ap (undid (undid d.history (undone_one s).undone)) (sym undone) in
+      let once = undid d.history (undone_one s).undone in
+      let heads : head (undid once (undone_now d.history)) ≡ head d.history + 2 =
+      omega (arith, head-undid once (undone_now d.history), head-undid d.history (undone_one s).undone) in (
+        ap (λ h. text_at h (head h)) history2 ∙ ap (text_at (undid once (undone_now d.history))) heads ∙ text_at-undid_back d.history (undone_one s).undone sound,
+        ap (λ (x : Document). x.groups) is2 ∙ part-settled (λ (x : Document). x.groups) d1 next2 refl ∙ back,
+      )
 
 pub new_group_ends_redo : NewGroupEndsRedo
 new_group_ends_redo plain event opened =
     let d = after_event plain event in
-    let none : next_redo d.groups ≡ None = ap next_redo opened ∙ next_redo-opened plain.groups in (
+    let still = going_on d None in
+    let none : next_redo d.groups ≡ None = ap next_redo opened ∙ next_redo-opened plain.groups in
+    let spent : collection_after (settled d still) ≡ None =
+    part-settled collection_after d still refl ∙ collected_once (taken_step plain event).document in (
       none,
-      ap (λ o. (history_step d o (redone_one d.groups)).document.history) none ∙
-          part-settled (λ (x : Document). x.history) d (going_on d None) refl,
+      ap (λ o. (collected_document (history_step d o (redone_one d.groups)).document).history) none ∙
+          ap (λ found. (with_collection (settled d still) found).history) spent ∙ part-settled (λ (x : Document). x.history) d still refl,
     )
 
 -- the newest that is left
@@ -97,10 +141,22 @@ pub undone_newest : (d : Document) (group : ℕ) → undone_now d.history ≡ d.
     undone_now (after_undo d).history ≡ with_number (undone_now d.history) group
 undone_newest d group undone found =
     let next = undone_document d (undone_one d.groups) in
-    ap (λ (x : Document). undone_now x.history) (after_undo-some d group found) ∙ part-settled (λ (x : Document). undone_now x.history) d next refl ∙
+    ap (λ (x : Document). undone_now x.history) (after_undo-some d group found) ∙
+    part-stepped (λ (x : Document). undone_now x.history) d next refl (λ x collection. refl) ∙
     undone_now-undid d.history (undone_one d.groups).undone ∙ undone-undone_one d.groups group found ∙ ap (λ us. with_number us group) (sym undone)
 
 -- ---- how many undos there are
+
+-- a step's screen and what it collects leave head and index
+head-stepped : (before after : Document) → head (updated after).history ≡ head after.history →
+    head (collected_document (settled before after)).history ≡ head after.history
+head-stepped before after same = part-stepped (λ (x : Document). head x.history) before after same (λ x collection. refl)
+
+index-stepped : (before after : Document) → (updated after).groups.index ≡ after.groups.index →
+    (collected_document (settled before after)).groups.index ≡ after.groups.index
+index-stepped before after same =
+    part-stepped (λ (x : Document). x.groups.index) before after same
+    (λ x collection. ap (λ (g : Groups). g.index) (fold_forgotten x.groups collection.groups))
 
 -- each makes a revision and leaves one fewer, or does neither
 measure : (d : Document) → head (after_undo d).history + (after_undo d).groups.index ≡ head d.history + d.groups.index
@@ -116,9 +172,9 @@ measure d =
         let next = undone_document d (undone_one s) in
         let is = after_undo-some d (slice_index s.live (s.index - 1)) (some_undo s some) in
         let heads : head (after_undo d).history ≡ head d.history + 1 =
-        ap (λ (x : Document). head x.history) is ∙ part-settled (λ (x : Document). head x.history) d next refl ∙ head-undid d.history (undone_one s).undone in
+        ap (λ (x : Document). head x.history) is ∙ head-stepped d next refl ∙ head-undid d.history (undone_one s).undone in
         let index : (after_undo d).groups.index ≡ s.index - 1 =
-        ap (λ (x : Document). x.groups.index) is ∙ part-settled (λ (x : Document). x.groups.index) d next refl ∙ ap (λ (g : Groups). g.index) (undone_one-some s some) in
+        ap (λ (x : Document). x.groups.index) is ∙ index-stepped d next refl ∙ ap (λ (g : Groups). g.index) (undone_one-some s some) in
         omega (arith, heads, index, some)
 
     at_end : d.groups.index ≡ 0 → head (after_undo d).history + (after_undo d).groups.index ≡ head d.history + d.groups.index
@@ -126,9 +182,10 @@ measure d =
         let still = going_on d None in
         let found : next_undo d.groups ≡ None =
         ap (λ b. if b then None else Some (slice_index d.groups.live (d.groups.index - 1))) (eq-eqb d.groups.index 0 none) in
-        let is : after_undo d ≡ settled d still = ap (λ o. (history_step d o (undone_one d.groups)).document) found in
-        ap₂ (λ a b. a + b) (ap (λ (x : Document). head x.history) is ∙ part-settled (λ (x : Document). head x.history) d still refl)
-        (ap (λ (x : Document). x.groups.index) is ∙ part-settled (λ (x : Document). x.groups.index) d still refl)
+        let is : after_undo d ≡ collected_document (settled d still) =
+        ap (λ o. collected_document (history_step d o (undone_one d.groups)).document) found in
+        ap₂ (λ a b. a + b) (ap (λ (x : Document). head x.history) is ∙ head-stepped d still refl)
+        (ap (λ (x : Document). x.groups.index) is ∙ index-stepped d still refl)
 
 pub head-undos : (n : ℕ) (d : Document) → head (after_undos n d).history ≤ head d.history + d.groups.index
 head-undos zero d = omega arith

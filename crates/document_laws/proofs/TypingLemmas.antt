@@ -6,6 +6,7 @@ use Rattle.plain_text.specs.declared.selection.Region.{Region}
 use Rattle.xi_plain.specs.declared.command.EditAct.TheVariants.{Insert}
 use Rattle.edit_ops.specs.Commands.{Effect}
 use Rattle.selection_core.specs.Mapped.{AreWithin}
+use Rattle.plain_edits.specs.Collection.{Collection}
 use Rattle.plain_edits.specs.Edits.{undid, is_edit_of}
 use Rattle.plain_edits.specs.History.{head, text_at, IsSound}
 use Rattle.plain_edits.specs.Undo.{undone_now}
@@ -15,15 +16,16 @@ use Rattle.doc_session.specs.declared.typing.Kind.{Kind}
 use Rattle.doc_session.specs.declared.typing.Kind.TheVariants as Kinds
 use Rattle.doc_session.specs.declared.typing.Typing.{Typing}
 use Rattle.doc_session.specs.Asking.{front_edit}
+use Rattle.doc_session.specs.Collecting.{collected_document, collection_after, with_collection}
 use Rattle.doc_session.specs.Document.{Document, pieces_of, text_of}
 use Rattle.doc_session.specs.Effects.{settled, updated, wants_update}
 use Rattle.doc_session.specs.Grouping.{group_by, groups_by, run_group}
-use Rattle.doc_session.specs.Step.{effect_on, first_config, history_step, idle_step, is_idle, selected_document, typed_document, typed_step, undone_document}
+use Rattle.doc_session.specs.Step.{effect_on, first_config, history_step, idle_step, is_idle, selected_document, taken_step, typed_document, typed_step, undone_document}
 use Rattle.doc_session.specs.Typing.{run_on, run_with}
 use Rattle.doc_session.proofs.ForCallers.{effect-some, next_undo-opened, typing-some, typing-within}
 use Rattle.doc_session.specs.declared.event.Event.TheVariants.{Front}
-use Rattle.document_laws.specs.Laws.{after_event, after_typing, after_undo}
-use Rattle.document_laws.proofs.GroupLemmas.{head-undid, part-settled, undone-undone_one}
+use Rattle.document_laws.specs.Laws.{after_event, after_typing, after_undo, bare_groups}
+use Rattle.document_laws.proofs.GroupLemmas.{bare-forgotten, head-undid, part-stepped, undone-undone_one}
 use Rattle.document_laws.proofs.RunLemmas.{IsRun, IsRun-first, IsRun-more, text_at-run}
 
 abbrev inserts : Option Kind
@@ -39,7 +41,8 @@ run_of start = record { kind = Kinds.Insert; group = next_group start }
 -- a document is in a run of insertions that began at `start`
 abbrev IsInRun : Document → Document → Type 0
 IsInRun start document =
-    IsRun start.history document.history (next_group start) × (document.groups ≡ after_opening start.groups) × (document.typing ≡ Some (run_of start))
+    IsRun start.history document.history (next_group start) × (bare_groups document.groups ≡ bare_groups (after_opening start.groups)) ×
+    (document.typing ≡ Some (run_of start))
 
 -- before it, no run of insertions goes on, and the next group is new
 abbrev IsBefore : Document → Type 0
@@ -61,6 +64,34 @@ settled-IsBefore before after is = by (wants_update before after)
     by true = is
     by false = is
 
+-- and of what is collected
+collected-IsInRun : (start after : Document) → IsInRun start after → IsInRun start (collected_document after)
+collected-IsInRun start after is = by (collection_after after)
+  where
+    run : IsRun start.history after.history (next_group start)
+    run = is.0
+
+    by : (found : Option Collection) → IsInRun start (with_collection after found)
+    by None = is
+    by (Some collection) = (
+      record { sound = run.sound; more = run.more; revisions = run.revisions; own = run.own; text = run.text },
+      bare-forgotten collection.groups after.groups ∙ is.1,
+      is.2,
+    )
+
+collected-IsBefore : (after : Document) → IsBefore after → IsBefore (collected_document after)
+collected-IsBefore after is = by (collection_after after)
+  where
+    by : (found : Option Collection) → IsBefore (with_collection after found)
+    by None = is
+    by (Some collection) =
+        let same = bare-forgotten collection.groups after.groups in (
+          is.0,
+          is.1 ∙ sym (ap (λ (g : Groups). g.undone) same),
+          ap (λ (g : Groups). list_any (is_edit_of (g.given + 1)) after.history.revisions) same ∙ is.2,
+          is.3,
+        )
+
 -- the effect of characters that are typed
 abbrev typing : Document → List ℕ → Effect
 typing document chars = effect_on document (Insert chars)
@@ -73,7 +104,7 @@ first_typed start effect is =
     let asked = front_edit start joined effect.replacements in
     let group_is : asked.group ≡ next_group start = ap (group_by start.groups) joined_is in (
       IsRun-first start.history (meant start.history asked) (next_group start) is.0 group_is,
-      ap (groups_by start.groups) joined_is,
+      ap (λ j. bare_groups (groups_by start.groups j)) joined_is,
       ap (λ g. run_with inserts g) group_is,
     )
 
@@ -85,7 +116,7 @@ more_typed start document effect is =
     let asked = front_edit document joined effect.replacements in
     let group_is : asked.group ≡ next_group start = ap (group_by document.groups) joined_is in (
       IsRun-more start.history document.history (meant document.history asked) (next_group start) is.0 group_is,
-      ap (groups_by document.groups) joined_is ∙ is.1,
+      ap (λ j. bare_groups (groups_by document.groups j)) joined_is ∙ is.1,
       ap (λ g. run_with inserts g) group_is,
     )
 
@@ -94,7 +125,7 @@ still_typed : (start document : Document) (regions : List Region) → IsInRun st
 still_typed start document regions is = (is.0, is.1, ap (λ t. run_on t inserts) is.2)
 
 one_run : (start document : Document) (chars : List ℕ) → IsInRun start document → IsInRun start (after_event document (Front (Insert chars)))
-one_run start document chars is = by (is_idle document (typing document chars))
+one_run start document chars is = collected-IsInRun start (taken_step document (Front (Insert chars))).document (by (is_idle document (typing document chars)))
   where
     by : (idle : Bool) → IsInRun start
         (if idle then idle_step document (Insert chars) (typing document chars) else typed_step document (Insert chars) (typing document chars)).document
@@ -118,8 +149,8 @@ run_undone start document before is =
     let set : groups.undone ≡ with_number (undone_now start.history) group =
     undone-undone_one document.groups group found ∙ ap (λ (g : Groups). with_number g.undone group) is.1 ∙
     ap (λ us. with_number us group) (sym before.1) in
-    ap (λ o. text_of (history_step document o groups).document) found ∙
-    part-settled text_of document (undone_document document groups) refl ∙
+    ap (λ o. text_of (collected_document (history_step document o groups).document)) found ∙
+    part-stepped text_of document (undone_document document groups) refl (λ x collection. refl) ∙
     ap (text_at (undid document.history groups.undone)) (head-undid document.history groups.undone) ∙
     ap (λ us. text_at (undid document.history us) (head document.history + 1)) set ∙
     text_at-run start.history document.history group is.0 (omega arith) before.2
@@ -136,6 +167,14 @@ settled-HasRegions before after has = by (wants_update before after)
     by true = has
     by false = has
 
+-- nor what is collected
+collected-HasRegions : (after : Document) → HasRegions after → HasRegions (collected_document after)
+collected-HasRegions after has = by (collection_after after)
+  where
+    by : (found : Option Collection) → HasRegions (with_collection after found)
+    by None = has
+    by (Some collection) = has
+
 -- they are none
 none_typed : (plain : Document) (chars : List ℕ) → HasRegions plain → is_idle plain (typing plain chars) ≡ true → chars ≡ []
 none_typed plain [] has idle = refl
@@ -151,15 +190,18 @@ run_taken_back (chars ∷ texts) plain is has some = by (run_taken_back texts) (
 
     by : ((document : Document) → IsBefore document → HasRegions document → concat texts ≢ [] →
         text_of (after_undo (after_typing document texts)) ≡ text_of document) → (idle : Bool) → is_idle plain effect ≡ idle → text_of (after_undo (after_typing
-        (if idle then idle_step plain (Insert chars) effect else typed_step plain (Insert chars) effect).document texts)) ≡ text_of plain
+        (collected_document (if idle then idle_step plain (Insert chars) effect else typed_step plain (Insert chars) effect).document) texts)) ≡ text_of plain
     by later true idle =
         let next = selected_document plain inserts effect.regions in
         let still : IsBefore next = (is.0, is.1, is.2, ap (λ t. run_on t inserts) is.3) in
         let left : HasRegions next =
         (effect-some first_config (text_of plain) (pieces_of plain) plain.regions has.0 (Insert chars), typing-within (text_of plain) chars plain.regions has.1 idle) in
         let rest : concat texts ≢ [] = λ empty. some (ap (λ t. t ++ concat texts) (none_typed plain chars has idle) ∙ empty) in
-        later (settled plain next) (settled-IsBefore plain next still) (settled-HasRegions plain next left) rest ∙ part-settled text_of plain next refl
+        later (collected_document (settled plain next)) (collected-IsBefore (settled plain next) (settled-IsBefore plain next still))
+        (collected-HasRegions (settled plain next) (settled-HasRegions plain next left)) rest ∙
+        part-stepped text_of plain next refl (λ x collection. refl)
     by later false idle =
         let next = typed_document plain inserts effect in
-        run_undone plain (after_typing (settled plain next) texts) is
-        (runs plain texts (settled plain next) (settled-IsInRun plain plain next (first_typed plain effect is)))
+        let first = collected_document (settled plain next) in
+        run_undone plain (after_typing first texts) is
+        (runs plain texts first (collected-IsInRun plain (settled plain next) (settled-IsInRun plain plain next (first_typed plain effect is))))

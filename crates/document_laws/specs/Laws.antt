@@ -1,18 +1,19 @@
--- Laws of undo and redo, over the steps of a plain document.
-use Rattle.std.specs.Prelude.{◌≡◌, ◌≢◌, ℕ, zero, suc, ◌+◌, ◌<◌, ◌≤◌, true, false, List, [], ◌∷◌, Some, None}
+-- Laws of undo, redo and collection, over the steps of a plain document.
+use Rattle.std.specs.Prelude.{◌≡◌, ◌≢◌, ℕ, zero, suc, ◌+◌, ◌<◌, ◌≤◌, true, false, List, [], ◌∷◌, Some, None, ⊤}
 use Rattle.std.specs.List.{concat}
 use Rattle.plain_text.specs.Numbers.{has, with_number}
-use Rattle.plain_edits.specs.History.{head}
+use Rattle.plain_edits.specs.History.{History, head}
 use Rattle.plain_edits.specs.Undo.{undone_now}
 use Rattle.xi_plain.specs.declared.command.EditAct.TheVariants.{Insert, Undo, Redo}
-use Rattle.undo_groups.specs.Groups.{after_opening, next_redo, next_undo}
+use Rattle.undo_groups.specs.Groups.{Groups, after_opening, next_redo, next_undo}
 use Rattle.doc_session.specs.declared.event.Event.{Event}
-use Rattle.doc_session.specs.declared.event.Event.TheVariants.{Front}
+use Rattle.doc_session.specs.declared.event.Body.TheVariants.{Null}
+use Rattle.doc_session.specs.declared.event.Event.TheVariants.{Ack, Edit, Ended, Front, Other}
 use Rattle.doc_session.specs.declared.typing.Kind.TheVariants as Kinds
 use Rattle.doc_session.specs.Document.{Document, text_of}
 use Rattle.doc_session.specs.InMemory.{Doc}
 use Rattle.doc_session.specs.Stands.{DocStandsFor}
-use Rattle.doc_session.specs.Step.{event_step}
+use Rattle.doc_session.specs.Step.{EventStep, event_step, refusal_at}
 use Rattle.doc_session.specs.Typing.{run_on}
 
 -- the document after an event, after an undo, and after a redo
@@ -35,6 +36,25 @@ abbrev pub after_undos : ℕ → Document → Document
 after_undos zero document = document
 after_undos (suc n) document = after_undos n (after_undo document)
 
+-- ---- what collections leave
+
+-- a history without its floor and the groups that were collected, and groups without those that no undo reaches any more
+abbrev pub bare_history : History → History
+bare_history history = record history { floor = 0; collected = [] }
+
+abbrev pub bare_groups : Groups → Groups
+bare_groups groups = record groups { retired = [] }
+
+-- a document without these, and without what sessions have acknowledged
+abbrev pub bare : Document → Document
+bare document = record document {
+  history = bare_history document.history;
+  groups = bare_groups document.groups;
+  sessions = [];
+}
+
+-- ---- undo and redo
+
 -- an undo takes back whole what the front end typed, where no insertion went before: some characters at least, in however many insertions
 abbrev pub UndoTakesRunBack : Type 0
 UndoTakesRunBack = (doc : Doc) (plain : Document) (texts : List (List ℕ)) → DocStandsFor doc plain →
@@ -47,7 +67,7 @@ RedoTakesUndoBack = (doc : Doc) (plain : Document) → DocStandsFor doc plain �
 
 -- after an event that opens a group there is nothing to redo, and a redo makes no revision
 abbrev pub NewGroupEndsRedo : Type 0
-NewGroupEndsRedo = (plain : Document) (event : Event) → (after_event plain event).groups ≡ after_opening plain.groups →
+NewGroupEndsRedo = (plain : Document) (event : Event) → bare_groups (after_event plain event).groups ≡ bare_groups (after_opening plain.groups) →
     (next_redo (after_event plain event).groups ≡ None) × ((after_redo (after_event plain event)).history ≡ (after_event plain event).history)
 
 -- the group is live and not undone, and no such group is newer
@@ -65,3 +85,52 @@ UndoTakesNewest = (doc : Doc) (plain : Document) (group : ℕ) → DocStandsFor 
 abbrev pub StepsAreFew : Type 0
 StepsAreFew = (doc : Doc) (plain : Document) (n : ℕ) → DocStandsFor doc plain →
     head (after_undos n plain).history ≤ head plain.history + 20
+
+-- ---- collection is invisible to a front end
+
+-- two documents are alike but for what is collected and acknowledged, and the floor of each is at most its head
+pub record AreAlike (one other : Document) : Type 0 where
+  pub same : bare one ≡ bare other
+  pub one_floor : one.history.floor ≤ head one.history
+  pub other_floor : other.history.floor ≤ head other.history
+
+-- two steps tell the same: their answer, update, place to scroll to and notice
+pub record TellTheSame (one other : EventStep) : Type 0 where
+  pub body : one.body ≡ other.body
+  pub update : one.update ≡ other.update
+  pub scroll : one.scroll ≡ other.scroll
+  pub notice : one.notice ≡ other.notice
+
+-- an event of the front end, and what the session of a plugin tells
+abbrev pub IsOfFront : Event → Type 0
+IsOfFront (Front act) = ⊤
+IsOfFront (Edit caller edit named) = ⊥
+IsOfFront (Ack caller rev) = ⊥
+IsOfFront (Ended caller) = ⊥
+IsOfFront Other = ⊤
+
+abbrev pub IsOfSession : Event → Type 0
+IsOfSession (Front act) = ⊥
+IsOfSession (Edit caller edit named) = ⊥
+IsOfSession (Ack caller rev) = ⊤
+IsOfSession (Ended caller) = ⊤
+IsOfSession Other = ⊥
+
+-- COLLECTION IS INVISIBLE: two such documents refuse the same events of the front end for the same causes, tell the same of the others, and are
+-- again so
+abbrev pub CollectionIsUnseen : Type 0
+CollectionIsUnseen = (one other : Document) (event : Event) → IsOfFront event → AreAlike one other →
+    (refusal_at one event ≡ refusal_at other event) × TellTheSame (event_step one event) (event_step other event) ×
+    AreAlike (after_event one event) (after_event other event)
+
+-- a step says nothing but that it was taken
+pub record SaysNothing (step : EventStep) : Type 0 where
+  pub body : step.body ≡ Null
+  pub update : step.update ≡ None
+  pub scroll : step.scroll ≡ None
+  pub notice : step.notice ≡ None
+
+-- what a session acknowledges, and its end, say nothing, and the document after them is so, too
+abbrev pub AcknowledgementsAreUnseen : Type 0
+AcknowledgementsAreUnseen = (document : Document) (event : Event) → IsOfSession event → document.history.floor ≤ head document.history →
+    SaysNothing (event_step document event) × AreAlike document (after_event document event)

@@ -1,14 +1,16 @@
--- Worked rows: what the steps of undo give in small cases.
-use Rattle.std.specs.Prelude.{◌≡◌, ℕ, false, List, [], ◌∷◌, Option, Some}
+-- Worked rows: what the steps of undo and collection give in small cases.
+use Rattle.std.specs.Prelude.{◌≡◌, ℕ, false, List, [], ◌∷◌, ◌++◌, Option, Some, None}
 use Rattle.std.specs.List.{fold}
 use Rattle.plain_edits.specs.declared.delta.El.TheVariants as Els
+use Rattle.plain_edits.specs.Collection.{kept}
+use Rattle.plain_edits.specs.Edits.{collected, unknown}
 use Rattle.plain_edits.specs.History.{head}
 use Rattle.xi_plain.specs.declared.command.EditAct.TheVariants.{Insert, InsertNewline, Undo, Redo}
 use Rattle.doc_session.specs.declared.event.Body.TheVariants.{Edited}
 use Rattle.doc_session.specs.declared.event.Event.{Event}
-use Rattle.doc_session.specs.declared.event.Event.TheVariants.{Front, Edit, Other}
+use Rattle.doc_session.specs.declared.event.Event.TheVariants.{Ack, Edit, Ended, Front, Other}
 use Rattle.doc_session.specs.Document.{Document, loaded_document, text_of}
-use Rattle.doc_session.specs.Step.{event_step}
+use Rattle.doc_session.specs.Step.{event_step, refusal_at}
 use Rattle.document_laws.specs.Laws.{after_event}
 
 -- an empty document with one plugin, and its text after events
@@ -50,3 +52,38 @@ pub record JoinsUndone : Type 0 where
   pub told : (event_step (after_events (types 97 ∷ Front Undo ∷ [])) (puts 2 90 (Some 1))).body ≡ Edited 3 1
   pub hidden : text_after (types 97 ∷ Front Undo ∷ puts 2 90 (Some 1) ∷ []) ≡ []
   pub back : text_after (types 97 ∷ Front Undo ∷ puts 2 90 (Some 1) ∷ Front Redo ∷ []) ≡ 97 ∷ 90 ∷ []
+
+-- the plugin has the text of a revision, and its session ends
+abbrev pub acknowledges : ℕ → Event
+acknowledges rev = Ack 1 rev
+
+abbrev pub ends : Event
+ends = Ended 1
+
+-- a character was typed and undone, and another one was typed: group 1 is cut off
+abbrev pub cuts_off : List Event
+cuts_off = types 97 ∷ Front Undo ∷ types 98 ∷ []
+
+-- what is collected then, and of whom the session makes wait
+pub record Collects : Type 0 where
+  -- where no session is open it is collected at once, and its character goes; undo and redo know the rest
+  pub at_once : (after_events (ends ∷ cuts_off)).history.collected ≡ 1 ∷ []
+  pub floor : (after_events (ends ∷ cuts_off)).history.floor ≡ 3
+  pub dropped : kept (after_events (ends ∷ cuts_off)).history ≡ 1
+  pub no_redo : text_after (ends ∷ cuts_off ++ Front Redo ∷ []) ≡ 98 ∷ []
+  pub redone : text_after (ends ∷ cuts_off ++ Front Undo ∷ Front Redo ∷ []) ≡ 98 ∷ []
+  -- a session that has not acknowledged the head makes it wait
+  pub waits : kept (after_events cuts_off).history ≡ 2
+  pub waits_below : (after_events (cuts_off ++ acknowledges 2 ∷ [])).history.collected ≡ []
+  pub is_told : (after_events (cuts_off ++ acknowledges 3 ∷ [])).history.collected ≡ 1 ∷ []
+  pub is_over : (after_events (cuts_off ++ ends ∷ [])).history.collected ≡ 1 ∷ []
+  -- what it has acknowledged does not fall, and is refused above the head and below the floor
+  pub stays : (after_events (cuts_off ++ acknowledges 2 ∷ acknowledges 1 ∷ [])).sessions ≡ Some 2 ∷ []
+  pub above : refusal_at (after_events cuts_off) (acknowledges 4) ≡ Some (unknown 3)
+  pub below : refusal_at (after_events (cuts_off ++ acknowledges 3 ∷ [])) (acknowledges 2) ≡ Some (collected 3)
+  pub again : refusal_at (after_events (cuts_off ++ acknowledges 3 ∷ [])) (acknowledges 3) ≡ None
+  -- an old edit is refused then, and a run of typing goes on
+  pub too_old : refusal_at (after_events (cuts_off ++ acknowledges 3 ∷ [])) (puts 2 90 None) ≡ Some (collected 3)
+  pub run : text_after (cuts_off ++ acknowledges 3 ∷ types 99 ∷ Front Undo ∷ []) ≡ []
+  -- a group that was collected is joined no more
+  pub joins : (event_step (after_events (cuts_off ++ Front Undo ∷ acknowledges 4 ∷ [])) (puts 4 90 (Some 1))).body ≡ Edited 5 3

@@ -1,6 +1,6 @@
 //! Laws of the steps of a document. The functions do nothing: their clauses are the laws.
 
-ghost use Rattle.document_laws.specs.Laws.{NewGroupEndsRedo, RedoTakesUndoBack, StepsAreFew, UndoTakesNewest, UndoTakesRunBack};
+ghost use Rattle.document_laws.specs.Laws.{AcknowledgementsAreUnseen, CollectionIsUnseen, NewGroupEndsRedo, RedoTakesUndoBack, StepsAreFew, UndoTakesNewest, UndoTakesRunBack};
 
 /// An undo takes a run of typing back whole: however many insertions it has, the text is the one before the first.
 pub fn undo_takes_run_back()
@@ -27,4 +27,14 @@ pub fn undo_takes_newest()
 /// However many undos come, at most twenty of them make a revision.
 pub fn steps_are_few()
     ensures { StepsAreFew }
+{}
+
+/// What was collected is invisible to a front end: whatever it does, it is told the same.
+pub fn collection_is_unseen()
+    ensures { CollectionIsUnseen }
+{}
+
+/// So is what the sessions of plugins acknowledge, and their end.
+pub fn acknowledgements_are_unseen()
+    ensures { AcknowledgementsAreUnseen }
 {}

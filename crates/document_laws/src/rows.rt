@@ -1,6 +1,6 @@
 //! Worked rows, each the contract of a function: what the definitions give in small cases.
 
-ghost use Rattle.document_laws.specs.Rows.{JoinsUndone, Steps};
+ghost use Rattle.document_laws.specs.Rows.{Collects, JoinsUndone, Steps};
 
 /// Insertions that follow each other are one step, and a new line is another.
 pub fn steps()
@@ -10,4 +10,9 @@ pub fn steps()
 /// An edit that joins an undone group is hidden on arrival.
 pub fn hidden_on_arrival()
     ensures { JoinsUndone }
+{}
+
+/// What is collected, and what waits for a session.
+pub fn collects()
+    ensures { Collects }
 {}

@@ -1,0 +1,276 @@
+-- What is collected is seen by no front end: a step of a document goes like that of the bare one.
+use Rattle.std.proofs.Common.{◌≡◌, ℕ, ◌+◌, ◌-◌, ◌≤◌, Bool, true, false, if◌then◌else◌, ◌==◌, List, [], length, Option, Some, None, refl, ap, sym, ◌∙◌, arith}
+use Rattle.std.specs.Prelude.{nat_lt, slice_index}
+use Rattle.std.proofs.lemmas.Bool.{le-ltb}
+use Rattle.plain_text.specs.Numbers.{with_number, without_number}
+use Rattle.xi_plain.specs.declared.command.EditAct.{EditAct}
+use Rattle.xi_plain.specs.declared.command.EditAct.TheVariants as Acts
+use Rattle.xi_plain.specs.declared.config.Notice.{Notice}
+use Rattle.edit_ops.specs.Commands.{Effect}
+use Rattle.plain_edits.specs.Collection.{Collection}
+use Rattle.plain_edits.specs.Delta.{inserted_len, misfit_of}
+use Rattle.plain_edits.specs.Edits.{Refusal, collected, misfit_or_spent, unknown}
+use Rattle.plain_edits.specs.History.{head, inserted_count, text_at}
+use Rattle.rev_engine.specs.Given.{AskedEdit}
+use Rattle.undo_groups.specs.Groups.{Groups, groups_of, next_redo, next_undo, redone_one, undone_one}
+use Rattle.doc_session.specs.declared.event.Body.{Body}
+use Rattle.doc_session.specs.declared.event.Body.TheVariants.{Null}
+use Rattle.doc_session.specs.declared.event.Event.{Event}
+use Rattle.doc_session.specs.declared.event.Event.TheVariants.{Ack, Edit, Ended, Front, Other}
+use Rattle.doc_session.specs.Asking.{asked_refusal, front_edit}
+use Rattle.doc_session.specs.Collecting.{acknowledged_document, collected_document, collection_after, ended_document, least_acknowledged, with_collection}
+use Rattle.doc_session.specs.Document.{Document}
+use Rattle.doc_session.specs.Effects.{settled, update_after, updated, wants_update}
+use Rattle.doc_session.specs.Layout.{Position}
+use Rattle.doc_session.specs.Step.{EventStep, act_step, answer_to, command_step, edited_document, effect_on, event_step, going_on, history_step, idle_step, is_idle, refusal_at, revision_step, scroll_if, scrolls, selected_document, step_to, taken_step, typed_step, undone_document}
+use Rattle.doc_session.specs.Grouping.{run_group}
+use Rattle.doc_session.specs.Typing.{kind_of, run_on}
+use Rattle.doc_session.proofs.ForCallers.{floor-found, head-after, least-within}
+use Rattle.document_laws.specs.Laws.{AcknowledgementsAreUnseen, AreAlike, CollectionIsUnseen, IsOfFront, TellTheSame, after_event, bare, bare_groups}
+use Rattle.document_laws.proofs.GroupLemmas.{bare-forgotten, head-undid}
+
+-- ---- two steps that tell the same and leave the same but for what is collected
+
+pub record GoAlong (one other : EventStep) : Type 0 where
+  pub tell : TellTheSame one other
+  pub same : bare one.document ≡ bare other.document
+
+-- the screen of the bare one is the same
+bare-settled : (before after : Document) → bare (settled before after) ≡ settled (bare before) (bare after)
+bare-settled before after = by (wants_update before after)
+  where
+    by : (b : Bool) → bare (if b then updated after else after) ≡ (if b then updated (bare after) else bare after)
+    by true = refl
+    by false = refl
+
+along-step_to : (d next other : Document) (body : Body) (scroll : Option Position) (notice : Option Notice) → bare next ≡ bare other →
+    GoAlong (step_to d next body scroll notice) (step_to (bare d) other body scroll notice)
+along-step_to d next other body scroll notice same = record {
+  tell = record { body = refl; update = ap (update_after (bare d)) same; scroll = refl; notice = refl };
+  same = bare-settled d next ∙ ap (settled (bare d)) same ∙ sym (bare-settled (bare d) other);
+}
+
+-- ---- commands
+
+-- the document after an edit that joins this group or opens the next
+abbrev typed_in : Document → EditAct → Effect → Option ℕ → Document
+typed_in d act effect joined = edited_document d (front_edit d joined effect.replacements) joined (kind_of act) effect.regions
+
+abbrev typed_to : Document → EditAct → Effect → Option ℕ → EventStep
+typed_to d act effect joined =
+    revision_step d (typed_in d act effect joined) 0 (answer_to d act) (scroll_if (scrolls act) d (typed_in d act effect joined))
+
+along-typed : (d : Document) (act : EditAct) (effect : Effect) (joined : Option ℕ) →
+    GoAlong (typed_to d act effect joined) (typed_to (bare d) act effect joined)
+along-typed d act effect None = along-step_to d (typed_in d act effect None) (typed_in (bare d) act effect None) _ _ _ refl
+along-typed d act effect (Some group) =
+    along-step_to d (typed_in d act effect (Some group)) (typed_in (bare d) act effect (Some group)) _ _ _ refl
+
+along-command : (d : Document) (act : EditAct) → GoAlong (command_step d act (effect_on d act)) (command_step (bare d) act (effect_on (bare d) act))
+along-command d act = by (is_idle d effect)
+  where
+    effect : Effect
+    effect = effect_on d act
+
+    by : (idle : Bool) → GoAlong (if idle then idle_step d act effect else typed_step d act effect)
+        (if idle then idle_step (bare d) act effect else typed_step (bare d) act effect)
+    by true =
+        along-step_to d (selected_document d (kind_of act) effect.regions) (selected_document (bare d) (kind_of act) effect.regions) _ _ _ refl
+    by false = along-typed d act effect (run_group (run_on d.typing (kind_of act)))
+
+along-other : (d : Document) → GoAlong (taken_step d Other) (taken_step (bare d) Other)
+along-other d = along-step_to d (going_on d None) (going_on (bare d) None) Null None None refl
+
+-- ---- undo and redo
+
+along-undo : (d : Document) → GoAlong (act_step d Acts.Undo) (act_step (bare d) Acts.Undo)
+along-undo d = by (s.index == 0)
+  where
+    s : Groups
+    s = d.groups
+
+    group : ℕ
+    group = slice_index s.live (s.index - 1)
+
+    after : List ℕ → Groups
+    after retired = groups_of s.live (s.index - 1) retired (with_number s.undone group) s.given
+
+    by : (none : Bool) → GoAlong (history_step d (if none then None else Some group) (if none then s else after s.retired))
+        (history_step (bare d) (if none then None else Some group) (if none then bare_groups s else after []))
+    by true = along-other d
+    by false = along-step_to d (undone_document d (after s.retired)) (undone_document (bare d) (after [])) _ _ _ refl
+
+along-redo : (d : Document) → GoAlong (act_step d Acts.Redo) (act_step (bare d) Acts.Redo)
+along-redo d = by (s.index == length s.live)
+  where
+    s : Groups
+    s = d.groups
+
+    group : ℕ
+    group = slice_index s.live s.index
+
+    after : List ℕ → Groups
+    after retired = groups_of s.live (s.index + 1) retired (without_number s.undone group) s.given
+
+    by : (none : Bool) → GoAlong (history_step d (if none then None else Some group) (if none then s else after s.retired))
+        (history_step (bare d) (if none then None else Some group) (if none then bare_groups s else after []))
+    by true = along-other d
+    by false = along-step_to d (undone_document d (after s.retired)) (undone_document (bare d) (after [])) _ _ _ refl
+
+along-act : (d : Document) (act : EditAct) → GoAlong (act_step d act) (act_step (bare d) act)
+along-act d Acts.Undo = along-undo d
+along-act d Acts.Redo = along-redo d
+along-act d act = along-command d act
+
+-- ---- events of the front end, after which old groups are collected
+
+pub bare-collected : (d : Document) → bare (collected_document d) ≡ bare d
+bare-collected d = by (collection_after d)
+  where
+    by : (found : Option Collection) → bare (with_collection d found) ≡ bare d
+    by None = refl
+    by (Some collection) =
+        ap (λ groups. record (bare d) { groups = groups }) (bare-forgotten collection.groups d.groups)
+
+along-taken : (d : Document) (event : Event) → IsOfFront event → GoAlong (taken_step d event) (taken_step (bare d) event)
+along-taken d (Front act) front = along-act d act
+along-taken d (Edit caller edit named) front = absurd front
+along-taken d (Ack caller rev) front = absurd front
+along-taken d (Ended caller) front = absurd front
+along-taken d Other front = along-other d
+
+along-event : (d : Document) (event : Event) → IsOfFront event → GoAlong (event_step d event) (event_step (bare d) event)
+along-event d event front =
+    let along = along-taken d event front in
+    record {
+      tell = record { body = along.tell.body; update = along.tell.update; scroll = along.tell.scroll; notice = along.tell.notice };
+      same = bare-collected (taken_step d event).document ∙ along.same ∙ sym (bare-collected (taken_step (bare d) event).document);
+    }
+
+-- ---- the floor is at most the head
+
+abbrev HasFloor : Document → Type 0
+HasFloor d = d.history.floor ≤ head d.history
+
+floor-settled : (d next : Document) → HasFloor next → HasFloor (settled d next)
+floor-settled d next has = by (wants_update d next)
+  where
+    by : (b : Bool) → HasFloor (if b then updated next else next)
+    by true = has
+    by false = has
+
+floor-command : (d : Document) (act : EditAct) → HasFloor d → HasFloor (command_step d act (effect_on d act)).document
+floor-command d act has = by (is_idle d effect)
+  where
+    effect : Effect
+    effect = effect_on d act
+
+    joined : Option ℕ
+    joined = run_group (run_on d.typing (kind_of act))
+
+    by : (idle : Bool) → HasFloor (if idle then idle_step d act effect else typed_step d act effect).document
+    by true = floor-settled d (selected_document d (kind_of act) effect.regions) has
+    by false =
+        floor-settled d (typed_in d act effect joined) (omega (arith, has, head-after d.history (front_edit d joined effect.replacements)))
+
+floor-turned : (d : Document) (group : Option ℕ) (groups : Groups) → HasFloor d → HasFloor (history_step d group groups).document
+floor-turned d None groups has = floor-settled d (going_on d None) has
+floor-turned d (Some group) groups has =
+    floor-settled d (undone_document d groups) (omega (arith, has, head-undid d.history groups.undone))
+
+floor-act : (d : Document) (act : EditAct) → HasFloor d → HasFloor (act_step d act).document
+floor-act d Acts.Undo has = floor-turned d (next_undo d.groups) (undone_one d.groups) has
+floor-act d Acts.Redo has = floor-turned d (next_redo d.groups) (redone_one d.groups) has
+floor-act d act has = floor-command d act has
+
+floor-collected : (d : Document) → HasFloor d → HasFloor (collected_document d)
+floor-collected d has = by (collection_after d) refl
+  where
+    by : (found : Option Collection) → collection_after d ≡ found → HasFloor (with_collection d found)
+    by None is = has
+    by (Some collection) is =
+        omega (
+          arith,
+          floor-found d.history d.groups.retired (least_acknowledged (head d.history) d.sessions) collection is,
+          least-within (head d.history) d.sessions,
+        )
+
+floor-taken : (d : Document) (event : Event) → IsOfFront event → HasFloor d → HasFloor (taken_step d event).document
+floor-taken d (Front act) front has = floor-act d act has
+floor-taken d (Edit caller edit named) front has = absurd front
+floor-taken d (Ack caller rev) front has = absurd front
+floor-taken d (Ended caller) front has = absurd front
+floor-taken d Other front has = floor-settled d (going_on d None) has
+
+floor-event : (d : Document) (event : Event) → IsOfFront event → HasFloor d → HasFloor (after_event d event)
+floor-event d event front has = floor-collected (taken_step d event).document (floor-taken d event front has)
+
+-- ---- refusals: an edit against the head meets no floor
+
+refusal-bare : (d : Document) (event : Event) → IsOfFront event → HasFloor d → refusal_at d event ≡ refusal_at (bare d) event
+refusal-bare d (Edit caller edit named) front has = absurd front
+refusal-bare d (Ack caller rev) front has = absurd front
+refusal-bare d (Ended caller) front has = absurd front
+refusal-bare d Other front has = refl
+refusal-bare d (Front act) front has = by (is_idle d effect)
+  where
+    effect : Effect
+    effect = effect_on d act
+
+    asked : AskedEdit
+    asked = front_edit d None effect.replacements
+
+    rest : Option Refusal
+    rest = misfit_or_spent (misfit_of (text_at d.history asked.base) asked.delta) d.limit (inserted_count d.history + inserted_len asked.delta.els)
+
+    refused : Bool → ℕ → Option Refusal
+    refused below floor =
+        if nat_lt (head d.history) (head d.history) then Some (unknown (head d.history)) else (if below then Some (collected floor) else rest)
+
+    by : (idle : Bool) → (if idle then None else asked_refusal d asked) ≡ (if idle then None else asked_refusal (bare d) asked)
+    by true = refl
+    by false =
+        ap (λ below. refused below d.history.floor) (le-ltb (head d.history) d.history.floor has) ∙
+        sym (ap (λ below. refused below 0) (le-ltb (head d.history) 0 (omega arith)))
+
+-- ---- the laws
+
+step-same : {X : Type 0} (f : EventStep → X) (one other : Document) (event : Event) → bare one ≡ bare other →
+    f (event_step (bare one) event) ≡ f (event_step (bare other) event)
+step-same f one other event same = ap (λ d. f (event_step d event)) same
+
+pub collection_is_unseen : CollectionIsUnseen
+collection_is_unseen one other event front alike =
+    let first = along-event one event front in
+    let second = along-event other event front in
+    let same = alike.same in (
+      refusal-bare one event front alike.one_floor ∙ ap (λ d. refusal_at d event) same ∙ sym (refusal-bare other event front alike.other_floor),
+      record {
+        body = first.tell.body ∙ step-same (λ (s : EventStep). s.body) one other event same ∙ sym second.tell.body;
+        update = first.tell.update ∙ step-same (λ (s : EventStep). s.update) one other event same ∙ sym second.tell.update;
+        scroll = first.tell.scroll ∙ step-same (λ (s : EventStep). s.scroll) one other event same ∙ sym second.tell.scroll;
+        notice = first.tell.notice ∙ step-same (λ (s : EventStep). s.notice) one other event same ∙ sym second.tell.notice;
+      },
+      record {
+        same = first.same ∙ step-same (λ (s : EventStep). bare s.document) one other event same ∙ sym second.same;
+        one_floor = floor-event one event front alike.one_floor;
+        other_floor = floor-event other event front alike.other_floor;
+      },
+    )
+
+-- a document whose sessions alone differ
+told_by_sessions : (d : Document) (sessions : List (Option ℕ)) → HasFloor d → AreAlike d (collected_document (record d { sessions = sessions }))
+told_by_sessions d sessions has = record {
+  same = sym (bare-collected (record d { sessions = sessions }));
+  one_floor = has;
+  other_floor = floor-collected (record d { sessions = sessions }) has;
+}
+
+pub acknowledgements_are_unseen : AcknowledgementsAreUnseen
+acknowledgements_are_unseen d (Front act) told has = absurd told
+acknowledgements_are_unseen d (Edit caller edit named) told has = absurd told
+acknowledgements_are_unseen d (Ack caller rev) told has =
+    (record { body = refl; update = refl; scroll = refl; notice = refl }, told_by_sessions d (acknowledged_document d caller rev).sessions has)
+acknowledgements_are_unseen d (Ended caller) told has =
+    (record { body = refl; update = refl; scroll = refl; notice = refl }, told_by_sessions d (ended_document d caller).sessions has)
+acknowledgements_are_unseen d Other told has = absurd told
