@@ -7,6 +7,8 @@ mod commands;
 #[cfg(test)]
 mod lines;
 #[cfg(test)]
+mod made;
+#[cfg(test)]
 mod names;
 #[cfg(test)]
 mod notes;

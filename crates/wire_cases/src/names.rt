@@ -24,6 +24,11 @@ fn is_refused(text: &str, bad: Option<BadCase>) -> bool {
     Cases::<2>::new(text).err() == bad
 }
 
+/// Whether this is why the text is no table of no name.
+fn is_refused_for_none(text: &str, bad: Option<BadCase>) -> bool {
+    Cases::<0>::new(text).err() == bad
+}
+
 #[test]
 fn text_that_is_no_table_is_refused_at_its_first_fault(rt: HostRuntime) {
     assert!(rt; is_refused("b a ", Some(BadCase(1))));
@@ -34,8 +39,8 @@ fn text_that_is_no_table_is_refused_at_its_first_fault(rt: HostRuntime) {
     assert!(rt; is_refused("", Some(BadCase(0))));
     assert!(rt; is_refused(" a ", None));
     assert!(rt; is_refused("a \u{e9} ", None));
-    assert_eq!(rt; Cases::<0>::new("").err(), None);
-    assert_eq!(rt; Cases::<0>::new(" ").err(), Some(BadCase(0)));
+    assert!(rt; is_refused_for_none("", None));
+    assert!(rt; is_refused_for_none(" ", Some(BadCase(0))));
 }
 
 fn leads(name: &str, wanted: Option<Command>) -> bool {
@@ -49,17 +54,25 @@ fn dispatch_goes_by_the_row(rt: HostRuntime) {
     assert!(rt; leads("past", None));
 }
 
+fn edit_row_is(name: &str, row: Option<usize>) -> bool {
+    edit_cases().find(name) == row
+}
+
+fn front_row_is(name: &str, row: Option<usize>) -> bool {
+    front_cases().find(name) == row
+}
+
+const PARAMS: Member = Member {
+    name: "params",
+    kind: Kind::Any,
+    optional: true,
+};
+
 #[test]
 fn methods_and_members_are_found_by_the_table(rt: HostRuntime) {
-    let undo = edit_cases().find("undo");
-    assert_eq!(rt; undo, Some(44));
-    assert_eq!(rt; edit_cases().find("no_such"), None);
-    assert_eq!(rt; front_cases().find("edit"), Some(2));
-    let params = Member {
-        name: "params",
-        kind: Kind::Any,
-        optional: true,
-    };
-    assert_eq!(rt; front_member(2, 2), Some(params));
-    assert_eq!(rt; edit_member(44, 0), None);
+    assert!(rt; edit_row_is("undo", Some(44)));
+    assert!(rt; edit_row_is("no_such", None));
+    assert!(rt; front_row_is("edit", Some(2)));
+    assert!(rt; front_member(2, 2) == Some(PARAMS));
+    assert!(rt; edit_member(44, 0).is_none());
 }

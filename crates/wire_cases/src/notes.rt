@@ -3,7 +3,6 @@
 use plain_screen::{Line, Op, Triple, Update};
 use plain_text::{List, NoMemory, Text};
 use std::alloc::Global;
-use std::test::Fail;
 use view_update::{write_alert, write_scroll, write_update};
 
 /// A line with these carets and styles.
@@ -14,11 +13,14 @@ fn line(
     cursor: &[u64],
     styles: &[Triple],
 ) -> Result<Line, NoMemory> {
+    let text = Text::from_str(alloc, text)?;
+    let cursor = cursor.to_vec(alloc)?;
+    let styles = styles.to_vec(alloc)?;
     Ok(Line {
-        text: Text::from_str(alloc, text)?,
+        text,
         ln,
-        cursor: List::from_vec(cursor.to_vec(alloc)?),
-        styles: List::from_vec(styles.to_vec(alloc)?),
+        cursor: List::from_vec(cursor),
+        styles: List::from_vec(styles),
     })
 }
 
@@ -29,18 +31,21 @@ fn one_line(alloc: Global, new: Line) -> Result<Op, NoMemory> {
     Ok(Op::Ins { lines })
 }
 
-/// The first update of a view: one empty line with a caret.
-fn opening(alloc: Global) -> Result<Update, NoMemory> {
+/// An update that only adds this line.
+fn adding(alloc: Global, new: Line, pristine: bool) -> Result<Update, NoMemory> {
     let mut ops = List::new(alloc);
-    ops.push(one_line(alloc, line(alloc, "", Some(1), &[0], &[])?)?)?;
-    Ok(Update {
-        ops,
-        pristine: true,
-    })
+    ops.push(one_line(alloc, new)?)?;
+    Ok(Update { ops, pristine })
 }
 
-/// An update with each operation, and a copy of each kind.
-fn each_operation(alloc: Global) -> Result<Update, NoMemory> {
+/// The first update of a view: one empty line with a caret.
+fn opening(alloc: Global) -> Result<Update, NoMemory> {
+    let new = line(alloc, "", Some(1), &[0], &[])?;
+    adding(alloc, new, true)
+}
+
+/// A copy of each kind, and each other operation that counts lines.
+fn counts(alloc: Global) -> Result<List<Op>, NoMemory> {
     let mut ops = List::new(alloc);
     ops.push(Op::Copy { n: 4, ln: Some(7) })?;
     ops.push(Op::Copy { n: 1, ln: None })?;
@@ -48,26 +53,38 @@ fn each_operation(alloc: Global) -> Result<Update, NoMemory> {
     ops.push(Op::Invalidate {
         n: 18446744073709551615,
     })?;
-    let styles = [
-        Triple {
-            start: 0,
-            len: 3,
-            id: 0,
-        },
-        Triple {
-            start: -2,
-            len: 1,
-            id: 18446744073709551615,
-        },
-        Triple {
-            start: -9223372036854775808,
-            len: 0,
-            id: 2,
-        },
-    ];
+    Ok(ops)
+}
+
+const STYLES: [Triple; 3] = [
+    Triple {
+        start: 0,
+        len: 3,
+        id: 0,
+    },
+    Triple {
+        start: -2,
+        len: 1,
+        id: 18446744073709551615,
+    },
+    Triple {
+        start: -9223372036854775808,
+        len: 0,
+        id: 2,
+    },
+];
+
+fn two_lines(alloc: Global) -> Result<List<Line>, NoMemory> {
     let mut lines = List::new(alloc);
-    lines.push(line(alloc, "abc\n", Some(12), &[1, 4], &styles)?)?;
+    lines.push(line(alloc, "abc\n", Some(12), &[1, 4], &STYLES)?)?;
     lines.push(line(alloc, "d", None, &[], &[])?)?;
+    Ok(lines)
+}
+
+/// An update with each operation.
+fn each_operation(alloc: Global) -> Result<Update, NoMemory> {
+    let lines = two_lines(alloc)?;
+    let mut ops = counts(alloc)?;
     ops.push(Op::Ins { lines })?;
     ops.push(Op::Ins {
         lines: List::new(alloc),
@@ -80,18 +97,16 @@ fn each_operation(alloc: Global) -> Result<Update, NoMemory> {
 
 /// A line whose text has characters that JSON escapes, and some that it doesn't.
 fn odd_text(alloc: Global) -> Result<Update, NoMemory> {
-    let mut ops = List::new(alloc);
     let text = "\"\\/\t\u{1}\u{1f}\u{7f}\u{e9}\u{2028}\u{1f600}\r\n";
-    ops.push(one_line(alloc, line(alloc, text, None, &[], &[])?)?)?;
-    Ok(Update {
-        ops,
-        pristine: false,
-    })
+    let new = line(alloc, text, None, &[], &[])?;
+    adding(alloc, new, false)
 }
 
 /// The line of an update of a view.
 fn written(alloc: Global, view: &str, update: Result<Update, NoMemory>) -> Result<Text, NoMemory> {
-    write_update(alloc, &Text::from_str(alloc, view)?, &update?)
+    let update = update?;
+    let view = Text::from_str(alloc, view)?;
+    write_update(alloc, &view, &update)
 }
 
 /// Whether the text was made, and is this.
@@ -112,7 +127,7 @@ const ODD_TEXT: &str =
     "{\"method\":\"update\",\"params\":{\"update\":{\"ops\":[{\"lines\":[{\"cursor\":[],\"styles\":[],\"text\":\"\\\"\\\\/\\t\\u0001\\u001f\u{7f}\u{e9}\u{2028}\u{1f600}\\r\\n\"}],\"n\":1,\"op\":\"ins\"}],\"pristine\":false},\"view_id\":\"\\n\"}}\n";
 
 #[test]
-fn an_update_is_its_note(rt: HostRuntime) -> Result<(), Fail> {
+fn an_update_is_its_note(rt: HostRuntime) {
     let alloc = rt.alloc();
     assert!(rt; is(written(alloc, "view-id-1", opening(alloc)), OPENING));
     assert!(rt;
@@ -122,17 +137,18 @@ fn an_update_is_its_note(rt: HostRuntime) -> Result<(), Fail> {
         )
     );
     assert!(rt; is(written(alloc, "\n", odd_text(alloc)), ODD_TEXT));
-    Ok(())
 }
 
 /// The line of a scroll in a view.
 fn scrolled(alloc: Global, view: &str, line: u64, col: u64) -> Result<Text, NoMemory> {
-    write_scroll(alloc, &Text::from_str(alloc, view)?, line, col)
+    let view = Text::from_str(alloc, view)?;
+    write_scroll(alloc, &view, line, col)
 }
 
 /// The line of an alert.
 fn alerted(alloc: Global, message: &str) -> Result<Text, NoMemory> {
-    write_alert(alloc, &Text::from_str(alloc, message)?)
+    let message = Text::from_str(alloc, message)?;
+    write_alert(alloc, &message)
 }
 
 const SCROLL: &str =
@@ -142,9 +158,8 @@ const ALERT: &str =
     "{\"method\":\"alert\",\"params\":{\"msg\":\"method not found: \\\"\u{e9}\\n\"}}\n";
 
 #[test]
-fn the_other_notes_are_theirs(rt: HostRuntime) -> Result<(), Fail> {
+fn the_other_notes_are_theirs(rt: HostRuntime) {
     let alloc = rt.alloc();
     assert!(rt; is(scrolled(alloc, "view-id-1", 0, 4), SCROLL));
     assert!(rt; is(alerted(alloc, "method not found: \"\u{e9}\n"), ALERT));
-    Ok(())
 }
