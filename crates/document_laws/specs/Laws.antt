@@ -101,7 +101,7 @@ pub record TellTheSame (one other : EventStep) : Type 0 where
   pub scroll : one.scroll ≡ other.scroll
   pub notice : one.notice ≡ other.notice
 
--- an event of the front end, and what the session of a plugin tells
+-- an event of the front end
 abbrev pub IsOfFront : Event → Type 0
 IsOfFront (Front act) = ⊤
 IsOfFront (Edit caller edit named) = ⊥
@@ -109,6 +109,7 @@ IsOfFront (Ack caller rev) = ⊥
 IsOfFront (Ended caller) = ⊥
 IsOfFront Other = ⊤
 
+-- what the session of a plugin tells
 abbrev pub IsOfSession : Event → Type 0
 IsOfSession (Front act) = ⊥
 IsOfSession (Edit caller edit named) = ⊥
