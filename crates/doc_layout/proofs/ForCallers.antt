@@ -1,2 +1,3 @@
 -- What other crates may cite of the proofs of `doc_layout`.
+pub use Rattle.doc_layout.proofs.AskedLemmas.{covered-each}
 pub use Rattle.doc_layout.proofs.LayoutLemmas.{length-byte_len}

@@ -1,9 +1,10 @@
 //! What front ends and plugins are told of a text: the layout of its pieces with the carets of regions, the update that sends the lines
-//! of a window, and a change of a rope, as the notices have it.
+//! that they ask for, and a change of a rope, as the notices have it.
 //!
 //! To a contract a rope is its characters; `specs/Layout.antt` has the layout of a text, and `specs/Told.antt` what a front end is told.
 #![tactic(auto)]
 
+mod asked;
 pub mod laws;
 mod layout;
 mod plan;
@@ -12,6 +13,7 @@ mod texts;
 mod wire;
 mod wire_builder;
 
+pub use asked::Asked;
 pub use layout::layout_of;
 pub use plan::{scroll_of, update_of};
 pub use texts::whole_text;

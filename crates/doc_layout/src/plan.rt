@@ -1,52 +1,54 @@
-ghost use Rattle.std.specs.Prelude.{◌≡◌, [], ◌++◌, IfOk, OnOk, option_map};
+ghost use Rattle.std.specs.Prelude.{◌≡◌, [], ◌++◌, IfOk, option_map};
 ghost use Rattle.plain_screen.specs.Plan.{update_plan};
-ghost use Rattle.doc_layout.specs.Told.{no_request, planned, scroll_between};
+ghost use Rattle.doc_layout.specs.Told.{is_asked, planned, scroll_between};
 ghost use Rattle.doc_layout.specs.PositionView.{position_view};
-ghost use Rattle.doc_layout.specs.Inner.{left_ops};
+ghost use Rattle.doc_layout.specs.Inner.{stretch_op};
 
+use crate::asked::Asked;
 use plain_screen::{Line, Lines, Op, Ops, Update};
-use plain_text::{NoMemory, Run, TryClone};
+use plain_text::{NoMemory, TryClone};
 use std::alloc::Global;
 
-/// The update that sends the lines of a window, which it copies, and leaves the others invalid.
+/// The update that sends the lines that are asked for, which it copies, and leaves the others invalid, in one operation for each run of
+/// them.
 pub fn update_of(
     alloc: Global,
     lines: &Lines,
-    window: Run,
+    asked: Asked,
     pristine: bool,
 ) -> Result<Update, NoMemory>
-    ensures { IfOk result (λ made. made ≡ planned window lines.now pristine) }
+    ensures { IfOk result (λ made. made ≡ planned asked lines.now pristine) }
 {
-    let ops = ops_of(alloc, lines, window)?;
+    let ops = ops_of(alloc, lines.as_slice(), asked)?;
     Ok(Update { ops, pristine })
 }
 
-fn ops_of(alloc: Global, lines: &Lines, window: Run) -> Result<Ops, NoMemory>
-    ensures { IfOk result (λ ops. ops ≡ update_plan window no_request lines.now []) }
+fn ops_of(alloc: Global, lines: &[Line], asked: Asked) -> Result<Ops, NoMemory>
+    ensures { IfOk result (λ ops. ops ≡ update_plan asked.window asked.request lines.now []) }
 {
-    let all = lines.as_slice();
-    let len = all.len() as u64;
-    let end = window.end.min(len);
+    let len = lines.len() as u64;
     let mut ops = Ops::new(alloc);
-    if end <= window.start {
-        put_left(&mut ops, len)?;
-        return Ok(ops);
+    let mut at: u64 = 0;
+    while at < len {
+        let end = asked.stretch_end(at, len);
+        ops.push(op_of(alloc, &lines[at as usize..end as usize], asked, at)?)?;
+        at = end;
     }
-    put_left(&mut ops, window.start)?;
-    let shown = copies(alloc, &all[window.start as usize..end as usize])?;
-    ops.push(Op::Ins { lines: shown })?;
-    put_left(&mut ops, len - end)?;
     Ok(ops)
 }
 
-// Leaves so many lines invalid.
-fn put_left(ops: &mut Ops, n: u64) -> Result<(), NoMemory>
-    ensures { OnOk result (ops.new ≡ ops.old ++ left_ops n) }
+// What tells of these lines, which are all asked for as the line with this index is, or all not.
+fn op_of(alloc: Global, lines: &[Line], asked: Asked, at: u64) -> Result<Op, NoMemory>
+    ensures { IfOk result (λ op. op ≡ stretch_op (is_asked asked at) lines.now) }
 {
-    if n > 0 {
-        ops.push(Op::Invalidate { n })?;
+    if asked.has(at) {
+        return Ok(Op::Ins {
+            lines: copies(alloc, lines)?,
+        });
     }
-    Ok(())
+    Ok(Op::Invalidate {
+        n: lines.len() as u64,
+    })
 }
 
 fn copies(alloc: Global, lines: &[Line]) -> Result<Lines, NoMemory>
