@@ -1,4 +1,6 @@
 pub mod MovedLemmas
+pub mod GoalLemmas
+pub mod SearchLemmas
 pub mod IdleLemmas
 pub mod PointLemmas
 pub mod SameLemmas

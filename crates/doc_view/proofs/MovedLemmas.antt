@@ -8,6 +8,7 @@ use Rattle.plain_text.specs.declared.selection.Sel.{Sel}
 use Rattle.plain_edits.specs.declared.delta.UnitDelta.{UnitDelta}
 use Rattle.plain_edits.specs.UnitDelta.{unit_adds, unit_keeps}
 use Rattle.edit_ops.specs.Regions.{without_goal}
+use Rattle.doc_view.specs.declared.moved.Goals.{Goals}
 use Rattle.doc_view.specs.Moved.{AreMoved, with_goals}
 use Rattle.selection_core.specs.Mapped.{AreWithin, length_after, mapped_region, mapped_regions, new_gap}
 use Rattle.selection_core.specs.Selection.{AreRightOf, IsSelection, greater_end, is_forward, joined, lesser_end, meets, merged_from, merged_regions, spanning}
@@ -98,7 +99,7 @@ pub AreWithin-mapped : (units : UnitDelta) (after : Bool) (regions : List Region
 AreWithin-mapped units after regions are = AreWithin-merged (length_after units) (map (mapped_region units after) regions) (AreWithin-moved units after regions are)
 
 -- so they are the regions that the edit leaves
-pub AreMoved-map : {E : Type 0} (units : UnitDelta) (after goals : Bool) (regions : List Region) (result : Result Sel E) →
+pub AreMoved-map : {E : Type 0} (units : UnitDelta) (after : Bool) (goals : Goals) (regions : List Region) (result : Result Sel E) →
     AreWithin units.base (with_goals goals regions) →
     IfOk result (λ sel. sel.regions ≡ mapped_regions units after (with_goals goals regions)) → IfOk result (λ sel. IsSelection sel.regions) →
     IfOk result (λ sel. AreMoved units after goals regions sel.regions)

@@ -1,4 +1,5 @@
 pub mod View
+pub mod Search
 pub mod Moved
 pub mod Told
 pub mod Idle

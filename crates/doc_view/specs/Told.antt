@@ -1,21 +1,37 @@
 -- What the front end lacks after an event.
-use Rattle.std.specs.Prelude.{Bool, true, false, not, ◌||◌, if◌then◌else◌, Option, Some, None}
+use Rattle.std.specs.Prelude.{ℕ, Bool, true, false, not, ◌||◌, if◌then◌else◌, length, Option, Some, None}
+use Rattle.plain_text.specs.declared.run.Run.{Run}
 use Rattle.plain_screen.specs.declared.screen.Update.{Update}
 use Rattle.plain_screen.specs.SameLayout.{is_same_layout}
-use Rattle.doc_layout.specs.Told.{planned}
-use Rattle.doc_view.specs.View.{View, layout_in}
+use Rattle.doc_layout.specs.declared.asked.Asked.{Asked}
+use Rattle.doc_layout.specs.Told.{is_covered, planned}
+use Rattle.doc_view.specs.declared.told.Pristine.{Pristine}
+use Rattle.doc_view.specs.View.{View, asked_in, layout_in}
 
 -- whether two truths differ
 abbrev pub differ : Bool → Bool → Bool
 differ true truth = not truth
 differ false truth = truth
 
--- the lines of the window, or another layout, or whether the text is pristine
-abbrev pub is_lacking : View → View → Bool → Bool → Bool
-is_lacking before after was_pristine is_pristine =
-    not before.valid || (differ was_pristine is_pristine || not (is_same_layout (layout_in before) (layout_in after)))
+-- whether the front end has of so many lines those that are asked for; before the first update it has none
+abbrev pub has_lines : Option Asked → Asked → ℕ → Bool
+has_lines None now len = false
+has_lines (Some last) now len = is_covered last now len
+
+abbrev pub has_asked : View → Run → Bool
+has_asked view request = has_lines view.shown (asked_in view request) (length (layout_in view))
+
+-- it lacks lines that are asked for, or another layout, or whether the text is pristine
+abbrev pub is_lacking : View → View → Run → Pristine → Bool
+is_lacking before after request pristine =
+    not (has_asked after request) || (differ pristine.before pristine.after || not (is_same_layout (layout_in before) (layout_in after)))
 
 -- what it is told
-abbrev pub told : View → View → Bool → Bool → Option Update
-told before after was_pristine is_pristine =
-    if is_lacking before after was_pristine is_pristine then Some (planned after.window (layout_in after) is_pristine) else None
+abbrev pub told : View → View → Run → Pristine → Option Update
+told before after request pristine =
+    if is_lacking before after request pristine then Some (planned (asked_in after request) (layout_in after) pristine.after) else None
+
+-- and the view then: its front end has the lines that were asked for, or those that it had
+abbrev pub settled_view : View → View → Run → Pristine → View
+settled_view before after request pristine =
+    if is_lacking before after request pristine then record after { shown = Some (asked_in after request) } else after

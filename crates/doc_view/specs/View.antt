@@ -1,19 +1,23 @@
 -- THE VIEW of a text: what a document keeps for who is shown its head text.
-use Rattle.std.specs.Prelude.{ℕ, Bool, List}
+use Rattle.std.specs.Prelude.{ℕ, List, Option}
 use Rattle.plain_text.specs.declared.run.Run.{Run}
 use Rattle.plain_text.specs.declared.selection.Region.{Region}
 use Rattle.plain_screen.specs.declared.piece.Piece.{Piece}
 use Rattle.plain_screen.specs.declared.screen.Line.{Line}
 use Rattle.plain_screen.specs.View.{whole_lines}
 use Rattle.selection_core.specs.Selection.{last_caret}
+use Rattle.doc_layout.specs.declared.asked.Asked.{Asked}
 use Rattle.doc_layout.specs.Layout.{layout, Position, position_of}
+use Rattle.doc_view.specs.declared.search.Search.{Search}
 
--- the text, the regions on it, the lines that are shown, and whether the front end has these
+-- the text, the regions on it, the lines that are shown, what is looked for, and the lines that were asked for at the last update, if
+-- there was one: these its front end has
 pub record View : Type 0 where
   pub text : List ℕ
   pub regions : List Region
   pub window : Run
-  pub valid : Bool
+  pub search : Search
+  pub shown : Option Asked
 
 -- the pieces of the text (it is not wrapped yet), its layout, and the place of the last region's caret
 abbrev pub pieces_in : View → List Piece
@@ -24,3 +28,7 @@ layout_in view = layout view.text (pieces_in view) view.regions
 
 abbrev pub point_in : View → Position
 point_in view = position_of view.text (pieces_in view) (last_caret view.regions)
+
+-- the lines that it asks for with a request
+abbrev pub asked_in : View → Run → Asked
+asked_in view request = record { window = view.window; request = request }

@@ -1,13 +1,19 @@
-//! A view on the head text of a document: its pieces, regions and layout, what commands make of them, and what its front end lacks.
+//! A view on the head text of a document: its pieces, regions, layout and search, what commands make of them, and what its front end
+//! lacks.
 //!
-//! To a contract a [`ViewState`] is a text with regions, the lines that are shown, and whether the front end has these; pieces and layout
-//! are those of `specs/View.antt`.
+//! To a contract a [`ViewState`] is a text with regions, the lines that are shown, what is looked for, and which lines the front end has;
+//! pieces and layout are those of `specs/View.antt`, and `specs/Search.antt` has which match a command selects.
 #![tactic(auto)]
 
 mod idle;
+mod moved;
 mod same;
+mod search;
 mod told;
 mod view;
 
 pub use idle::does_nothing;
+pub use moved::Goals;
+pub use search::Search;
+pub use told::Pristine;
 pub use view::ViewState;

@@ -1,0 +1,13 @@
+use Rattle.std.proofs.Common.{length, ap, sym, ◌∙◌, subst}
+use Rattle.std.specs.Prelude.{IfSome}
+use Rattle.doc_view.specs.Search.{next_match}
+use Rattle.doc_view.proofs.SearchLemmas.{IsInside, next_match-inside}
+use Rattle.doc_view.proofs.view.ViewState.at_next.Goals as goal
+
+pub with_match-requires : goal.with_match-requires
+with_match-requires c =
+    let now = c.args.self.now in
+    let regions = c.deref.result.now.regions in
+    subst (λ o. IfSome o (IsInside (length now.text)))
+    (sym (c.next_match-found.ensures ∙ ap (λ matches. next_match matches c.args.wrap_around regions) (c.as_slice.ensures ∙ c.in_ok-matches.ensures)))
+    (next_match-inside now.text now.search c.args.wrap_around regions)

@@ -1,0 +1,152 @@
+// What a view looks for, and which match a command selects.
+ghost use Rattle.std.specs.Prelude.{◌≡◌, List, IfOk, None, Some, nat_le, slice_get};
+ghost use Rattle.std.specs.List.{filter, find, last_or};
+ghost use Rattle.plain_text.specs.declared.run.Run.{Run as RunValue};
+ghost use Rattle.plain_text.specs.declared.selection.Region.{Region as RegionValue};
+ghost use Rattle.doc_view.specs.Search.{end_of_regions, if_wraps, next_match, no_search, previous_match, results, search_for, start_of_regions, with_match};
+
+use find_core::matches;
+use plain_text::{NoMemory, Region, Regions, Run, Runs, Sel, Text};
+use std::alloc::Global;
+
+/// What a view looks for: characters, and whether case counts. No characters are found nowhere.
+#[derive(Drop)]
+pub struct Search {
+    pub chars: Text,
+    pub case_counts: bool,
+}
+
+impl Search {
+    /// The search of a view that was just opened.
+    pub(crate) fn none(alloc: Global) -> Search
+        ensures { result ≡ no_search }
+    {
+        Search {
+            chars: Text::new(alloc),
+            case_counts: true,
+        }
+    }
+
+    /// The search for other characters, where case counts as before if nothing is said of it.
+    pub(crate) fn for_chars(&self, chars: Text, case_counts: Option<bool>) -> Search
+        ensures { result ≡ search_for self.now chars case_counts }
+    {
+        Search {
+            chars,
+            case_counts: case_counts.unwrap_or(self.case_counts),
+        }
+    }
+
+    /// All matches in a text. This walks the text, and copies it where case does not count.
+    pub(crate) fn results(&self, alloc: Global, text: &Text) -> Result<Runs, NoMemory>
+        ensures { IfOk result (λ runs. runs ≡ results text.now self.now) }
+    {
+        matches(alloc, text, &self.chars, !self.case_counts)
+    }
+}
+
+/// The first match that starts not before the end of the regions; where there is none and it wraps around, the first of all.
+pub(crate) fn next_match(
+    matches: &[Run],
+    wrap_around: Option<bool>,
+    regions: &Regions,
+) -> Option<Run>
+    ensures { result ≡ next_match matches.now wrap_around regions.now }
+{
+    match first_from(matches, end_of_regions(regions)) {
+        Some(found) => Some(found),
+        None => if_wraps(wrap_around, first_of(matches)),
+    }
+}
+
+/// The last match that ends not after the start of the regions; where there is none and it wraps around, the last of all.
+pub(crate) fn previous_match(
+    matches: &[Run],
+    wrap_around: Option<bool>,
+    regions: &Regions,
+) -> Option<Run>
+    ensures { result ≡ previous_match matches.now wrap_around regions.now }
+{
+    match last_to(matches, start_of_regions(regions)) {
+        Some(found) => Some(found),
+        None => if_wraps(wrap_around, last_of(matches)),
+    }
+}
+
+/// The selection of a match.
+pub(crate) fn selecting(alloc: Global, found: Run) -> Result<Sel, NoMemory>
+    ensures { (regions : List RegionValue) → IfOk result (λ made. made.regions ≡ with_match regions (Some found)) }
+{
+    let mut regions = Regions::new(alloc);
+    regions.push(Region {
+        anchor: found.start,
+        caret: found.end,
+        goal: None,
+    })?;
+    Ok(Sel { regions })
+}
+
+// This match, where it wraps around.
+fn if_wraps(wrap_around: Option<bool>, found: Option<Run>) -> Option<Run>
+    ensures { result ≡ if_wraps wrap_around found }
+{
+    if wrap_around.unwrap_or(false) {
+        return found;
+    }
+    None
+}
+
+fn first_from(matches: &[Run], gap: u64) -> Option<Run>
+    ensures { result ≡ find (λ (run : RunValue). nat_le gap run.start) matches.now }
+{
+    for found in matches {
+        if gap <= found.start {
+            return Some(*found);
+        }
+    }
+    None
+}
+
+fn last_to(matches: &[Run], gap: u64) -> Option<Run>
+    ensures { result ≡ last_or None (filter (λ (run : RunValue). nat_le run.end gap) matches.now) }
+{
+    let mut last = None;
+    for found in matches {
+        if found.end <= gap {
+            last = Some(*found);
+        }
+    }
+    last
+}
+
+fn first_of(matches: &[Run]) -> Option<Run>
+    ensures { result ≡ slice_get matches.now 0 }
+{
+    matches.first().copied()
+}
+
+fn last_of(matches: &[Run]) -> Option<Run>
+    ensures { result ≡ last_or None matches.now }
+{
+    matches.last().copied()
+}
+
+// The greater end of the last region; 0 where there is none.
+fn end_of_regions(regions: &Regions) -> u64
+    ensures { result ≡ end_of_regions regions.now }
+{
+    match regions.as_slice().last() {
+        Some(region) => region.anchor.max(region.caret),
+        None => 0,
+    }
+}
+
+// The lesser end of the first region; 0 where there is none.
+fn start_of_regions(regions: &Regions) -> u64
+    ensures { result ≡ start_of_regions regions.now }
+{
+    match regions.as_slice().first() {
+        Some(region) => region.anchor.min(region.caret),
+        None => 0,
+    }
+}
