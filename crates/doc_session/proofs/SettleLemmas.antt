@@ -1,7 +1,7 @@
 -- When a front end is told, and what a document in memory stands for then.
-use Rattle.std.proofs.Common.{◌≡◌, ℕ, ◌+◌, ◌<◌, Bool, true, false, List, [], ◌∷◌, length, map, Option, Some, None, refl, ap, ap₂, sym, ◌∙◌, arith}
+use Rattle.std.proofs.Common.{◌≡◌, ℕ, ◌+◌, ◌<◌, Bool, true, false, List, [], ◌∷◌, length, map, Option, Some, None, refl, ap, ap₂, sym, ◌∙◌, subst, arith}
 use Rattle.std.specs.Prelude.{if◌then◌else◌, ◌==◌, not, ◌&&◌, ◌||◌, unwrap_or, is_some}
-use Rattle.std.specs.List.{enumerate_from}
+use Rattle.std.specs.List.{enumerate_from, list_all, range_with_len}
 use Rattle.plain_text.specs.declared.run.Run.{Run}
 use Rattle.plain_text.specs.declared.selection.Region.{Region}
 use Rattle.plain_screen.specs.declared.piece.Piece.{Piece}
@@ -14,13 +14,15 @@ use Rattle.plain_screen.proofs.callers.PlanLemmas.{screen_after-plan_from}
 use Rattle.plain_screen.proofs.callers.SameLemmas.{is_same_layout-Decides}
 use Rattle.plain_screen.proofs.callers.ViewLemmas.{ArePieces-whole_lines, IsLayoutLineOf-layout_line_of}
 use Rattle.selection_core.specs.Selection.{last_caret}
-use Rattle.doc_layout.specs.Told.{planned, scroll_between}
-use Rattle.doc_view.specs.Told.{is_lacking, told}
-use Rattle.doc_view.specs.View.{View, layout_in, point_in}
-use Rattle.doc_session.specs.Document.{Document, caret_point, is_pristine, layout_of, no_request, text_of}
-use Rattle.doc_session.specs.Effects.{are_valid, differ, is_window_valid, ops_of, settled, update_after, update_of, updated, wants_update}
+use Rattle.doc_layout.specs.declared.asked.Asked.{Asked}
+use Rattle.doc_layout.specs.Told.{is_asked, planned, screen_of, scroll_between}
+use Rattle.doc_view.specs.declared.told.Pristine.{Pristine}
+use Rattle.doc_view.specs.Told.{has_lines, is_lacking, settled_view, told}
+use Rattle.doc_view.specs.View.{View, asked_in, layout_in, point_in}
+use Rattle.doc_session.specs.Document.{Document, caret_point, is_pristine, layout_of, text_of}
+use Rattle.doc_session.specs.Effects.{are_valid, differ, is_shown, ops_of, settled, update_after, update_of, updated, wants_update}
 use Rattle.doc_session.specs.InMemory.{Doc}
-use Rattle.doc_session.specs.Inner.{IsUncollected, IsUntold, is_pristine_in}
+use Rattle.doc_session.specs.Inner.{IsUncollected, IsUntold, is_pristine_in, pristine_to}
 use Rattle.doc_session.specs.Layout.{Position, layout, position_of}
 use Rattle.doc_session.specs.SameLayout.{is_same_layout}
 use Rattle.doc_session.specs.Stands.{DocStandsFor}
@@ -29,67 +31,67 @@ use Rattle.doc_session.proofs.HeadLemmas.{head-stands}
 
 -- ---- the screen
 
-pub screen_after-ops_of : (screen : Screen) (document : Document) →
-    screen_after screen (ops_of document) ≡ Some (shown_lines document.window no_request (layout_of document))
-screen_after-ops_of screen document = screen_after-plan_from document.window no_request (layout_of document) 0 0 screen
+pub screen_after-ops_of : (screen : Screen) (request : Run) (document : Document) →
+    screen_after screen (ops_of request document) ≡ Some (shown_lines document.window request (layout_of document))
+screen_after-ops_of screen request document = screen_after-plan_from document.window request (layout_of document) 0 0 screen
 
-pub screen-updated : (document : Document) → (updated document).screen ≡ shown_lines document.window no_request (layout_of document)
-screen-updated document = ap (λ screen. unwrap_or screen []) (screen_after-ops_of document.screen document)
+pub screen-updated : (request : Run) (document : Document) → (updated request document).screen ≡ shown_lines document.window request (layout_of document)
+screen-updated request document = ap (λ screen. unwrap_or screen []) (screen_after-ops_of document.screen request document)
 
-shown_valid : (b r : Bool) (line : Line) → (not b || is_some (if b || r then Some line else None)) ≡ true
-shown_valid true r line = refl
-shown_valid false r line = refl
+-- of lines that an update told, those are valid that it was asked for
+are_valid-told : (last now : Asked) (index : ℕ) (lines : List Line) →
+    are_valid now.window now.request index lines
+    (map (λ (index, line). if is_within last.window index || is_within last.request index then Some line else None) (enumerate_from index lines)) ≡
+    list_all (λ i. not (is_asked now i) || is_asked last i) (range_with_len index (length lines))
+are_valid-told last now index [] = refl
+are_valid-told last now index (line ∷ lines) =
+    ap₂ (λ a b. a && b) (one (is_asked now index) (is_asked last index)) (are_valid-told last now (index + 1) lines)
+  where
+    one : (a b : Bool) → (not a || is_some (if b then Some line else None)) ≡ (not a || b)
+    one a true = refl
+    one a false = refl
 
--- the lines of the window are valid where they are shown
-are_valid-shown : (window request : Run) (index : ℕ) (lines : List Line) →
-    are_valid window index lines
-    (map (λ (index, line). if is_within window index || is_within request index then Some line else None) (enumerate_from index lines)) ≡ true
-are_valid-shown window request index [] = refl
-are_valid-shown window request index (line ∷ lines) =
-    ap (λ b. b && are_valid window (index + 1) lines
-    (map (λ (index, line). if is_within window index || is_within request index then Some line else None) (enumerate_from (index + 1) lines)))
-    (shown_valid (is_within window index) (is_within request index) line) ∙ are_valid-shown window request (index + 1) lines
-
--- and the first is not on an empty screen
-first_lacks : (window : Run) (text : List ℕ) (regions : List Region) (pieces : List Piece) → 0 < length pieces → is_within window 0 ≡ true →
-    are_valid window 0 (layout text pieces regions) [] ≡ false
-first_lacks window text regions [] some shows = absurd (omega arith)
-first_lacks window text regions (piece ∷ pieces) some shows = ap (λ b. not b && are_valid window (0 + 1) (layout text pieces regions) []) shows
-
-are_valid-none : (window : Run) (text : List ℕ) (regions : List Region) → is_within window 0 ≡ true →
-    are_valid window 0 (layout text (whole_lines text) regions) [] ≡ false
-are_valid-none window text regions shows =
+-- on an empty screen none is, and a layout has a line
+pub are_valid-none : (window request : Run) (text : List ℕ) (regions : List Region) → are_valid window request 0 (layout text (whole_lines text) regions) [] ≡ false
+are_valid-none window request text regions =
     let inside = (IsLayoutLineOf-layout_line_of text (whole_lines text) 0 (ArePieces-whole_lines text)).inside in
-    first_lacks window text regions (whole_lines text) (omega arith) shows
+    by (whole_lines text) (omega (arith, inside))
+  where
+    by : (pieces : List Piece) → 0 < length pieces → are_valid window request 0 (layout text pieces regions) [] ≡ false
+    by [] some = absurd (omega (arith, some))
+    by (piece ∷ pieces) some = refl
 
 -- ---- the occasion of an update
 
-or-true : (a : Bool) → (a || true) ≡ true
-or-true true = refl
-or-true false = refl
+-- the front end lacks lines, or has them where the layout is the same
+by_flags : (same differs has valid : Bool) → (same ≡ true → has ≡ valid) → (not has || (differs || not same)) ≡ ((not same || differs) || not valid)
+by_flags false differs has valid is = ap (λ b. not has || b) (or-true differs) ∙ or-true (not has)
+  where
+    or-true : (a : Bool) → (a || true) ≡ true
+    or-true true = refl
+    or-true false = refl
+by_flags true differs has valid is = ap (λ b. not b || (differs || false)) (is refl) ∙ turned valid differs
+  where
+    turned : (v d : Bool) → (not v || (d || false)) ≡ (d || not v)
+    turned true true = refl
+    turned true false = refl
+    turned false true = refl
+    turned false false = refl
 
-or-false : (a : Bool) → (a || false) ≡ a
-or-false true = refl
-or-false false = refl
-
--- the front end lacks its lines, or has them where the layout is the same
-by_flags : (same differs valid window : Bool) → (valid ≡ false → window ≡ false) → (valid ≡ true → same ≡ true → window ≡ true) →
-    (not valid || (differs || not same)) ≡ ((not same || differs) || not window)
-by_flags same differs false window none all = sym (ap (λ b. (not same || differs) || not b) (none refl) ∙ or-true (not same || differs))
-by_flags false differs true window none all = or-true differs
-by_flags true differs true window none all =
-    or-false differs ∙ sym (ap (λ b. differs || not b) (all refl refl) ∙ or-false differs)
-
--- nothing is wanted where the layouts are the same and the window is valid
+-- nothing is wanted where the layouts are the same and the lines are there
 none_wanted : (same p w : Bool) → ((not same || p) || not w) ≡ false → (same ≡ true) × (w ≡ true)
 none_wanted true p true is = (refl, refl)
 none_wanted true true false is = absurd cc
 none_wanted true false false is = absurd cc
 none_wanted false p w is = absurd cc
 
--- the screen of a document that one in memory stands for
-abbrev pub screen_by : Bool → Document → Screen
-screen_by valid plain = if valid then shown_lines plain.window no_request (layout_of plain) else []
+-- the text of a view is as it was, whether its front end was told or not
+pub text-settled : (before after : View) (request : Run) (pristine : Pristine) → (settled_view before after request pristine).text ≡ after.text
+text-settled before after request pristine = by (is_lacking before after request pristine)
+  where
+    by : (b : Bool) → (if b then record after { shown = Some (asked_in after request) } else after).text ≡ after.text
+    by true = refl
+    by false = refl
 
 -- what a view keeps is of the plain document
 view-lines : (view : View) (plain : Document) → view.text ≡ text_of plain → view.regions ≡ plain.regions → layout_in view ≡ layout_of plain
@@ -98,45 +100,36 @@ view-lines view plain text regions = ap₂ (λ t rs. layout t (whole_lines t) rs
 view-point : (view : View) (plain : Document) → view.text ≡ text_of plain → view.regions ≡ plain.regions → point_in view ≡ caret_point plain
 view-point view plain text regions = ap₂ (λ t rs. position_of t (whole_lines t) (last_caret rs)) text regions
 
--- the occasion of a document whose window is that of the one before, whose screen it has
-module _ (plain next : Document) (valid : Bool) (screen : plain.screen ≡ screen_by valid plain) (shows : is_within plain.window 0 ≡ true)
-    (window_is : next.window ≡ plain.window) (screen_is : next.screen ≡ plain.screen) where
+-- the occasion of a document that has the screen of the one before, where an event requests these lines
+module _ (plain next : Document) (request : Run) (shown : Option Asked) (was : plain.screen ≡ screen_of shown (layout_of plain))
+    (stays : next.screen ≡ plain.screen) where
+  abbrev now_asked : Asked
+  now_asked = record { window = next.window; request = request }
+
   abbrev same : Bool
   same = is_same_layout (layout_of plain) (layout_of next)
 
-  valid_next : is_window_valid next ≡ are_valid plain.window 0 (layout_of next) plain.screen
-  valid_next = ap₂ (λ window shown. are_valid window 0 (layout_of next) shown) window_is screen_is
+  -- the screen is of the next layout too, where that is the same
+  screen-same : same ≡ true → next.screen ≡ screen_of shown (layout_of next)
+  screen-same one = stays ∙ was ∙ ap (screen_of shown) ((is_same_layout-Decides (layout_of plain) (layout_of next)).0 one)
 
-  window_lacks : valid ≡ false → is_window_valid next ≡ false
-  window_lacks none =
-      valid_next ∙ ap (are_valid plain.window 0 (layout_of next)) (screen ∙ ap (λ v. screen_by v plain) none) ∙
-      are_valid-none plain.window (text_of next) next.regions shows
-
-  window_has : valid ≡ true → same ≡ true → is_window_valid next ≡ true
-  window_has some one =
-      valid_next ∙
-      ap₂ (λ lines shown. are_valid plain.window 0 lines shown) (sym ((is_same_layout-Decides (layout_of plain) (layout_of next)).0 one))
-      (screen ∙ ap (λ v. screen_by v plain) some) ∙
-      are_valid-shown plain.window no_request 0 (layout_of plain)
-
-  pub wants_update-is : (not valid || (differ (is_pristine plain) (is_pristine next) || not same)) ≡ wants_update plain next
-  wants_update-is = by_flags same (differ (is_pristine plain) (is_pristine next)) valid (is_window_valid next) window_lacks window_has
-
-  -- the screen that the front end has then
-  pub screen-settled : (settled plain next).screen ≡ shown_lines plain.window no_request (layout_of next)
-  screen-settled = by (wants_update plain next) refl
+  has_lines-is : same ≡ true → has_lines shown now_asked (length (layout_of next)) ≡ is_shown request next
+  has_lines-is one = by shown ∙ sym (ap (are_valid next.window request 0 (layout_of next)) (screen-same one))
     where
-      has_by : (v : Bool) → valid ≡ v → is_window_valid next ≡ true → plain.screen ≡ shown_lines plain.window no_request (layout_of plain)
-      has_by true is here = screen ∙ ap (λ v. screen_by v plain) is
-      has_by false is here = absurd (let lacks = window_lacks is in cc)
+      by : (last : Option Asked) → has_lines last now_asked (length (layout_of next)) ≡ are_valid next.window request 0 (layout_of next) (screen_of last (layout_of next))
+      by None = sym (are_valid-none next.window request (text_of next) next.regions)
+      by (Some last) = sym (are_valid-told last now_asked 0 (layout_of next))
 
-      by : (b : Bool) → wants_update plain next ≡ b →
-          (if b then updated next else next).screen ≡ shown_lines plain.window no_request (layout_of next)
-      by true is = screen-updated next ∙ ap (λ window. shown_lines window no_request (layout_of next)) window_is
-      by false is =
-          let flags = none_wanted same (differ (is_pristine plain) (is_pristine next)) (is_window_valid next) is in
-          screen_is ∙ has_by valid refl flags.1 ∙
-          ap (shown_lines plain.window no_request) ((is_same_layout-Decides (layout_of plain) (layout_of next)).0 flags.0)
+  pub wants_update-is : (not (has_lines shown now_asked (length (layout_of next))) || (differ (is_pristine plain) (is_pristine next) || not same)) ≡
+      wants_update request plain next
+  wants_update-is = by_flags same (differ (is_pristine plain) (is_pristine next)) (has_lines shown now_asked (length (layout_of next))) (is_shown request next) has_lines-is
+
+  -- where nothing is wanted the screen is of the next layout, and the lines that are asked for are there
+  pub unwanted : wants_update request plain next ≡ false →
+      (next.screen ≡ screen_of shown (layout_of next)) × (has_lines shown now_asked (length (layout_of next)) ≡ true)
+  unwanted none =
+      let flags = none_wanted same (differ (is_pristine plain) (is_pristine next)) (is_shown request next) none in
+      (screen-same flags.0, has_lines-is flags.0 ∙ flags.1)
 
 -- ---- what is told of a document in memory, and what it stands for then
 
@@ -144,7 +137,7 @@ pristine-stands : (doc : Doc) (plain : Document) → DocStandsFor doc plain → 
 pristine-stands doc plain stands =
     ap₂ (λ now saved. now == saved) (head-stands doc.engine plain.history stands.parts.stands) stands.saved
 
-module _ (doc made : Doc) (plain next : Document) (stands : DocStandsFor doc plain) (untold : IsUntold made plain next) where
+module _ (doc made : Doc) (request : Run) (plain next : Document) (stands : DocStandsFor doc plain) (untold : IsUntold made plain next) where
   pristine-untold : is_pristine_in made ≡ is_pristine next
   pristine-untold = ap₂ (λ now saved. now == saved) (head-stands made.engine next.history untold.parts.stands) untold.saved
 
@@ -154,18 +147,27 @@ module _ (doc made : Doc) (plain next : Document) (stands : DocStandsFor doc pla
   lines-after : layout_in made.view ≡ layout_of next
   lines-after = view-lines made.view next untold.parts.shown_is untold.regions
 
-  lacking-is : is_lacking doc.view made.view (is_pristine_in doc) (is_pristine_in made) ≡ wants_update plain next
+  -- what it asks for
+  asked-is : asked_in made.view request ≡ record { window = next.window; request = request }
+  asked-is = ap (λ window. record { window = window; request = request }) (sym untold.window)
+
+  abbrev lacks_by : Asked → Bool → Bool → List Line → List Line → Bool
+  lacks_by asked was is lines others =
+      not (has_lines made.view.shown asked (length others)) || (differ was is || not (is_same_layout lines others))
+
+  lacking-is : is_lacking doc.view made.view request (pristine_to doc made) ≡ wants_update request plain next
   lacking-is =
-      ap₂ (λ was is. is_lacking doc.view made.view was is) (pristine-stands doc plain stands) pristine-untold ∙
-      ap₂ (λ lines others. not doc.view.valid || (differ (is_pristine plain) (is_pristine next) || not (is_same_layout lines others))) lines-before lines-after ∙
-      wants_update-is plain next doc.view.valid stands.screen stands.shows_first untold.window_stays untold.screen_stays
+      ap₂ (λ was is. lacks_by (asked_in made.view request) was is (layout_in doc.view) (layout_in made.view)) (pristine-stands doc plain stands) pristine-untold ∙
+      ap₂ (λ lines others. lacks_by (asked_in made.view request) (is_pristine plain) (is_pristine next) lines others) lines-before lines-after ∙
+      ap (λ asked. lacks_by asked (is_pristine plain) (is_pristine next) (layout_of plain) (layout_of next)) asked-is ∙
+      wants_update-is plain next request made.view.shown untold.shown untold.screen_stays
 
-  planned-is : planned made.view.window (layout_in made.view) (is_pristine_in made) ≡ update_of next
+  planned-is : planned (asked_in made.view request) (layout_in made.view) (is_pristine_in made) ≡ update_of request next
   planned-is =
-      ap₂ (λ lines pristine. planned made.view.window lines pristine) lines-after pristine-untold ∙
-      ap (λ window. planned window (layout_of next) (is_pristine next)) (sym untold.window)
+      ap₂ (λ lines pristine. planned (asked_in made.view request) lines pristine) lines-after pristine-untold ∙
+      ap (λ asked. planned asked (layout_of next) (is_pristine next)) asked-is
 
-  pub update-told : (update : Option Update) → update ≡ told doc.view made.view (is_pristine_in doc) (is_pristine_in made) → update ≡ update_after plain next
+  pub update-told : (update : Option Update) → update ≡ told doc.view made.view request (pristine_to doc made) → update ≡ update_after request plain next
   update-told update is = is ∙ ap₂ (λ b u. if b then Some u else None) lacking-is planned-is
 
   pub scroll-told : (asked : Bool) (scroll : Option Position) →
@@ -174,18 +176,16 @@ module _ (doc made : Doc) (plain next : Document) (stands : DocStandsFor doc pla
       is ∙ ap₂ (λ was now. if asked then scroll_between was now else None) (view-point doc.view plain stands.parts.shown_is stands.regions)
       (view-point made.view next untold.parts.shown_is untold.regions)
 
-  pub IsUncollected-told : IsUncollected made (settled plain next)
-  IsUncollected-told = by (wants_update plain next) refl
+  pub IsUncollected-told : (final : Doc) → final ≡ record made { view = settled_view doc.view made.view request (pristine_to doc made) } →
+      IsUncollected final (settled request plain next)
+  IsUncollected-told final is =
+      subst (λ d. IsUncollected d (settled request plain next)) (sym is)
+      (subst (λ b. IsUncollected (view_by b) (settled request plain next)) (sym lacking-is) (by (wants_update request plain next) refl))
     where
-      shown : (settled plain next).screen ≡ shown_lines next.window no_request (layout_of next)
-      shown =
-          screen-settled plain next doc.view.valid stands.screen stands.shows_first untold.window_stays untold.screen_stays ∙
-          ap (λ window. shown_lines window no_request (layout_of next)) (sym untold.window_stays)
+      view_by : Bool → Doc
+      view_by b = record made { view = if b then record made.view { shown = Some (asked_in made.view request) } else made.view }
 
-      shows : is_within next.window 0 ≡ true
-      shows = ap (λ window. is_within window 0) untold.window_stays ∙ stands.shows_first
-
-      by : (b : Bool) → wants_update plain next ≡ b → IsUncollected made (if b then updated next else next)
+      by : (b : Bool) → wants_update request plain next ≡ b → IsUncollected (view_by b) (if b then updated request next else next)
       by true wants = record {
         parts = untold.parts;
         limit = untold.limit;
@@ -199,8 +199,8 @@ module _ (doc made : Doc) (plain next : Document) (stands : DocStandsFor doc pla
         saved = untold.saved;
         saved_before = untold.saved_before;
         window = untold.window;
-        shows_first = shows;
-        screen = screen-updated next ∙ sym (ap (λ v. screen_by v next) untold.valid);
+        search = untold.search;
+        screen = screen-updated request next ∙ ap (λ window. shown_lines window request (layout_of next)) untold.window;
       }
       by false wants = record {
         parts = untold.parts;
@@ -215,7 +215,6 @@ module _ (doc made : Doc) (plain next : Document) (stands : DocStandsFor doc pla
         saved = untold.saved;
         saved_before = untold.saved_before;
         window = untold.window;
-        shows_first = shows;
-        screen =
-            sym (ap (λ b. (if b then updated next else next).screen) wants) ∙ shown ∙ sym (ap (λ v. screen_by v next) untold.valid);
+        search = untold.search;
+        screen = (unwanted plain next request made.view.shown untold.shown untold.screen_stays wants).0;
       }

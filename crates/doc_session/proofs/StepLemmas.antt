@@ -1,48 +1,41 @@
 -- The steps of the document in memory are those of the plain one.
-use Rattle.std.proofs.Common.{◌≡◌, ℕ, Bool, true, false, List, [], length, Option, Some, None, refl, ap, ap₂, sym, ◌∙◌, subst}
-use Rattle.std.specs.Prelude.{if◌then◌else◌, ◌&&◌}
-use Rattle.std.proofs.lemmas.Bool.{eq-eqb}
+use Rattle.std.proofs.Common.{◌≡◌, ℕ, Bool, List, length, Option, refl, ap, ap₂, sym, ◌∙◌, subst}
 use Rattle.plain_text.specs.declared.selection.Region.{Region}
 use Rattle.plain_screen.specs.View.{whole_lines}
 use Rattle.plain_edits.specs.History.{History}
 use Rattle.plain_edits.specs.HistorySteps.{Step, after_step}
 use Rattle.xi_plain.specs.declared.command.EditAct.{EditAct}
-use Rattle.xi_plain.specs.declared.command.EditAct.TheVariants as Acts
 use Rattle.xi_plain.specs.declared.config.Config.{Config}
 use Rattle.edit_ops.specs.declared.replacement.Replacement.{Replacement}
 use Rattle.plain_edits.specs.declared.delta.UnitDelta.{UnitDelta}
-use Rattle.edit_ops.specs.Commands.{Effect, IsEffect, copied_text, effect_of, selecting}
+use Rattle.edit_ops.specs.Commands.{Effect, IsEffect, copied_text, effect_of}
 use Rattle.edit_ops.specs.Replacements.{IsEditOf}
 use Rattle.rev_engine.specs.declared.edit.Edit.{Edit}
 use Rattle.rev_engine.specs.declared.edit.UnitEdit.{UnitEdit}
 use Rattle.rev_engine.specs.Engine.{IsSaidBy, StandsFor, asked_by}
 use Rattle.rev_engine.specs.Given.{AskedEdit}
 use Rattle.undo_groups.specs.Groups.{Groups}
-use Rattle.doc_layout.specs.Told.{is_same_point}
-use Rattle.doc_view.proofs.ForCallers.{do_nothing-none}
 use Rattle.doc_view.specs.Idle.{do_nothing}
 use Rattle.doc_view.specs.View.{pieces_in}
+use Rattle.doc_view.specs.declared.moved.Goals.{Goals}
 use Rattle.doc_view.specs.Moved.{AreMoved, with_goals}
-use Rattle.doc_session.specs.declared.event.Body.TheVariants.{Copied, Null}
 use Rattle.doc_session.specs.InMemory.{Doc}
 use Rattle.doc_session.specs.declared.left.Left.{Left}
 use Rattle.doc_session.specs.declared.taken.Taken.{Taken}
 use Rattle.doc_session.specs.declared.typing.Kind.{Kind}
 use Rattle.doc_session.specs.declared.typing.Typing.{Typing}
 use Rattle.doc_session.specs.Asking.{asked_refusal, replacing_edit, front_edit, plugin_edit}
-use Rattle.doc_session.specs.Document.{Document, caret_point, pieces_of, text_of}
+use Rattle.doc_session.specs.Document.{Document, text_of}
 use Rattle.doc_session.specs.Grouping.{group_by, groups_by, named_group, run_group}
-use Rattle.doc_session.specs.Inner.{IsAfter, IsAfterEdit, IsLeftAlone, effect_in, known_group, next_document}
-use Rattle.doc_session.specs.Layout.{Position}
+use Rattle.doc_session.specs.Inner.{IsAfter, IsAfterEdit, effect_in, known_group, next_document}
 use Rattle.doc_session.specs.Stands.{DocStandsFor}
-use Rattle.doc_session.specs.Step.{command_refusal, command_step, effect_on, first_config, going_on, idle_step, is_idle, other_step, regions_by, scroll_if, scrolls, selected_document, still_step, typed_step}
+use Rattle.doc_session.specs.Step.{effect_on, first_config, is_idle, regions_by}
 use Rattle.doc_session.specs.Typing.{run_on}
-use Rattle.doc_session.proofs.ActLemmas.{text_act-left}
 use Rattle.doc_session.proofs.GroupLemmas.{known_group-named}
 use Rattle.doc_session.proofs.MoveLemmas.{mapped_regions-moved, sound-given}
 
 -- its regions are where the caret rule takes them
-pub regions-moved : (doc : Doc) (plain : Document) (step : Step) (author : ℕ) (taken : Taken) (right goals : Bool) (moved : List Region) → DocStandsFor doc plain →
+pub regions-moved : (doc : Doc) (plain : Document) (step : Step) (author : ℕ) (taken : Taken) (right : Bool) (goals : Goals) (moved : List Region) → DocStandsFor doc plain →
     IsAfter plain.history (after_step plain.history step) author taken → AreMoved taken.change.units right goals doc.view.regions moved →
     moved ≡ regions_by plain (after_step plain.history step) right (with_goals goals plain.regions)
 regions-moved doc plain step author taken right goals moved stands is are =
@@ -87,37 +80,6 @@ pub copied-is : (doc : Doc) (plain : Document) → DocStandsFor doc plain → co
 copied-is doc plain stands = ap₂ copied_text stands.parts.shown_is stands.regions
 
 -- ---- the front end's edit
-
--- an act that leaves text and regions alone is as a line that is no command
-same_point : (place : Position) → is_same_point place place ≡ true
-same_point place = ap₂ (λ a b. a && b) (eq-eqb place.line place.line refl) (eq-eqb place.col place.col refl)
-
-no_scroll : (asked : Bool) (plain : Document) → scroll_if asked plain (going_on plain None) ≡ None
-no_scroll true plain = ap (λ same. if same then None else Some (caret_point plain)) (same_point (caret_point plain))
-no_scroll false plain = refl
-
-alone-effect : (plain : Document) (act : EditAct) → IsLeftAlone act → effect_on plain act ≡ selecting plain.regions
-alone-effect plain act alone = alone.same (text_of plain) (pieces_of plain) plain.regions
-
-pub command_step-alone : (plain : Document) (act : EditAct) → IsLeftAlone act → command_step plain act (effect_on plain act) ≡ other_step plain
-command_step-alone plain act alone =
-    ap (command_step plain act) (alone-effect plain act alone) ∙
-    ap (λ b. if b then idle_step plain act (selecting plain.regions) else typed_step plain act (selecting plain.regions)) (do_nothing-none (length (text_of plain))) ∙
-    ap₂ (λ kind copied. still_step plain (selected_document plain kind plain.regions) (if copied then Copied (copied_text (text_of plain) plain.regions) else Null)
-    (scroll_if (scrolls act) plain (selected_document plain kind plain.regions))) alone.no_run alone.silent ∙
-    ap (still_step plain (going_on plain None) Null) (no_scroll (scrolls act) plain)
-
-pub command_refusal-alone : (plain : Document) (act : EditAct) → IsLeftAlone act → command_refusal plain (effect_on plain act) ≡ None
-command_refusal-alone plain act alone =
-    ap (command_refusal plain) (alone-effect plain act alone) ∙
-    ap (λ b. if b then None else asked_refusal plain (front_edit plain None [])) (do_nothing-none (length (text_of plain)))
-
--- an undo and a redo are not refused
-pub refusal_undo : (plain : Document) → command_refusal plain (effect_on plain Acts.Undo) ≡ None
-refusal_undo plain = command_refusal-alone plain Acts.Undo (text_act-left Acts.Undo refl)
-
-pub refusal_redo : (plain : Document) → command_refusal plain (effect_on plain Acts.Redo) ≡ None
-refusal_redo plain = command_refusal-alone plain Acts.Redo (text_act-left Acts.Redo refl)
 
 -- the group of it, and the groups with it
 pub joined-front : (doc : Doc) (plain : Document) (kind : Option Kind) → DocStandsFor doc plain →

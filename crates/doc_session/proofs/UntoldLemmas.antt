@@ -1,8 +1,13 @@
 -- What an event leaves of a document in memory, before its front end was told.
-use Rattle.std.proofs.Common.{◌≡◌, ◌≢◌, ℕ, true, List, [], length, Option, refl, ap, sym, ◌∙◌, subst, arith}
+use Rattle.std.proofs.Common.{◌≡◌, ◌≢◌, ℕ, Bool, List, [], length, map, Option, None, refl, ap, sym, ◌∙◌, subst, arith}
+use Rattle.plain_text.specs.declared.run.Run.{Run}
 use Rattle.plain_text.specs.declared.selection.Region.{Region}
 use Rattle.plain_edits.specs.History.{History}
 use Rattle.rev_engine.specs.State.{State}
+use Rattle.edit_ops.specs.Regions.{without_goal}
+use Rattle.doc_view.specs.declared.search.Search.{Search}
+use Rattle.doc_view.specs.Search.{next_found, next_match, previous_found, previous_match, results}
+use Rattle.doc_view.proofs.ForCallers.{AreWithin-plain, IsSelection-plain, next_found-within, previous_found-within, some-plain, with_match-some, with_match-sound}
 use Rattle.doc_session.specs.declared.left.Left.{Left}
 use Rattle.doc_session.specs.declared.taken.Taken.{Taken}
 use Rattle.doc_session.specs.declared.typing.Kind.{Kind}
@@ -11,7 +16,7 @@ use Rattle.selection_core.specs.Mapped.{AreWithin}
 use Rattle.selection_core.specs.Selection.{IsSelection}
 use Rattle.doc_session.specs.Document.{Document, text_of}
 use Rattle.doc_session.specs.InMemory.{Doc}
-use Rattle.doc_session.specs.Inner.{IsAfter, IsUntold, head_shown, next_document}
+use Rattle.doc_session.specs.Inner.{IsAfter, IsUntold, head_shown, looking_doc, next_document}
 use Rattle.doc_session.specs.Stands.{AreRegionsOf, DocStandsFor}
 use Rattle.doc_session.specs.Step.{selected_document}
 use Rattle.doc_session.specs.Typing.{run_on}
@@ -22,7 +27,7 @@ use Rattle.doc_session.proofs.SessionLemmas.{AreAcknowledged-later}
 -- no revision, what is left of the run, and other regions
 abbrev pub still_doc : Doc → Option Kind → List Region → Doc
 still_doc doc kind regions =
-    record doc { typing = run_on doc.typing kind; view = record doc.view { regions = regions; valid = true } }
+    record doc { typing = run_on doc.typing kind; view = record doc.view { regions = regions } }
 
 pub IsUntold-still : (doc made : Doc) (plain : Document) (kind : Option Kind) (regions others : List Region) → DocStandsFor doc plain →
     made ≡ still_doc doc kind regions → regions ≡ others → AreRegionsOf (text_of plain) others → IsUntold made plain (selected_document plain kind others)
@@ -41,10 +46,57 @@ IsUntold-still doc made plain kind regions others stands is same are =
       saved = stands.saved;
       saved_before = stands.saved_before;
       window = stands.window;
-      valid = refl;
-      window_stays = refl;
+      search = stands.search;
       screen_stays = refl;
+      shown = stands.screen;
     })
+
+-- a line that makes no revision and ends the run: other regions, another window, another search
+pub IsUntold-looking : (doc : Doc) (plain : Document) (regions others : List Region) (window lines : Run) (search sought : Search) → DocStandsFor doc plain →
+    regions ≡ others → lines ≡ window → sought ≡ search → AreRegionsOf (text_of plain) others →
+    IsUntold (looking_doc doc (record doc.view { regions = regions; window = window; search = search })) plain
+    (record (selected_document plain None others) { window = lines; search = sought })
+IsUntold-looking doc plain regions others window lines search sought stands same lines_are sought_is are = record {
+  parts = stands.parts;
+  limit = stands.limit;
+  sessions = stands.sessions;
+  acknowledged = stands.acknowledged;
+  groups = stands.groups;
+  typing = ap (λ typing. run_on typing None) stands.typing;
+  agree = Agree-still plain.history.revisions plain.history.collected plain.groups plain.typing stands.agree None;
+  regions = same;
+  regions_are = are;
+  saved = stands.saved;
+  saved_before = stands.saved_before;
+  window = lines_are;
+  search = sought_is;
+  screen_stays = refl;
+  shown = stands.screen;
+}
+
+-- the regions then are some of its text
+pub AreRegionsOf-plain : (text : List ℕ) (regions : List Region) → AreRegionsOf text regions → AreRegionsOf text (map without_goal regions)
+AreRegionsOf-plain text regions are = record {
+  some = some-plain regions are.some;
+  sound = IsSelection-plain regions are.sound;
+  inside = AreWithin-plain (length text) regions are.inside;
+}
+
+pub AreRegionsOf-next : (text : List ℕ) (search : Search) (wrap_around : Option Bool) (regions : List Region) → AreRegionsOf text regions →
+    AreRegionsOf text (next_found text search wrap_around regions)
+AreRegionsOf-next text search wrap_around regions are = record {
+  some = with_match-some regions (next_match (results text search) wrap_around regions) are.some;
+  sound = with_match-sound regions (next_match (results text search) wrap_around regions) are.sound;
+  inside = next_found-within text search wrap_around regions are.inside;
+}
+
+pub AreRegionsOf-previous : (text : List ℕ) (search : Search) (wrap_around : Option Bool) (regions : List Region) → AreRegionsOf text regions →
+    AreRegionsOf text (previous_found text search wrap_around regions)
+AreRegionsOf-previous text search wrap_around regions are = record {
+  some = with_match-some regions (previous_match (results text search) wrap_around regions) are.some;
+  sound = with_match-sound regions (previous_match (results text search) wrap_around regions) are.sound;
+  inside = previous_found-within text search wrap_around regions are.inside;
+}
 
 -- a revision, and what it leaves beside the engine
 abbrev pub revised_doc : Doc → State → Left → Doc
@@ -52,7 +104,7 @@ revised_doc doc engine left = record doc {
   engine = engine;
   groups = left.stack;
   typing = left.typing;
-  view = record doc.view { text = head_shown engine; regions = left.sel.regions; valid = true };
+  view = record doc.view { text = head_shown engine; regions = left.sel.regions };
 }
 
 pub IsUntold-revised : (doc made : Doc) (plain : Document) (history : History) (author : ℕ) (taken : Taken) (left : Left) → DocStandsFor doc plain →
@@ -83,7 +135,7 @@ IsUntold-revised doc made plain history author taken left stands after agree lim
       saved = stands.saved;
       saved_before = omega (arith, stands.saved_before, after.one_more);
       window = stands.window;
-      valid = refl;
-      window_stays = refl;
+      search = stands.search;
       screen_stays = refl;
+      shown = stands.screen;
     })

@@ -11,11 +11,14 @@ use Rattle.doc_session.specs.Layout.{layout, Position, position_of}
 pub use Rattle.doc_layout.specs.Told.{no_request}
 use Rattle.plain_screen.specs.Screen.{Screen}
 use Rattle.undo_groups.specs.Groups.{Groups, no_groups}
+use Rattle.doc_view.specs.declared.search.Search.{Search}
+use Rattle.doc_view.specs.Search.{no_search}
 use Rattle.doc_session.specs.declared.typing.Typing.{Typing}
 
 -- a document: its history, the most characters that may be inserted after loading, for each plugin, in order, the revision that its
 -- session has acknowledged, or nothing where that has ended, its undo groups and its run of typing, if there is one, the regions of its
--- view on the head text, the lines that this shows, the revision that was loaded or last saved, and the screen that its front end has
+-- view on the head text, the lines that this shows, what it looks for, the revision that was loaded or last saved, and the screen that its
+-- front end has
 pub record Document : Type 0 where
   pub history : History
   pub limit : ℕ
@@ -24,6 +27,7 @@ pub record Document : Type 0 where
   pub typing : Option Typing
   pub regions : List Region
   pub window : Run
+  pub search : Search
   pub saved : ℕ
   pub screen : Screen
 
@@ -59,6 +63,7 @@ loaded_document text plugins limit = record {
   typing = None;
   regions = caret_of 0 ∷ [];
   window = first_window;
+  search = no_search;
   saved = 0;
   screen = [];
 }

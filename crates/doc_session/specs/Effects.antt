@@ -1,5 +1,5 @@
 -- What a front end and the plugins are told after a document changed.
-use Rattle.std.specs.Prelude.{ℕ, ◌+◌, Bool, true, not, ◌&&◌, ◌||◌, if◌then◌else◌, List, [], ◌∷◌, Option, Some, None, unwrap_or, is_some}
+use Rattle.std.specs.Prelude.{ℕ, ◌+◌, Bool, true, false, not, ◌&&◌, ◌||◌, if◌then◌else◌, List, [], ◌∷◌, Option, Some, None, unwrap_or, is_some}
 use Rattle.xi_plain.specs.declared.config.Notice.{Notice}
 use Rattle.plain_edits.specs.declared.delta.Delta.{Delta}
 use Rattle.plain_text.specs.declared.run.Run.{Run}
@@ -13,48 +13,50 @@ use Rattle.doc_session.specs.Layout.{Position}
 use Rattle.plain_screen.specs.Screen.{Screen, screen_after}
 use Rattle.plain_screen.specs.Plan.{is_within, update_plan}
 use Rattle.delta_core.specs.Wire.{wire_from}
-use Rattle.doc_session.specs.Document.{Document, layout_of, caret_point, is_pristine, no_request}
+use Rattle.doc_session.specs.Document.{Document, layout_of, caret_point, is_pristine}
 use Rattle.doc_session.specs.SameLayout.{is_same_layout}
 pub use Rattle.doc_layout.specs.Told.{is_same_point}
 pub use Rattle.doc_view.specs.Told.{differ}
 
--- the update of a document (no line has a partner yet)
-abbrev pub ops_of : Document → List Op
-ops_of document = update_plan document.window no_request (layout_of document) []
+-- the update of a document at an event that requests these lines (no line has a partner yet)
+abbrev pub ops_of : Run → Document → List Op
+ops_of request document = update_plan document.window request (layout_of document) []
 
-abbrev pub update_of : Document → Update
-update_of document = record { ops = ops_of document; pristine = is_pristine document }
+abbrev pub update_of : Run → Document → Update
+update_of request document = record { ops = ops_of request document; pristine = is_pristine document }
 
 -- the document with its update on the screen of its front end
-abbrev pub updated : Document → Document
-updated document = record document { screen = unwrap_or (screen_after document.screen (ops_of document)) [] }
+abbrev pub updated : Run → Document → Document
+updated request document = record document { screen = unwrap_or (screen_after document.screen (ops_of request document)) [] }
 
 -- whether the layout changed
 abbrev pub is_laid_out_anew : Document → Document → Bool
 is_laid_out_anew before after = not (is_same_layout (layout_of before) (layout_of after))
 
--- whether each of these lines that is in the window is valid on the screen, of which the lines from this index on are left
-abbrev pub are_valid : Run → ℕ → List Line → Screen → Bool
-are_valid window index [] screen = true
-are_valid window index (line ∷ lines) [] = not (is_within window index) && are_valid window (index + 1) lines []
-are_valid window index (line ∷ lines) (shown ∷ screen) =
-    (not (is_within window index) || is_some shown) && are_valid window (index + 1) lines screen
+-- whether each of these lines that is in the window or requested is valid on the screen, of which the lines from this index on are left;
+-- a screen that has fewer lines than there are was told of none of them
+abbrev pub are_valid : Run → Run → ℕ → List Line → Screen → Bool
+are_valid window request index [] screen = true
+are_valid window request index (line ∷ lines) [] = false
+are_valid window request index (line ∷ lines) (shown ∷ screen) =
+    (not (is_within window index || is_within request index) || is_some shown) && are_valid window request (index + 1) lines screen
 
--- whether each line of the window is valid on the screen
-abbrev pub is_window_valid : Document → Bool
-is_window_valid document = are_valid document.window 0 (layout_of document) document.screen
+-- whether each line of the window, and each that is requested, is valid on the screen
+abbrev pub is_shown : Run → Document → Bool
+is_shown request document = are_valid document.window request 0 (layout_of document) document.screen
 
--- THE OCCASION OF AN UPDATE: the layout changed, or whether the text is pristine changed, or a line of the window was not valid
-abbrev pub wants_update : Document → Document → Bool
-wants_update before after =
-    is_laid_out_anew before after || differ (is_pristine before) (is_pristine after) || not (is_window_valid after)
+-- THE OCCASION OF AN UPDATE at an event that requests these lines: the layout changed, or whether the text is pristine changed, or a line
+-- of the window or of the request was not valid
+abbrev pub wants_update : Run → Document → Document → Bool
+wants_update request before after =
+    is_laid_out_anew before after || differ (is_pristine before) (is_pristine after) || not (is_shown request after)
 
 -- the update that is written, and the document after it
-abbrev pub update_after : Document → Document → Option Update
-update_after before after = if wants_update before after then Some (update_of after) else None
+abbrev pub update_after : Run → Document → Document → Option Update
+update_after request before after = if wants_update request before after then Some (update_of request after) else None
 
-abbrev pub settled : Document → Document → Document
-settled before after = if wants_update before after then updated after else after
+abbrev pub settled : Run → Document → Document → Document
+settled request before after = if wants_update request before after then updated request after else after
 
 -- THE OCCASION OF A SCROLL, at a command of the front end: line or byte column of the last caret changed; and the place that is written
 abbrev pub scroll_after : Document → Document → Option Position

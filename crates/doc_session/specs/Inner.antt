@@ -6,12 +6,8 @@ use Rattle.plain_text.specs.Numbers.{has, turned}
 use Rattle.plain_edits.specs.History.{History, head, inserted_count}
 use Rattle.plain_edits.specs.Undo.{undone_now}
 use Rattle.xi_plain.specs.declared.command.EditAct.{EditAct}
-use Rattle.xi_plain.specs.declared.command.EditAct.TheVariants as Acts
 use Rattle.delta_core.specs.Wire.{wire_of}
-use Rattle.plain_text.specs.declared.selection.Region.{Region}
-use Rattle.plain_screen.specs.declared.piece.Piece.{Piece}
-use Rattle.plain_screen.specs.Plan.{is_within, shown_lines}
-use Rattle.edit_ops.specs.Commands.{Effect, effect_of, selecting}
+use Rattle.edit_ops.specs.Commands.{Effect, effect_of}
 use Rattle.edit_ops.specs.Replacements.{IsEditOf}
 use Rattle.rev_engine.specs.declared.edit.Change.{Change}
 use Rattle.rev_engine.specs.declared.edit.UnitEdit.{UnitEdit}
@@ -21,6 +17,8 @@ use Rattle.rev_engine.specs.Asked.{IsCollectionTaken}
 use Rattle.rev_engine.specs.Given.{AskedEdit, after}
 use Rattle.undo_groups.specs.Groups.{Groups, IsStack, is_known}
 use Rattle.doc_layout.specs.Changed.{IsChangeOf}
+use Rattle.doc_layout.specs.Told.{screen_of}
+use Rattle.doc_view.specs.declared.told.Pristine.{Pristine}
 use Rattle.doc_view.specs.View.{View, pieces_in}
 use Rattle.doc_session.specs.declared.event.Effects.{Effects}
 use Rattle.doc_session.specs.declared.left.Left.{Left}
@@ -29,12 +27,12 @@ use Rattle.doc_session.specs.declared.typing.Typing.{Typing}
 use Rattle.doc_session.specs.Agree.{Agree}
 use Rattle.doc_session.specs.Asking.{front_priority}
 use Rattle.doc_session.specs.Collecting.{AreAcknowledged}
-use Rattle.doc_session.specs.Document.{Document, layout_of, no_request, text_of}
+use Rattle.doc_session.specs.Document.{Document, layout_of, text_of}
 use Rattle.doc_session.specs.Effects.{notice_of}
 use Rattle.doc_session.specs.InMemory.{Doc}
 use Rattle.doc_session.specs.Stands.{AreRegionsOf}
-use Rattle.doc_session.specs.Step.{AreEffectsOf, EventStep, copies, first_config}
-use Rattle.doc_session.specs.Typing.{kind_of}
+use Rattle.doc_session.specs.Step.{AreEffectsOf, EventStep, first_config}
+use Rattle.doc_session.specs.Typing.{run_on}
 use Rattle.doc_session.specs.Whole.{IsStateOf}
 
 -- ---- edits
@@ -134,29 +132,16 @@ pub record IsFrontEdit (view : View) (act : EditAct) (edit : UnitEdit) : Type 0 
   pub priority_is : edit.priority ≡ front_priority
   pub author_is : edit.author ≡ 0
 
--- whether a command is done on the text and the regions alone
-abbrev pub is_text_act : EditAct → Bool
-is_text_act Acts.Undo = false
-is_text_act Acts.Redo = false
-is_text_act (Acts.Scroll first last) = false
-is_text_act (Acts.RequestLines first last) = false
-is_text_act (Acts.Find chars case_sensitive regex whole_words) = false
-is_text_act (Acts.FindNext wrap_around allow_same) = false
-is_text_act (Acts.FindPrevious wrap_around allow_same) = false
-is_text_act act = true
-
--- a command leaves text and regions as they are, belongs to no run and copies nothing
-pub record IsLeftAlone (act : EditAct) : Type 0 where
-  pub same : (text : List ℕ) (pieces : List Piece) (regions : List Region) → effect_of first_config text pieces regions act ≡ selecting regions
-  pub no_run : kind_of act ≡ None
-  pub silent : copies act ≡ false
-
 -- whether its text is the one that was loaded or last saved
 abbrev pub is_pristine_in : Doc → Bool
 is_pristine_in doc = head doc.engine.revisions == doc.saved
 
--- an event left the document in memory so, and its view as if the front end had been told: it stands for the plain one but for the screen,
--- which is the one of the document before
+-- whether it was and is so, from one document to the next
+abbrev pub pristine_to : Doc → Doc → Pristine
+pristine_to doc next = record { before = is_pristine_in doc; after = is_pristine_in next }
+
+-- an event left the document in memory so, before the front end is told: it stands for the plain one but for the screen, which is the one of
+-- the document before
 pub record IsUntold (doc : Doc) (before plain : Document) : Type 0 where
   pub parts : IsStateOf plain.history doc.engine doc.view.text
   pub limit : doc.engine.limit ≡ plain.limit
@@ -170,9 +155,9 @@ pub record IsUntold (doc : Doc) (before plain : Document) : Type 0 where
   pub saved : doc.saved ≡ plain.saved
   pub saved_before : plain.saved ≤ head plain.history
   pub window : plain.window ≡ doc.view.window
-  pub valid : doc.view.valid ≡ true
-  pub window_stays : plain.window ≡ before.window
+  pub search : plain.search ≡ doc.view.search
   pub screen_stays : plain.screen ≡ before.screen
+  pub shown : before.screen ≡ screen_of doc.view.shown (layout_of before)
 
 -- these groups may be collected at the floor: the engine takes it, and the stack has retired them
 pub record MayCollectIn (doc : Doc) (floor : ℕ) (groups : List ℕ) : Type 0 where
@@ -193,8 +178,12 @@ pub record IsUncollected (doc : Doc) (plain : Document) : Type 0 where
   pub saved : doc.saved ≡ plain.saved
   pub saved_before : plain.saved ≤ head plain.history
   pub window : plain.window ≡ doc.view.window
-  pub shows_first : is_within plain.window 0 ≡ true
-  pub screen : plain.screen ≡ (if doc.view.valid then shown_lines plain.window no_request (layout_of plain) else [])
+  pub search : plain.search ≡ doc.view.search
+  pub screen : plain.screen ≡ screen_of doc.view.shown (layout_of plain)
+
+-- the document after a line that makes no revision and ends the run, with this view of its text
+abbrev pub looking_doc : Doc → View → Doc
+looking_doc doc view = record doc { typing = run_on doc.typing None; view = view }
 
 -- what an event makes is what its step gives, before anything is collected: the document after it, and what those outside are told
 pub record IsStepped (step : EventStep) (made : Doc × Effects) : Type 0 where

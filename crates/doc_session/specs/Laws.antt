@@ -1,5 +1,6 @@
 -- Laws: what the definitions of a document come to, whatever the document.
 use Rattle.std.specs.Prelude.{◌≡◌, ℕ, Option, Some, None, ⊤}
+use Rattle.plain_text.specs.declared.run.Run.{Run}
 use Rattle.xi_plain.specs.declared.command.EditAct.{EditAct}
 use Rattle.plain_edits.specs.History.{History, text_at}
 use Rattle.plain_edits.specs.Delta.{Fits, keeps, adds, applied}
@@ -9,7 +10,7 @@ use Rattle.plain_screen.specs.Plan.{shown_lines}
 use Rattle.edit_ops.specs.Replacements.{text_with}
 use Rattle.doc_session.specs.Asking.{front_edit}
 use Rattle.doc_session.specs.Collecting.{HasNoneLeft}
-use Rattle.doc_session.specs.Document.{Document, layout_of, no_request, text_of}
+use Rattle.doc_session.specs.Document.{Document, layout_of, text_of}
 use Rattle.doc_session.specs.Effects.{ops_of, updated, change_delta}
 use Rattle.doc_session.specs.InMemory.{Doc}
 use Rattle.doc_session.specs.ScreenOf.{IsScreenOf}
@@ -17,14 +18,14 @@ use Rattle.doc_session.specs.Stands.{DocStandsFor}
 use Rattle.doc_session.specs.Step.{effect_on, refusal_at}
 use Rattle.doc_session.specs.declared.event.Event.TheVariants.{Front}
 
--- a screen that shows the lines of the window is a screen of the layout
+-- a screen that shows the lines of the window and of a request is a screen of the layout
 abbrev pub ScreensShow : Type 0
-ScreensShow = (plain : Document) → plain.screen ≡ shown_lines plain.window no_request (layout_of plain) →
-    IsScreenOf plain.screen plain.window (layout_of plain)
+ScreensShow = (plain : Document) (request : Run) → plain.screen ≡ shown_lines plain.window request (layout_of plain) →
+    IsScreenOf plain.screen plain.window request (layout_of plain)
 
 -- the operations of a document make its updated screen, on whatever screen there was
 abbrev pub UpdatesShow : Type 0
-UpdatesShow = (before after : Document) → screen_after before.screen (ops_of after) ≡ Some ((updated after).screen)
+UpdatesShow = (before after : Document) (request : Run) → screen_after before.screen (ops_of request after) ≡ Some ((updated request after).screen)
 
 -- the delta of a notice fits the text of the one revision, and leads to that of the other
 abbrev pub NoticesLead : Type 0

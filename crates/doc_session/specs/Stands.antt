@@ -1,12 +1,12 @@
 -- What a document in memory stands for.
-use Rattle.std.specs.Prelude.{◌≡◌, ◌≢◌, ℕ, ◌≤◌, if◌then◌else◌, List, [], length, true}
+use Rattle.std.specs.Prelude.{◌≡◌, ◌≢◌, ℕ, ◌≤◌, List, [], length}
 use Rattle.plain_text.specs.declared.selection.Region.{Region}
 use Rattle.plain_edits.specs.History.{head}
-use Rattle.plain_screen.specs.Plan.{is_within, shown_lines}
 use Rattle.selection_core.specs.Mapped.{AreWithin}
 use Rattle.selection_core.specs.Selection.{IsSelection}
+use Rattle.doc_layout.specs.Told.{screen_of}
 use Rattle.doc_session.specs.InMemory.{Doc}
-use Rattle.doc_session.specs.Document.{Document, layout_of, no_request, text_of}
+use Rattle.doc_session.specs.Document.{Document, layout_of, text_of}
 use Rattle.doc_session.specs.Agree.{Agree}
 use Rattle.doc_session.specs.Collecting.{AreAcknowledged, HasNoneLeft}
 use Rattle.doc_session.specs.Whole.{IsStateOf}
@@ -18,9 +18,8 @@ pub record AreRegionsOf (text : List ℕ) (regions : List Region) : Type 0 where
   pub inside : AreWithin (length text) regions
 
 -- the document in memory stands for the plain one: they have the same history, limit, sessions, which have acknowledged kept revisions,
--- undo groups, which agree with the history and of which no retired one is left where no session is open, run of typing, regions on the
--- head text, saved revision and window, which shows the first line, and the front end's screen is as the last update left it, or empty
--- where there was none
+-- undo groups, which agree with the history and of which none waits for a session where none is open, run of typing, regions on the head
+-- text, saved revision, window and search, and the front end's screen is as the last update left it, or empty where there was none
 pub record DocStandsFor (doc : Doc) (plain : Document) : Type 0 where
   pub parts : IsStateOf plain.history doc.engine doc.view.text
   pub limit : doc.engine.limit ≡ plain.limit
@@ -35,5 +34,5 @@ pub record DocStandsFor (doc : Doc) (plain : Document) : Type 0 where
   pub saved : doc.saved ≡ plain.saved
   pub saved_before : plain.saved ≤ head plain.history
   pub window : plain.window ≡ doc.view.window
-  pub shows_first : is_within plain.window 0 ≡ true
-  pub screen : plain.screen ≡ (if doc.view.valid then shown_lines plain.window no_request (layout_of plain) else [])
+  pub search : plain.search ≡ doc.view.search
+  pub screen : plain.screen ≡ screen_of doc.view.shown (layout_of plain)

@@ -1,10 +1,11 @@
 -- THE STEP: what an event comes to in a plain document.
 use Rattle.std.specs.Prelude.{◌≡◌, ℕ, ◌+◌, ◌≤◌, Bool, true, false, if◌then◌else◌, List, length, map, Option, Some, None, option_map, ⊤}
+use Rattle.plain_text.specs.declared.run.Run.{Run}
 use Rattle.plain_text.specs.declared.selection.Region.{Region}
 use Rattle.xi_plain.specs.declared.config.Config.{Config}
 use Rattle.xi_plain.specs.declared.config.Notice.{Notice}
 use Rattle.xi_plain.specs.declared.command.EditAct.{EditAct}
-use Rattle.xi_plain.specs.declared.command.EditAct.TheVariants.{Copy, Cut, Redo, SelectAll, Undo}
+use Rattle.xi_plain.specs.declared.command.EditAct.TheVariants.{Copy, Cut, Find, FindNext, FindPrevious, Redo, RequestLines, Scroll, SelectAll, Undo}
 use Rattle.plain_screen.specs.declared.screen.Update.{Update}
 use Rattle.plain_edits.specs.Caret.{moved_regions}
 use Rattle.plain_edits.specs.History.{History, head}
@@ -14,6 +15,7 @@ use Rattle.edit_ops.specs.Commands.{Effect, copied_text, effect_of}
 use Rattle.edit_ops.specs.Regions.{without_goal}
 use Rattle.undo_groups.specs.Groups.{Groups, next_undo, undone_one, next_redo, redone_one}
 use Rattle.doc_view.specs.Idle.{do_nothing}
+use Rattle.doc_view.specs.Search.{next_found, previous_found, search_for}
 use Rattle.doc_session.specs.Layout.{Position}
 use Rattle.rev_engine.specs.declared.edit.Edit.{Edit as Given}
 use Rattle.rev_engine.specs.Given.{AskedEdit, after}
@@ -23,7 +25,7 @@ use Rattle.doc_session.specs.declared.event.Effects.{Effects}
 use Rattle.doc_session.specs.declared.event.Event.{Event}
 use Rattle.doc_session.specs.declared.event.Event.TheVariants.{Ack, Edit, Ended, Front, Other}
 use Rattle.doc_session.specs.declared.typing.Kind.{Kind}
-use Rattle.doc_session.specs.Document.{Document, pieces_of, text_of}
+use Rattle.doc_session.specs.Document.{Document, no_request, pieces_of, text_of}
 use Rattle.doc_session.specs.Typing.{kind_of, run_on, run_with}
 use Rattle.doc_session.specs.Grouping.{named_group, run_group, groups_by}
 use Rattle.doc_session.specs.Asking.{acknowledgement_refusal, front_edit, plugin_edit, asked_refusal}
@@ -39,25 +41,25 @@ pub record EventStep : Type 0 where
   pub scroll : Option Position
   pub notice : Option Notice
 
--- an event after which the document is `next`, before its front end was told: what is answered, where to scroll, if anywhere, and what
--- the plugins are told
-abbrev pub step_to : Document → Document → Body → Option Position → Option Notice → EventStep
-step_to document next body scroll notice = record {
-  document = settled document next;
+-- an event that requests these lines, after which the document is `next`, before its front end was told: what is answered, where to
+-- scroll, if anywhere, and what the plugins are told
+abbrev pub step_to : Run → Document → Document → Body → Option Position → Option Notice → EventStep
+step_to request document next body scroll notice = record {
+  document = settled request document next;
   body = body;
-  update = update_after document next;
+  update = update_after request document next;
   scroll = scroll;
   notice = notice;
 }
 
 -- no revision is made
 abbrev pub still_step : Document → Document → Body → Option Position → EventStep
-still_step document next body scroll = step_to document next body scroll None
+still_step document next body scroll = step_to no_request document next body scroll None
 
 -- a revision was made, by this author
 abbrev pub revision_step : Document → Document → ℕ → Body → Option Position → EventStep
 revision_step document next author body scroll =
-    step_to document next body scroll (Some (notice_of document.history next.history author))
+    step_to no_request document next body scroll (Some (notice_of document.history next.history author))
 
 -- the document after a line that makes no revision: its run goes on where the line is a command of the run's kind, and else it ends
 abbrev pub going_on : Document → Option Kind → Document
@@ -152,10 +154,47 @@ history_step document None groups = other_step document
 history_step document (Some group) groups =
     revision_step document (undone_document document groups) 0 Null (scroll_after document (undone_document document groups))
 
+-- ---- window, requested lines and search
+
+-- a line that only looks requests these lines, makes no revision and is answered null
+abbrev pub look_step : Run → Document → Document → EventStep
+look_step request document next = step_to request document next Null (scroll_after document next) None
+
+-- the document after it: the run ends, and the goals go
+abbrev pub looking_document : Document → Document
+looking_document document = selected_document document None (map without_goal document.regions)
+
+-- it shows other lines, or looks for other characters
+abbrev pub scrolled_document : Document → Run → Document
+scrolled_document document window = record (looking_document document) { window = window }
+
+abbrev pub seeking_document : Document → List ℕ → Option Bool → Document
+seeking_document document chars case_sensitive =
+    record (looking_document document) { search = search_for document.search chars case_sensitive }
+
+-- the next match is selected, or the previous one; where there is none the regions stay, with their goals
+abbrev pub at_next_match : Document → Option Bool → Document
+at_next_match document wrap_around =
+    selected_document document None (next_found (text_of document) document.search wrap_around document.regions)
+
+abbrev pub at_previous_match : Document → Option Bool → Document
+at_previous_match document wrap_around =
+    selected_document document None (previous_found (text_of document) document.search wrap_around document.regions)
+
+-- the lines that a command requests: at that line alone
+abbrev pub request_of : EditAct → Run
+request_of (RequestLines first last) = record { start = first; end = last }
+request_of act = no_request
+
 -- THE STEP OF A COMMAND of the front end
 abbrev pub act_step : Document → EditAct → EventStep
 act_step document Undo = history_step document (next_undo document.groups) (undone_one document.groups)
 act_step document Redo = history_step document (next_redo document.groups) (redone_one document.groups)
+act_step document (Scroll first last) = look_step no_request document (scrolled_document document (record { start = first; end = last }))
+act_step document (RequestLines first last) = look_step (record { start = first; end = last }) document (looking_document document)
+act_step document (Find chars case_sensitive regex whole_words) = look_step no_request document (seeking_document document chars case_sensitive)
+act_step document (FindNext wrap_around allow_same) = look_step no_request document (at_next_match document wrap_around)
+act_step document (FindPrevious wrap_around allow_same) = look_step no_request document (at_previous_match document wrap_around)
 act_step document act = command_step document act (effect_on document act)
 
 -- ---- plugins
@@ -194,6 +233,11 @@ taken_step document Other = other_step document
 abbrev pub event_step : Document → Event → EventStep
 event_step document event =
     record (taken_step document event) { document = collected_document (taken_step document event).document }
+
+-- the lines that an event requests
+abbrev pub requested_by : Event → Run
+requested_by (Front act) = request_of act
+requested_by event = no_request
 
 -- whether the front end is told what it lacks
 abbrev pub tells : Event → Bool

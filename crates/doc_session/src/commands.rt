@@ -1,5 +1,4 @@
 ghost use Rattle.std.specs.Prelude.{◌≡◌};
-ghost use Rattle.doc_session.specs.Inner.{is_text_act};
 ghost use Rattle.doc_session.specs.Step.{copies, first_config, scrolls};
 
 use xi_plain::{Config, EditAct};
@@ -12,22 +11,6 @@ pub(crate) fn first_config() -> Config
         tab: 4,
         width: 0,
         spaces: false,
-    }
-}
-
-/// Whether a command is done on the text and the regions alone. The others leave these as they are.
-pub(crate) fn is_done_on_text(act: &EditAct) -> bool
-    ensures { result ≡ is_text_act act.now }
-{
-    match act {
-        EditAct::Undo => false,
-        EditAct::Redo => false,
-        EditAct::Scroll { .. } => false,
-        EditAct::RequestLines { .. } => false,
-        EditAct::Find { .. } => false,
-        EditAct::FindNext { .. } => false,
-        EditAct::FindPrevious { .. } => false,
-        _ => true,
     }
 }
 

@@ -2,28 +2,29 @@ ghost use Rattle.std.specs.Prelude.{◌≡◌, ◌≢◌, ◌+◌, ◌-◌, ◌^
 ghost use Rattle.plain_edits.specs.Collection.{kept};
 ghost use Rattle.rev_collect.specs.Choice.{collection_said};
 ghost use Rattle.plain_edits.specs.History.{History, head};
-ghost use Rattle.edit_ops.specs.Commands.{IsEffect};
+ghost use Rattle.edit_ops.specs.Commands.{IsDoneOnText, IsEffect};
 ghost use Rattle.rev_engine.specs.Engine.{IsSaidBy, StandsFor};
 ghost use Rattle.rev_engine.specs.Given.{AskedEdit, MayAsk};
 ghost use Rattle.selection_core.specs.Mapped.{AreWithin};
 ghost use Rattle.selection_core.specs.Selection.{IsSelection};
 ghost use Rattle.doc_session.specs.Asking.{acknowledgement_refusal, front_edit, front_priority, plugin_edit, asked_refusal};
 ghost use Rattle.doc_session.specs.Collecting.{acknowledged_document, collected_document, collection_after, ended_document, least_acknowledged, with_collection};
-ghost use Rattle.doc_session.specs.Document.{Document, layout_of, loaded_document, text_of};
+ghost use Rattle.doc_session.specs.Document.{Document, layout_of, loaded_document, no_request, text_of};
 ghost use Rattle.doc_session.specs.Fault.{DocRefuses};
 ghost use Rattle.undo_groups.specs.Groups.{next_redo, next_undo, redone_one, undone_one};
 ghost use Rattle.doc_session.specs.Agree.{Agree};
 ghost use Rattle.doc_layout.specs.Told.{scroll_between};
-ghost use Rattle.doc_session.specs.Inner.{IsAfter, IsAfterEdit, IsFrontEdit, IsLeftOf, IsMoved, IsStepped, IsTakenFrom, IsTurned, IsUncollected, IsUntold, MayCollectIn, effect_in, head_shown, is_pristine_in, next_document};
+ghost use Rattle.doc_session.specs.Inner.{IsAfter, IsAfterEdit, IsFrontEdit, IsLeftOf, IsMoved, IsStepped, IsTakenFrom, IsTurned, IsUncollected, IsUntold, MayCollectIn, effect_in, head_shown, is_pristine_in, looking_doc, next_document, pristine_to};
 ghost use Rattle.doc_session.specs.PositionView.{position_view};
 ghost use Rattle.doc_session.specs.ScreenOf.{IsShownAfter};
 ghost use Rattle.doc_session.specs.Stands.{DocStandsFor};
-ghost use Rattle.doc_session.specs.Step.{AreEffectsOf, HasCaller, act_step, answer_to, command_refusal, command_step, effect_on, event_step, history_step, idle_step, other_step, plugin_step, refusal_at, revision_step, scroll_if, silent_step, step_to, taken_step, typed_step};
+ghost use Rattle.doc_session.specs.Step.{AreEffectsOf, HasCaller, act_step, answer_to, at_next_match, at_previous_match, command_refusal, command_step, effect_on, event_step, history_step, idle_step, look_step, looking_document, other_step, plugin_step, refusal_at, revision_step, scroll_if, scrolled_document, seeking_document, silent_step, step_to, taken_step, typed_step};
 ghost use Rattle.doc_session.specs.Whole.{IsWhole};
+ghost use Rattle.doc_view.specs.Told.{settled_view, told};
 ghost use Rattle.doc_view.specs.View.{point_in};
 
 use crate::collecting::{forgetting, retired_groups};
-use crate::commands::{copies, first_config, is_done_on_text, scrolls};
+use crate::commands::{copies, first_config, scrolls};
 use crate::event::{Body, Effects, Event};
 use crate::fault::DocFault;
 use crate::left::{Left, joined_or_opened, left_by, named_or_opened};
@@ -32,8 +33,9 @@ use crate::sessions::Sessions;
 use crate::taken::{Taken, taken_by, taken_head, taken_turn};
 use crate::typing::{Typing, kind_of, run_group, run_on, run_with};
 use doc_layout::{scroll_of, whole_text};
-use doc_view::{ViewState, does_nothing};
+use doc_view::{Goals, Pristine, ViewState, does_nothing};
 use plain_edits::UnitDelta;
+use plain_screen::Update;
 use plain_text::{NoMemory, Run, Sel, Steps, Text};
 use rev_engine::{Edit, Engine, UnitEdit};
 use std::alloc::Global;
@@ -48,6 +50,9 @@ const FRONT_PRIORITY: u32 = 65_536;
 
 /// The lines that a view shows when it is opened.
 const FIRST_WINDOW: Run = Run { start: 0, end: 10 };
+
+/// What an event requests that requests no lines.
+const NO_REQUEST: Run = Run { start: 0, end: 0 };
 
 /// A document with one view.
 #[derive(Drop)]
@@ -120,7 +125,7 @@ impl Doc {
     /// The document after an event, beside this one, and what those outside are told of it. An edit costs its elements, each times the
     /// height of the text, and the layout, which is made anew, as it is where regions move; one against an old revision the union and
     /// the runs of the later revisions besides; an undo or a redo what `Engine::set_undone_by` does; and a command what
-    /// `edit_ops::edit_of` does. No step is counted yet.
+    /// `edit_ops::edit_of` does; a search what `find_core::matches` does. No step is counted yet.
     pub fn after<L: Ledger>(
         &self,
         alloc: Global,
@@ -198,7 +203,7 @@ impl Doc {
     }
 
     // A command of the front end.
-    #[tactic(auto, using(crate::proofs::StepLemmas::refusal_undo, crate::proofs::StepLemmas::refusal_redo))]
+    #[tactic(auto, using(crate::proofs::ActLemmas::refusal_undo, crate::proofs::ActLemmas::refusal_redo, crate::proofs::ActLemmas::refusal_scroll, crate::proofs::ActLemmas::refusal_request, crate::proofs::ActLemmas::refusal_find, crate::proofs::ActLemmas::refusal_next, crate::proofs::ActLemmas::refusal_previous))]
     fn act(&self, alloc: Global, act: EditAct) -> Result<(Doc, Effects), DocFault>
         requires { head self.now.engine.revisions < 2 ^ 63 - 1 }
         ensures stepped { (plain : Document) → DocStandsFor self.now plain → IfOk result (IsStepped (act_step plain act)) }
@@ -212,13 +217,27 @@ impl Doc {
         match act {
             EditAct::Undo => Ok(self.undo(alloc)?),
             EditAct::Redo => Ok(self.redo(alloc)?),
+            EditAct::Scroll { first, last } => Ok(self.scroll(alloc, lines_from(first, last))?),
+            EditAct::RequestLines { first, last } => {
+                Ok(self.request(alloc, lines_from(first, last))?)
+            }
+            EditAct::Find {
+                chars,
+                case_sensitive,
+                ..
+            } => Ok(self.find(alloc, chars, case_sensitive)?),
+            EditAct::FindNext { wrap_around, .. } => Ok(self.find_next(alloc, wrap_around)?),
+            EditAct::FindPrevious { wrap_around, .. } => {
+                Ok(self.find_previous(alloc, wrap_around)?)
+            }
             act => self.command(alloc, &act),
         }
     }
 
-    // A command that is no undo and no redo.
+    // A command on the text and the regions.
     fn command(&self, alloc: Global, act: &EditAct) -> Result<(Doc, Effects), DocFault>
-        requires { head self.now.engine.revisions < 2 ^ 63 - 1 }
+        requires act { IsDoneOnText act.now }
+        requires has_number { head self.now.engine.revisions < 2 ^ 63 - 1 }
         ensures stepped { (plain : Document) → DocStandsFor self.now plain
             → IfOk result (IsStepped (command_step plain act.now (effect_on plain act.now))) }
         ensures accepted { (plain : Document) → DocStandsFor self.now plain
@@ -228,9 +247,6 @@ impl Doc {
         ensures sessions { IfOk result (λ made. made.0.sessions ≡ self.now.sessions) }
         ensures config { IfOk result (λ made. made.0.config ≡ self.now.config) }
     {
-        if !is_done_on_text(act) {
-            return Ok(self.other(alloc)?);
-        }
         let (units, sel) = self.view.effect(alloc, act, &first_config())?;
         if does_nothing(&units) {
             return Ok(self.idle(alloc, act, sel)?);
@@ -252,6 +268,7 @@ impl Doc {
         let view = self.view.with_regions(alloc, sel)?;
         let next = self.with_view(alloc, view, run_on(self.typing, kind_of(act)))?;
         let said = Said {
+            request: NO_REQUEST,
             body,
             scrolls: scrolls(act),
             notice: None,
@@ -376,13 +393,109 @@ impl Doc {
         ensures config { IfOk result (λ made. made.0.config ≡ self.now.config) }
     {
         let taken = taken_turn(alloc, &self.engine, group)?;
-        let sel = self.view.moved(alloc, &taken.change.units, false, false)?;
+        let sel = self
+            .view
+            .moved(alloc, &taken.change.units, false, Goals::Cleared)?;
         let left = Left {
             stack,
             typing: None,
             sel,
         };
         self.settled(alloc, taken, left, Body::Null, true)
+    }
+
+    // The front end shows these lines.
+    fn scroll(&self, alloc: Global, window: Run) -> Result<(Doc, Effects), NoMemory>
+        ensures stepped { (plain : Document) → DocStandsFor self.now plain
+            → IfOk result (IsStepped (look_step no_request plain (scrolled_document plain window))) }
+        ensures sessions { IfOk result (λ made. made.0.sessions ≡ self.now.sessions) }
+        ensures config { IfOk result (λ made. made.0.config ≡ self.now.config) }
+    {
+        self.looking(alloc, self.view.scrolled(alloc, window)?, NO_REQUEST)
+    }
+
+    // The front end requests these lines.
+    fn request(&self, alloc: Global, request: Run) -> Result<(Doc, Effects), NoMemory>
+        ensures stepped { (plain : Document) → DocStandsFor self.now plain
+            → IfOk result (IsStepped (look_step request plain (looking_document plain))) }
+        ensures sessions { IfOk result (λ made. made.0.sessions ≡ self.now.sessions) }
+        ensures config { IfOk result (λ made. made.0.config ≡ self.now.config) }
+    {
+        self.looking(alloc, self.view.without_goals(alloc)?, request)
+    }
+
+    // The front end looks for these characters, and says whether case counts, or nothing of it.
+    fn find(
+        &self,
+        alloc: Global,
+        chars: Text,
+        case_counts: Option<bool>,
+    ) -> Result<(Doc, Effects), NoMemory>
+        ensures stepped { (plain : Document) → DocStandsFor self.now plain
+            → IfOk result (IsStepped (look_step no_request plain (seeking_document plain chars case_counts))) }
+        ensures sessions { IfOk result (λ made. made.0.sessions ≡ self.now.sessions) }
+        ensures config { IfOk result (λ made. made.0.config ≡ self.now.config) }
+    {
+        self.looking(
+            alloc,
+            self.view.seeking(alloc, chars, case_counts)?,
+            NO_REQUEST,
+        )
+    }
+
+    // The next match is selected, if there is one.
+    fn find_next(
+        &self,
+        alloc: Global,
+        wrap_around: Option<bool>,
+    ) -> Result<(Doc, Effects), NoMemory>
+        ensures stepped { (plain : Document) → DocStandsFor self.now plain
+            → IfOk result (IsStepped (look_step no_request plain (at_next_match plain wrap_around))) }
+        ensures sessions { IfOk result (λ made. made.0.sessions ≡ self.now.sessions) }
+        ensures config { IfOk result (λ made. made.0.config ≡ self.now.config) }
+    {
+        self.looking(alloc, self.view.at_next(alloc, wrap_around)?, NO_REQUEST)
+    }
+
+    // The previous match is selected, if there is one.
+    fn find_previous(
+        &self,
+        alloc: Global,
+        wrap_around: Option<bool>,
+    ) -> Result<(Doc, Effects), NoMemory>
+        ensures stepped { (plain : Document) → DocStandsFor self.now plain
+            → IfOk result (IsStepped (look_step no_request plain (at_previous_match plain wrap_around))) }
+        ensures sessions { IfOk result (λ made. made.0.sessions ≡ self.now.sessions) }
+        ensures config { IfOk result (λ made. made.0.config ≡ self.now.config) }
+    {
+        self.looking(
+            alloc,
+            self.view.at_previous(alloc, wrap_around)?,
+            NO_REQUEST,
+        )
+    }
+
+    // The same document with another view of its text, at a line that requests these lines and makes no revision.
+    fn looking(
+        &self,
+        alloc: Global,
+        view: ViewState,
+        request: Run,
+    ) -> Result<(Doc, Effects), NoMemory>
+        requires text { view.text ≡ self.now.view.text }
+        ensures stepped { (plain later : Document) → DocStandsFor self.now plain
+            → IsUntold (looking_doc self.now view) plain later → IfOk result (IsStepped (look_step request plain later)) }
+        ensures sessions { IfOk result (λ made. made.0.sessions ≡ self.now.sessions) }
+        ensures config { IfOk result (λ made. made.0.config ≡ self.now.config) }
+    {
+        let next = self.with_view(alloc, view, run_on(self.typing, None))?;
+        let said = Said {
+            request,
+            body: Body::Null,
+            scrolls: true,
+            notice: None,
+        };
+        self.told(alloc, next, said)
     }
 
     // A plugin edits the text, in the group that it names or in the next.
@@ -412,7 +525,7 @@ impl Doc {
         let taken = taken_by(alloc, &self.engine, &edit)?;
         let sel = self
             .view
-            .moved(alloc, &taken.change.units, after_cursor, true)?;
+            .moved(alloc, &taken.change.units, after_cursor, Goals::Kept)?;
         let left = left_by(made, None, sel);
         Ok(self.settled(alloc, taken, left, Body::Edited { rev, group }, false)?)
     }
@@ -444,6 +557,7 @@ impl Doc {
         } = taken;
         let next = self.revised(alloc, engine, left)?;
         let said = Said {
+            request: NO_REQUEST,
             body,
             scrolls,
             notice: Some(notice),
@@ -460,7 +574,7 @@ impl Doc {
           engine = engine;
           groups = left.stack;
           typing = left.typing;
-          view = record self.now.view { text = head_shown engine; regions = left.sel.regions; valid = true };
+          view = record self.now.view { text = head_shown engine; regions = left.sel.regions };
         }) }
     {
         let sessions = self.sessions.copy(alloc)?;
@@ -484,8 +598,9 @@ impl Doc {
         ensures sessions { IfOk result (λ made. made.0.sessions ≡ self.now.sessions) }
         ensures config { IfOk result (λ made. made.0.config ≡ self.now.config) }
     {
-        let next = self.with_view(alloc, self.view.told()?, run_on(self.typing, None))?;
+        let next = self.with_view(alloc, self.view.copy()?, run_on(self.typing, None))?;
         let said = Said {
+            request: NO_REQUEST,
             body: Body::Null,
             scrolls: false,
             notice: None,
@@ -496,21 +611,18 @@ impl Doc {
     // The document is `next` after an event; the front end is told what it lacks.
     fn told(&self, alloc: Global, next: Doc, said: Said) -> Result<(Doc, Effects), NoMemory>
         ensures stepped { (plain later : Document) → DocStandsFor self.now plain → IsUntold next plain later
-            → IfOk result (IsStepped (step_to plain later said.body (scroll_if said.scrolls plain later) said.notice)) }
+            → IfOk result (IsStepped (step_to said.request plain later said.body (scroll_if said.scrolls plain later) said.notice)) }
         ensures sessions { IfOk result (λ made. made.0.sessions ≡ next.sessions) }
         ensures config { IfOk result (λ made. made.0.config ≡ next.config) }
     {
-        let was_pristine = self.is_pristine();
-        let is_pristine = next.is_pristine();
-        let update = self
-            .view
-            .update_to(alloc, &next.view, was_pristine, is_pristine)?;
         let Said {
+            request,
             body,
             scrolls,
             notice,
         } = said;
         let scroll = self.scroll_to(&next, scrolls);
+        let (next, update) = self.updated(alloc, next, request)?;
         let effects = Effects {
             body,
             update,
@@ -518,6 +630,44 @@ impl Doc {
             notice,
         };
         Ok((next, effects))
+    }
+
+    // The document is `next` after an event that requests these lines: that, with its view as it is once the front end was told, and what it
+    // is told.
+    fn updated(
+        &self,
+        alloc: Global,
+        next: Doc,
+        request: Run,
+    ) -> Result<(Doc, Option<Update>), NoMemory>
+        ensures doc { IfOk result (λ made. made.0
+            ≡ record next { view = settled_view self.now.view next.view request (pristine_to self.now next) }) }
+        ensures update { IfOk result (λ made. made.1 ≡ told self.now.view next.view request (pristine_to self.now next)) }
+    {
+        let pristine = Pristine {
+            before: self.is_pristine(),
+            after: next.is_pristine(),
+        };
+        let Doc {
+            engine,
+            stack,
+            typing,
+            saved,
+            config,
+            sessions,
+            view,
+        } = next;
+        let (view, update) = self.view.settled(alloc, view, request, pristine)?;
+        let next = Doc {
+            engine,
+            stack,
+            typing,
+            saved,
+            config,
+            sessions,
+            view,
+        };
+        Ok((next, update))
     }
 
     // Whether the text is the one that was loaded or last saved.
@@ -716,6 +866,16 @@ fn after_collection(alloc: Global, doc: Doc) -> Result<Doc, NoMemory>
     match doc.collectable(alloc)? {
         Some((floor, groups)) => doc.without(alloc, floor, &groups),
         None => Ok(doc),
+    }
+}
+
+// The lines from the first one up to the last, which is not included.
+fn lines_from(first: u64, last: u64) -> Run
+    ensures { result ≡ record { start = first; end = last } }
+{
+    Run {
+        start: first,
+        end: last,
     }
 }
 

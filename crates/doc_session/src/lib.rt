@@ -1,7 +1,7 @@
 //! A document with one view, which a front end and plugins edit.
 //!
 //! A contract says of a `Doc` which plain documents it stands for: `specs/Document.antt` has the plain document, a history with the
-//! regions, window and screen of its view; `specs/Step.antt` has what each event comes to in it, or why it is refused; `specs/Effects.antt` has
+//! regions, window, search and screen of its view; `specs/Step.antt` has what each event comes to in it, or why it is refused; `specs/Effects.antt` has
 //! what the front end and the plugins are told.
 #![tactic(auto)]
 

@@ -6,22 +6,9 @@ use Rattle.doc_session.specs.Asking.{asked_refusal, front_edit}
 use Rattle.doc_session.specs.Fault.{DocRefuses}
 use Rattle.doc_session.specs.Inner.{IsStepped, effect_in}
 use Rattle.doc_session.specs.Step.{effect_on, idle_step, typed_step}
-use Rattle.doc_session.proofs.ActLemmas.{text_act-done, text_act-left}
 use Rattle.doc_session.proofs.IdleLemmas.{length-idle}
-use Rattle.doc_session.proofs.StepLemmas.{command_refusal-alone, command_step-alone, effect-made, idle-is}
+use Rattle.doc_session.proofs.StepLemmas.{effect-made, idle-is}
 use Rattle.doc_session.proofs.doc.Doc.command.Goals as goal
-
-pub returns-then-not-is_done_on_text-clause-stepped : goal.returns-then-not-is_done_on_text-clause-stepped
-returns-then-not-is_done_on_text-clause-stepped c = λ plain stands.
-    let alone = text_act-left c.args.act.now (sym c.is_done_on_text.ensures ∙ c.if-not-is_done_on_text.true) in
-    subst (λ step. IsStepped step c.in_ok-other.field-0) (sym (command_step-alone plain c.args.act.now alone)) (c.in_ok-other.ensures.stepped plain stands)
-
-pub returns-then-not-is_done_on_text-clause-accepted : goal.returns-then-not-is_done_on_text-clause-accepted
-returns-then-not-is_done_on_text-clause-accepted c = λ plain stands.
-    command_refusal-alone plain c.args.act.now (text_act-left c.args.act.now (sym c.is_done_on_text.ensures ∙ c.if-not-is_done_on_text.true))
-
-pub effect-requires-clause-act : goal.effect-requires-clause-act
-effect-requires-clause-act c = text_act-done c.args.act.now (sym c.is_done_on_text.ensures ∙ c.if-not-is_done_on_text.false)
 
 pub effect-requires-clause-tab : goal.effect-requires-clause-tab
 effect-requires-clause-tab c = subst (λ (k : Config). 0 < k.tab) (sym c.first_config.ensures) (omega arith)

@@ -1,4 +1,4 @@
-use Rattle.std.proofs.Common.{◌≡◌, ◌≤◌, ◌+◌, true, false, length, None, refl, ap, ap₂, sym, ◌∙◌, subst, arith}
+use Rattle.std.proofs.Common.{◌≡◌, ◌≤◌, ◌+◌, false, length, None, refl, ap, ap₂, sym, ◌∙◌, subst, arith}
 use Rattle.std.specs.Prelude.{IfErr}
 use Rattle.std.proofs.lemmas.Result.{err_from_is_err_and}
 use Rattle.plain_text.specs.Numbers.{has}
@@ -11,6 +11,7 @@ use Rattle.rev_engine.specs.Given.{after, meant}
 use Rattle.selection_core.specs.Mapped.{AreWithin}
 use Rattle.selection_core.specs.Selection.{IsSelection}
 use Rattle.undo_groups.specs.Groups.{IsStack}
+use Rattle.doc_view.specs.declared.moved.Goals.TheVariants.{Kept}
 use Rattle.doc_session.specs.declared.event.Body.TheVariants.{Edited}
 use Rattle.doc_session.specs.declared.left.Left.{Left}
 use Rattle.doc_session.specs.Asking.{asked_refusal, plugin_edit}
@@ -134,7 +135,7 @@ returns-clause-stepped c = λ plain stands.
     let is = IsAfter-plain _ plain asked (asked_by c.given-edit.result) taken was given c.in_ok-taken.ensures.taken in
     let regions_is : left.sel.regions ≡ regions_by plain history edit.after_cursor plain.regions =
     ap (λ (l : Left). l.sel.regions) c.left_by-left.ensures ∙
-    regions-moved _ plain (edits (meant plain.history asked)) caller taken edit.after_cursor true c.in_ok-sel.sel.regions was is c.in_ok-sel.ensures in
+    regions-moved _ plain (edits (meant plain.history asked)) caller taken edit.after_cursor Kept c.in_ok-sel.sel.regions was is c.in_ok-sel.ensures in
     let known = subst (JoinsKnown plain.groups) (known_group-named plain.history plain.groups plain.typing c.args.named stands.agree) (JoinsKnown-named plain.groups c.args.named) in
     let agree = Agree-named plain.history plain.groups plain.typing joined asked.group asked.base asked.priority asked.author left stands.agree known refl
     stack_is typing_is (subst IsStack (sym (ap (λ (l : Left). l.stack) c.left_by-left.ensures)) c.in_ok-made.ensures.sound) in

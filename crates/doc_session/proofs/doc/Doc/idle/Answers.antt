@@ -1,4 +1,4 @@
-use Rattle.std.proofs.Common.{true, length, ap, ap₂, sym, ◌∙◌, subst}
+use Rattle.std.proofs.Common.{length, ap, ap₂, sym, ◌∙◌, subst}
 use Rattle.std.specs.Prelude.{IfOk, Option}
 use Rattle.edit_ops.specs.Commands.{Effect}
 use Rattle.selection_core.specs.Mapped.{AreWithin}
@@ -40,7 +40,7 @@ returns-clause-stepped c = λ plain stands.
     let next_is =
     c.in_ok-next.ensures ∙
     ap₂ (λ (v : View) (t : Option Typing). record now { view = v; typing = t })
-    (c.in_ok-view.ensures ∙ ap (λ (d : Doc). record d.view { regions = c.args.sel.regions; valid = true }) c.self.view_is)
+    (c.in_ok-view.ensures ∙ ap (λ (d : Doc). record d.view { regions = c.args.sel.regions }) c.self.view_is)
     (c.run_on.ensures ∙ ap₂ run_on (ap (λ (d : Doc). d.typing) c.self.view_is) c.kind_of.ensures) in
     let are : AreRegionsOf (text_of plain) effect.regions = record {
       some = effect-some first_config (text_of plain) (pieces_of plain) plain.regions stands.regions_are.some act;

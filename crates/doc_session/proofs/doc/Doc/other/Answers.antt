@@ -1,4 +1,4 @@
-use Rattle.std.proofs.Common.{true, ap, ap₂, sym, ◌∙◌, subst}
+use Rattle.std.proofs.Common.{ap, ap₂, sym, ◌∙◌, subst}
 use Rattle.std.specs.Prelude.{None, Option}
 use Rattle.doc_view.specs.View.{View}
 use Rattle.doc_session.specs.declared.typing.Typing.{Typing}
@@ -17,7 +17,7 @@ with_view-requires-clause-typing c =
     (subst (IsLeftOf doc.typing) (sym c.run_on.ensures) (IsLeftOf-run doc.typing None))
 
 pub with_view-requires-clause-text : goal.with_view-requires-clause-text
-with_view-requires-clause-text c = ap (λ (v : View). v.text) c.in_ok-told.ensures ∙ ap (λ (d : Doc). d.view.text) c.self.view_is
+with_view-requires-clause-text c = ap (λ (v : View). v.text) c.in_ok-copy.ensures ∙ ap (λ (d : Doc). d.view.text) c.self.view_is
 
 pub returns-clause-stepped : goal.returns-clause-stepped
 returns-clause-stepped c = λ plain stands.
@@ -25,7 +25,7 @@ returns-clause-stepped c = λ plain stands.
     let next_is =
     c.in_ok-next.ensures ∙
     ap₂ (λ (v : View) (t : Option Typing). record now { view = v; typing = t })
-    (c.in_ok-told.ensures ∙ ap (λ (d : Doc). record d.view { valid = true }) c.self.view_is)
+    (c.in_ok-copy.ensures ∙ ap (λ (d : Doc). d.view) c.self.view_is)
     (c.run_on.ensures ∙ ap (λ (d : Doc). run_on d.typing None) c.self.view_is) in
-    c.told-2.ensures.stepped plain (going_on plain None) stands
+    c.told.ensures.stepped plain (going_on plain None) stands
     (IsUntold-still now c.in_ok-next.next plain None now.view.regions plain.regions stands next_is stands.regions stands.regions_are)

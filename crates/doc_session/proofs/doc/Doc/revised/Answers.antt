@@ -1,4 +1,4 @@
-use Rattle.std.proofs.Common.{ℕ, true, List, Option, length, ap, ap₂, sym, ◌∙◌, subst}
+use Rattle.std.proofs.Common.{ℕ, List, Option, length, ap, ap₂, sym, ◌∙◌, subst}
 use Rattle.selection_core.specs.Mapped.{AreWithin}
 use Rattle.doc_view.specs.View.{View}
 use Rattle.doc_session.specs.InMemory.{Doc}
@@ -21,7 +21,7 @@ returns c =
     let shown_is = c.in_ok-shown.ensures ∙ c.head_rope.ensures.shown in
     let view_is =
     c.in_ok-view.ensures ∙
-    ap₂ (λ (d : Doc) (t : List ℕ). record d.view { text = t; regions = left.sel.regions; valid = true }) c.self.view_is shown_is in
+    ap₂ (λ (d : Doc) (t : List ℕ). record d.view { text = t; regions = left.sel.regions }) c.self.view_is shown_is in
     let with_sessions : List (Option ℕ) → Doc = λ s. record {
       engine = engine;
       groups = left.stack;

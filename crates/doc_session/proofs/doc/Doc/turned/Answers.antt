@@ -6,6 +6,7 @@ use Rattle.rev_list.specs.Edit.{undone_by}
 use Rattle.std.specs.Prelude.{IfOk}
 use Rattle.edit_ops.specs.Regions.{without_goal}
 use Rattle.undo_groups.specs.Groups.{Groups}
+use Rattle.doc_view.specs.declared.moved.Goals.TheVariants.{Cleared}
 use Rattle.doc_session.specs.declared.event.Body.TheVariants.{Null}
 use Rattle.doc_session.specs.declared.left.Left.{Left}
 use Rattle.doc_session.specs.Agree.{Agree}
@@ -103,7 +104,7 @@ returns-clause-stepped c = λ plain stands.
     (c.in_ok-taken.ensures.taken plain.history was.parts.stands was.parts.within) in
     let agree = Agree-turned plain.history.revisions plain.history.collected plain.groups plain.typing stands.agree stack group turn in
     let regions_is : left.sel.regions ≡ regions_by plain history false (map without_goal plain.regions) =
-    regions-moved _ plain (undoes stack.undone) 0 taken false false c.in_ok-sel.sel.regions was is c.in_ok-sel.ensures in
+    regions-moved _ plain (undoes stack.undone) 0 taken false Cleared c.in_ok-sel.sel.regions was is c.in_ok-sel.ensures in
     subst (λ (step : EventStep). IfOk c.settled.result (IsStepped step))
     (ap (λ d. revision_step plain d 0 Null (scroll_if true plain d))
     (next_document-is plain history left stack None (regions_by plain history false (map without_goal plain.regions)) refl refl regions_is))

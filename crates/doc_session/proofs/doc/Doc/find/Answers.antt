@@ -1,0 +1,25 @@
+use Rattle.std.proofs.Common.{map, ap, sym, ◌∙◌, subst}
+use Rattle.edit_ops.specs.Regions.{without_goal}
+use Rattle.doc_view.specs.declared.search.Search.{Search}
+use Rattle.doc_view.specs.Search.{search_for}
+use Rattle.doc_view.specs.View.{View}
+use Rattle.doc_session.specs.Document.{text_of}
+use Rattle.doc_session.specs.InMemory.{Doc}
+use Rattle.doc_session.specs.Inner.{IsUntold, looking_doc}
+use Rattle.doc_session.specs.Step.{seeking_document}
+use Rattle.doc_session.proofs.UntoldLemmas.{AreRegionsOf-plain, IsUntold-looking}
+use Rattle.doc_session.proofs.doc.Doc.find.Goals as goal
+
+pub looking-requires : goal.looking-requires
+looking-requires c = record { text = ap (λ (v : View). v.text) c.in_ok-seeking.ensures ∙ ap (λ (d : Doc). d.view.text) c.self.view_is }
+
+pub returns-clause-stepped : goal.returns-clause-stepped
+returns-clause-stepped c = λ plain stands.
+    let now = c.args.self.now in
+    let next = seeking_document plain c.args.chars c.args.case_counts in
+    let view_is = c.in_ok-seeking.ensures ∙ ap (λ (d : Doc). record d.view { regions = map without_goal d.view.regions; search = search_for d.view.search c.args.chars c.args.case_counts }) c.self.view_is in
+    let regions_are = ap (map without_goal) stands.regions in
+    c.looking.ensures.stepped plain next stands
+    (subst (λ (v : View). IsUntold (looking_doc now v) plain next) (sym view_is)
+    (IsUntold-looking now plain (map without_goal now.view.regions) (map without_goal plain.regions) now.view.window plain.window (search_for now.view.search c.args.chars c.args.case_counts) (search_for plain.search c.args.chars c.args.case_counts) stands regions_are stands.window (ap (λ (s : Search). search_for s c.args.chars c.args.case_counts) stands.search)
+    (AreRegionsOf-plain (text_of plain) plain.regions stands.regions_are)))

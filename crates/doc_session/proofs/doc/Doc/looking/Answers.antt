@@ -1,0 +1,23 @@
+use Rattle.std.proofs.Common.{ap, sym, ◌∙◌, subst}
+use Rattle.std.specs.Prelude.{None, Option}
+use Rattle.doc_session.specs.declared.typing.Typing.{Typing}
+use Rattle.doc_session.specs.InMemory.{Doc}
+use Rattle.doc_session.specs.Inner.{IsLeftOf, IsUntold}
+use Rattle.doc_session.specs.Typing.{run_on}
+use Rattle.doc_session.proofs.GroupLemmas.{IsLeftOf-run}
+use Rattle.doc_session.proofs.doc.Doc.looking.Goals as goal
+
+pub with_view-requires-clause-typing : goal.with_view-requires-clause-typing
+with_view-requires-clause-typing c =
+    let doc = c.self.inside in
+    subst (λ (d : Doc). IsLeftOf d.typing c.run_on.result) c.self.view_is
+    (subst (IsLeftOf doc.typing) (sym c.run_on.ensures) (IsLeftOf-run doc.typing None))
+
+pub returns-clause-stepped : goal.returns-clause-stepped
+returns-clause-stepped c = λ plain later stands untold.
+    let now = c.args.self.now in
+    let next_is =
+    c.in_ok-next.ensures ∙
+    ap (λ (t : Option Typing). record now { view = c.args.view; typing = t })
+    (c.run_on.ensures ∙ ap (λ (d : Doc). run_on d.typing None) c.self.view_is) in
+    c.told.ensures.stepped plain later stands (subst (λ (d : Doc). IsUntold d plain later) (sym next_is) untold)

@@ -1,0 +1,13 @@
+use Rattle.std.proofs.Common.{ap, sym, ◌∙◌, subst}
+use Rattle.doc_view.specs.declared.told.Pristine.{Pristine}
+use Rattle.doc_view.specs.View.{View}
+use Rattle.doc_session.specs.Whole.{IsWhole}
+use Rattle.doc_session.proofs.SettleLemmas.{text-settled}
+use Rattle.doc_session.proofs.doc.Doc.updated.Goals as goal
+
+pub invariant_of-next : goal.invariant_of-next
+invariant_of-next c =
+    let next = c.next.inside in
+    let pristine : Pristine = record { before = c.is_pristine.result; after = c.is_pristine-2.result } in
+    subst (IsWhole next.engine next.stack next.typing)
+    (sym (ap (λ (v : View). v.text) c.in_ok-view.ensures.view ∙ text-settled c.self.inside.view next.view c.args.request pristine)) c.next.invariant
