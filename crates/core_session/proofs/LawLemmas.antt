@@ -1,5 +1,5 @@
--- What bytes show that no core writes.
-use Rattle.std.proofs.Common.{◌≡◌, ℕ, List, [], ◌∷◌, Option, Some, None, ap, sym, ◌∙◌, codes, append-nil}
+-- What bytes show that no core writes, and what waits in a session to be collected.
+use Rattle.std.proofs.Common.{◌≡◌, ℕ, List, [], ◌∷◌, length, Option, Some, None, ap, sym, ◌∙◌, codes, append-nil}
 use Rattle.std.specs.Prelude.{if◌then◌else◌}
 use Rattle.plain_screen.specs.Screen.{screen_after}
 use Rattle.plain_screen.specs.declared.screen.Update.{Update}
@@ -10,8 +10,9 @@ use Rattle.view_update.specs.Fair.{IsFairUpdate}
 use Rattle.view_update.specs.Reading.{ViewUpdate, read_params, line_update}
 use Rattle.view_update.specs.Written.{update_data}
 use Rattle.view_update.proofs.ForCallers.{updates_are_read, updates_read_back}
+use Rattle.doc_session.specs.Collecting.{AreEnded}
 use Rattle.core_session.specs.Shows.{updates_in, screen_with, rebuilt_from}
-use Rattle.core_session.specs.Laws.{UnreadShowsNothing, OtherViewIsPassedOver, OtherViewShowsNothing, only_rebuilt_from}
+use Rattle.core_session.specs.Laws.{NothingWaits, UnreadShowsNothing, OtherViewIsPassedOver, OtherViewShowsNothing, only_rebuilt_from}
 use Rattle.core_session.proofs.ShowsLemmas.{updates_of-some, updates_in-lines}
 
 -- one message alone
@@ -38,3 +39,18 @@ other_view_is_passed_over id view update fair other =
 pub other_view_shows_nothing : OtherViewShowsNothing
 other_view_shows_nothing view update fair other =
     ap (only_rebuilt_from (Some [])) (updates_in-update view update fair) ∙ ap (λ here. if here then screen_after [] update.ops else None) other
+
+-- ---- nothing waits
+
+ended_all : (sessions : List (Option ℕ)) → length sessions ≡ 0 → AreEnded sessions
+ended_all [] none = tt
+ended_all (session ∷ sessions) none = absurd cc
+
+pub nothing_waits : NothingWaits
+nothing_waits document [] stands = tt
+nothing_waits None (view ∷ views) stands = absurd stands
+nothing_waits (Some doc) (view ∷ next ∷ views) stands = absurd stands
+nothing_waits (Some doc) (view ∷ []) stands =
+    let serves = stands.serves in
+    let is = serves.stands in
+    (is.none_left (ended_all view.document.sessions (ap length (sym is.sessions) ∙ serves.no_sessions)), tt)

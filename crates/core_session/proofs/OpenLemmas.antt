@@ -1,5 +1,5 @@
 -- What the opening of the first view comes to, and which view a text names.
-use Rattle.std.proofs.Common.{◌≡◌, ℕ, Bool, true, false, List, [], ◌∷◌, ◌++◌, Option, Some, None, refl, sym, ◌∙◌, ap, subst, arith, append-nil}
+use Rattle.std.proofs.Common.{◌≡◌, ℕ, Bool, true, false, List, [], ◌∷◌, ◌++◌, length, Option, Some, None, refl, sym, ◌∙◌, ap, subst, arith, append-nil}
 use Rattle.plain_edits.specs.History.{loaded}
 use Rattle.std.specs.Prelude.{is_some, if◌then◌else◌, Result, IfOk, option_map}
 use Rattle.std.specs.Str.{encode_utf8_all, bytes_eq}
@@ -24,7 +24,7 @@ use Rattle.core_session.proofs.ViewLemmas.{same_id}
 
 -- a document that was just loaded takes events
 pub TakesEvents-loaded : (doc : Doc) (text : List ℕ) → DocStandsFor doc (loaded_document text 0 text_limit) → TakesEvents doc
-TakesEvents-loaded doc text stands = (stands.plugins, omega (arith, head-stands doc.engine (loaded text) stands.parts.stands))
+TakesEvents-loaded doc text stands = (ap length stands.sessions, omega (arith, head-stands doc.engine (loaded text) stands.parts.stands))
 
 pub stands-first : (doc : Doc) (text : List ℕ) → text ≡ [] → DocStandsFor doc (loaded_document text 0 text_limit) → DocStandsFor doc first_document
 stands-first doc text none stands = subst (λ t. DocStandsFor doc (loaded_document t 0 text_limit)) none stands

@@ -324,7 +324,7 @@ MayBeAsked-few (Some doc) n (view ∷ next ∷ views) stands few small = absurd 
 MayBeAsked-few (Some doc) n (view ∷ []) stands few small =
     let plain = view.document in
     let serves = stands.serves in
-    ((serves.no_plugins, omega (arith, few.0, small, head-stands doc.engine plain.history serves.stands.parts.stands)), ∣ (plain, serves.stands) ∣₁)
+    ((serves.no_sessions, omega (arith, few.0, small, head-stands doc.engine plain.history serves.stands.parts.stands)), ∣ (plain, serves.stands) ∣₁)
 
 pub MayBeAsked-stands : (doc : Option Doc) (journal : List Entry) → Stands doc (views_of journal) → length journal < 2 ^ 63 - 1 → MayBeAsked doc
 MayBeAsked-stands doc journal stands small = MayBeAsked-few doc (length journal) (views_of journal) stands (revisions_few journal) small

@@ -6,6 +6,7 @@ use Rattle.std.specs.Str.{encode_utf8_all, bytes_eq}
 use Rattle.xi_plain.specs.declared.command.EditAct.{EditAct}
 use Rattle.xi_plain.specs.declared.command.Act.{Act}
 use Rattle.xi_plain.specs.declared.command.Act.TheVariants.{Bad, Nothing, NewView, CloseView, Save, Edit, Closing}
+use Rattle.plain_edits.specs.Collection.{Collection}
 use Rattle.plain_edits.specs.History.{head}
 use Rattle.plain_screen.specs.Screen.{Screen, screen_after}
 use Rattle.plain_screen.specs.Plan.{shown_lines}
@@ -16,9 +17,10 @@ use Rattle.view_update.specs.Reading.{Scroll}
 use Rattle.xi_plain.specs.declared.entry.Entry.{Entry}
 use Rattle.core_session.specs.Core.{views_of}
 use Rattle.doc_session.specs.declared.event.Event.TheVariants.{Front, Other}
+use Rattle.doc_session.specs.Collecting.{collected_document, collection_after, with_collection}
 use Rattle.doc_session.specs.Document.{Document, layout_of, no_request}
 use Rattle.doc_session.specs.Effects.{ops_of, update_of, updated, wants_update}
-use Rattle.doc_session.specs.Step.{EventStep, event_step, act_step, going_on, refusal_at}
+use Rattle.doc_session.specs.Step.{EventStep, event_step, act_step, going_on, refusal_at, taken_step}
 use Rattle.doc_session.proofs.ForCallers.{by_front}
 use Rattle.core_session.specs.Answer.{Reply, not_built}
 use Rattle.core_session.specs.Session.{OpenView, view_of, named_view, Outcome, outcome, taking, leaving, keeping, opening_outcome, first_view, other_step, own_step, edit_came, edit_outcome, undone_outcome, spent_total, is_done, front_outcome, step, views_after}
@@ -58,16 +60,29 @@ keeps_by true before next same one = record {
   sends = sends-plan_from next.window (layout_of next) 0 0;
 }
 
+-- whatever is collected then
+keeps_collected : (before after : Document) (update : Option Update) → Keeps before after update → Keeps before (collected_document after) update
+keeps_collected before after update keeps = by (collection_after after)
+  where
+    by : (found : Option Collection) → Keeps before (with_collection after found) update
+    by None = keeps
+    by (Some collection) = record { few = keeps.few; screen = keeps.screen; sends = keeps.sends }
+
 keeps_other : (document : Document) → KeepsStep document (event_step document Other)
 unfolding KeepsStep
-keeps_other document = let next = going_on document None in keeps_by (wants_update document next) document next refl (omega arith)
+keeps_other document =
+    let next = going_on document None in
+    let step = taken_step document Other in
+    keeps_collected document step.document step.update (keeps_by (wants_update document next) document next refl (omega arith))
 
-keeps_act : (document : Document) (act : EditAct) → KeepsStep document (act_step document act)
+keeps_act : (document : Document) (act : EditAct) → KeepsStep document (event_step document (Front act))
 unfolding KeepsStep
 keeps_act document act =
-    by_front (KeepsStep document) document
+    let step = act_step document act in
+    keeps_collected document step.document step.update
+    (by_front (KeepsStep document) document
     (λ next body scroll same screen window. keeps_by (wants_update document next) document next screen (omega (arith, ap head same)))
-    (λ next body scroll one_more screen window. keeps_by (wants_update document next) document next screen (omega (arith, one_more))) act
+    (λ next body scroll one_more screen window. keeps_by (wants_update document next) document next screen (omega (arith, one_more))) act)
 
 -- each view's step keeps this
 unfoldable pub KeepEach : (OpenView → EventStep) → List OpenView → Type 0
@@ -105,11 +120,11 @@ module _ (P : List OpenView → Outcome → Type 0)
   still views reply first = steps views reply None other_step first (keep_others views)
 
   came : (views : List OpenView) (id : List ℕ) (own : OpenView) (total : Option ℕ) (act : EditAct) → AtMostFirst views → view_of views id ≡ Some own →
-      P views (edit_came views own total (act_step own.document act))
+      P views (edit_came views own total (event_step own.document (Front act)))
   came views id own (Some total) act first found = still views _ first
   came views id own None act first found =
-      steps views _ _ (own_step own (act_step own.document act)) first
-      (keep_own views id own (act_step own.document act) first found (keeps_act own.document act))
+      let step = event_step own.document (Front act) in
+      steps views _ _ (own_step own step) first (keep_own views id own step first found (keeps_act own.document act))
 
   done_or_not : (done : Bool) (views : List OpenView) (id : List ℕ) (own : OpenView) (act : EditAct) → AtMostFirst views → view_of views id ≡ Some own →
       P views (if done then front_outcome views own act else keeping views not_built)

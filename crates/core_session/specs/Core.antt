@@ -17,10 +17,10 @@ use Rattle.core_session.specs.declared.session.Core.{Core}
 use Rattle.core_session.specs.Session.{OpenView, view_id, view_of, piece_of, views_after, written}
 use Rattle.core_session.specs.Shows.{Shows, rebuilt}
 
--- the document in memory stands for the plain one, has no plugins, and is shown on the front end's screen
+-- the document in memory stands for the plain one, no plugin has a session in it, and it is shown on the front end's screen
 pub record ServesDocument (doc : Doc) (plain : Document) : Type 0 where
   pub stands : DocStandsFor doc plain
-  pub no_plugins : doc.plugins ≡ 0
+  pub no_sessions : length doc.sessions ≡ 0
   pub shown : IsUpToDate plain
 
 -- a line of the front end asks so: it closes nothing, and the shelf is not asked

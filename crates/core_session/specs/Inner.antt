@@ -1,5 +1,5 @@
 -- What private functions say: what an act and a command come to in memory.
-use Rattle.std.specs.Prelude.{◌≡◌, ℕ, ◌^◌, ◌-◌, ◌<◌, List, Option, Some, None, Result, IfOk, IfErr, ⊤, option_map}
+use Rattle.std.specs.Prelude.{◌≡◌, ℕ, ◌^◌, ◌-◌, ◌<◌, List, length, Option, Some, None, Result, IfOk, IfErr, ⊤, option_map}
 use Rattle.std.specs.List.{AllByRecursion}
 use Rattle.std.specs.Str.{encode_utf8_all}
 use Rattle.serde_json.specs.Data.{Data, null}
@@ -26,9 +26,9 @@ use Rattle.core_session.specs.declared.act.ActEffects.{ActEffects}
 use Rattle.core_session.specs.Answer.{Reply, accepted, refused, spent, not_built, silent}
 use Rattle.core_session.specs.Core.{ServesDocument, Stands}
 
--- the document has no plugins, and may take one more edit
+-- no plugin has a session in the document, and it may take one more edit
 abbrev pub TakesEvents : Doc → Type 0
-TakesEvents doc = (doc.plugins ≡ 0) × (head doc.engine.revisions < 2 ^ 63 - 1)
+TakesEvents doc = (length doc.sessions ≡ 0) × (head doc.engine.revisions < 2 ^ 63 - 1)
 
 -- it takes events, and stands for a plain one, where there is a document
 abbrev pub MayBeAsked : Option Doc → Type 0

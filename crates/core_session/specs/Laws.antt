@@ -12,6 +12,8 @@ use Rattle.json_rpc.specs.Response.{note_data}
 use Rattle.view_update.specs.Fair.{IsFairUpdate}
 use Rattle.view_update.specs.Reading.{ViewUpdate, read_params}
 use Rattle.view_update.specs.Written.{update_data}
+use Rattle.doc_session.specs.InMemory.{Doc}
+use Rattle.core_session.specs.Core.{Stands}
 use Rattle.core_session.specs.Session.{OpenView, view_id, views_after, written}
 use Rattle.core_session.specs.Shows.{updates_in, rebuilt, IsShown, Shows}
 
@@ -22,6 +24,11 @@ HaveRevisions most views = AllByRecursion (λ view. head view.document.history �
 -- a document has at most as many revisions as its journal has entries
 abbrev pub RevisionsAreFew : Type 0
 RevisionsAreFew = (journal : List Entry) → HaveRevisions (length journal) (views_after [] journal)
+
+-- NOTHING WAITS in a session, in whose documents no plugin has a session: what no undo reaches any more is collected at once
+abbrev pub NothingWaits : Type 0
+NothingWaits = (document : Option Doc) (views : List OpenView) → Stands document views →
+    AllByRecursion (λ view. view.document.groups.retired ≡ []) views
 
 -- bytes with a note `update` that can't be read show no screen of any view, whatever stands in it
 abbrev pub UnreadShowsNothing : Type 0

@@ -1,10 +1,15 @@
 //! Laws of the definitions, each the contract of a function: they hold of all journals and all bytes.
 
-ghost use Rattle.core_session.specs.Laws.{OnlyViewIsShown, OtherViewIsPassedOver, OtherViewShowsNothing, RevisionsAreFew, UnreadShowsNothing};
+ghost use Rattle.core_session.specs.Laws.{NothingWaits, OnlyViewIsShown, OtherViewIsPassedOver, OtherViewShowsNothing, RevisionsAreFew, UnreadShowsNothing};
 
 /// A document has at most as many revisions as its journal has entries.
 pub fn revisions_are_few()
     ensures { RevisionsAreFew }
+{}
+
+/// In the documents of a session no group waits to be collected.
+pub fn nothing_waits()
+    ensures { NothingWaits }
 {}
 
 /// A note `update` that can't be read shows no screen of any view.

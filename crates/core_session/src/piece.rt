@@ -1,8 +1,7 @@
-ghost use Rattle.std.specs.Prelude.{◌≡◌, ◌≤◌, ◌++◌, List, [], ◌∷◌, false, Option, Some, None, IfOk, option_map, codes};
+ghost use Rattle.std.specs.Prelude.{◌≡◌, ◌≤◌, ◌++◌, [], ◌∷◌, false, IfOk, option_map};
 ghost use Rattle.std.specs.Str.{encode_utf8_all};
 ghost use Rattle.json_rpc.specs.Refusal.{code_of, message_of};
 ghost use Rattle.json_rpc.specs.Request.{IsWireId};
-ghost use Rattle.json_rpc.specs.Line.{line_of};
 ghost use Rattle.json_rpc.specs.Response.{text_data, error_data};
 ghost use Rattle.serde_json.specs.Data.{depth};
 ghost use Rattle.serde_json.specs.Written.{has_float};

@@ -1,9 +1,8 @@
-ghost use Rattle.std.specs.Prelude.{◌≡◌, ◌≢◌, ◌+◌, ◌≤◌, ◌++◌, ◌∷◌, ◌⊎◌, [], ℕ, Option, IfOk, IfErr, vec_len, vec_capacity, false};
+ghost use Rattle.std.specs.Prelude.{◌≡◌, ◌≢◌, ◌+◌, ◌≤◌, ◌++◌, ◌∷◌, ◌⊎◌, [], ℕ, Option, IfOk, IfErr, vec_len, vec_capacity};
 ghost use Rattle.outside.specs.Faults.{Rose};
 ghost use Rattle.outside.specs.Sink.{sink_state};
 ghost use Rattle.xi_plain.specs.declared.command.Command.{Command};
 ghost use Rattle.xi_plain.specs.declared.entry.ShelfNote.TheVariants.{NoCall};
-ghost use Rattle.front_wire.specs.Fair.{IsFair};
 ghost use Rattle.xi_plain.specs.Journal.{closing_entry};
 ghost use Rattle.core_session.specs.Inner.{document_then};
 ghost use Rattle.front_wire.specs.Front.{command_of};
