@@ -12,17 +12,17 @@ use Rattle.plain_edits.specs.Undo.{undone_now}
 use Rattle.plain_edits.proofs.callers.HistoryLemmas.{undone-undo}
 use Rattle.undo_groups.specs.Groups.{Groups, after_opening, forgotten, next_redo, next_undo, undone_one, groups_of}
 use Rattle.doc_session.specs.Collecting.{collected_document, with_collection}
-use Rattle.doc_session.specs.Document.{Document}
+use Rattle.doc_session.specs.Document.{Document, no_request}
 use Rattle.doc_session.specs.Effects.{settled, updated, wants_update}
 use Rattle.doc_session.proofs.ForCallers.{fold_forgotten, part-collected}
 use Rattle.document_laws.specs.Laws.{bare_groups}
 
 -- ---- what is told leaves everything but the screen
 
-pub part-settled : {X : Type 0} (f : Document → X) (before after : Document) → f (updated after) ≡ f after → f (settled before after) ≡ f after
-part-settled {X} f before after same = by (wants_update before after)
+pub part-settled : {X : Type 0} (f : Document → X) (before after : Document) → f (updated no_request after) ≡ f after → f (settled no_request before after) ≡ f after
+part-settled {X} f before after same = by (wants_update no_request before after)
   where
-    by : (b : Bool) → f (if b then updated after else after) ≡ f after
+    by : (b : Bool) → f (if b then updated no_request after else after) ≡ f after
     by true = same
     by false = refl
 
@@ -33,9 +33,9 @@ pub bare-forgotten : (groups : List ℕ) (s : Groups) → bare_groups (fold forg
 bare-forgotten groups s = ap bare_groups (fold_forgotten s groups)
 
 -- what a step leaves beside its screen and what it collects
-pub part-stepped : {X : Type 0} (f : Document → X) (before after : Document) → f (updated after) ≡ f after →
-    ((d : Document) (collection : Collection) → f (with_collection d (Some collection)) ≡ f d) → f (collected_document (settled before after)) ≡ f after
-part-stepped f before after same leaves = part-collected f (settled before after) (leaves (settled before after)) ∙ part-settled f before after same
+pub part-stepped : {X : Type 0} (f : Document → X) (before after : Document) → f (updated no_request after) ≡ f after →
+    ((d : Document) (collection : Collection) → f (with_collection d (Some collection)) ≡ f d) → f (collected_document (settled no_request before after)) ≡ f after
+part-stepped f before after same leaves = part-collected f (settled no_request before after) (leaves (settled no_request before after)) ∙ part-settled f before after same
 
 -- ---- undid
 

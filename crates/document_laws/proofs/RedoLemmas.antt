@@ -13,7 +13,7 @@ use Rattle.plain_edits.proofs.callers.HistoryLemmas.{text_at-undid_back}
 use Rattle.undo_groups.specs.Groups.{Groups, IsStack, next_redo, next_undo, redone_one, undone_one}
 use Rattle.undo_groups.specs.Laws.{RedoTakesUndoBack as StackLaw}
 use Rattle.doc_session.specs.Collecting.{AreAcknowledged, AreEnded, HasNoneLeft, collected_document, collection_after, least_acknowledged, with_collection}
-use Rattle.doc_session.specs.Document.{Document, text_of}
+use Rattle.doc_session.specs.Document.{Document, no_request, text_of}
 use Rattle.doc_session.specs.Effects.{settled, updated}
 use Rattle.doc_session.specs.Step.{going_on, history_step, taken_step, undone_document}
 use Rattle.doc_session.proofs.ForCallers.{IsLast-next_undo, collection_of-lags, collection_of-nothing, fold_forgotten, has-next_undo}
@@ -23,11 +23,11 @@ use Rattle.document_laws.proofs.OnceLemmas.{collected_once}
 
 -- the document after an undo, where there is one
 after_undo-some : (d : Document) (group : ℕ) → next_undo d.groups ≡ Some group →
-    after_undo d ≡ collected_document (settled d (undone_document d (undone_one d.groups)))
+    after_undo d ≡ collected_document (settled no_request d (undone_document d (undone_one d.groups)))
 after_undo-some d group found = ap (λ o. collected_document (history_step d o (undone_one d.groups)).document) found
 
 after_redo-some : (d : Document) (group : ℕ) → next_redo d.groups ≡ Some group →
-    after_redo d ≡ collected_document (settled d (undone_document d (redone_one d.groups)))
+    after_redo d ≡ collected_document (settled no_request d (undone_document d (redone_one d.groups)))
 after_redo-some d group found = ap (λ o. collected_document (history_step d o (redone_one d.groups)).document) found
 
 -- ---- nothing is collected at a new revision, where nothing waited before
@@ -60,22 +60,22 @@ module _ (d : Document) (are : AreAcknowledged d.history d.sessions) (left : Has
       let group = slice_index s.live (s.index - 1) in
       let next = undone_document d (undone_one s) in
       let d1 = after_undo d in
-      let heads1 : head (settled d next).history ≡ head d.history + 1 =
+      let heads1 : head (settled no_request d next).history ≡ head d.history + 1 =
       part-settled (λ (x : Document). head x.history) d next refl ∙ head-undid d.history (undone_one s).undone in
-      let is1 : d1 ≡ settled d next =
+      let is1 : d1 ≡ settled no_request d next =
       after_undo-some d group (some_undo s some) ∙
-      none_collected (settled d next) (part-settled (λ (x : Document). x.sessions) d next refl)
+      none_collected (settled no_request d next) (part-settled (λ (x : Document). x.sessions) d next refl)
       (part-settled (λ (x : Document). x.groups.retired) d next refl ∙ ap (λ (g : Groups). g.retired) (undone_one-some s some)) (omega (arith, heads1)) in
       let groups1 : d1.groups ≡ undone_one s = ap (λ (x : Document). x.groups) is1 ∙ part-settled (λ (x : Document). x.groups) d next refl in
       let history1 : d1.history ≡ undid d.history (undone_one s).undone = ap (λ (x : Document). x.history) is1 ∙ part-settled (λ (x : Document). x.history) d next refl in
       let found : next_redo d1.groups ≡ Some group = ap next_redo groups1 ∙ next_redo-undone s some stack.reached in
       let next2 = undone_document d1 (redone_one d1.groups) in
       let back : redone_one d1.groups ≡ s = ap redone_one groups1 ∙ law s stack some in
-      let heads2 : head (settled d1 next2).history ≡ head d1.history + 1 =
+      let heads2 : head (settled no_request d1 next2).history ≡ head d1.history + 1 =
       part-settled (λ (x : Document). head x.history) d1 next2 refl ∙ head-undid d1.history (redone_one d1.groups).undone in
-      let is2 : after_redo d1 ≡ settled d1 next2 =
+      let is2 : after_redo d1 ≡ settled no_request d1 next2 =
       after_redo-some d1 group found ∙
-      none_collected (settled d1 next2)
+      none_collected (settled no_request d1 next2)
       (part-settled (λ (x : Document). x.sessions) d1 next2 refl ∙ ap (λ (x : Document). x.sessions) is1 ∙
       part-settled (λ (x : Document). x.sessions) d next refl)
       (part-settled (λ (x : Document). x.groups.retired) d1 next2 refl ∙ ap (λ (g : Groups). g.retired) back)
@@ -95,11 +95,11 @@ new_group_ends_redo plain event opened =
     let d = after_event plain event in
     let still = going_on d None in
     let none : next_redo d.groups ≡ None = ap next_redo opened ∙ next_redo-opened plain.groups in
-    let spent : collection_after (settled d still) ≡ None =
+    let spent : collection_after (settled no_request d still) ≡ None =
     part-settled collection_after d still refl ∙ collected_once (taken_step plain event).document in (
       none,
       ap (λ o. (collected_document (history_step d o (redone_one d.groups)).document).history) none ∙
-          ap (λ found. (with_collection (settled d still) found).history) spent ∙ part-settled (λ (x : Document). x.history) d still refl,
+          ap (λ found. (with_collection (settled no_request d still) found).history) spent ∙ part-settled (λ (x : Document). x.history) d still refl,
     )
 
 -- the newest that is left
@@ -148,12 +148,12 @@ undone_newest d group undone found =
 -- ---- how many undos there are
 
 -- a step's screen and what it collects leave head and index
-head-stepped : (before after : Document) → head (updated after).history ≡ head after.history →
-    head (collected_document (settled before after)).history ≡ head after.history
+head-stepped : (before after : Document) → head (updated no_request after).history ≡ head after.history →
+    head (collected_document (settled no_request before after)).history ≡ head after.history
 head-stepped before after same = part-stepped (λ (x : Document). head x.history) before after same (λ x collection. refl)
 
-index-stepped : (before after : Document) → (updated after).groups.index ≡ after.groups.index →
-    (collected_document (settled before after)).groups.index ≡ after.groups.index
+index-stepped : (before after : Document) → (updated no_request after).groups.index ≡ after.groups.index →
+    (collected_document (settled no_request before after)).groups.index ≡ after.groups.index
 index-stepped before after same =
     part-stepped (λ (x : Document). x.groups.index) before after same
     (λ x collection. ap (λ (g : Groups). g.index) (fold_forgotten x.groups collection.groups))
@@ -182,7 +182,7 @@ measure d =
         let still = going_on d None in
         let found : next_undo d.groups ≡ None =
         ap (λ b. if b then None else Some (slice_index d.groups.live (d.groups.index - 1))) (eq-eqb d.groups.index 0 none) in
-        let is : after_undo d ≡ collected_document (settled d still) =
+        let is : after_undo d ≡ collected_document (settled no_request d still) =
         ap (λ o. collected_document (history_step d o (undone_one d.groups)).document) found in
         ap₂ (λ a b. a + b) (ap (λ (x : Document). head x.history) is ∙ head-stepped d still refl)
         (ap (λ (x : Document). x.groups.index) is ∙ index-stepped d still refl)

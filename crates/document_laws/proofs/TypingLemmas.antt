@@ -17,7 +17,7 @@ use Rattle.doc_session.specs.declared.typing.Kind.TheVariants as Kinds
 use Rattle.doc_session.specs.declared.typing.Typing.{Typing}
 use Rattle.doc_session.specs.Asking.{front_edit}
 use Rattle.doc_session.specs.Collecting.{collected_document, collection_after, with_collection}
-use Rattle.doc_session.specs.Document.{Document, pieces_of, text_of}
+use Rattle.doc_session.specs.Document.{Document, no_request, pieces_of, text_of}
 use Rattle.doc_session.specs.Effects.{settled, updated, wants_update}
 use Rattle.doc_session.specs.Grouping.{group_by, groups_by, run_group}
 use Rattle.doc_session.specs.Step.{effect_on, first_config, history_step, idle_step, is_idle, selected_document, taken_step, typed_document, typed_step, undone_document}
@@ -50,17 +50,17 @@ IsBefore document =
     IsSound document.history × (undone_now document.history ≡ document.groups.undone) ×
     (list_any (is_edit_of (next_group document)) document.history.revisions ≡ false) × (run_on document.typing inserts ≡ None)
 
-settled-IsInRun : (start before after : Document) → IsInRun start after → IsInRun start (settled before after)
-settled-IsInRun start before after is = by (wants_update before after)
+settled-IsInRun : (start before after : Document) → IsInRun start after → IsInRun start (settled no_request before after)
+settled-IsInRun start before after is = by (wants_update no_request before after)
   where
-    by : (b : Bool) → IsInRun start (if b then updated after else after)
+    by : (b : Bool) → IsInRun start (if b then updated no_request after else after)
     by true = is
     by false = is
 
-settled-IsBefore : (before after : Document) → IsBefore after → IsBefore (settled before after)
-settled-IsBefore before after is = by (wants_update before after)
+settled-IsBefore : (before after : Document) → IsBefore after → IsBefore (settled no_request before after)
+settled-IsBefore before after is = by (wants_update no_request before after)
   where
-    by : (b : Bool) → IsBefore (if b then updated after else after)
+    by : (b : Bool) → IsBefore (if b then updated no_request after else after)
     by true = is
     by false = is
 
@@ -160,10 +160,10 @@ abbrev pub HasRegions : Document → Type 0
 HasRegions document = (document.regions ≢ []) × AreWithin (length (text_of document)) document.regions
 
 -- characters that are no edit leave the text
-settled-HasRegions : (before after : Document) → HasRegions after → HasRegions (settled before after)
-settled-HasRegions before after has = by (wants_update before after)
+settled-HasRegions : (before after : Document) → HasRegions after → HasRegions (settled no_request before after)
+settled-HasRegions before after has = by (wants_update no_request before after)
   where
-    by : (b : Bool) → HasRegions (if b then updated after else after)
+    by : (b : Bool) → HasRegions (if b then updated no_request after else after)
     by true = has
     by false = has
 
@@ -197,11 +197,11 @@ run_taken_back (chars ∷ texts) plain is has some = by (run_taken_back texts) (
         let left : HasRegions next =
         (effect-some first_config (text_of plain) (pieces_of plain) plain.regions has.0 (Insert chars), typing-within (text_of plain) chars plain.regions has.1 idle) in
         let rest : concat texts ≢ [] = λ empty. some (ap (λ t. t ++ concat texts) (none_typed plain chars has idle) ∙ empty) in
-        later (collected_document (settled plain next)) (collected-IsBefore (settled plain next) (settled-IsBefore plain next still))
-        (collected-HasRegions (settled plain next) (settled-HasRegions plain next left)) rest ∙
+        later (collected_document (settled no_request plain next)) (collected-IsBefore (settled no_request plain next) (settled-IsBefore plain next still))
+        (collected-HasRegions (settled no_request plain next) (settled-HasRegions plain next left)) rest ∙
         part-stepped text_of plain next refl (λ x collection. refl)
     by later false idle =
         let next = typed_document plain inserts effect in
-        let first = collected_document (settled plain next) in
+        let first = collected_document (settled no_request plain next) in
         run_undone plain (after_typing first texts) is
-        (runs plain texts first (collected-IsInRun plain (settled plain next) (settled-IsInRun plain plain next (first_typed plain effect is))))
+        (runs plain texts first (collected-IsInRun plain (settled no_request plain next) (settled-IsInRun plain plain next (first_typed plain effect is))))

@@ -2,6 +2,7 @@
 use Rattle.std.proofs.Common.{◌≡◌, ℕ, ◌+◌, ◌-◌, ◌≤◌, Bool, true, false, if◌then◌else◌, ◌==◌, List, [], length, Option, Some, None, refl, ap, sym, ◌∙◌, arith}
 use Rattle.std.specs.Prelude.{nat_lt, slice_index}
 use Rattle.std.proofs.lemmas.Bool.{le-ltb}
+use Rattle.plain_text.specs.declared.run.Run.{Run}
 use Rattle.plain_text.specs.Numbers.{with_number, without_number}
 use Rattle.xi_plain.specs.declared.command.EditAct.{EditAct}
 use Rattle.xi_plain.specs.declared.command.EditAct.TheVariants as Acts
@@ -19,10 +20,10 @@ use Rattle.doc_session.specs.declared.event.Event.{Event}
 use Rattle.doc_session.specs.declared.event.Event.TheVariants.{Ack, Edit, Ended, Front, Other}
 use Rattle.doc_session.specs.Asking.{asked_refusal, front_edit}
 use Rattle.doc_session.specs.Collecting.{acknowledged_document, collected_document, collection_after, ended_document, least_acknowledged, with_collection}
-use Rattle.doc_session.specs.Document.{Document}
+use Rattle.doc_session.specs.Document.{Document, no_request}
 use Rattle.doc_session.specs.Effects.{settled, update_after, updated, wants_update}
 use Rattle.doc_session.specs.Layout.{Position}
-use Rattle.doc_session.specs.Step.{EventStep, act_step, answer_to, command_step, edited_document, effect_on, event_step, going_on, history_step, idle_step, is_idle, refusal_at, revision_step, scroll_if, scrolls, selected_document, step_to, taken_step, typed_step, undone_document}
+use Rattle.doc_session.specs.Step.{EventStep, act_step, answer_to, at_next_match, at_previous_match, command_step, edited_document, effect_on, event_step, going_on, history_step, idle_step, is_idle, looking_document, refusal_at, revision_step, scroll_if, scrolled_document, scrolls, seeking_document, selected_document, step_to, taken_step, typed_step, undone_document}
 use Rattle.doc_session.specs.Grouping.{run_group}
 use Rattle.doc_session.specs.Typing.{kind_of, run_on}
 use Rattle.doc_session.proofs.ForCallers.{floor-found, head-after, least-within}
@@ -36,18 +37,18 @@ pub record GoAlong (one other : EventStep) : Type 0 where
   pub same : bare one.document ≡ bare other.document
 
 -- the screen of the bare one is the same
-bare-settled : (before after : Document) → bare (settled before after) ≡ settled (bare before) (bare after)
-bare-settled before after = by (wants_update before after)
+bare-settled : (request : Run) (before after : Document) → bare (settled request before after) ≡ settled request (bare before) (bare after)
+bare-settled request before after = by (wants_update request before after)
   where
-    by : (b : Bool) → bare (if b then updated after else after) ≡ (if b then updated (bare after) else bare after)
+    by : (b : Bool) → bare (if b then updated request after else after) ≡ (if b then updated request (bare after) else bare after)
     by true = refl
     by false = refl
 
-along-step_to : (d next other : Document) (body : Body) (scroll : Option Position) (notice : Option Notice) → bare next ≡ bare other →
-    GoAlong (step_to d next body scroll notice) (step_to (bare d) other body scroll notice)
-along-step_to d next other body scroll notice same = record {
-  tell = record { body = refl; update = ap (update_after (bare d)) same; scroll = refl; notice = refl };
-  same = bare-settled d next ∙ ap (settled (bare d)) same ∙ sym (bare-settled (bare d) other);
+along-step_to : (request : Run) (d next other : Document) (body : Body) (scroll : Option Position) (notice : Option Notice) → bare next ≡ bare other →
+    GoAlong (step_to request d next body scroll notice) (step_to request (bare d) other body scroll notice)
+along-step_to request d next other body scroll notice same = record {
+  tell = record { body = refl; update = ap (update_after request (bare d)) same; scroll = refl; notice = refl };
+  same = bare-settled request d next ∙ ap (settled request (bare d)) same ∙ sym (bare-settled request (bare d) other);
 }
 
 -- ---- commands
@@ -62,9 +63,9 @@ typed_to d act effect joined =
 
 along-typed : (d : Document) (act : EditAct) (effect : Effect) (joined : Option ℕ) →
     GoAlong (typed_to d act effect joined) (typed_to (bare d) act effect joined)
-along-typed d act effect None = along-step_to d (typed_in d act effect None) (typed_in (bare d) act effect None) _ _ _ refl
+along-typed d act effect None = along-step_to no_request d (typed_in d act effect None) (typed_in (bare d) act effect None) _ _ _ refl
 along-typed d act effect (Some group) =
-    along-step_to d (typed_in d act effect (Some group)) (typed_in (bare d) act effect (Some group)) _ _ _ refl
+    along-step_to no_request d (typed_in d act effect (Some group)) (typed_in (bare d) act effect (Some group)) _ _ _ refl
 
 along-command : (d : Document) (act : EditAct) → GoAlong (command_step d act (effect_on d act)) (command_step (bare d) act (effect_on (bare d) act))
 along-command d act = by (is_idle d effect)
@@ -75,11 +76,11 @@ along-command d act = by (is_idle d effect)
     by : (idle : Bool) → GoAlong (if idle then idle_step d act effect else typed_step d act effect)
         (if idle then idle_step (bare d) act effect else typed_step (bare d) act effect)
     by true =
-        along-step_to d (selected_document d (kind_of act) effect.regions) (selected_document (bare d) (kind_of act) effect.regions) _ _ _ refl
+        along-step_to no_request d (selected_document d (kind_of act) effect.regions) (selected_document (bare d) (kind_of act) effect.regions) _ _ _ refl
     by false = along-typed d act effect (run_group (run_on d.typing (kind_of act)))
 
 along-other : (d : Document) → GoAlong (taken_step d Other) (taken_step (bare d) Other)
-along-other d = along-step_to d (going_on d None) (going_on (bare d) None) Null None None refl
+along-other d = along-step_to no_request d (going_on d None) (going_on (bare d) None) Null None None refl
 
 -- ---- undo and redo
 
@@ -98,7 +99,7 @@ along-undo d = by (s.index == 0)
     by : (none : Bool) → GoAlong (history_step d (if none then None else Some group) (if none then s else after s.retired))
         (history_step (bare d) (if none then None else Some group) (if none then bare_groups s else after []))
     by true = along-other d
-    by false = along-step_to d (undone_document d (after s.retired)) (undone_document (bare d) (after [])) _ _ _ refl
+    by false = along-step_to no_request d (undone_document d (after s.retired)) (undone_document (bare d) (after [])) _ _ _ refl
 
 along-redo : (d : Document) → GoAlong (act_step d Acts.Redo) (act_step (bare d) Acts.Redo)
 along-redo d = by (s.index == length s.live)
@@ -115,11 +116,22 @@ along-redo d = by (s.index == length s.live)
     by : (none : Bool) → GoAlong (history_step d (if none then None else Some group) (if none then s else after s.retired))
         (history_step (bare d) (if none then None else Some group) (if none then bare_groups s else after []))
     by true = along-other d
-    by false = along-step_to d (undone_document d (after s.retired)) (undone_document (bare d) (after [])) _ _ _ refl
+    by false = along-step_to no_request d (undone_document d (after s.retired)) (undone_document (bare d) (after [])) _ _ _ refl
 
 along-act : (d : Document) (act : EditAct) → GoAlong (act_step d act) (act_step (bare d) act)
 along-act d Acts.Undo = along-undo d
 along-act d Acts.Redo = along-redo d
+along-act d (Acts.Scroll first last) =
+    let window : Run = record { start = first; end = last } in
+    along-step_to no_request d (scrolled_document d window) (scrolled_document (bare d) window) Null _ None refl
+along-act d (Acts.RequestLines first last) =
+    along-step_to (record { start = first; end = last }) d (looking_document d) (looking_document (bare d)) Null _ None refl
+along-act d (Acts.Find chars case_sensitive regex whole_words) =
+    along-step_to no_request d (seeking_document d chars case_sensitive) (seeking_document (bare d) chars case_sensitive) Null _ None refl
+along-act d (Acts.FindNext wrap_around allow_same) =
+    along-step_to no_request d (at_next_match d wrap_around) (at_next_match (bare d) wrap_around) Null _ None refl
+along-act d (Acts.FindPrevious wrap_around allow_same) =
+    along-step_to no_request d (at_previous_match d wrap_around) (at_previous_match (bare d) wrap_around) Null _ None refl
 along-act d act = along-command d act
 
 -- ---- events of the front end, after which old groups are collected
@@ -152,10 +164,10 @@ along-event d event front =
 abbrev HasFloor : Document → Type 0
 HasFloor d = d.history.floor ≤ head d.history
 
-floor-settled : (d next : Document) → HasFloor next → HasFloor (settled d next)
-floor-settled d next has = by (wants_update d next)
+floor-settled : (request : Run) (d next : Document) → HasFloor next → HasFloor (settled request d next)
+floor-settled request d next has = by (wants_update request d next)
   where
-    by : (b : Bool) → HasFloor (if b then updated next else next)
+    by : (b : Bool) → HasFloor (if b then updated request next else next)
     by true = has
     by false = has
 
@@ -169,18 +181,23 @@ floor-command d act has = by (is_idle d effect)
     joined = run_group (run_on d.typing (kind_of act))
 
     by : (idle : Bool) → HasFloor (if idle then idle_step d act effect else typed_step d act effect).document
-    by true = floor-settled d (selected_document d (kind_of act) effect.regions) has
+    by true = floor-settled no_request d (selected_document d (kind_of act) effect.regions) has
     by false =
-        floor-settled d (typed_in d act effect joined) (omega (arith, has, head-after d.history (front_edit d joined effect.replacements)))
+        floor-settled no_request d (typed_in d act effect joined) (omega (arith, has, head-after d.history (front_edit d joined effect.replacements)))
 
 floor-turned : (d : Document) (group : Option ℕ) (groups : Groups) → HasFloor d → HasFloor (history_step d group groups).document
-floor-turned d None groups has = floor-settled d (going_on d None) has
+floor-turned d None groups has = floor-settled no_request d (going_on d None) has
 floor-turned d (Some group) groups has =
-    floor-settled d (undone_document d groups) (omega (arith, has, head-undid d.history groups.undone))
+    floor-settled no_request d (undone_document d groups) (omega (arith, has, head-undid d.history groups.undone))
 
 floor-act : (d : Document) (act : EditAct) → HasFloor d → HasFloor (act_step d act).document
 floor-act d Acts.Undo has = floor-turned d (next_undo d.groups) (undone_one d.groups) has
 floor-act d Acts.Redo has = floor-turned d (next_redo d.groups) (redone_one d.groups) has
+floor-act d (Acts.Scroll first last) has = floor-settled no_request d (scrolled_document d (record { start = first; end = last })) has
+floor-act d (Acts.RequestLines first last) has = floor-settled (record { start = first; end = last }) d (looking_document d) has
+floor-act d (Acts.Find chars case_sensitive regex whole_words) has = floor-settled no_request d (seeking_document d chars case_sensitive) has
+floor-act d (Acts.FindNext wrap_around allow_same) has = floor-settled no_request d (at_next_match d wrap_around) has
+floor-act d (Acts.FindPrevious wrap_around allow_same) has = floor-settled no_request d (at_previous_match d wrap_around) has
 floor-act d act has = floor-command d act has
 
 floor-collected : (d : Document) → HasFloor d → HasFloor (collected_document d)
@@ -200,7 +217,7 @@ floor-taken d (Front act) front has = floor-act d act has
 floor-taken d (Edit caller edit named) front has = absurd front
 floor-taken d (Ack caller rev) front has = absurd front
 floor-taken d (Ended caller) front has = absurd front
-floor-taken d Other front has = floor-settled d (going_on d None) has
+floor-taken d Other front has = floor-settled no_request d (going_on d None) has
 
 floor-event : (d : Document) (event : Event) → IsOfFront event → HasFloor d → HasFloor (after_event d event)
 floor-event d event front has = floor-collected (taken_step d event).document (floor-taken d event front has)
