@@ -1,12 +1,11 @@
 -- Laws for the layers above: what a session comes to with one entry more.
-use Rattle.std.proofs.Common.{◌≡◌, List, [], ◌∷◌, ◌++◌, refl, sym, ◌∙◌, subst, append-nil}
+use Rattle.std.proofs.Common.{◌≡◌, List, [], ◌∷◌, ◌++◌, refl, sym, ◌∙◌, append-nil}
 use Rattle.xi_plain.specs.declared.entry.Entry.{Entry}
 use Rattle.core_session.specs.declared.session.Core.{Core}
 use Rattle.xi_plain.specs.Journal.{closing_entry}
 use Rattle.core_session.specs.Session.{views_after, written}
-use Rattle.core_session.specs.Core.{IsServing, Stands, journal_of, views_of}
-use Rattle.core_session.specs.Shows.{AreShown, Shows}
-use Rattle.core_session.proofs.SessionLemmas.{views_after-push}
+use Rattle.core_session.specs.Core.{IsServing, journal_of}
+use Rattle.core_session.specs.Shows.{AreShown, last_requested, Shows}
 use Rattle.core_session.proofs.ShowsLemmas.{no_lines, shows_push}
 pub use Rattle.core_session.proofs.SessionLemmas.{IsOfLine-command_of, written-push}
 pub use Rattle.core_session.proofs.RowLemmas.{first_insertion}
@@ -15,9 +14,7 @@ pub use Rattle.core_session.proofs.RowLemmas.{first_insertion}
 pub shows_closed : {K : Type 0} (core : Core K) → IsServing core → Shows (journal_of core ++ closing_entry ∷ []) (written [] (journal_of core))
 shows_closed core serving =
     let journal = journal_of core in
-    let stands : Stands core.document (views_of (journal ++ closing_entry ∷ [])) =
-    subst (Stands core.document) (sym (views_after-push journal closing_entry)) serving.stands in
-    let shows = (shows_push journal closing_entry core.document stands serving.showing no_lines tt).shows in
+    let shows = (shows_push journal closing_entry serving.showing no_lines tt).shows in
     record {
       pieces = sym (written-push journal closing_entry ∙ append-nil (written [] journal));
       screens = shows.screens;
@@ -32,7 +29,7 @@ shows_none = record {
   sends = λ front entry back is. absurd (none_there front entry back is);
 }
   where
-    none_before : (front back : List Entry) → [] ≡ front ++ back → AreShown (views_after [] front) (written [] front)
+    none_before : (front back : List Entry) → [] ≡ front ++ back → AreShown (last_requested front) (views_after [] front) (written [] front)
     none_before [] back is = tt
     none_before (entry ∷ front) back is = absurd cc
 

@@ -1,6 +1,7 @@
 pub mod SessionLemmas
 pub mod ViewLemmas
 pub mod PlanLemmas
+pub mod ScreenLemmas
 pub mod StepLemmas
 pub mod RevisionLemmas
 pub mod ShowsLemmas

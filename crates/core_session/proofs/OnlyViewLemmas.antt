@@ -4,11 +4,12 @@ use Rattle.std.specs.Prelude.{if◌then◌else◌}
 use Rattle.std.specs.List.{AllByRecursion}
 use Rattle.std.specs.Str.{bytes_eq}
 use Rattle.xi_plain.specs.declared.entry.Entry.{Entry}
+use Rattle.plain_text.specs.declared.run.Run.{Run}
 use Rattle.plain_screen.specs.declared.screen.Op.{Op}
 use Rattle.plain_screen.specs.Screen.{Screen, screen_after}
 use Rattle.view_update.specs.Reading.{ViewUpdate}
 use Rattle.core_session.specs.Session.{OpenView, view_id, step, views_after, written, piece_of}
-use Rattle.core_session.specs.Shows.{updates_in, rebuilt_from, rebuilt, IsShown, AreShown, SendsTo, NotesSendTo}
+use Rattle.core_session.specs.Shows.{updates_in, rebuilt_from, rebuilt, IsShown, AreShown, SendsTo, NotesSendTo, requested, last_requested}
 use Rattle.core_session.specs.Core.{views_of}
 use Rattle.core_session.specs.Laws.{only_rebuilt_from, only_rebuilt, IsOnlyShown, OnlyViewIsShown}
 use Rattle.core_session.proofs.SessionLemmas.{views_after-push, all_append}
@@ -27,18 +28,21 @@ AreTold views notes = AllByRecursion (IsTold views) notes
 
 -- ---- the notes of an entry, and those before it
 
-sent_first : (b : Bool) (view : OpenView) (ops : List Op) → SendsTo (if b then Some view else None) ops → b ≡ true
-sent_first true view ops sends = refl
-sent_first false view ops sends = absurd sends
+sent_first : (request : Run) (b : Bool) (view : OpenView) (ops : List Op) → SendsTo request (if b then Some view else None) ops → b ≡ true
+sent_first request true view ops sends = refl
+sent_first request false view ops sends = absurd sends
 
-sent_told : (views : List OpenView) (notes : List (Option ViewUpdate)) → AtMostFirst views → NotesSendTo views notes → AreTold views notes
+sent_told : (requests : List ℕ → Run) (views : List OpenView) (notes : List (Option ViewUpdate)) → AtMostFirst views → NotesSendTo requests views notes →
+    AreTold views notes
 unfolding AtMostFirst IsTold AreTold
-sent_told views [] first sends = tt
-sent_told views (None ∷ notes) first sends = absurd sends.0
-sent_told [] (Some note ∷ notes) first sends = absurd sends.0
-sent_told (view ∷ next ∷ views) (Some note ∷ notes) first sends = absurd first
-sent_told (view ∷ []) (Some note ∷ notes) first sends =
-    (ap (bytes_eq note.view) (sym first) ∙ sent_first (bytes_eq note.view view.id) view note.update.ops sends.0, sent_told (view ∷ []) notes first sends.1)
+sent_told requests views [] first sends = tt
+sent_told requests views (None ∷ notes) first sends = absurd sends.0
+sent_told requests [] (Some note ∷ notes) first sends = absurd sends.0
+sent_told requests (view ∷ next ∷ views) (Some note ∷ notes) first sends = absurd first
+sent_told requests (view ∷ []) (Some note ∷ notes) first sends = (
+  ap (bytes_eq note.view) (sym first) ∙ sent_first (requests note.view) (bytes_eq note.view view.id) view note.update.ops sends.0,
+  sent_told requests (view ∷ []) notes first sends.1,
+)
 
 told_after : (views after : List OpenView) (notes : List (Option ViewUpdate)) → Stays views after → AreTold views notes → AreTold after notes
 unfolding Stays IsTold AreTold
@@ -53,7 +57,8 @@ IsSoFar : List Entry → Type 0
 IsSoFar entries = AtMostFirst (views_of entries) × AreTold (views_of entries) (updates_in (written [] entries))
 
 so_far_push : (before : List Entry) (entry : Entry) → IsSoFar before →
-    NotesSendTo (views_of (before ++ entry ∷ [])) (updates_in (piece_of (views_of before) entry.command)) → IsSoFar (before ++ entry ∷ [])
+    NotesSendTo (requested entry.command.act) (views_of (before ++ entry ∷ [])) (updates_in (piece_of (views_of before) entry.command)) →
+    IsSoFar (before ++ entry ∷ [])
 unfolding FirstStays AreTold IsSoFar
 so_far_push before entry so sends =
     let views = views_of before in
@@ -64,13 +69,13 @@ so_far_push before entry so sends =
     let all : AreTold next (updates_in (written [] before) ++ updates_in (piece_of views entry.command)) =
     all_append (IsTold next) (updates_in (written [] before)) (updates_in (piece_of views entry.command))
     (told_after views next (updates_in (written [] before)) stays.1 so.1)
-    (sent_told next (updates_in (piece_of views entry.command)) stays.0 sends) in
+    (sent_told (requested entry.command.act) next (updates_in (piece_of views entry.command)) stays.0 sends) in
     (stays.0, subst (AreTold next) (sym (updates_in-push before entry)) all)
 
 -- each entry tells of the views that are open after it alone
 TellsEach : List Entry → Type 0
 TellsEach journal = (front : List Entry) (entry : Entry) (back : List Entry) → journal ≡ front ++ (entry ∷ back) →
-    NotesSendTo (views_after [] (front ++ entry ∷ [])) (updates_in (piece_of (views_after [] front) entry.command))
+    NotesSendTo (requested entry.command.act) (views_after [] (front ++ entry ∷ [])) (updates_in (piece_of (views_after [] front) entry.command))
 
 so_far : (before entries : List Entry) → IsSoFar before → TellsEach (before ++ entries) → IsSoFar (before ++ entries)
 unfolding TellsEach
@@ -100,14 +105,14 @@ unfolding IsTold AreTold
 none_told [] told = refl
 none_told (update ∷ notes) told = absurd told.0
 
-shown_only : (views : List OpenView) (bytes : List ℕ) → AtMostFirst views → AreTold views (updates_in bytes) → AreShown views bytes →
-    IsOnlyShown views (only_rebuilt bytes)
+shown_only : (requests : List ℕ → Run) (views : List OpenView) (bytes : List ℕ) → AtMostFirst views → AreTold views (updates_in bytes) →
+    AreShown requests views bytes → IsOnlyShown requests views (only_rebuilt bytes)
 unfolding AtMostFirst
-shown_only [] bytes first told shown = none_told (updates_in bytes) told
-shown_only (view ∷ next ∷ views) bytes first told shown = absurd first
-shown_only (view ∷ []) bytes first told shown =
-    let At : List ℕ → Type 0 = λ id. IsShown view.document (rebuilt id bytes) in
-    subst (IsShown view.document) (sym (only_same (view ∷ []) (Some []) (updates_in bytes) told)) (subst At first shown.0)
+shown_only requests [] bytes first told shown = none_told (updates_in bytes) told
+shown_only requests (view ∷ next ∷ views) bytes first told shown = absurd first
+shown_only requests (view ∷ []) bytes first told shown =
+    let At : List ℕ → Type 0 = λ id. IsShown (requests view.id) view.document (rebuilt id bytes) in
+    subst (IsShown (requests view.id) view.document) (sym (only_same (view ∷ []) (Some []) (updates_in bytes) told)) (subst At first shown.0)
 
 pub only_view_is_shown : OnlyViewIsShown
 unfolding AtMostFirst AreTold IsSoFar TellsEach
@@ -115,4 +120,4 @@ only_view_is_shown journal front back bytes shows is =
     let each : TellsEach front =
     λ before entry after cut. shows.sends before entry (after ++ back) (is ∙ ap (λ xs. xs ++ back) cut ∙ append_assoc before (entry ∷ after) back) in
     let so : IsSoFar front = so_far [] front (tt, tt) each in
-    shown_only (views_of front) (written [] front) so.0 so.1 (shows.screens front back is)
+    shown_only (last_requested front) (views_of front) (written [] front) so.0 so.1 (shows.screens front back is)

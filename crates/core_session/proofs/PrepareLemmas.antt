@@ -1,5 +1,5 @@
 -- What an event and a line come to in memory, by what the calls below them say.
-use Rattle.std.proofs.Common.{◌≡◌, ℕ, false, List, ◌++◌, length, Option, None, Result, Ok, Err, IfOk, IfErr, ◌∙◌, subst, arith}
+use Rattle.std.proofs.Common.{◌≡◌, ℕ, List, ◌++◌, length, Option, None, Result, Ok, Err, IfOk, IfErr, ◌∙◌, subst}
 use Rattle.std.specs.Prelude.{OnOk, option_map}
 use Rattle.std.specs.Str.{encode_utf8_all}
 use Rattle.xi_plain.specs.declared.command.Command.{Command}
@@ -7,43 +7,28 @@ use Rattle.view_update.specs.Reading.{ViewUpdate, Scroll}
 use Rattle.doc_session.specs.InMemory.{Doc}
 use Rattle.doc_session.specs.declared.event.Effects.{Effects}
 use Rattle.doc_session.specs.declared.event.Event.{Event}
-use Rattle.doc_session.specs.declared.event.Event.TheVariants.{Ack, Edit, Ended, Front, Other}
 use Rattle.doc_session.specs.declared.fault.DocFault.{DocFault}
 use Rattle.doc_session.specs.Document.{Document}
 use Rattle.doc_session.specs.Fault.{DocRefuses}
 use Rattle.doc_session.specs.PositionView.{position_view}
-use Rattle.doc_session.specs.ScreenOf.{IsShownAfter}
 use Rattle.doc_session.specs.Stands.{DocStandsFor}
-use Rattle.doc_session.specs.Step.{AreEffectsOf, HasCaller, event_step, refusal_at, tells}
+use Rattle.doc_session.specs.Step.{AreEffectsOf, event_step, refusal_at}
 use Rattle.core_session.specs.declared.act.ActEffects.{ActEffects}
 use Rattle.core_session.specs.Answer.{Reply, answers}
 use Rattle.core_session.specs.Session.{OpenView, view_id, outcome, update_notes, scroll_notes, updates_for, scroll_for}
 use Rattle.core_session.specs.Inner.{IsMade, IsOutcome, IsPrepared, AreLinesOf, UpdatesReadBack, reply_of}
 
--- the front end is told of each event where no plugin has a session
-tells-alone : (event : Event) → HasCaller 0 event → tells event ≡ false → ⊥
-tells-alone (Front act) alone silent = cc
-tells-alone (Edit caller edit named) alone silent = cc
-tells-alone (Ack caller rev) alone silent = omega (arith, alone.0, alone.1)
-tells-alone (Ended caller) alone silent = omega (arith, alone.0, alone.1)
-tells-alone Other alone silent = cc
-
 -- an event of a document in which no plugin has a session
-pub IsMade-after : (old : Doc) (event : Event) (result : Result (Doc × Effects) DocFault) → length old.sessions ≡ 0 → HasCaller 0 event →
+pub IsMade-after : (old : Doc) (event : Event) (result : Result (Doc × Effects) DocFault) → length old.sessions ≡ 0 →
     ((plain : Document) → DocStandsFor old plain → IfOk result (λ made. DocStandsFor made.0 (event_step plain event).document)) →
     ((plain : Document) → DocStandsFor old plain → IfOk result (λ made. AreEffectsOf (event_step plain event) made.1)) →
     ((plain : Document) → DocStandsFor old plain → OnOk result (refusal_at plain event ≡ None)) →
     ((plain : Document) → DocStandsFor old plain → IfErr result (DocRefuses (refusal_at plain event))) →
-    ((plain : Document) → DocStandsFor old plain → IsShownAfter plain event) →
     IfOk result (λ made. (length made.0.sessions ≡ length old.sessions) × (made.0.config ≡ old.config)) → IsMade old event result
-IsMade-after old event (Err fault) none alone stands effects accepted refused shown kept =
+IsMade-after old event (Err fault) none stands effects accepted refused kept =
     record { served = stands; effects = effects; accepted = accepted; refused = refused }
-IsMade-after old event (Ok made) none alone stands effects accepted refused shown kept = record {
-  served = λ plain here. record {
-    stands = stands plain here;
-    no_sessions = kept.0 ∙ none;
-    shown = shown plain here (λ silent. absurd (tells-alone event alone silent));
-  };
+IsMade-after old event (Ok made) none stands effects accepted refused kept = record {
+  served = λ plain here. record { stands = stands plain here; no_sessions = kept.0 ∙ none };
   effects = effects;
   accepted = accepted;
   refused = refused;

@@ -2,6 +2,7 @@
 use Rattle.std.proofs.Common.{◌≡◌, ℕ, ◌+◌, List, [], ◌∷◌, length, arith, subst}
 use Rattle.xi_plain.specs.declared.command.Act.{Act}
 use Rattle.xi_plain.specs.declared.entry.Entry.{Entry}
+use Rattle.plain_text.specs.declared.run.Run.{Run}
 use Rattle.doc_session.specs.Step.{EventStep}
 use Rattle.core_session.specs.Laws.{HaveRevisions}
 use Rattle.core_session.specs.Session.{OpenView, outcome, opening_outcome, first_view, other_step, stepped, step, views_after}
@@ -10,23 +11,24 @@ use Rattle.core_session.proofs.ViewLemmas.{AtMostFirst}
 use Rattle.core_session.proofs.StepLemmas.{KeepEach, KeepsStep, FirstStays, by_outcome, first_stays}
 
 -- the views one by one
-few_steps : (n : ℕ) (views : List OpenView) (steps : OpenView → EventStep) → KeepEach steps views → HaveRevisions n views → HaveRevisions (n + 1) (stepped steps views)
+few_steps : (n : ℕ) (requests : List ℕ → Run) (views : List OpenView) (steps : OpenView → EventStep) → KeepEach requests steps views → HaveRevisions n views → HaveRevisions (n + 1) (stepped steps views)
 unfolding KeepEach KeepsStep
-few_steps n [] steps keep few = tt
-few_steps n (view ∷ views) steps keep few = (omega (arith, few.0, keep.0.few), few_steps n views steps keep.1 few.1)
+few_steps n requests [] steps keep few = tt
+few_steps n requests (view ∷ views) steps keep few = (omega (arith, few.0, keep.0.few), few_steps n requests views steps keep.1 few.1)
 
 few_more : (n : ℕ) (views : List OpenView) → HaveRevisions n views → HaveRevisions (n + 1) views
 few_more n [] few = tt
 few_more n (view ∷ views) few = (omega (arith, few.0), few_more n views few.1)
 
-few_opened : (n : ℕ) → KeepEach other_step (first_view ∷ []) → HaveRevisions (n + 1) opening_outcome.views
+few_opened : (n : ℕ) (requests : List ℕ → Run) → KeepEach requests other_step (first_view ∷ []) → HaveRevisions (n + 1) opening_outcome.views
 unfolding KeepEach KeepsStep
-few_opened n keep = (omega (arith, keep.0.few), tt)
+few_opened n requests keep = (omega (arith, keep.0.few), tt)
 
 few_step : (n : ℕ) (views : List OpenView) (act : Act) → AtMostFirst views → HaveRevisions n views → HaveRevisions (n + 1) (outcome views act).views
 few_step n views act first few =
-    by_outcome (λ before done. HaveRevisions n before → HaveRevisions (n + 1) done.views)
-    (λ views reply scroll steps at keep. few_steps n views steps keep) (λ keep. λ _. few_opened n keep) (few_more n) views act first few
+    by_outcome (λ requests before done. HaveRevisions n before → HaveRevisions (n + 1) done.views)
+    (λ requests views reply scroll steps at keep. few_steps n requests views steps keep) (λ requests keep. λ _. few_opened n requests keep)
+    (λ requests views none. few_more n views) views act first few
 
 few_after : (n : ℕ) (views : List OpenView) (entries : List Entry) → AtMostFirst views → HaveRevisions n views → HaveRevisions (n + length entries) (views_after views entries)
 unfolding FirstStays AtMostFirst

@@ -1,6 +1,6 @@
 -- One more entry is shown, where those before it are.
 use Rattle.std.proofs.Common.{◌≡◌, ℕ, ◌-◌, ◌<◌, length, arith, Bool, true, false, List, [], ◌∷◌, ◌++◌, map, Option, Some, None, refl, ap, sym, ◌∙◌, subst, append-nil, ◌⊎◌, inl, inr}
-use Rattle.std.specs.Prelude.{if◌then◌else◌, ℤ, pos, codes, ◌^◌}
+use Rattle.std.specs.Prelude.{if◌then◌else◌, is_some, ℤ, pos, codes, ◌^◌}
 use Rattle.std.specs.Str.{bytes_eq}
 use Rattle.std.specs.List.{filter_map, cons_option, AllByRecursion}
 use Rattle.serde_json.specs.Data.{Data}
@@ -13,6 +13,7 @@ use Rattle.xi_plain.specs.declared.command.Fault.TheVariants.{Parse, Invalid, No
 use Rattle.xi_plain.specs.declared.command.Command.{Command}
 use Rattle.xi_plain.specs.declared.entry.Entry.{Entry}
 use Rattle.xi_plain.specs.declared.command.Act.{Act}
+use Rattle.plain_text.specs.declared.run.Run.{Run}
 use Rattle.plain_screen.specs.declared.screen.Update.{Update}
 use Rattle.plain_screen.specs.Screen.{Screen, screen_after}
 use Rattle.json_rpc.specs.Response.{reply_data, error_data}
@@ -21,19 +22,21 @@ use Rattle.view_update.specs.Written.{update_data}
 use Rattle.view_update.specs.Reading.{ViewUpdate, Scroll, line_update}
 use Rattle.view_update.proofs.ForCallers.{others_are_no_updates}
 use Rattle.doc_session.specs.InMemory.{Doc}
-use Rattle.doc_session.specs.Document.{Document}
+use Rattle.doc_session.specs.Document.{Document, no_request}
+use Rattle.doc_session.specs.ScreenOf.{IsUpToDate}
 use Rattle.doc_session.specs.Step.{EventStep}
 use Rattle.core_session.specs.Answer.{Reply, accepted, refused, spent, not_built, silent, answers, refusal, refused_by, spent_refusal, not_built_refusal}
 use Rattle.json_rpc.specs.Refusal.{code_of, message_of}
-use Rattle.core_session.specs.Session.{OpenView, view_of, view_id, first_view, Outcome, outcome, opening_outcome, taking, leaving, other_step, outcome_messages, update_notes, scroll_notes, updates_for, messages, step, views_after, lines_written, written, piece_of}
-use Rattle.core_session.specs.Shows.{updates_in, screen_with, rebuilt_from, rebuilt, IsShown, AreShown, SendsTo, NotesSendTo, Shows}
+use Rattle.core_session.specs.Session.{OpenView, view_of, view_id, first_view, Outcome, outcome, opening_outcome, taking, leaving, other_step, outcome_messages, stepped, update_notes, scroll_notes, updates_for, messages, step, views_after, lines_written, written, piece_of}
+use Rattle.core_session.specs.Shows.{updates_in, screen_with, rebuilt_from, rebuilt, IsShown, AreShown, SendsTo, NotesSendTo, requested, last_requested, Shows}
 use Rattle.doc_session.proofs.ForCallers.{head-stands}
 use Rattle.core_session.specs.Core.{IsOfLine, IsOpen, Stands, screen_of, views_of, IsShowing, front_entry}
 use Rattle.core_session.specs.Inner.{MayBeAsked, UpdatesReadBack, AreLinesOf}
 use Rattle.core_session.specs.Laws.{HaveRevisions}
 use Rattle.core_session.proofs.RevisionLemmas.{revisions_few}
 use Rattle.core_session.proofs.ViewLemmas.{other_way, only_view, AtMostFirst}
-use Rattle.core_session.proofs.StepLemmas.{MakesScreen, UpdateWithin, KeepsStep, KeepEach, by_outcome, first_of}
+use Rattle.core_session.proofs.StepLemmas.{MakesScreen, UpdateWithin, KeepsStep, KeepEach, NoneRequested, by_outcome, first_of}
+use Rattle.core_session.proofs.ScreenLemmas.{IsUpToDate-over}
 use Rattle.core_session.proofs.SessionLemmas.{views_after-push, all_messages, all_messages-push, written-messages, IsOpen-push}
 
 -- the updates that messages say
@@ -218,20 +221,20 @@ settles_one id view after update makes =
     settles_by (bytes_eq view.id id) id view after update refl makes ∙
     sym (ap (λ b. Some (screen_of (if b then Some (record view { document = after }) else None))) same)
 
-settles_steps : (views : List OpenView) (reply : Reply) (scroll : Option Scroll) (steps : OpenView → EventStep) → AtMostFirst views → KeepEach steps views →
-    Settles views (taking reply scroll steps views)
+settles_steps : (requests : List ℕ → Run) (views : List OpenView) (reply : Reply) (scroll : Option Scroll) (steps : OpenView → EventStep) →
+    AtMostFirst views → KeepEach requests steps views → Settles views (taking reply scroll steps views)
 unfolding Settles note_list AtMostFirst KeepEach KeepsStep
-settles_steps [] reply scroll steps first keep = λ id. refl
-settles_steps (view ∷ next ∷ views) reply scroll steps first keep = absurd first
-settles_steps (view ∷ []) reply scroll steps first keep = λ id. settles_one id view (steps view).document (steps view).update keep.0.screen
+settles_steps requests [] reply scroll steps first keep = λ id. refl
+settles_steps requests (view ∷ next ∷ views) reply scroll steps first keep = absurd first
+settles_steps requests (view ∷ []) reply scroll steps first keep = λ id. settles_one id view (steps view).document (steps view).update keep.0.screen
 
 no_screen : (b : Bool) → screen_of (if b then Some first_view else None) ≡ []
 no_screen true = refl
 no_screen false = refl
 
-settles_opening : KeepEach other_step (first_view ∷ []) → Settles [] opening_outcome
+settles_opening : (requests : List ℕ → Run) → KeepEach requests other_step (first_view ∷ []) → Settles [] opening_outcome
 unfolding Settles KeepEach KeepsStep
-settles_opening keep = λ id.
+settles_opening requests keep = λ id.
     let step = other_step first_view in
     let notes = note_list (updates_for view_id step.update ++ []) in
     ap (λ screen. rebuilt_from id (Some screen) notes) (sym (no_screen (bytes_eq id view_id))) ∙
@@ -242,40 +245,84 @@ unfolding Settles note_list
 settles_leaving views = λ id. refl
 
 pub settles : (views : List OpenView) (act : Act) → AtMostFirst views → Settles views (outcome views act)
-settles views act first = by_outcome Settles settles_steps settles_opening settles_leaving views act first
+settles views act first = by_outcome (λ requests. Settles) settles_steps settles_opening (λ requests views none. settles_leaving views) views act first
 
 -- ---- the lines that an entry sends
 
--- the updates of an outcome are of its views, and send lines of their windows alone
-pub Sends : Outcome → Type 0
-Sends done = NotesSendTo done.views (note_list done.updates)
+-- the updates of an outcome are of its views, and send lines of their windows, or requested of them, alone
+pub Sends : (List ℕ → Run) → Outcome → Type 0
+Sends requests done = NotesSendTo requests done.views (note_list done.updates)
 
-sends_one : (view : OpenView) (after : Document) (update : Option Update) → UpdateWithin update after.window →
-    NotesSendTo (record view { document = after } ∷ []) (note_list (updates_for view.id update ++ []))
+sends_one : (requests : List ℕ → Run) (view : OpenView) (after : Document) (update : Option Update) →
+    UpdateWithin update after.window (requests view.id) →
+    NotesSendTo requests (record view { document = after } ∷ []) (note_list (updates_for view.id update ++ []))
 unfolding note_list UpdateWithin
-sends_one view after None within = tt
-sends_one view after (Some update) within =
+sends_one requests view after None within = tt
+sends_one requests view after (Some update) within =
     let next : OpenView = record view { document = after } in
-    let At : Option OpenView → Type 0 = λ v. SendsTo v update.ops in
+    let At : Option OpenView → Type 0 = λ v. SendsTo (requests view.id) v update.ops in
     (subst At (sym (only_view next)) within, tt)
 
-sends_steps : (views : List OpenView) (reply : Reply) (scroll : Option Scroll) (steps : OpenView → EventStep) → AtMostFirst views → KeepEach steps views →
-    Sends (taking reply scroll steps views)
+sends_steps : (requests : List ℕ → Run) (views : List OpenView) (reply : Reply) (scroll : Option Scroll) (steps : OpenView → EventStep) →
+    AtMostFirst views → KeepEach requests steps views → Sends requests (taking reply scroll steps views)
 unfolding Sends note_list AtMostFirst KeepEach KeepsStep
-sends_steps [] reply scroll steps first keep = tt
-sends_steps (view ∷ next ∷ views) reply scroll steps first keep = absurd first
-sends_steps (view ∷ []) reply scroll steps first keep = sends_one view (steps view).document (steps view).update keep.0.sends
+sends_steps requests [] reply scroll steps first keep = tt
+sends_steps requests (view ∷ next ∷ views) reply scroll steps first keep = absurd first
+sends_steps requests (view ∷ []) reply scroll steps first keep = sends_one requests view (steps view).document (steps view).update keep.0.sends
 
-sends_opening : KeepEach other_step (first_view ∷ []) → Sends opening_outcome
+sends_opening : (requests : List ℕ → Run) → KeepEach requests other_step (first_view ∷ []) → Sends requests opening_outcome
 unfolding Sends KeepEach KeepsStep
-sends_opening keep = sends_one first_view (other_step first_view).document (other_step first_view).update keep.0.sends
+sends_opening requests keep = sends_one requests first_view (other_step first_view).document (other_step first_view).update keep.0.sends
 
-sends_leaving : (views : List OpenView) → Sends (leaving views)
+sends_leaving : (requests : List ℕ → Run) (views : List OpenView) → Sends requests (leaving views)
 unfolding Sends note_list
-sends_leaving views = tt
+sends_leaving requests views = tt
 
-pub sends : (views : List OpenView) (act : Act) → AtMostFirst views → Sends (outcome views act)
-sends views act first = by_outcome (λ _ done. Sends done) sends_steps sends_opening sends_leaving views act first
+pub sends : (views : List OpenView) (act : Act) → AtMostFirst views → Sends (requested act) (outcome views act)
+sends views act first =
+    by_outcome (λ requests _ done. Sends requests done) sends_steps sends_opening (λ requests views none. sends_leaving requests views) views act first
+
+-- ---- the lines that are valid
+
+-- the screen of each view's document shows it, with the lines that were requested of the view
+AreUpToDate : (List ℕ → Run) → List OpenView → Type 0
+AreUpToDate requests views = AllByRecursion (λ view. IsUpToDate (requests view.id) view.document) views
+
+-- so it is after an entry, where it was so before
+StaysUpToDate : (List ℕ → Run) → List OpenView → Outcome → Type 0
+StaysUpToDate requests before done = (lasts : List ℕ → Run) → AreUpToDate lasts before → AreUpToDate requests done.views
+
+shown_each : (requests : List ℕ → Run) (steps : OpenView → EventStep) (views : List OpenView) (lasts : List ℕ → Run) → KeepEach requests steps views →
+    AreUpToDate lasts views → AreUpToDate requests (stepped steps views)
+unfolding AreUpToDate KeepEach KeepsStep
+shown_each requests steps [] lasts keep before = tt
+shown_each requests steps (view ∷ views) lasts keep before =
+    (keep.0.shown (lasts view.id) (λ none. before.0), shown_each requests steps views lasts keep.1 before.1)
+
+shown_steps : (requests : List ℕ → Run) (views : List OpenView) (reply : Reply) (scroll : Option Scroll) (steps : OpenView → EventStep) →
+    AtMostFirst views → KeepEach requests steps views → StaysUpToDate requests views (taking reply scroll steps views)
+unfolding StaysUpToDate
+shown_steps requests views reply scroll steps first keep = λ lasts before. shown_each requests steps views lasts keep before
+
+-- the front end of a view that was just opened is told something
+first_told : is_some (other_step first_view).update ≡ true
+first_told = refl
+
+shown_opening : (requests : List ℕ → Run) → KeepEach requests other_step (first_view ∷ []) → StaysUpToDate requests [] opening_outcome
+unfolding AreUpToDate StaysUpToDate KeepEach KeepsStep
+shown_opening requests keep = λ lasts before.
+    let told : (other_step first_view).update ≡ None → ⊥ = λ none. (let lost : false ≡ true = sym (ap is_some none) ∙ first_told in cc) in
+    (keep.0.shown no_request (λ none. absurd (told none)), tt)
+
+shown_leaving : (requests : List ℕ → Run) (views : List OpenView) → NoneRequested requests views → StaysUpToDate requests views (leaving views)
+unfolding AreUpToDate StaysUpToDate NoneRequested
+shown_leaving requests [] none = λ lasts before. tt
+shown_leaving requests (view ∷ views) none = λ lasts before.
+    let At : Run → Type 0 = λ request. IsUpToDate request view.document in
+    (subst At (sym none.0) (IsUpToDate-over (lasts view.id) view.document before.0), shown_leaving requests views none.1 lasts before.1)
+
+stays_up_to_date : (views : List OpenView) (act : Act) → AtMostFirst views → StaysUpToDate (requested act) views (outcome views act)
+stays_up_to_date views act first = by_outcome StaysUpToDate shown_steps shown_opening shown_leaving views act first
 
 -- ---- one more entry is shown
 
@@ -305,16 +352,26 @@ rebuilt_push journal entry before said = λ id.
     ap (rebuilt_from id (Some (screen_of (view_of views id)))) said ∙ settles views entry.command.act (first_of journal) id ∙
     ap (λ after. Some (screen_of (view_of after id))) (sym (views_after-push journal entry))
 
--- what a document in memory stands for is shown by its screen
-pub stands_shown : (doc : Option Doc) (views : List OpenView) (bytes : List ℕ) → Stands doc views →
-    ((id : List ℕ) → rebuilt id bytes ≡ Some (screen_of (view_of views id))) → AreShown views bytes
-stands_shown None [] bytes stands screens = tt
-stands_shown None (view ∷ views) bytes stands screens = absurd stands
-stands_shown (Some doc) [] bytes stands screens = absurd stands
-stands_shown (Some doc) (view ∷ next ∷ views) bytes stands screens = absurd stands
-stands_shown (Some doc) (view ∷ []) bytes stands screens =
-    let screen : rebuilt view.id bytes ≡ Some view.document.screen = screens view.id ∙ ap (λ v. Some (screen_of v)) (only_view view) in
-    (subst (IsShown view.document) (sym screen) stands.serves.shown, tt)
+-- views are shown where their documents' screens show them
+screen_is : (view : OpenView) (bytes : List ℕ) → ((id : List ℕ) → rebuilt id bytes ≡ Some (screen_of (view_of (view ∷ []) id))) →
+    rebuilt view.id bytes ≡ Some view.document.screen
+screen_is view bytes screens = screens view.id ∙ ap (λ v. Some (screen_of v)) (only_view view)
+
+AreShown-up_to_date : (requests : List ℕ → Run) (views : List OpenView) (bytes : List ℕ) → AtMostFirst views →
+    ((id : List ℕ) → rebuilt id bytes ≡ Some (screen_of (view_of views id))) → AreUpToDate requests views → AreShown requests views bytes
+unfolding AtMostFirst AreUpToDate
+AreShown-up_to_date requests [] bytes first screens told = tt
+AreShown-up_to_date requests (view ∷ next ∷ views) bytes first screens told = absurd first
+AreShown-up_to_date requests (view ∷ []) bytes first screens told =
+    (subst (IsShown (requests view.id) view.document) (sym (screen_is view bytes screens)) told.0, tt)
+
+up_to_date-AreShown : (requests : List ℕ → Run) (views : List OpenView) (bytes : List ℕ) → AtMostFirst views →
+    ((id : List ℕ) → rebuilt id bytes ≡ Some (screen_of (view_of views id))) → AreShown requests views bytes → AreUpToDate requests views
+unfolding AtMostFirst AreUpToDate
+up_to_date-AreShown requests [] bytes first screens shown = tt
+up_to_date-AreShown requests (view ∷ next ∷ views) bytes first screens shown = absurd first
+up_to_date-AreShown requests (view ∷ []) bytes first screens shown =
+    (subst (IsShown (requests view.id) view.document) (screen_is view bytes screens) shown.0, tt)
 
 -- a document that a session serves takes events, where it has fewer revisions than there are numbers
 MayBeAsked-few : (doc : Option Doc) (n : ℕ) (views : List OpenView) → Stands doc views → HaveRevisions n views → n < 2 ^ 63 - 1 → MayBeAsked doc
@@ -329,46 +386,79 @@ MayBeAsked-few (Some doc) n (view ∷ []) stands few small =
 pub MayBeAsked-stands : (doc : Option Doc) (journal : List Entry) → Stands doc (views_of journal) → length journal < 2 ^ 63 - 1 → MayBeAsked doc
 MayBeAsked-stands doc journal stands small = MayBeAsked-few doc (length journal) (views_of journal) stands (revisions_few journal) small
 
-screens_push : (journal : List Entry) (entry : Entry) (doc : Option Doc) → Stands doc (views_of (journal ++ entry ∷ [])) → Shows journal (written [] journal) →
-    ScreensAre (journal ++ entry ∷ []) →
-    (front back : List Entry) → SplitsPush journal entry front back → AreShown (views_after [] front) (written [] front)
-unfolding SplitsPush ScreensAre
-screens_push journal entry doc stands each screens front back (inl (none, all)) =
-    let At : List Entry → Type 0 = λ entries. AreShown (views_after [] entries) (written [] entries) in
-    subst At (sym all) (stands_shown doc (views_of (journal ++ entry ∷ [])) (written [] (journal ++ entry ∷ [])) stands screens)
-screens_push journal entry doc stands each screens front back (inr (rest, is, last)) = each.screens front rest is
+-- the last of the entries is the one that was added
+last_requested-push : (journal : List Entry) (entry : Entry) (id : List ℕ) →
+    last_requested (journal ++ entry ∷ []) id ≡ requested entry.command.act id
+last_requested-push [] entry id = refl
+last_requested-push (first ∷ []) entry id = refl
+last_requested-push (first ∷ next ∷ journal) entry id = last_requested-push (next ∷ journal) entry id
+
+AreUpToDate-same : (requests others : List ℕ → Run) (views : List OpenView) → ((id : List ℕ) → requests id ≡ others id) → AreUpToDate requests views →
+    AreUpToDate others views
+unfolding AreUpToDate
+AreUpToDate-same requests others [] same told = tt
+AreUpToDate-same requests others (view ∷ views) same told =
+    let At : Run → Type 0 = λ request. IsUpToDate request view.document in
+    (subst At (same view.id) told.0, AreUpToDate-same requests others views same told.1)
+
+-- what a journal shows after the entry that was added
+shown_push : (journal : List Entry) (entry : Entry) → IsShowing journal → ScreensAre (journal ++ entry ∷ []) →
+    AreShown (last_requested (journal ++ entry ∷ [])) (views_of (journal ++ entry ∷ [])) (written [] (journal ++ entry ∷ []))
+unfolding ScreensAre StaysUpToDate
+shown_push journal entry showing screens =
+    let views = views_of journal in
+    let before : AreUpToDate (last_requested journal) views =
+    up_to_date-AreShown (last_requested journal) views (written [] journal) (first_of journal) showing.screens
+    (showing.shows.screens journal [] (sym (append-nil journal))) in
+    let after : AreUpToDate (requested entry.command.act) (step views entry.command) =
+    stays_up_to_date views entry.command.act (first_of journal) (last_requested journal) before in
+    let put = subst (AreUpToDate (requested entry.command.act)) (sym (views_after-push journal entry)) after in
+    AreShown-up_to_date (last_requested (journal ++ entry ∷ [])) (views_of (journal ++ entry ∷ [])) (written [] (journal ++ entry ∷ []))
+    (first_of (journal ++ entry ∷ [])) screens
+    (AreUpToDate-same (requested entry.command.act) (last_requested (journal ++ entry ∷ [])) (views_of (journal ++ entry ∷ []))
+    (λ id. sym (last_requested-push journal entry id)) put)
+
+screens_push : (journal : List Entry) (entry : Entry) → IsShowing journal → ScreensAre (journal ++ entry ∷ []) →
+    (front back : List Entry) → SplitsPush journal entry front back → AreShown (last_requested front) (views_after [] front) (written [] front)
+unfolding SplitsPush
+screens_push journal entry showing screens front back (inl (none, all)) =
+    let At : List Entry → Type 0 = λ entries. AreShown (last_requested entries) (views_after [] entries) (written [] entries) in
+    subst At (sym all) (shown_push journal entry showing screens)
+screens_push journal entry showing screens front back (inr (rest, is, last)) = showing.shows.screens front rest is
 
 -- the entry at hand is the one that was added, or one before
 sends_push : (journal : List Entry) (entry : Entry) → Shows journal (written [] journal) →
     updates_in (piece_of (views_of journal) entry.command) ≡ note_list (outcome (views_of journal) entry.command.act).updates →
     (front : List Entry) (last : Entry) (back : List Entry) → SplitsPush journal entry front (last ∷ back) →
-    NotesSendTo (views_after [] (front ++ last ∷ [])) (updates_in (piece_of (views_after [] front) last.command))
+    NotesSendTo (requested last.command.act) (views_after [] (front ++ last ∷ [])) (updates_in (piece_of (views_after [] front) last.command))
 unfolding SplitsPush Sends
 sends_push journal entry each said front last back (inl (none, all)) = absurd cc
 sends_push journal entry each said front last back (inr ([], is, only)) =
     let At : List Entry → Entry → Type 0 =
-    λ entries e. NotesSendTo (views_after [] (entries ++ e ∷ [])) (updates_in (piece_of (views_after [] entries) e.command)) in
+    λ entries e.
+    NotesSendTo (requested e.command.act) (views_after [] (entries ++ e ∷ [])) (updates_in (piece_of (views_after [] entries) e.command)) in
     let added : last ≡ entry = cc in
     let whole : journal ≡ front = is ∙ append-nil front in
-    let Of : List OpenView → Type 0 = λ views. NotesSendTo views (updates_in (piece_of (views_of journal) entry.command)) in
-    let Notes : List (Option ViewUpdate) → Type 0 = λ notes. NotesSendTo (step (views_of journal) entry.command) notes in
+    let To : List OpenView → List (Option ViewUpdate) → Type 0 = NotesSendTo (requested entry.command.act) in
+    let Of : List OpenView → Type 0 = λ views. To views (updates_in (piece_of (views_of journal) entry.command)) in
+    let Notes : List (Option ViewUpdate) → Type 0 = λ notes. To (step (views_of journal) entry.command) notes in
     let here : At journal entry =
     subst Of (sym (views_after-push journal entry)) (subst Notes (sym said) (sends (views_of journal) entry.command.act (first_of journal))) in
-    let To : Entry → Type 0 = λ e. At front e in
-    let From : List Entry → Type 0 = λ entries. At entries entry in
-    subst To (sym added) (subst From whole here)
+    let Last : Entry → Type 0 = λ e. At front e in
+    let Before : List Entry → Type 0 = λ entries. At entries entry in
+    subst Last (sym added) (subst Before whole here)
 sends_push journal entry each said front last back (inr (r ∷ rest, is, only)) =
     let same : r ≡ last = cc in
-    let At : Entry → Type 0 = λ e. NotesSendTo (views_after [] (front ++ e ∷ [])) (updates_in (piece_of (views_after [] front) e.command)) in
+    let At : Entry → Type 0 =
+    λ e. NotesSendTo (requested e.command.act) (views_after [] (front ++ e ∷ [])) (updates_in (piece_of (views_after [] front) e.command)) in
     subst At same (each.sends front r rest is)
 
 -- what one more entry of a served session comes to
-pub shows_push : (journal : List Entry) (entry : Entry) (doc : Option Doc) →
-    Stands doc (views_of (journal ++ entry ∷ [])) → IsShowing journal →
+pub shows_push : (journal : List Entry) (entry : Entry) → IsShowing journal →
     AreLines (messages (views_of journal) entry.command) → UpdatesReadBack (outcome (views_of journal) entry.command.act).updates →
     IsShowing (journal ++ entry ∷ [])
 unfolding AreLines ScreensAre
-shows_push journal entry doc stands showing lines reads =
+shows_push journal entry showing lines reads =
     let views = views_of journal in
     let said : updates_in (piece_of views entry.command) ≡ note_list (outcome views entry.command.act).updates =
     updates_in-lines (messages views entry.command) ∙ updates_of-outcome entry.command.id (outcome views entry.command.act) lines reads in
@@ -376,7 +466,7 @@ shows_push journal entry doc stands showing lines reads =
     record {
       shows = record {
         pieces = refl;
-        screens = λ front back split. screens_push journal entry doc stands showing.shows screens front back (splits_push journal front back entry split);
+        screens = λ front back split. screens_push journal entry showing screens front back (splits_push journal front back entry split);
         sends = λ front last back split.
             sends_push journal entry showing.shows said front last back (splits_push journal front (last ∷ back) entry split);
       };
@@ -391,10 +481,8 @@ pub serves_push : (journal : List Entry) (command : Command) (next : Option Doc)
     AllByRecursion IsOpen (journal ++ front_entry command true ∷ []) × IsShowing (journal ++ front_entry command true ∷ []) ×
     Stands next (views_of (journal ++ front_entry command true ∷ []))
 unfolding AreLines
-serves_push journal command next piece sent showing asks lines reads stands =
-    let after : Stands next (views_of (journal ++ front_entry command true ∷ [])) =
-    subst (Stands next) (sym (views_after-push journal (front_entry command true))) stands in (
-      IsOpen-push journal command sent asks,
-      shows_push journal (front_entry command true) next after showing lines.each reads,
-      after,
-    )
+serves_push journal command next piece sent showing asks lines reads stands = (
+  IsOpen-push journal command sent asks,
+  shows_push journal (front_entry command true) showing lines.each reads,
+  subst (Stands next) (sym (views_after-push journal (front_entry command true))) stands,
+)

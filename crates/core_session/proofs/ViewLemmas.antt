@@ -28,6 +28,15 @@ pub found_only : (b : Bool) (view found : OpenView) → (if b then Some view els
 found_only false view found is = absurd cc
 found_only true view found is = let here : view ≡ found = cc in sym here
 
+-- its id is the one that was looked for, and it is found where that is so
+pub found_id : (b : Bool) (view found : OpenView) → (if b then Some view else None) ≡ Some found → b ≡ true
+found_id true view found is = refl
+found_id false view found is = absurd cc
+
+pub no_found : (b : Bool) (view : OpenView) → (if b then Some view else None) ≡ None → b ≡ false
+no_found false view is = refl
+no_found true view is = absurd cc
+
 -- at most the first view is open
 unfoldable pub AtMostFirst : List OpenView → Type 0
 AtMostFirst [] = ⊤

@@ -11,17 +11,15 @@ use Rattle.outside.specs.Faults.{Rose, counted}
 use Rattle.outside.specs.Sink.{SinkState, Gains}
 use Rattle.doc_session.specs.InMemory.{Doc}
 use Rattle.doc_session.specs.Document.{Document}
-use Rattle.doc_session.specs.ScreenOf.{IsUpToDate}
 use Rattle.doc_session.specs.Stands.{DocStandsFor}
 use Rattle.core_session.specs.declared.session.Core.{Core}
 use Rattle.core_session.specs.Session.{OpenView, view_id, view_of, piece_of, views_after, written}
 use Rattle.core_session.specs.Shows.{Shows, rebuilt}
 
--- the document in memory stands for the plain one, no plugin has a session in it, and it is shown on the front end's screen
+-- the document in memory stands for the plain one, and no plugin has a session in it
 pub record ServesDocument (doc : Doc) (plain : Document) : Type 0 where
   pub stands : DocStandsFor doc plain
   pub no_sessions : length doc.sessions ≡ 0
-  pub shown : IsUpToDate plain
 
 -- a line of the front end asks so: it closes nothing, and the shelf is not asked
 abbrev pub IsOfLine : Act → Type 0

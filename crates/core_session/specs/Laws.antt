@@ -7,6 +7,7 @@ use Rattle.xi_plain.specs.declared.entry.Entry.{Entry}
 use Rattle.plain_screen.specs.Screen.{Screen, screen_after}
 use Rattle.plain_screen.specs.declared.screen.Update.{Update}
 use Rattle.plain_edits.specs.History.{head}
+use Rattle.plain_text.specs.declared.run.Run.{Run}
 use Rattle.json_rpc.specs.Line.{line_of, IsLineOf}
 use Rattle.json_rpc.specs.Response.{note_data}
 use Rattle.view_update.specs.Fair.{IsFairUpdate}
@@ -15,7 +16,7 @@ use Rattle.view_update.specs.Written.{update_data}
 use Rattle.doc_session.specs.InMemory.{Doc}
 use Rattle.core_session.specs.Core.{Stands}
 use Rattle.core_session.specs.Session.{OpenView, view_id, views_after, written}
-use Rattle.core_session.specs.Shows.{updates_in, rebuilt, IsShown, Shows}
+use Rattle.core_session.specs.Shows.{updates_in, rebuilt, IsShown, last_requested, Shows}
 
 -- the document of each of the views has at most so many revisions after its loading
 abbrev pub HaveRevisions : ℕ → List OpenView → Type 0
@@ -56,11 +57,11 @@ only_rebuilt_from screen (note ∷ notes) = only_rebuilt_from (only_screen_with 
 abbrev pub only_rebuilt : List ℕ → Option Screen
 only_rebuilt bytes = only_rebuilt_from (Some []) (updates_in bytes)
 
--- that screen is of the only view that is open; it is empty where none is
-abbrev pub IsOnlyShown : List OpenView → Option Screen → Type 0
-IsOnlyShown [] screen = screen ≡ Some []
-IsOnlyShown (view ∷ []) screen = IsShown view.document screen
-IsOnlyShown (view ∷ next ∷ views) screen = ⊥
+-- that screen is of the only view that is open, with the lines that were requested of it; it is empty where none is
+abbrev pub IsOnlyShown : (List ℕ → Run) → List OpenView → Option Screen → Type 0
+IsOnlyShown requests [] screen = screen ≡ Some []
+IsOnlyShown requests (view ∷ []) screen = IsShown (requests view.id) view.document screen
+IsOnlyShown requests (view ∷ next ∷ views) screen = ⊥
 
 -- bytes with an update of another view show it nothing
 abbrev pub OtherViewShowsNothing : Type 0
@@ -71,4 +72,4 @@ OtherViewShowsNothing = (view : List ℕ) (update : Update) → IsFairUpdate vie
 -- is open
 abbrev pub OnlyViewIsShown : Type 0
 OnlyViewIsShown = (journal front back : List Entry) (bytes : List ℕ) → Shows journal bytes → journal ≡ front ++ back →
-    IsOnlyShown (views_after [] front) (only_rebuilt (written [] front))
+    IsOnlyShown (last_requested front) (views_after [] front) (only_rebuilt (written [] front))

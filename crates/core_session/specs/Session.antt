@@ -7,7 +7,6 @@ use Rattle.xi_plain.specs.declared.command.Id.{Id}
 use Rattle.xi_plain.specs.declared.command.Fault.{Fault}
 use Rattle.xi_plain.specs.declared.command.Fault.TheVariants.{BadParams}
 use Rattle.xi_plain.specs.declared.command.EditAct.{EditAct}
-use Rattle.xi_plain.specs.declared.command.EditAct.TheVariants as Edits
 use Rattle.xi_plain.specs.declared.command.Act.{Act}
 use Rattle.xi_plain.specs.declared.command.Act.TheVariants.{Bad, Nothing, NewView, CloseView, Save, Edit, Closing}
 use Rattle.xi_plain.specs.declared.command.Command.{Command}
@@ -136,19 +135,10 @@ abbrev pub front_outcome : List OpenView → OpenView → EditAct → Outcome
 front_outcome views view act =
     edit_came views view (spent_total (refusal_at view.document (Front act))) (event_step view.document (Front act))
 
--- whether the edits of this kind are done yet: all but those that show other lines, and those that search
-abbrev pub is_done : EditAct → Bool
-is_done (Edits.Scroll first last) = false
-is_done (Edits.RequestLines first last) = false
-is_done (Edits.Find chars case_sensitive regex whole_words) = false
-is_done (Edits.FindNext wrap_around allow_same) = false
-is_done (Edits.FindPrevious wrap_around allow_same) = false
-is_done act = true
-
 -- an edit of the view that was named, where it is open
 abbrev pub edit_outcome : List OpenView → Option OpenView → EditAct → Outcome
 edit_outcome views None act = refusing_view views
-edit_outcome views (Some view) act = if is_done act then front_outcome views view act else keeping views not_built
+edit_outcome views (Some view) act = front_outcome views view act
 
 -- what is not done yet of a view is refused, where the view is open
 abbrev pub undone_outcome : List OpenView → Option OpenView → Outcome

@@ -8,7 +8,7 @@ ghost use Rattle.doc_session.specs.Step.{EventStep, HasCaller};
 ghost use Rattle.core_session.specs.Core.{ServesView, Stands};
 ghost use Rattle.core_session.specs.Inner.{IsMade, IsOutcome, IsSpentOrLack, MayBeAsked, TakesEvents, reply_of};
 ghost use Rattle.core_session.specs.Answer.{accepted, result_of};
-ghost use Rattle.core_session.specs.Session.{OpenView, view_id, named_view, outcome, edit_came, edit_outcome, undone_outcome, open_outcome, is_done, front_outcome, keeping, refusing, refusing_view, spent_total};
+ghost use Rattle.core_session.specs.Session.{OpenView, view_id, named_view, outcome, edit_came, edit_outcome, undone_outcome, open_outcome, front_outcome, keeping, refusing, refusing_view, spent_total};
 
 use doc_session::{Body, Doc, DocFault, Effects, Event};
 use plain_screen::Update;
@@ -172,21 +172,8 @@ fn edit(
         → IfOk result (IsOutcome document.now (edit_outcome views (named_view views name.now) act.now)) }
 {
     match document {
-        Some(doc) if is_first_view(name) => edit_view(alloc, doc, act),
+        Some(doc) if is_first_view(name) => edit_document(alloc, doc, act),
         _ => refused_view(alloc, document),
-    }
-}
-
-/// Edits the view that is there.
-fn edit_view(alloc: Global, doc: &Doc, act: &EditAct) -> Result<ActEffects, NoMemory>
-    requires { MayBeAsked (Some doc.now) }
-    ensures { (view : OpenView) → ServesView doc.now view
-        → IfOk result (IsOutcome (Some doc.now) (edit_outcome (view ∷ []) (Some view) act.now)) }
-{
-    if is_done(act) {
-        edit_document(alloc, doc, act)
-    } else {
-        other(alloc, doc, Reply::NotBuilt)
     }
 }
 
@@ -196,20 +183,7 @@ fn is_first_view(name: &Text) -> bool
     name.as_str() == FIRST_VIEW
 }
 
-/// Whether the edits of this kind are done yet.
-fn is_done(act: &EditAct) -> bool
-    ensures { result ≡ is_done act.now }
-{
-    !matches!(
-        act,
-        EditAct::Scroll { .. }
-            | EditAct::RequestLines { .. }
-            | EditAct::Find { .. }
-            | EditAct::FindNext { .. }
-            | EditAct::FindPrevious { .. }
-    )
-}
-
+/// Edits the view that is there.
 fn edit_document(alloc: Global, doc: &Doc, act: &EditAct) -> Result<ActEffects, NoMemory>
     requires { MayBeAsked (Some doc.now) }
     ensures { (view : OpenView) → ServesView doc.now view

@@ -10,5 +10,5 @@ after-requires-clause-caller g c =
 
 pub returns : goal.returns
 returns g c =
-    IsMade-after c.args.doc.now c.args.event c.after.result c.requires.alone.0 c.requires.caller c.after.ensures.stands c.after.ensures.effects
-    c.after.ensures.accepted c.after.ensures.refused c.after.ensures.shown c.after.ensures.kept
+    IsMade-after c.args.doc.now c.args.event c.after.result c.requires.alone.0 c.after.ensures.stands c.after.ensures.effects
+    c.after.ensures.accepted c.after.ensures.refused c.after.ensures.kept
