@@ -1,3 +1,4 @@
-mod Cases
+mod OpenLemmas
+mod Refusals
 mod Sets
 mod TakenLemmas

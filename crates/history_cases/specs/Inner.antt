@@ -1,20 +1,24 @@
 -- What bodies are compared by, beside the plain history.
-use Rattle.std.specs.Prelude.{◌≡◌, ℕ, ◌-◌, ◌≤◌, Bool, ◌==◌, not, List, [], ◌∷◌, length, map, Option, Some, None}
-use Rattle.std.specs.List.{filter}
-use Rattle.plain_text.specs.Numbers.{has}
+use Rattle.std.specs.Prelude.{◌≡◌, ℕ, ◌-◌, ◌≤◌, Bool, ◌+◌, ◌==◌, not, List, [], ◌∷◌, ◌++◌, length, map, take, Option, Some, None}
+use Rattle.std.specs.List.{filter, fold, range_with_len}
+use Rattle.plain_text.specs.Numbers.{has, with_number}
 use Rattle.plain_edits.specs.declared.delta.UnitDelta.{UnitDelta}
 use Rattle.plain_edits.specs.declared.fault.EditFault.{EditFault}
 use Rattle.plain_edits.specs.UnitDelta.{unit_keeps, unit_adds}
 use Rattle.plain_edits.specs.History.{Tagged, History, group_of, head, text_at}
 use Rattle.plain_edits.specs.Edits.{PlainEdit, edit_refusal, merged}
+use Rattle.plain_edits.specs.Undo.{undone_now}
 use Rattle.plain_edits.specs.Collection.{MayCollect, is_dropped, kept}
 use Rattle.plain_edits.specs.EditFault.{refusal_of}
 use Rattle.rev_list.specs.Hidden.{is_hidden, hidden_at}
-use Rattle.rev_list.specs.Under.{is_hidden_under}
+use Rattle.rev_list.specs.Under.{hidden_under, is_hidden_under}
 use Rattle.rev_rebase.specs.declared.stale.Rebased.{Rebased}
 use Rattle.rev_engine.specs.declared.edit.Edit.{Edit}
+use Rattle.rev_engine.specs.Asked.{IsFrozenAt, MayAskUndo}
 use Rattle.rev_engine.specs.State.{State}
 use Rattle.rev_engine.specs.Engine.{StandsFor}
+use Rattle.history_cases.specs.declared.step.UndoRefusal.{UndoRefusal}
+use Rattle.history_cases.specs.declared.step.UndoRefusal.TheVariants.{NoEdit, Frozen}
 use Rattle.history_cases.specs.declared.by_rev_list.Marks.{Marks}
 use Rattle.history_cases.specs.declared.by_rev_list.Marks.TheVariants.{InsertedBy, DeletedBy, HiddenAt}
 
@@ -36,14 +40,38 @@ marked plain marks = map (is_marked plain marks) (kept_characters plain)
 abbrev pub hidden_by : History → List ℕ → List Bool
 hidden_by plain groups = map (is_hidden_under plain groups (head plain)) (kept_characters plain)
 
+-- under the set of these groups the list hides at the head what the plain history does
+abbrev pub AgreeUnder : History → History → List ℕ → Type 0
+AgreeUnder plain list groups = hidden_under list (fold with_number [] groups) (head list) ≡ hidden_by plain groups
+
+-- the same under each set that has the chosen groups and some of the others
+abbrev pub AgreeUnderEach : History → History → List ℕ → List ℕ → Type 0
+AgreeUnderEach plain list [] chosen = AgreeUnder plain list chosen
+AgreeUnderEach plain list (group ∷ others) chosen =
+    AgreeUnderEach plain list others chosen × AgreeUnderEach plain list others (chosen ++ group ∷ [])
+
+-- the groups that are not collected, up to a number by which there are four, and the first four of them
+abbrev pub open_groups : History → List ℕ
+open_groups plain = filter (λ group. not (has plain.collected group)) (range_with_len 1 (length plain.collected + 4))
+
+abbrev pub first_open : History → List ℕ
+first_open plain = take 4 (open_groups plain)
+
+-- the collected groups that are undone
+abbrev pub frozen_groups : History → List ℕ
+frozen_groups plain = filter (has (undone_now plain)) plain.collected
+
 -- the places are those at which the last revision inserted and deleted
 pub record AreOfHead (plain : History) (made : Rebased) : Type 0 where
   pub inserted : made.inserted ≡ marked plain (InsertedBy (head plain))
   pub deleted : made.deleted ≡ marked plain (DeletedBy (head plain))
 
--- the list hides at each revision from the floor up to this one what the plain history does of the characters that are kept
-abbrev pub AgreeUpTo : ℕ → History → History → Type 0
-AgreeUpTo last plain list = (rev : ℕ) → plain.floor ≤ rev → rev ≤ last → hidden_at list rev ≡ marked plain (HiddenAt rev)
+-- the list keeps as many characters as the plain history, and hides of them what that does: at each revision from the floor on, and under
+-- each set that has the collected groups that are undone and some of the first four that are not collected
+pub record Agree (plain list : History) : Type 0 where
+  pub as_many : length list.characters ≡ kept plain
+  pub texts : (rev : ℕ) → plain.floor ≤ rev → rev ≤ head plain → hidden_at list rev ≡ marked plain (HiddenAt rev)
+  pub sets : AgreeUnderEach plain list (first_open plain) (frozen_groups plain)
 
 -- the collection may come, and its floor is the head
 pub record IsTakenAtHead (history : History) (floor : ℕ) (groups : List ℕ) : Type 0 where
@@ -71,10 +99,16 @@ pub record Matches (plain history : History) : Type 0 where
   pub as_many : kept history ≡ kept plain
   pub texts : (rev : ℕ) → plain.floor ≤ rev → rev ≤ head plain → text_at history rev ≡ text_at plain rev
 
--- the engine answers an edit as the plain history did: it takes it and then is as that is, or refuses it for the same cause
+-- the engine answers an edit as the plain history did: it takes it and then is as that is, or stays as it was and refuses it for the same
+-- cause
 abbrev pub Answers : State → State → History → Edit → Option EditFault → Type 0
 Answers old new plain e None = EachIs new (Matches plain)
-Answers old new plain e (Some fault) = EachIs old (λ history. edit_refusal history old.limit e.rev e.delta ≡ refusal_of fault)
+Answers old new plain e (Some fault) = (new ≡ old) × EachIs old (λ history. edit_refusal history old.limit e.rev e.delta ≡ refusal_of fault)
+
+-- the engine refuses the undo: it may not be asked for, or it is frozen at this group
+abbrev pub RefusesUndo : State → List ℕ → UndoRefusal → Type 0
+RefusesUndo engine groups NoEdit = EachIs engine (λ history. MayAskUndo history groups → ⊥)
+RefusesUndo engine groups (Frozen group) = EachIs engine (λ history. IsFrozenAt history groups group)
 
 -- the edit that drops, keeps and adds what the delta does
 abbrev pub edit_by : UnitDelta → PlainEdit

@@ -1,19 +1,24 @@
 //! The revision engine beside the plain history.
 
-ghost use Rattle.std.specs.Prelude.{◌≡◌, ◌≤◌, IfOk, IfSome, OnOk};
+ghost use Rattle.std.specs.Prelude.{◌≡◌, ◌≤◌, [], true, IfOk, IfSome, OnOk};
+ghost use Rattle.std.specs.List.{fold};
+ghost use Rattle.plain_text.specs.Numbers.{has, with_number};
 ghost use Rattle.plain_edits.specs.History.{loaded, text_at};
 ghost use Rattle.rev_engine.specs.Engine.{StandsFor};
-ghost use Rattle.history_cases.specs.Inner.{AgreeOnGroups, AgreesOnGroup, Answers, EachIs, IsLastChange, Matches};
+ghost use Rattle.history_cases.specs.declared.step.UndoRefusal.TheVariants.{NoEdit, Frozen};
+ghost use Rattle.history_cases.specs.Inner.{AgreeOnGroups, AgreesOnGroup, Answers, EachIs, IsLastChange, Matches, RefusesUndo};
 
 use crate::by_rev_list::set_of;
 use crate::case_run::MOST;
+use crate::step::UndoRefusal;
 use anyhow::{bail, ensure};
 use plain_collection::kept;
 use plain_edits::{EditFault, UnitDelta};
 use plain_history::{PlainHistory, UnitEdit, group_of, has, merged};
 use plain_text::{Text, TryClone};
-use rev_engine::{Change, Edit, Engine};
+use rev_engine::{Change, Edit, Engine, UndoFault};
 use std::alloc::Global;
+use std::collections::BTreeSet;
 
 /// The engine of a text that was just loaded.
 pub fn begun(alloc: Global, text: &Text, limit: u64) -> anyhow::Result<Engine>
@@ -61,6 +66,68 @@ pub fn follow_undo(
     }
     let change = engine.set_undone(alloc, &set)?;
     compare(alloc, plain, engine, change)
+}
+
+/// Whether the engine tells that no edit may be of the group.
+pub fn refuse_edit(engine: &Engine, group: u64) -> anyhow::Result<()>
+    ensures { OnOk result (EachIs engine.now (λ history. has history.collected group ≡ true)) }
+{
+    ensure!(
+        engine.is_collected(group),
+        "the engine may be asked for an edit of group {group}"
+    );
+    Ok(())
+}
+
+/// Asks the engine for an undo that the plain history refuses for this cause: where a group has no edit, it tells that it may not be
+/// asked, and else it answers with the least frozen group and stays as it is.
+pub fn refuse_undo(
+    alloc: Global,
+    engine: &mut Engine,
+    groups: &[u64],
+    refusal: UndoRefusal,
+) -> anyhow::Result<()>
+    ensures refuses { OnOk result (RefusesUndo engine.old (fold with_number [] groups.now) refusal) }
+    ensures same { OnOk result (engine.new ≡ engine.old) }
+{
+    let set = set_of(alloc, groups)?;
+    match refusal {
+        UndoRefusal::NoEdit => refuse_unknown(engine, &set),
+        UndoRefusal::Frozen(group) => refuse_frozen(alloc, engine, &set, group),
+    }
+}
+
+/// Whether the engine tells that it may not be asked to undo the set.
+fn refuse_unknown(engine: &Engine, set: &BTreeSet<u64>) -> anyhow::Result<()>
+    ensures { OnOk result (RefusesUndo engine.now set.now.keys NoEdit) }
+{
+    let may_undo = engine.may_undo(set);
+    if may_undo {
+        bail!("the engine may be asked for an undo of a group without an edit");
+    }
+    Ok(())
+}
+
+/// Asks the engine to undo the set, which it refuses for this group.
+fn refuse_frozen(
+    alloc: Global,
+    engine: &mut Engine,
+    set: &BTreeSet<u64>,
+    group: u64,
+) -> anyhow::Result<()>
+    ensures refuses { OnOk result (RefusesUndo engine.old set.now.keys (Frozen group)) }
+    ensures same { OnOk result (engine.new ≡ engine.old) }
+{
+    ensure!(
+        engine.may_undo(set),
+        "the engine cannot be asked for the undo"
+    );
+    match engine.set_undone(alloc, set) {
+        Ok(_) => bail!("the engine takes the undo"),
+        Err(UndoFault::NoMemory) => bail!("out of memory"),
+        Err(UndoFault::Frozen(least)) if least == group => Ok(()),
+        Err(fault) => bail!("the engine answers {fault:?}"),
+    }
 }
 
 /// The engine that is left where it can take the last collection of the plain history, of these groups at the floor, and none where it

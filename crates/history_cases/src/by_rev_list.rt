@@ -1,19 +1,21 @@
 //! The list of revisions, and the places of edits in it, beside the plain history.
 
-ghost use Rattle.std.specs.Prelude.{◌≡◌, ◌≤◌, [], IsTrue, IfOk, IfSome, OnOk};
+ghost use Rattle.std.specs.Prelude.{◌≡◌, ◌≤◌, [], take, true, IsTrue, IfOk, IfSome, OnOk};
 ghost use Rattle.std.specs.List.{fold};
-ghost use Rattle.plain_text.specs.Numbers.{with_number};
+ghost use Rattle.plain_text.specs.Numbers.{has, with_number};
 ghost use Rattle.plain_edits.specs.History.{head};
-ghost use Rattle.rev_list.specs.Under.{hidden_under};
 ghost use Rattle.rev_list.specs.Hidden.{hidden_at};
-ghost use Rattle.history_cases.specs.Inner.{hidden_by, is_marked, marked, AgreeUpTo, AreOfHead, IsTakenAtHead};
+ghost use Rattle.rev_list.specs.Edit.{MayUndoGroups};
+ghost use Rattle.rev_undo.specs.Under.{AgreesOnCollected};
+ghost use Rattle.history_cases.specs.Inner.{first_open, frozen_groups, hidden_by, is_marked, marked, open_groups, Agree, AgreeUnder, AgreeUnderEach, AreOfHead, IsTakenAtHead};
 
+use crate::answers::now_undone;
 use crate::case_run::MOST;
 use anyhow::{bail, ensure};
 use delta_core::{fits, to_units};
 use plain_collection::{is_dropped, is_visible_under, kept};
-use plain_history::{PlainHistory, Tagged, has, is_visible, undone};
-use plain_text::{List, NoMemory};
+use plain_history::{PlainHistory, Tagged, has, is_visible};
+use plain_text::{List, NoMemory, TryClone};
 use rev_collect::{collect, collectable};
 use rev_engine::Edit;
 use rev_list::{RevEdit, RevList};
@@ -34,7 +36,7 @@ pub fn follow(
     edit: &Edit,
 ) -> anyhow::Result<()>
     requires { 1 ≤ edit.now.group }
-    ensures { OnOk result (AgreeUpTo (head plain.now) plain.now list.new) }
+    ensures { OnOk result (Agree plain.now list.new) }
 {
     push(alloc, plain, list, edit)?;
     compare(alloc, plain, list)
@@ -47,7 +49,7 @@ pub fn follow_undo(
     list: &mut RevList,
     groups: &[u64],
 ) -> anyhow::Result<()>
-    ensures { OnOk result (AgreeUpTo (head plain.now) plain.now list.new) }
+    ensures { OnOk result (Agree plain.now list.new) }
 {
     let set = set_of(alloc, groups)?;
     if MOST < list.head() || !may_undo(list, &set) {
@@ -56,6 +58,29 @@ pub fn follow_undo(
     let dead = recompute(alloc, list, &set)?;
     list.push_undo(alloc, &set, dead)?;
     compare(alloc, plain, list)
+}
+
+/// Whether the list tells that no edit may be of the group.
+pub fn refuse_edit(list: &RevList, group: u64) -> anyhow::Result<()>
+    ensures { OnOk result (has list.now.collected group ≡ true) }
+{
+    ensure!(
+        list.is_collected(group),
+        "rev_list takes an edit of group {group}"
+    );
+    Ok(())
+}
+
+/// Whether `rev_undo` tells that the list takes no undo of these groups.
+pub fn refuse_undo(alloc: Global, list: &RevList, groups: &[u64]) -> anyhow::Result<()>
+    ensures { OnOk result (MayUndoGroups list.now (fold with_number [] groups.now) → ⊥) }
+{
+    let set = set_of(alloc, groups)?;
+    ensure!(
+        !may_undo(list, &set),
+        "rev_list takes an undo that the plain history refuses"
+    );
+    Ok(())
 }
 
 /// The list that is left where it can take the last collection of the plain history, of these groups at the floor, and none where it
@@ -67,7 +92,7 @@ pub fn collected(
     floor: u64,
     groups: &[u64],
 ) -> anyhow::Result<Option<RevList>>
-    ensures { IfOk result (λ made. IfSome made (AgreeUpTo (head plain.now) plain.now)) }
+    ensures { IfOk result (λ made. IfSome made (Agree plain.now)) }
 {
     let retired = set_of(alloc, groups)?;
     match taken(alloc, list, &retired)? {
@@ -92,50 +117,68 @@ fn taken(
     collectable(alloc, list, list.head(), retired)
 }
 
-/// Whether `rev_undo` hides under every set of the first groups that are not collected what the plain history does.
-fn compare_sets(alloc: Global, plain: &PlainHistory, list: &RevList) -> anyhow::Result<()> {
-    let live = live_groups(alloc, plain)?;
-    for chosen in 0..16_u64 {
-        let mut some = chosen_of(alloc, live.as_slice(), chosen)?;
-        add_frozen(plain, &mut some)?;
-        compare_set(alloc, plain, list, some.as_slice())?;
-    }
-    Ok(())
+/// Whether `rev_undo` hides what the plain history does under every set that has some of the first groups that are not collected.
+fn compare_sets(alloc: Global, plain: &PlainHistory, list: &RevList) -> anyhow::Result<()>
+    ensures { OnOk result (AgreeUnderEach plain.now list.now (first_open plain.now) (frozen_groups plain.now)) }
+{
+    let open = open_groups(alloc, plain)?;
+    let frozen = frozen_groups(alloc, plain)?;
+    compare_each(alloc, plain, list, first_of(open.as_slice()), &frozen)
 }
 
-/// The first groups that are not collected.
-fn live_groups(alloc: Global, plain: &PlainHistory) -> Result<List<u64>, NoMemory> {
+/// Whether it hides what the plain history does under each set that has the chosen groups and some of the others.
+fn compare_each(
+    alloc: Global,
+    plain: &PlainHistory,
+    list: &RevList,
+    others: &[u64],
+    chosen: &List<u64>,
+) -> anyhow::Result<()>
+    ensures { OnOk result (AgreeUnderEach plain.now list.now others.now chosen.now) }
+{
+    let [group, rest @ ..] = others else {
+        return compare_set(alloc, plain, list, chosen.as_slice());
+    };
+    let mut more = chosen.copy(alloc)?;
+    more.push(*group)?;
+    compare_each(alloc, plain, list, rest, chosen)?;
+    compare_each(alloc, plain, list, rest, &more)
+}
+
+/// The groups that are not collected, up to a number by which there are four.
+fn open_groups(alloc: Global, plain: &PlainHistory) -> Result<List<u64>, NoMemory>
+    ensures { IfOk result (λ groups. groups ≡ open_groups plain.now) }
+{
     let collected = plain.collected();
-    let mut live = List::new(alloc);
-    let mut left = MOST_GROUPS;
-    for group in 1..=(collected.len() as u64).saturating_add(MOST_GROUPS) {
-        if left > 0 && !has(collected, group) {
-            live.push(group)?;
-            left -= 1;
+    let end = collected.len() as u64 + MOST_GROUPS + 1;
+    let mut open = List::new(alloc);
+    for group in 1..end {
+        if !has(collected, group) {
+            open.push(group)?;
         }
     }
-    Ok(live)
+    Ok(open)
 }
 
-/// Adds the collected groups that are undone.
-fn add_frozen(plain: &PlainHistory, groups: &mut List<u64>) -> Result<(), NoMemory> {
+/// Four of the groups at most.
+fn first_of(groups: &[u64]) -> &[u64]
+    ensures { result.now ≡ take 4 groups.now }
+{
+    &groups[..groups.len().min(MOST_GROUPS as usize)]
+}
+
+/// The collected groups that are undone.
+fn frozen_groups(alloc: Global, plain: &PlainHistory) -> Result<List<u64>, NoMemory>
+    ensures { IfOk result (λ groups. groups ≡ frozen_groups plain.now) }
+{
+    let undone = now_undone(plain);
+    let mut frozen = List::new(alloc);
     for group in plain.collected() {
-        if has(undone(plain.revisions(), plain.head()), *group) {
-            groups.push(*group)?;
+        if has(undone, *group) {
+            frozen.push(*group)?;
         }
     }
-    Ok(())
-}
-
-/// Those of the groups, four at most, whose bits are set.
-fn chosen_of(alloc: Global, groups: &[u64], chosen: u64) -> Result<List<u64>, NoMemory> {
-    let mut some = List::new(alloc);
-    for (index, group) in groups.iter().enumerate() {
-        if index < 4 && chosen >> index & 1 == 1 {
-            some.push(*group)?;
-        }
-    }
-    Ok(some)
+    Ok(frozen)
 }
 
 /// Whether it hides under this set what the plain history does, where the collected groups are in it as they are at the head.
@@ -144,11 +187,16 @@ pub fn compare_said(
     plain: &PlainHistory,
     list: &RevList,
     groups: &[u64],
-) -> anyhow::Result<()> {
-    if agrees_on_collected(list, &set_of(alloc, groups)?) {
-        compare_set(alloc, plain, list, groups)?;
+) -> anyhow::Result<()>
+    ensures { OnOk result (AgreesOnCollected list.now (fold with_number [] groups.now)
+        → AgreeUnder plain.now list.now groups.now) }
+{
+    let set = set_of(alloc, groups)?;
+    if agrees_on_collected(list, &set) {
+        compare_set(alloc, plain, list, groups)
+    } else {
+        Ok(())
     }
-    Ok(())
 }
 
 /// Whether it hides under this set what the plain history does.
@@ -158,8 +206,7 @@ fn compare_set(
     list: &RevList,
     groups: &[u64],
 ) -> anyhow::Result<()>
-    ensures { OnOk result (hidden_under list.now (fold with_number [] groups.now) (head list.now)
-        ≡ hidden_by plain.now groups.now) }
+    ensures { OnOk result (AgreeUnder plain.now list.now groups.now) }
 {
     let set = set_of(alloc, groups)?;
     ensure!(
@@ -249,7 +296,7 @@ fn compare_places(alloc: Global, plain: &PlainHistory, made: &Rebased) -> anyhow
 /// Whether the list keeps as many characters as the plain history, and hides of them at each revision from the floor on, and under every
 /// set of the first groups, what that does.
 fn compare(alloc: Global, plain: &PlainHistory, list: &RevList) -> anyhow::Result<()>
-    ensures { OnOk result (AgreeUpTo (head plain.now) plain.now list.now) }
+    ensures { OnOk result (Agree plain.now list.now) }
 {
     ensure!(
         list.union_len() == kept(plain),

@@ -1,8 +1,9 @@
-ghost use Rattle.std.specs.Prelude.{◌≡◌, ◌<◌, ◌≤◌, ◌-◌, ◌^◌, IfOk, OnOk};
+ghost use Rattle.std.specs.Prelude.{◌≡◌, ◌<◌, ◌≤◌, IfOk, OnOk};
 ghost use Rattle.plain_edits.specs.History.{head, loaded};
-ghost use Rattle.history_cases.specs.Case.{edit_leaves, CaseHolds, Holds, IsAnswer, IsOpen};
+ghost use Rattle.history_cases.specs.Case.{CaseHolds, Holds};
 
-use crate::step::{Line, Step};
+use crate::answers::{answer, undo};
+use crate::step::{Line, Step, UndoRefusal};
 use crate::{by_engine, by_rev_list};
 use anyhow::{Context, bail, ensure};
 use plain_collection::{kept, may_collect, text_under};
@@ -30,15 +31,15 @@ pub struct Count {
 
 /// A case as far as it has come: the plain history, and beside it each body that is compared with it.
 #[derive(Drop)]
-pub struct CaseRun {
-    pub plain: PlainHistory,
+struct CaseRun {
+    plain: PlainHistory,
     /// It takes edits, undos and collections at the head, so there is none after another collection.
     list: Option<RevList>,
     /// It takes the same, under the limit that it began with.
     engine: Option<Engine>,
     limit: u64,
     /// How many steps were taken.
-    pub count: Count,
+    count: Count,
 }
 
 impl Model for CaseRun {
@@ -51,7 +52,7 @@ impl Model for CaseRun {
 
 impl CaseRun {
     /// A case that begins with this text, after so many steps.
-    pub fn new(alloc: Global, text: &Text, limit: u64, count: Count) -> anyhow::Result<CaseRun>
+    fn new(alloc: Global, text: &Text, limit: u64, count: Count) -> anyhow::Result<CaseRun>
         ensures { IfOk result (λ made. made ≡ record { history = loaded text.now; limit = limit }) }
     {
         Ok(CaseRun {
@@ -70,8 +71,9 @@ impl CaseRun {
         match step {
             Step::Load(text) => self.load(alloc, text),
             Step::Limit(limit) => self.set_limit(alloc, *limit),
-            Step::Edit { edit, refusal } => self.take_edit(alloc, edit, *refusal),
-            Step::Undo { groups, is_refused } => self.undo(alloc, groups, *is_refused),
+            Step::Edit { edit, refusal } => self.edit(alloc, edit, *refusal),
+            Step::Closed(group) => self.is_closed(*group),
+            Step::Undo { groups, refusal } => self.undo(alloc, groups, *refusal),
             Step::Collect {
                 floor,
                 groups,
@@ -102,60 +104,21 @@ impl CaseRun {
         Ok(())
     }
 
-    /// Takes an edit, of which the case says that it is taken, or refused for this cause.
-    fn take_edit(
-        &mut self,
-        alloc: Global,
-        edit: &Edit,
-        wanted: Option<EditFault>,
-    ) -> anyhow::Result<()>
+    /// Takes an edit, to which each body gives the answer that the case says.
+    fn edit(&mut self, alloc: Global, edit: &Edit, wanted: Option<EditFault>) -> anyhow::Result<()>
         ensures { OnOk result (Holds self.old (Step.Edit edit.now wanted) self.new) }
     {
-        match (self.edit(alloc, edit)?, wanted) {
-            (None, None) => Ok(()),
-            (Some(fault), Some(said)) if fault == said => Ok(()),
-            (Some(fault), _) => bail!("the edit is refused: {fault}"),
-            (None, _) => bail!("the edit is taken"),
-        }
-    }
-
-    /// Takes an edit, or tells why it is refused; each body answers the same.
-    pub fn edit(&mut self, alloc: Global, edit: &Edit) -> anyhow::Result<Option<EditFault>>
-        ensures group { OnOk result (IsOpen self.old edit.now) }
-        ensures answer { IfOk result (IsAnswer self.old edit.now) }
-        ensures leaves { IfOk result (λ answer. self.new ≡ edit_leaves self.old edit.now answer) }
-    {
-        if edit.group == 0 || has(self.plain.collected(), edit.group) || MOST < self.plain.head() {
-            bail!("no edit can be of this group, or come after so many revisions");
-        }
+        ensure!(
+            edit.group > 0 && !has(self.plain.collected(), edit.group),
+            "no edit may be of this group"
+        );
         let text = self.plain.text_at(alloc, edit.rev)?;
         if plain_history::misfit(&text, &edit.delta) != delta_core::fits(&text, &edit.delta).err() {
             bail!("delta_core finds another first misfit");
         }
-        let answer = self.answer(alloc, edit)?;
-        self.compare(alloc, edit, answer)?;
-        Ok(answer)
-    }
-
-    /// What the plain history answers to an edit.
-    fn answer(&mut self, alloc: Global, edit: &Edit) -> anyhow::Result<Option<EditFault>>
-        requires { head self.old.history < 2 ^ 63 - 1 }
-        ensures answer { IfOk result (IsAnswer self.old edit.now) }
-        ensures leaves { IfOk result (λ answer. self.new ≡ edit_leaves self.old edit.now answer) }
-    {
-        match self.plain.edit(
-            alloc,
-            self.limit,
-            edit.rev,
-            &edit.delta,
-            edit.group,
-            edit.priority as u64,
-            edit.author as u64,
-        ) {
-            Ok(_) => Ok(None),
-            Err(EditFault::NoMemory) => bail!("out of memory"),
-            Err(fault) => Ok(Some(fault)),
-        }
+        let answer = answer(alloc, &mut self.plain, self.limit, edit)?;
+        ensure!(answer == wanted, "the answer is {answer:?}");
+        self.compare(alloc, edit, answer)
     }
 
     /// Has each other body answer an edit that the plain history answered, and compares it with the plain history after it.
@@ -193,24 +156,56 @@ impl CaseRun {
             .saturating_add(u64::from(self.engine.is_some()));
     }
 
-    /// Says what is undone from now on, or the case says that it is refused.
-    pub fn undo(
+    /// No edit may be of the group, as it is collected.
+    fn is_closed(&self, group: u64) -> anyhow::Result<()>
+        ensures { OnOk result (Holds self.now (Step.Closed group) self.now) }
+    {
+        ensure!(
+            has(self.plain.collected(), group),
+            "the group is not collected"
+        );
+        if let Some(engine) = &self.engine {
+            by_engine::refuse_edit(engine, group)?;
+        }
+        if let Some(list) = &self.list {
+            by_rev_list::refuse_edit(list, group)?;
+        }
+        Ok(())
+    }
+
+    /// Says what is undone from now on, to which each body gives the answer that the case says.
+    fn undo(
         &mut self,
         alloc: Global,
         groups: &List<u64>,
-        is_refused: bool,
+        wanted: Option<UndoRefusal>,
     ) -> anyhow::Result<()>
-        ensures { OnOk result (Holds self.old (Step.Undo groups.now is_refused) self.new) }
+        ensures { OnOk result (Holds self.old (Step.Undo groups.now wanted) self.new) }
     {
-        let may_undo = self.plain.may_undo(groups.as_slice());
-        if may_undo == is_refused || MOST < self.plain.head() {
-            bail!("whether the undo may come: {may_undo}");
+        let answer = undo(alloc, &mut self.plain, groups)?;
+        ensure!(answer == wanted, "the answer is {answer:?}");
+        match answer {
+            None => self.follow_undo(alloc, groups.as_slice()),
+            Some(refusal) => self.refuse_undo(alloc, groups.as_slice(), refusal),
         }
-        if is_refused {
-            return Ok(());
+    }
+
+    /// Has each other body refuse the undo that the plain history refused.
+    fn refuse_undo(
+        &mut self,
+        alloc: Global,
+        groups: &[u64],
+        refusal: UndoRefusal,
+    ) -> anyhow::Result<()>
+        ensures { OnOk result (self.new ≡ self.old) }
+    {
+        if let Some(engine) = &mut self.engine {
+            by_engine::refuse_undo(alloc, engine, groups, refusal)?;
         }
-        self.plain.undo(groups.copy(alloc)?)?;
-        self.follow_undo(alloc, groups.as_slice())
+        if let Some(list) = &self.list {
+            by_rev_list::refuse_undo(alloc, list, groups)?;
+        }
+        Ok(())
     }
 
     /// Has each other body take the undo that the plain history took, and compares it with the plain history after it.
@@ -228,7 +223,7 @@ impl CaseRun {
     }
 
     /// Collects groups, or the case says that it is refused.
-    pub fn collect(
+    fn collect(
         &mut self,
         alloc: Global,
         floor: u64,
@@ -287,15 +282,10 @@ impl CaseRun {
         if shown.as_str() != wanted.as_str() {
             bail!("it would show {shown:?}");
         }
-        self.compare_set(alloc, groups.as_slice())
-    }
-
-    /// Compares what the groups hide at the head, where the list is still there.
-    fn compare_set(&self, alloc: Global, groups: &[u64]) -> anyhow::Result<()> {
-        match &self.list {
-            Some(list) => by_rev_list::compare_said(alloc, &self.plain, list, groups),
-            None => Ok(()),
+        if let Some(list) = &self.list {
+            by_rev_list::compare_said(alloc, &self.plain, list, groups.as_slice())?;
         }
+        Ok(())
     }
 }
 

@@ -2,7 +2,7 @@
 
 ghost use Rattle.std.specs.Prelude.{◌<◌, ◌≤◌, ◌-◌, length};
 
-use crate::step::{Line, Step};
+use crate::step::{Line, Step, UndoRefusal};
 use anyhow::{Context, bail};
 use case_lines::{Words, content_of, first_line, number_of, unquoted};
 use plain_edits::{Delta, EditFault, El, Misfit};
@@ -50,7 +50,7 @@ fn read_step(alloc: Global, line: &[u8]) -> anyhow::Result<Step> {
         }),
         b"undo" => Ok(Step::Undo {
             groups: read_groups(alloc, &mut words)?,
-            is_refused: false,
+            refusal: None,
         }),
         b"collect" => Ok(Step::Collect {
             floor: number(&mut words)?,
@@ -74,13 +74,13 @@ fn read_step(alloc: Global, line: &[u8]) -> anyhow::Result<Step> {
 /// The step of the line before, which is refused for this cause.
 fn refused(before: Option<Line>, cause: &[u8]) -> anyhow::Result<Step> {
     match before.map(|line| line.step) {
-        Some(Step::Edit { edit, .. }) => Ok(Step::Edit {
-            edit,
-            refusal: Some(read_refusal(cause)?),
+        Some(Step::Edit { edit, .. }) => Ok(match read_refusal(cause)? {
+            None => Step::Closed(edit.group),
+            refusal => Step::Edit { edit, refusal },
         }),
         Some(Step::Undo { groups, .. }) => Ok(Step::Undo {
             groups,
-            is_refused: true,
+            refusal: Some(read_undo_refusal(cause)?),
         }),
         Some(Step::Collect { floor, groups, .. }) => Ok(Step::Collect {
             floor,
@@ -91,17 +91,28 @@ fn refused(before: Option<Line>, cause: &[u8]) -> anyhow::Result<Step> {
     }
 }
 
-fn read_refusal(cause: &[u8]) -> anyhow::Result<EditFault> {
+/// The fault of an edit, and none where it may not come at all.
+fn read_refusal(cause: &[u8]) -> anyhow::Result<Option<EditFault>> {
     let mut words = Words { rest: cause };
-    match words.next_word() {
-        b"unknown" => Ok(EditFault::Unknown(number(&mut words)?)),
-        b"collected" => Ok(EditFault::Collected(number(&mut words)?)),
-        b"spent" => Ok(EditFault::Spent(u128::from(number(&mut words)?))),
-        b"misfit" => Ok(EditFault::Misfit(Misfit {
+    Ok(match words.next_word() {
+        b"edit" => None,
+        b"unknown" => Some(EditFault::Unknown(number(&mut words)?)),
+        b"collected" => Some(EditFault::Collected(number(&mut words)?)),
+        b"spent" => Some(EditFault::Spent(u128::from(number(&mut words)?))),
+        b"misfit" => Some(EditFault::Misfit(Misfit {
             kind: u8::try_from(number(&mut words)?)?,
             at: number(&mut words)?,
         })),
-        _ => bail!("no such refusal"),
+        _ => bail!("no such refusal of an edit"),
+    })
+}
+
+fn read_undo_refusal(cause: &[u8]) -> anyhow::Result<UndoRefusal> {
+    let mut words = Words { rest: cause };
+    match words.next_word() {
+        b"undo" => Ok(UndoRefusal::NoEdit),
+        b"frozen" => Ok(UndoRefusal::Frozen(number(&mut words)?)),
+        _ => bail!("no such refusal of an undo"),
     }
 }
 

@@ -2,11 +2,12 @@
 
 ghost use Rattle.std.specs.Prelude.{◌<◌};
 
-use crate::case_run::{CaseRun, Count, LIMIT};
-use anyhow::Context;
-use plain_collection::{Collection, collection_of};
+use crate::answers::{answer, has_edit, now_undone, undo};
+use crate::case_run::LIMIT;
+use crate::step::{Line, Step};
+use plain_collection::{Collection, collection_of, may_collect};
 use plain_edits::{Delta, El, Els};
-use plain_history::{PlainHistory, has, undone};
+use plain_history::{PlainHistory, has};
 use plain_text::{List, NoMemory, Text};
 use rand_core::{Rng, SeedableRng};
 use rand_pcg::Lcg64Xsh32;
@@ -29,6 +30,9 @@ pub struct Drawn {
     pub edits_in_undone_groups: u64,
     /// Edits in a group that has one.
     pub further_edits: u64,
+    /// Edits that may not come.
+    pub edits_of_collected_groups: u64,
+    pub refused_undos: u64,
     pub collections: u64,
 }
 
@@ -51,72 +55,97 @@ impl Draws {
     }
 }
 
-/// Takes drawn steps over a drawn text, whether they are refused or not. It has no clause: which steps a seed draws is said by no
-/// definition, and what each step has to be is the contract of the call of [`CaseRun`] that takes it.
-pub fn run_seed(alloc: Global, seed: u64, drawn: &mut Drawn) -> anyhow::Result<Count> {
+/// The lines that a seed draws: a text, and steps over it, each with what the plain history answers to it.
+pub fn drawn_lines(alloc: Global, seed: u64, drawn: &mut Drawn) -> anyhow::Result<Vec<Line>> {
     let words = Lcg64Xsh32::seed_from_u64(seed);
     let mut draws = Draws { words };
     let text = drawn_text(alloc, &mut draws, 6)?;
-    let run = CaseRun::new(alloc, &text, LIMIT, Count::default())?;
-    let mut list = Drawing { draws, run };
+    let plain = PlainHistory::loaded(alloc, &text)?;
+    let mut lines = Vec::new(alloc);
+    lines.push(Line {
+        number: 0,
+        step: Step::Load(text),
+    })?;
+    let mut drawing = Drawing { draws, plain };
     for number in 1..=if seed <= EDITED { EDITS } else { STEPS } {
-        let kind = if seed <= EDITED {
-            0
+        let step = if seed <= EDITED {
+            Some(drawing.edit(alloc, drawn)?)
         } else {
-            list.draws.below(10)
+            drawing.step(alloc, drawn)?
         };
-        match kind {
-            0..=6 => list.take_edit(alloc, drawn),
-            7 | 8 => list.take_undo(alloc, drawn),
-            _ => list.take_collection(alloc, drawn),
+        if let Some(step) = step {
+            lines.push(Line { number, step })?;
         }
-        .context(format_args!("step {number}"))?;
     }
-    Ok(list.run.count)
+    Ok(lines)
 }
 
-/// A list that is being drawn, as far as it has come.
+/// A list that is being drawn, with the plain history of its steps.
 #[derive(Drop)]
 struct Drawing {
     draws: Draws,
-    run: CaseRun,
+    plain: PlainHistory,
 }
 
 impl Drawing {
-    fn take_edit(&mut self, alloc: Global, drawn: &mut Drawn) -> anyhow::Result<()> {
-        let edit = drawn_edit(alloc, &mut self.draws, &self.run.plain)?;
-        let is_undone = has(now_undone(&self.run.plain), edit.group);
-        let is_further = has_edit(&self.run.plain, edit.group);
-        if self.run.edit(alloc, &edit)?.is_none() {
+    /// A step of any kind, and none where a collection is drawn that collects nothing.
+    fn step(&mut self, alloc: Global, drawn: &mut Drawn) -> anyhow::Result<Option<Step>> {
+        match self.draws.below(10) {
+            0..=6 => Ok(Some(self.edit(alloc, drawn)?)),
+            7 | 8 => Ok(Some(self.undo(alloc, drawn)?)),
+            _ => self.collection(alloc, drawn),
+        }
+    }
+
+    fn edit(&mut self, alloc: Global, drawn: &mut Drawn) -> anyhow::Result<Step> {
+        let edit = drawn_edit(alloc, &mut self.draws, &self.plain)?;
+        let group = edit.group;
+        if has(self.plain.collected(), group) {
+            rise(&mut drawn.edits_of_collected_groups, true);
+            return Ok(Step::Closed(group));
+        }
+        let is_undone = has(now_undone(&self.plain), group);
+        let is_further = has_edit(&self.plain, group);
+        let refusal = answer(alloc, &mut self.plain, LIMIT, &edit)?;
+        if refusal.is_none() {
             rise(&mut drawn.edits_in_undone_groups, is_undone);
             rise(&mut drawn.further_edits, is_further);
         }
-        Ok(())
+        Ok(Step::Edit { edit, refusal })
     }
 
-    /// An undo of any set: a group that is not collected is in it or not.
-    fn take_undo(&mut self, alloc: Global, drawn: &mut Drawn) -> anyhow::Result<()> {
-        let plain = &self.run.plain;
+    /// An undo of any set: a group with an edit is in it or not. Of the collected groups it mostly has those that are undone.
+    fn undo(&mut self, alloc: Global, drawn: &mut Drawn) -> anyhow::Result<Step> {
+        let groups = self.drawn_groups(alloc)?;
+        let takes_back = now_undone(&self.plain)
+            .iter()
+            .any(|group| !has(groups.as_slice(), *group));
+        let refusal = undo(alloc, &mut self.plain, &groups)?;
+        rise(&mut drawn.undos, refusal.is_none());
+        rise(&mut drawn.taken_back, refusal.is_none() && takes_back);
+        rise(&mut drawn.refused_undos, refusal.is_some());
+        Ok(Step::Undo { groups, refusal })
+    }
+
+    fn drawn_groups(&mut self, alloc: Global) -> Result<List<u64>, NoMemory> {
+        let plain = &self.plain;
         let mut groups = List::new(alloc);
-        let mut takes_back = false;
         for group in 1..=last_group(plain) {
-            let was_undone = has(now_undone(plain), group);
-            let is_drawn = has_edit(plain, group) && self.draws.below(3) == 0;
-            let is_frozen = has(plain.collected(), group);
-            if is_frozen && was_undone || !is_frozen && is_drawn {
-                groups.push(group)?;
+            let is_in = if has(plain.collected(), group) {
+                has(now_undone(plain), group) != (self.draws.below(24) == 0)
             } else {
-                takes_back |= was_undone;
+                has_edit(plain, group) && self.draws.below(3) == 0
+            };
+            if is_in {
+                groups.push(group)?;
             }
         }
-        rise(&mut drawn.undos, true);
-        rise(&mut drawn.taken_back, takes_back);
-        self.run.undo(alloc, &groups, false)
+        Ok(groups)
     }
 
     /// A collection of some of the groups that have an edit, at the head, where all are at rest.
-    fn take_collection(&mut self, alloc: Global, drawn: &mut Drawn) -> anyhow::Result<()> {
-        let plain = &self.run.plain;
+    fn collection(&mut self, alloc: Global, drawn: &mut Drawn) -> anyhow::Result<Option<Step>> {
+        let plain = &self.plain;
         let mut retired = List::new(alloc);
         for group in 1..=last_group(plain) {
             if has_edit(plain, group) && self.draws.below(3) == 0 {
@@ -125,23 +154,19 @@ impl Drawing {
         }
         let found = collection_of(alloc, plain, retired.as_slice(), plain.head())?;
         let Some(Collection { floor, groups }) = found else {
-            return Ok(());
+            return Ok(None);
         };
-        rise(&mut drawn.collections, true);
-        self.run.collect(alloc, floor, &groups, false)
+        let is_refused = !may_collect(plain, floor, groups.as_slice());
+        if !is_refused {
+            self.plain.collect(alloc, floor, groups.as_slice())?;
+        }
+        rise(&mut drawn.collections, !is_refused);
+        Ok(Some(Step::Collect {
+            floor,
+            groups,
+            is_refused,
+        }))
     }
-}
-
-/// The groups that are undone at the head.
-fn now_undone(plain: &PlainHistory) -> &[u64] {
-    undone(plain.revisions(), plain.head())
-}
-
-fn has_edit(plain: &PlainHistory, group: u64) -> bool {
-    plain
-        .revisions()
-        .iter()
-        .any(|revision| revision.is_edit_of(group))
 }
 
 /// The last of the groups that edits are drawn of: the four after the last collected one.
@@ -156,7 +181,7 @@ fn rise(count: &mut u64, is_so: bool) {
     *count = count.saturating_add(u64::from(is_so));
 }
 
-/// An edit against one of the last revisions, and now and then against one that is collected or not there.
+/// An edit against one of the last revisions, and now and then against one that is collected or not there, or of a collected group.
 fn drawn_edit(alloc: Global, draws: &mut Draws, plain: &PlainHistory) -> Result<Edit, NoMemory> {
     let head = plain.head();
     let mut rev = if draws.below(16) == 0 {
@@ -170,14 +195,22 @@ fn drawn_edit(alloc: Global, draws: &mut Draws, plain: &PlainHistory) -> Result<
     let text = plain.text_at(alloc, rev)?;
     Ok(Edit {
         rev,
-        group: last_group(plain)
-            .saturating_sub(3)
-            .saturating_add(draws.below(4)),
+        group: drawn_group(draws, plain),
         priority: draws.below(3) as u32,
         author: draws.below(2) as u32,
         after_cursor: false,
         delta: drawn_delta(alloc, draws, &text)?,
     })
+}
+
+/// One of the groups that edits are drawn of, and now and then the last collected one.
+fn drawn_group(draws: &mut Draws, plain: &PlainHistory) -> u64 {
+    match plain.collected().last() {
+        Some(group) if draws.below(12) == 0 => *group,
+        _ => last_group(plain)
+            .saturating_sub(3)
+            .saturating_add(draws.below(4)),
+    }
 }
 
 /// A delta over the text, and now and then one that need not fit.
