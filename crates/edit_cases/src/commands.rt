@@ -4,14 +4,15 @@ ghost use Rattle.std.specs.Prelude.{◌≡◌, true, length, IfOk, IsTrue};
 ghost use Rattle.std.specs.Str.{all_scalars};
 ghost use Rattle.movement_core.specs.Lines.{StartAtPlaces};
 ghost use Rattle.edit_ops.specs.Commands.{IsDoneOnText};
+ghost use Rattle.selection_core.specs.Mapped.{AreWithin};
+ghost use Rattle.selection_core.specs.Selection.{IsSelection};
 
-use crate::selections::{are_regions, are_within, selection};
+use crate::selections::{Rows, are_regions, are_within, selection};
 use edit_ops::{copied, edit_of};
 use plain_edits::UnitDelta;
-use plain_text::{NoMemory, Text};
+use plain_text::{NoMemory, Sel, Text};
 use plain_view::PlainView;
 use std::alloc::Global;
-use std::test::Fail;
 use xi_plain::{Config, EditAct, Motion, Touch};
 
 /// The text in one piece a logical line.
@@ -60,56 +61,102 @@ fn is_kept(units: &UnitDelta, index: u64) -> bool {
     false
 }
 
-// Whether a command on a text and regions, where a tab is four columns of spaces, comes to a text and regions.
-fn comes_to(
-    alloc: Global,
-    before: &str,
-    regions: &[(u64, u64)],
-    act: &EditAct,
-    after: &str,
-    then: &[(u64, u64)],
-) -> Result<bool, NoMemory>
-    requires { IsDoneOnText act.now }
-{
-    let text = Text::from_str(alloc, before)?;
-    let sel = selection(alloc, regions)?;
-    if !are_within(sel.regions.as_slice(), text.char_count()) {
-        return Ok(false);
+// Whether the edit of a text leads to this one.
+fn leads(alloc: Global, text: &Text, units: &UnitDelta, after: &str) -> bool {
+    match text_after(alloc, text, units) {
+        Ok(made) => made.as_str() == after,
+        Err(_) => false,
     }
-    let view = view_of(alloc, &text)?;
-    let config = Config {
-        tab: 4,
-        width: 0,
-        spaces: true,
-    };
-    let (units, sel) = edit_of(alloc, &view, &sel, act, &config)?;
-    let made = text_after(alloc, &text, &units)?;
-    Ok(made.as_str() == after && are_regions(sel.regions.as_slice(), then))
 }
 
-// Whether it does so, and there is memory for it.
+// Whether what a command makes of a text was made, and is this text and these regions.
+fn makes(
+    alloc: Global,
+    text: &Text,
+    made: Result<(UnitDelta, Sel), NoMemory>,
+    after: &str,
+    then: Rows<'_>,
+) -> bool {
+    match made {
+        Ok((units, sel)) => {
+            leads(alloc, text, &units, after) && are_regions(sel.regions.as_slice(), then)
+        }
+        Err(_) => false,
+    }
+}
+
+// A tab is four columns of spaces.
+const CONFIG: Config = Config {
+    tab: 4,
+    width: 0,
+    spaces: true,
+};
+
+// Whether a command on a text and a selection in it comes to a text and regions.
+fn comes_to(
+    alloc: Global,
+    text: &Text,
+    sel: &Sel,
+    act: &EditAct,
+    after: &str,
+    then: Rows<'_>,
+) -> bool
+    requires act { IsDoneOnText act.now }
+    requires sound { IsSelection sel.now.regions }
+    requires inside { AreWithin (length text.now) sel.now.regions }
+{
+    match view_of(alloc, text) {
+        Ok(view) => makes(
+            alloc,
+            text,
+            edit_of(alloc, &view, sel, act, &CONFIG),
+            after,
+            then,
+        ),
+        Err(_) => false,
+    }
+}
+
+// The same of the regions of the rows, where they stand in the text.
+fn comes_from(
+    alloc: Global,
+    text: &Text,
+    regions: Rows<'_>,
+    act: &EditAct,
+    after: &str,
+    then: Rows<'_>,
+) -> bool
+    requires { IsDoneOnText act.now }
+{
+    let Ok(sel) = selection(alloc, regions) else {
+        return false;
+    };
+    if !are_within(sel.regions.as_slice(), text.char_count()) {
+        return false;
+    }
+    comes_to(alloc, text, &sel, act, after, then)
+}
+
+// Whether a command gives a text and regions.
 fn gives(
     alloc: Global,
     before: &str,
-    regions: &[(u64, u64)],
-    act: &EditAct,
+    regions: Rows<'_>,
+    act: EditAct,
     after: &str,
-    then: &[(u64, u64)],
+    then: Rows<'_>,
 ) -> bool
-    requires { IsDoneOnText act.now }
+    requires { IsDoneOnText act }
 {
-    comes_to(alloc, before, regions, act, after, then).unwrap_or(false)
+    match Text::from_str(alloc, before) {
+        Ok(text) => comes_from(alloc, &text, regions, &act, after, then),
+        Err(_) => false,
+    }
 }
 
 // Whether a command leaves a text, and these regions.
-fn leaves(
-    alloc: Global,
-    text: &str,
-    regions: &[(u64, u64)],
-    act: &EditAct,
-    then: &[(u64, u64)],
-) -> bool
-    requires { IsDoneOnText act.now }
+fn leaves(alloc: Global, text: &str, regions: Rows<'_>, act: EditAct, then: Rows<'_>) -> bool
+    requires { IsDoneOnText act }
 {
     gives(alloc, text, regions, act, text, then)
 }
@@ -118,17 +165,17 @@ fn leaves(
 fn typing(
     alloc: Global,
     before: &str,
-    regions: &[(u64, u64)],
+    regions: Rows<'_>,
     chars: &str,
     after: &str,
-    then: &[(u64, u64)],
+    then: Rows<'_>,
 ) -> bool {
     match Text::from_str(alloc, chars) {
         Ok(chars) => gives(
             alloc,
             before,
             regions,
-            &EditAct::Insert { chars },
+            EditAct::Insert { chars },
             after,
             then,
         ),
@@ -137,7 +184,7 @@ fn typing(
 }
 
 #[test]
-fn regions_are_replaced(rt: HostRuntime) -> Result<(), Fail> {
+fn regions_are_replaced(rt: HostRuntime) {
     let alloc = rt.alloc();
     assert!(rt;
         typing(
@@ -165,7 +212,7 @@ fn regions_are_replaced(rt: HostRuntime) -> Result<(), Fail> {
             alloc,
             "abcd",
             &[(0, 2), (2, 4)],
-            &EditAct::Cut,
+            EditAct::Cut,
             "",
             &[(0, 0)]
         )
@@ -175,45 +222,48 @@ fn regions_are_replaced(rt: HostRuntime) -> Result<(), Fail> {
             alloc,
             "abcd",
             &[(2, 2)],
-            &EditAct::InsertNewline,
+            EditAct::InsertNewline,
             "ab\ncd",
             &[(3, 3)]
         )
     );
-    Ok(())
 }
 
 #[test]
-fn a_tab_goes_to_the_next_stop(rt: HostRuntime) -> Result<(), Fail> {
+fn a_tab_goes_to_the_next_stop(rt: HostRuntime) {
     let alloc = rt.alloc();
-    let tab = EditAct::InsertTab;
     assert!(rt;
         gives(
             alloc,
             "ab",
             &[(0, 0), (1, 1)],
-            &tab,
+            EditAct::InsertTab,
             "    a   b",
             &[(4, 4), (8, 8)]
         )
     );
-    assert!(rt; gives(alloc, "a\tb", &[(3, 3)], &tab, "a\tb   ", &[(6, 6)]));
-    assert!(rt; gives(alloc, "中", &[(1, 1)], &tab, "中  ", &[(3, 3)]));
-    Ok(())
+    assert!(rt;
+        gives(
+            alloc,
+            "a\tb",
+            &[(3, 3)],
+            EditAct::InsertTab,
+            "a\tb   ",
+            &[(6, 6)]
+        )
+    );
+    assert!(rt; gives(alloc, "中", &[(1, 1)], EditAct::InsertTab, "中  ", &[(3, 3)]));
 }
 
 #[test]
-fn carets_delete_words_and_clusters(rt: HostRuntime) -> Result<(), Fail> {
+fn carets_delete_words_and_clusters(rt: HostRuntime) {
     let alloc = rt.alloc();
-    let back = EditAct::DeleteBackward;
-    let on = EditAct::DeleteForward;
-    let word = EditAct::DeleteWordBackward;
     assert!(rt;
         gives(
             alloc,
             "foobar baz",
             &[(3, 3), (5, 5)],
-            &word,
+            EditAct::DeleteWordBackward,
             "r baz",
             &[(0, 0)]
         )
@@ -223,7 +273,7 @@ fn carets_delete_words_and_clusters(rt: HostRuntime) -> Result<(), Fail> {
             alloc,
             "foobar baz",
             &[(2, 4), (5, 5)],
-            &word,
+            EditAct::DeleteWordBackward,
             "r baz",
             &[(0, 0)]
         )
@@ -233,7 +283,7 @@ fn carets_delete_words_and_clusters(rt: HostRuntime) -> Result<(), Fail> {
             alloc,
             "foobar baz",
             &[(6, 6)],
-            &EditAct::DeleteWordForward,
+            EditAct::DeleteWordForward,
             "foobar",
             &[(6, 6)]
         )
@@ -243,31 +293,66 @@ fn carets_delete_words_and_clusters(rt: HostRuntime) -> Result<(), Fail> {
             alloc,
             "ae\u{301}b",
             &[(4, 4)],
-            &back,
+            EditAct::DeleteBackward,
             "ae\u{301}",
             &[(3, 3)]
         )
     );
-    assert!(rt; gives(alloc, "ae\u{301}", &[(3, 3)], &back, "a", &[(1, 1)]));
-    assert!(rt; gives(alloc, "a\r\nb", &[(1, 1)], &on, "ab", &[(1, 1)]));
-    assert!(rt; gives(alloc, "abcd", &[(0, 0)], &back, "abcd", &[(0, 0)]));
-    assert!(rt; gives(alloc, "abcd", &[(4, 4)], &on, "abcd", &[(4, 4)]));
-    Ok(())
+    assert!(rt;
+        gives(
+            alloc,
+            "ae\u{301}",
+            &[(3, 3)],
+            EditAct::DeleteBackward,
+            "a",
+            &[(1, 1)]
+        )
+    );
+    assert!(rt;
+        gives(
+            alloc,
+            "a\r\nb",
+            &[(1, 1)],
+            EditAct::DeleteForward,
+            "ab",
+            &[(1, 1)]
+        )
+    );
+    assert!(rt;
+        gives(
+            alloc,
+            "abcd",
+            &[(0, 0)],
+            EditAct::DeleteBackward,
+            "abcd",
+            &[(0, 0)]
+        )
+    );
+    assert!(rt;
+        gives(
+            alloc,
+            "abcd",
+            &[(4, 4)],
+            EditAct::DeleteForward,
+            "abcd",
+            &[(4, 4)]
+        )
+    );
 }
 
 // Whether a click with a count leaves a text, and these regions.
-fn clicks(alloc: Global, text: &str, line: u64, col: u64, count: u64, then: &[(u64, u64)]) -> bool {
+fn clicks(alloc: Global, text: &str, line: u64, col: u64, count: u64, then: Rows<'_>) -> bool {
     let click = EditAct::Click {
         line,
         col,
         modifiers: 0,
         count,
     };
-    leaves(alloc, text, &[(0, 0)], &click, then)
+    leaves(alloc, text, &[(0, 0)], click, then)
 }
 
 #[test]
-fn clicks_find_points_words_and_lines(rt: HostRuntime) -> Result<(), Fail> {
+fn clicks_find_points_words_and_lines(rt: HostRuntime) {
     let alloc = rt.alloc();
     assert!(rt; clicks(alloc, "ab\r\ncd", 0, 99, 1, &[(2, 2)]));
     assert!(rt; clicks(alloc, "ab\r\ncd", 1, 2, 2, &[(4, 6)]));
@@ -279,23 +364,22 @@ fn clicks_find_points_words_and_lines(rt: HostRuntime) -> Result<(), Fail> {
     assert!(rt; clicks(alloc, "a  bc", 0, 2, 2, &[(1, 3)]));
     assert!(rt; clicks(alloc, "", 0, 0, 2, &[(0, 0)]));
     assert!(rt; clicks(alloc, "", 3, 7, 3, &[(0, 0)]));
-    Ok(())
 }
 
 // Whether a gesture at a point leaves letters, and these regions.
-fn gestures(
-    alloc: Global,
-    regions: &[(u64, u64)],
-    col: u64,
-    ty: Touch,
-    then: &[(u64, u64)],
-) -> bool {
+fn gestures(alloc: Global, regions: Rows<'_>, col: u64, ty: Touch, then: Rows<'_>) -> bool {
     let gesture = EditAct::Gesture { line: 0, col, ty };
-    leaves(alloc, "abcdefghij", regions, &gesture, then)
+    leaves(alloc, "abcdefghij", regions, gesture, then)
 }
 
+const DRAG: EditAct = EditAct::Drag {
+    line: 0,
+    col: 4,
+    modifiers: 0,
+};
+
 #[test]
-fn gestures_move_regions(rt: HostRuntime) -> Result<(), Fail> {
+fn gestures_move_regions(rt: HostRuntime) {
     let alloc = rt.alloc();
     assert!(rt; gestures(alloc, &[(4, 1), (5, 5)], 0, Touch::Range, &[(5, 0)]));
     assert!(rt; gestures(alloc, &[(1, 1), (5, 5)], 3, Touch::Range, &[(1, 1), (5, 3)]));
@@ -311,75 +395,83 @@ fn gestures_move_regions(rt: HostRuntime) -> Result<(), Fail> {
     );
     assert!(rt; gestures(alloc, &[(1, 3), (5, 3)], 3, Touch::Toggle, &[(5, 3)]));
     assert!(rt; gestures(alloc, &[(1, 3)], 7, Touch::Point, &[(7, 7)]));
-    let drag = EditAct::Drag {
-        line: 0,
-        col: 4,
-        modifiers: 0,
-    };
-    assert!(rt; leaves(alloc, "abcdef\nxyz", &[(2, 2), (8, 8)], &drag, &[(8, 4)]));
-    Ok(())
+    assert!(rt; leaves(alloc, "abcdef\nxyz", &[(2, 2), (8, 8)], DRAG, &[(8, 4)]));
 }
+
+const LINES: &str = "ab\r\ncd\n\ne";
+
+const RIGHT: EditAct = EditAct::Move {
+    motion: Motion::Right,
+    extend: true,
+};
 
 // Whether a line with this number starts at a gap.
 fn starts_at(alloc: Global, line: u64, gap: u64) -> bool {
     let to = EditAct::GotoLine { line };
-    leaves(alloc, "ab\r\ncd\n\ne", &[(3, 3)], &to, &[(gap, gap)])
+    leaves(alloc, LINES, &[(3, 3)], to, &[(gap, gap)])
 }
 
 #[test]
-fn numbered_lines_and_the_whole_text(rt: HostRuntime) -> Result<(), Fail> {
+fn numbered_lines_and_the_whole_text(rt: HostRuntime) {
     let alloc = rt.alloc();
-    let text = "ab\r\ncd\n\ne";
-    let on = EditAct::Move {
-        motion: Motion::Right,
-        extend: true,
-    };
     assert!(rt; starts_at(alloc, 0, 0));
     assert!(rt; starts_at(alloc, 1, 4));
     assert!(rt; starts_at(alloc, 2, 7));
     assert!(rt; starts_at(alloc, 3, 8));
     assert!(rt; starts_at(alloc, 4, 9));
-    assert!(rt; leaves(alloc, text, &[(3, 5)], &EditAct::SelectAll, &[(0, 9)]));
+    assert!(rt; leaves(alloc, LINES, &[(3, 5)], EditAct::SelectAll, &[(0, 9)]));
     assert!(rt;
         leaves(
             alloc,
-            text,
+            LINES,
             &[(1, 2), (5, 3)],
-            &EditAct::Collapse,
+            EditAct::Collapse,
             &[(3, 3)]
         )
     );
-    assert!(rt; leaves(alloc, text, &[(1, 2)], &EditAct::Copy, &[(1, 2)]));
-    assert!(rt; leaves(alloc, text, &[(1, 2)], &on, &[(1, 4)]));
-    Ok(())
+    assert!(rt; leaves(alloc, LINES, &[(1, 2)], EditAct::Copy, &[(1, 2)]));
+    assert!(rt; leaves(alloc, LINES, &[(1, 2)], RIGHT, &[(1, 4)]));
+}
+
+fn is(made: Result<Text, NoMemory>, expected: &str) -> bool {
+    match made {
+        Ok(text) => text.as_str() == expected,
+        Err(_) => false,
+    }
+}
+
+// Whether a copy of a selection comes to this text.
+fn copy_is(alloc: Global, text: &Text, sel: &Sel, copy: &str) -> bool
+    requires { AreWithin (length text.now) sel.now.regions }
+{
+    match view_of(alloc, text) {
+        Ok(view) => is(copied(alloc, &view, sel), copy),
+        Err(_) => false,
+    }
+}
+
+// The same of the regions of the rows, where they stand in the text.
+fn copy_of_rows_is(alloc: Global, text: &Text, regions: Rows<'_>, copy: &str) -> bool {
+    let Ok(sel) = selection(alloc, regions) else {
+        return false;
+    };
+    if !are_within(sel.regions.as_slice(), text.char_count()) {
+        return false;
+    }
+    copy_is(alloc, text, &sel, copy)
+}
+
+fn copies(alloc: Global, text: &str, regions: Rows<'_>, copy: &str) -> bool {
+    match Text::from_str(alloc, text) {
+        Ok(text) => copy_of_rows_is(alloc, &text, regions, copy),
+        Err(_) => false,
+    }
 }
 
 #[test]
-fn a_copy_joins_the_texts_of_regions(rt: HostRuntime) -> Result<(), Fail> {
+fn a_copy_joins_the_texts_of_regions(rt: HostRuntime) {
     let alloc = rt.alloc();
     assert!(rt; copies(alloc, "abcd", &[(0, 2), (2, 4)], "ab\ncd"));
     assert!(rt; copies(alloc, "abcd", &[(1, 1), (3, 2)], "c"));
     assert!(rt; copies(alloc, "abcd", &[(1, 1)], ""));
-    Ok(())
-}
-
-// Whether a copy of these regions comes to this text.
-fn copy_is(
-    alloc: Global,
-    text: &str,
-    regions: &[(u64, u64)],
-    copy: &str,
-) -> Result<bool, NoMemory> {
-    let text = Text::from_str(alloc, text)?;
-    let sel = selection(alloc, regions)?;
-    if !are_within(sel.regions.as_slice(), text.char_count()) {
-        return Ok(false);
-    }
-    let view = view_of(alloc, &text)?;
-    Ok(copied(alloc, &view, &sel)?.as_str() == copy)
-}
-
-// Whether it does so, and there is memory for it.
-fn copies(alloc: Global, text: &str, regions: &[(u64, u64)], copy: &str) -> bool {
-    copy_is(alloc, text, regions, copy).unwrap_or(false)
 }

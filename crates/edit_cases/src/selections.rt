@@ -11,7 +11,6 @@ use plain_edits::{Added, Adds, UnitDelta};
 use plain_text::{NoMemory, Region, Regions, Run, Runs, Sel, Text};
 use selection_core::Selection;
 use std::alloc::Global;
-use std::test::Fail;
 
 fn region(anchor: u64, caret: u64) -> Region {
     Region {
@@ -21,8 +20,11 @@ fn region(anchor: u64, caret: u64) -> Region {
     }
 }
 
-// Whether these are the regions, by their anchors and carets.
-pub(crate) fn are_regions(regions: &[Region], rows: &[(u64, u64)]) -> bool {
+/// Regions by their anchors and carets.
+pub(crate) type Rows<'a> = &'a [(u64, u64)];
+
+// Whether these are the regions.
+pub(crate) fn are_regions(regions: &[Region], rows: Rows<'_>) -> bool {
     for (there, row) in regions.iter().zip(rows) {
         if there.anchor != row.0 || there.caret != row.1 {
             return false;
@@ -32,7 +34,7 @@ pub(crate) fn are_regions(regions: &[Region], rows: &[(u64, u64)]) -> bool {
 }
 
 // The selection to which the regions were added, one after the other.
-pub(crate) fn selection(alloc: Global, rows: &[(u64, u64)]) -> Result<Sel, NoMemory>
+pub(crate) fn selection(alloc: Global, rows: Rows<'_>) -> Result<Sel, NoMemory>
     ensures { IfOk result (λ sel. IsSelection sel.regions) }
 {
     let mut sel = Sel {
@@ -44,65 +46,65 @@ pub(crate) fn selection(alloc: Global, rows: &[(u64, u64)]) -> Result<Sel, NoMem
     Ok(sel)
 }
 
-type Rows<'a> = &'a [(u64, u64)];
+// Whether the selection was made, and has these regions.
+fn is(made: Result<Sel, NoMemory>, rows: Rows<'_>) -> bool {
+    match made {
+        Ok(sel) => are_regions(sel.regions.as_slice(), rows),
+        Err(_) => false,
+    }
+}
 
 // Whether the regions of the rows come to these.
-fn come_to(alloc: Global, rows: Rows<'_>, after: Rows<'_>) -> Result<bool, NoMemory> {
-    let sel = selection(alloc, rows)?;
-    Ok(are_regions(sel.regions.as_slice(), after))
+fn come_to(alloc: Global, rows: Rows<'_>, after: Rows<'_>) -> bool {
+    is(selection(alloc, rows), after)
 }
 
 #[test]
-fn a_region_joins_those_that_it_meets(rt: HostRuntime) -> Result<(), Fail> {
+fn a_region_joins_those_that_it_meets(rt: HostRuntime) {
     let alloc = rt.alloc();
     // Its place is before, between or behind the others.
-    assert!(rt; come_to(alloc, &[(4, 6), (1, 2)], &[(1, 2), (4, 6)]).unwrap_or(false));
-    assert!(rt;
-        come_to(alloc, &[(1, 2), (7, 7), (4, 5)], &[(1, 2), (4, 5), (7, 7)]).unwrap_or(false)
-    );
-    assert!(rt; come_to(alloc, &[(1, 2), (5, 4)], &[(1, 2), (5, 4)]).unwrap_or(false));
+    assert!(rt; come_to(alloc, &[(4, 6), (1, 2)], &[(1, 2), (4, 6)]));
+    assert!(rt; come_to(alloc, &[(1, 2), (7, 7), (4, 5)], &[(1, 2), (4, 5), (7, 7)]));
+    assert!(rt; come_to(alloc, &[(1, 2), (5, 4)], &[(1, 2), (5, 4)]));
     // Two that touch stay apart where none is a caret.
-    assert!(rt; come_to(alloc, &[(3, 5), (3, 1)], &[(3, 1), (3, 5)]).unwrap_or(false));
-    assert!(rt; come_to(alloc, &[(1, 3), (3, 5)], &[(1, 3), (3, 5)]).unwrap_or(false));
-    assert!(rt; come_to(alloc, &[(1, 3), (3, 3)], &[(1, 3)]).unwrap_or(false));
-    assert!(rt; come_to(alloc, &[(5, 3), (3, 3)], &[(3, 5)]).unwrap_or(false));
-    assert!(rt; come_to(alloc, &[(2, 2), (2, 2)], &[(2, 2)]).unwrap_or(false));
+    assert!(rt; come_to(alloc, &[(3, 5), (3, 1)], &[(3, 1), (3, 5)]));
+    assert!(rt; come_to(alloc, &[(1, 3), (3, 5)], &[(1, 3), (3, 5)]));
+    assert!(rt; come_to(alloc, &[(1, 3), (3, 3)], &[(1, 3)]));
+    assert!(rt; come_to(alloc, &[(5, 3), (3, 3)], &[(3, 5)]));
+    assert!(rt; come_to(alloc, &[(2, 2), (2, 2)], &[(2, 2)]));
     // Those that overlap are one, forward where one of them is.
-    assert!(rt; come_to(alloc, &[(1, 4), (6, 3)], &[(1, 6)]).unwrap_or(false));
-    assert!(rt; come_to(alloc, &[(4, 1), (6, 3)], &[(6, 1)]).unwrap_or(false));
+    assert!(rt; come_to(alloc, &[(1, 4), (6, 3)], &[(1, 6)]));
+    assert!(rt; come_to(alloc, &[(4, 1), (6, 3)], &[(6, 1)]));
     assert!(rt;
         come_to(
             alloc,
             &[(0, 0), (1, 2), (4, 3), (8, 8), (0, 7)],
             &[(0, 7), (8, 8)]
         )
-        .unwrap_or(false)
     );
-    Ok(())
 }
 
 // Whether the regions collapse to a caret there.
-fn collapse(alloc: Global, rows: Rows<'_>, caret: u64) -> Result<bool, NoMemory> {
-    let sel = selection(alloc, rows)?;
-    if sel.regions.as_slice().is_empty() {
-        return Ok(false);
+fn collapse(alloc: Global, rows: Rows<'_>, caret: u64) -> bool {
+    match selection(alloc, rows) {
+        Ok(sel) => {
+            !sel.regions.as_slice().is_empty() && is(sel.collapse(alloc), &[(caret, caret)])
+        }
+        Err(_) => false,
     }
-    let one = sel.collapse(alloc)?;
-    Ok(are_regions(one.regions.as_slice(), &[(caret, caret)]))
 }
 
-fn is_caret(alloc: Global, gap: u64) -> Result<bool, NoMemory> {
-    let sel = Sel::caret_at(alloc, gap)?;
-    Ok(are_regions(sel.regions.as_slice(), &[(gap, gap)]))
+fn is_caret(alloc: Global, gap: u64) -> bool {
+    is(Sel::caret_at(alloc, gap), &[(gap, gap)])
 }
 
 #[test]
 fn a_selection_collapses_to_its_last_caret(rt: HostRuntime) {
     let alloc = rt.alloc();
-    assert!(rt; collapse(alloc, &[(1, 2), (5, 4)], 4).unwrap_or(false));
-    assert!(rt; collapse(alloc, &[(1, 2), (7, 7), (4, 5)], 7).unwrap_or(false));
-    assert!(rt; collapse(alloc, &[(1, 3), (3, 3)], 3).unwrap_or(false));
-    assert!(rt; is_caret(alloc, 1).unwrap_or(false));
+    assert!(rt; collapse(alloc, &[(1, 2), (5, 4)], 4));
+    assert!(rt; collapse(alloc, &[(1, 2), (7, 7), (4, 5)], 7));
+    assert!(rt; collapse(alloc, &[(1, 3), (3, 3)], 3));
+    assert!(rt; is_caret(alloc, 1));
 }
 
 // Whether no region goes past the end of a text of this length.
@@ -160,58 +162,52 @@ fn replacing(alloc: Global) -> Result<UnitDelta, NoMemory>
 }
 
 // Whether the edit moves the regions there, by `after`.
-fn moves(
-    alloc: Global,
-    edit: &UnitDelta,
-    after: bool,
-    from: Rows<'_>,
-    to: Rows<'_>,
-) -> Result<bool, NoMemory>
+fn moves(alloc: Global, edit: &UnitDelta, after: bool, from: Rows<'_>, to: Rows<'_>) -> bool
     requires well_formed { IsUnitDelta edit.now }
     requires bound { length_after edit.now < 2 ^ 64 }
 {
-    let sel = selection(alloc, from)?;
+    let Ok(sel) = selection(alloc, from) else {
+        return false;
+    };
     if !are_within(sel.regions.as_slice(), edit.base) {
-        return Ok(false);
+        return false;
     }
-    let there = sel.map(alloc, edit, after)?;
-    Ok(are_regions(there.regions.as_slice(), to))
+    is(sel.map(alloc, edit, after), to)
+}
+
+fn replacing_moves(alloc: Global, after: bool, from: Rows<'_>, to: Rows<'_>) -> bool {
+    match replacing(alloc) {
+        Ok(edit) => moves(alloc, &edit, after, from, to),
+        Err(_) => false,
+    }
 }
 
 #[test]
-fn an_edit_moves_the_regions(rt: HostRuntime) -> Result<(), Fail> {
+fn an_edit_moves_the_regions(rt: HostRuntime) {
     let alloc = rt.alloc();
-    let edit = replacing(alloc)?;
-    assert!(rt; moves(alloc, &edit, false, &[(3, 3), (0, 1)], &[(0, 2), (3, 3)]).unwrap_or(false));
-    assert!(rt; moves(alloc, &edit, true, &[(3, 3), (0, 1)], &[(0, 1), (3, 3)]).unwrap_or(false));
-    Ok(())
+    assert!(rt; replacing_moves(alloc, false, &[(3, 3), (0, 1)], &[(0, 2), (3, 3)]));
+    assert!(rt; replacing_moves(alloc, true, &[(3, 3), (0, 1)], &[(0, 1), (3, 3)]));
+}
+
+fn deleting_moves(alloc: Global, after: bool, from: Rows<'_>, to: Rows<'_>) -> bool {
+    match deleting(alloc) {
+        Ok(edit) => moves(alloc, &edit, after, from, to),
+        Err(_) => false,
+    }
 }
 
 #[test]
-fn regions_that_an_edit_brings_together_join(rt: HostRuntime) -> Result<(), Fail> {
+fn regions_that_an_edit_brings_together_join(rt: HostRuntime) {
     let alloc = rt.alloc();
-    let edit = deleting(alloc)?;
     // Two that only touch stay apart.
+    assert!(rt; deleting_moves(alloc, false, &[(0, 2), (3, 3), (6, 4)], &[(0, 1), (3, 1)]));
+    assert!(rt; deleting_moves(alloc, false, &[(2, 2), (3, 4)], &[(1, 1)]));
     assert!(rt;
-        moves(
+        deleting_moves(
             alloc,
-            &edit,
-            false,
-            &[(0, 2), (3, 3), (6, 4)],
-            &[(0, 1), (3, 1)]
-        )
-        .unwrap_or(false)
-    );
-    assert!(rt; moves(alloc, &edit, false, &[(2, 2), (3, 4)], &[(1, 1)]).unwrap_or(false));
-    assert!(rt;
-        moves(
-            alloc,
-            &edit,
             true,
             &[(0, 0), (1, 3), (6, 6)],
             &[(0, 0), (1, 1), (3, 3)]
         )
-        .unwrap_or(false)
     );
-    Ok(())
 }
