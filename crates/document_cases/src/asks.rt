@@ -1,6 +1,6 @@
-//! What rows ask of a document with one plugin.
+//! What rows ask of a document with two plugins.
 
-ghost use Rattle.std.specs.Prelude.{◌≡◌, ◌-◌, ◌^◌, ◌<◌, IfOk};
+ghost use Rattle.std.specs.Prelude.{◌≡◌, ◌-◌, ◌^◌, ◌<◌, ◌≤◌, length, IfOk};
 ghost use Rattle.plain_edits.specs.History.{head};
 ghost use Rattle.doc_session.specs.Step.{HasCaller};
 
@@ -14,7 +14,7 @@ use std::marker::Brand;
 use std::sync::ledger::{Blank, Ledger};
 use xi_plain::{Config, EditAct, Motion, Notice, Touch};
 
-// A text in the place of a range of a base of so many bytes, by the plugin, which may name a group.
+// A text in the place of a range of a base of so many bytes, by the first plugin, which may name a group.
 #[derive(Clone, Copy)]
 pub(crate) struct Given {
     pub(crate) rev: u64,
@@ -51,6 +51,16 @@ pub(crate) enum Ask {
     // A line of the front end that is none of the document's.
     End,
     Give(Given),
+    // The first or the second plugin has the text of a revision, or its session ends.
+    Ack(Plugin, u64),
+    Ended(Plugin),
+}
+
+// One of the two plugins.
+#[derive(Clone, Copy)]
+pub(crate) enum Plugin {
+    First,
+    Second,
 }
 
 // An insertion of the plugin at an offset of a base of so many bytes.
@@ -73,6 +83,16 @@ pub(crate) fn put_into(group: u64, put: Given) -> Ask {
     })
 }
 
+fn number(plugin: Plugin) -> u32
+    ensures at_least { 1 ≤ result }
+    ensures at_most { result ≤ 2 }
+{
+    match plugin {
+        Plugin::First => 1,
+        Plugin::Second => 2,
+    }
+}
+
 fn insertion(alloc: Global, text: &str) -> Result<El, NoMemory> {
     let text = Text::from_str(alloc, text)?;
     Ok(El::Insert { text })
@@ -92,7 +112,7 @@ fn els_of(alloc: Global, given: Given) -> Result<Els, NoMemory> {
 }
 
 fn giving(els: Els, given: Given) -> Event
-    ensures { HasCaller 1 result }
+    ensures { HasCaller 2 result }
 {
     let edit = Edit {
         rev: given.rev,
@@ -112,14 +132,28 @@ fn giving(els: Els, given: Given) -> Event
     }
 }
 
+fn acknowledging(caller: u32, rev: u64) -> Event
+    requires { (1 ≤ caller) × (caller ≤ 2) }
+    ensures { HasCaller 2 result }
+{
+    Event::Ack { caller, rev }
+}
+
+fn ending(caller: u32) -> Event
+    requires { (1 ≤ caller) × (caller ≤ 2) }
+    ensures { HasCaller 2 result }
+{
+    Event::Ended { caller }
+}
+
 fn typing(chars: Text) -> Event
-    ensures { HasCaller 1 result }
+    ensures { HasCaller 2 result }
 {
     Event::Front(EditAct::Insert { chars })
 }
 
 fn pasting(chars: Text) -> Event
-    ensures { HasCaller 1 result }
+    ensures { HasCaller 2 result }
 {
     Event::Front(EditAct::Paste { chars })
 }
@@ -168,13 +202,15 @@ fn command_of(ask: Ask) -> EditAct {
 }
 
 fn event_of(alloc: Global, ask: Ask) -> Result<Event, NoMemory>
-    ensures { IfOk result (HasCaller 1) }
+    ensures { IfOk result (HasCaller 2) }
 {
     match ask {
         Ask::Type(chars) => Ok(typing(Text::from_str(alloc, chars)?)),
         Ask::Paste(chars) => Ok(pasting(Text::from_str(alloc, chars)?)),
         Ask::End => Ok(Event::Other),
         Ask::Give(given) => Ok(giving(els_of(alloc, given)?, given)),
+        Ask::Ack(plugin, rev) => Ok(acknowledging(number(plugin), rev)),
+        Ask::Ended(plugin) => Ok(ending(number(plugin))),
         ask => Ok(Event::Front(command_of(ask))),
     }
 }
@@ -188,17 +224,17 @@ fn counted<L: Ledger>(
     requires name { blank.name ≡ L.name }
     requires parts { blank.parts ≡ L.parts }
     requires some { 0 < blank.parts }
-    requires caller { HasCaller doc.old.plugins event }
+    requires caller { HasCaller (length doc.old.sessions) event }
     requires has_number { head doc.old.engine.revisions < 2 ^ 63 - 1 }
-    ensures { doc.new.plugins ≡ doc.old.plugins }
+    ensures { length doc.new.sessions ≡ length doc.old.sessions }
 {
     let mut steps = Steps::<L>::new(blank);
     doc.apply(alloc, event, &mut steps)
 }
 
 fn take(alloc: Global, doc: &mut Doc, event: Event) -> Result<Effects, DocFault>
-    requires { HasCaller doc.old.plugins event }
-    ensures { doc.new.plugins ≡ doc.old.plugins }
+    requires { HasCaller (length doc.old.sessions) event }
+    ensures { length doc.new.sessions ≡ length doc.old.sessions }
 {
     if 1000 < doc.head() {
         return Err(DocFault::NoMemory);
@@ -208,8 +244,8 @@ fn take(alloc: Global, doc: &mut Doc, event: Event) -> Result<Effects, DocFault>
 
 // What the document tells of it.
 pub(crate) fn told(alloc: Global, doc: &mut Doc, ask: Ask) -> Result<Effects, DocFault>
-    requires { doc.old.plugins ≡ 1 }
-    ensures { doc.new.plugins ≡ 1 }
+    requires { length doc.old.sessions ≡ 2 }
+    ensures { length doc.new.sessions ≡ 2 }
 {
     match event_of(alloc, ask) {
         Ok(event) => take(alloc, doc, event),
@@ -217,30 +253,45 @@ pub(crate) fn told(alloc: Global, doc: &mut Doc, ask: Ask) -> Result<Effects, Do
     }
 }
 
+// Twenty-one new lines, and what they type.
+pub(crate) const LINES: [Ask; 21] = [Ask::Line; 21];
+
+pub(crate) const LINE_FEEDS: &str = "\n\n\n\n\n\n\n\n\n\n\n\n\n\n\n\n\n\n\n\n\n";
+
 const CONFIG: Config = Config {
     tab: 4,
     width: 0,
     spaces: false,
 };
 
-// A document of a text, with the plugin and a limit of thirty characters.
+// A document of a text, with two plugins and a limit of thirty characters.
 fn loaded(alloc: Global, text: &str) -> Result<Doc, NoMemory>
-    ensures { IfOk result (λ doc. doc.plugins ≡ 1) }
+    ensures { IfOk result (λ doc. length doc.sessions ≡ 2) }
 {
     let text = Text::from_str(alloc, text)?;
-    Doc::of_text(alloc, text, 1, 30, CONFIG)
+    let doc = Doc::of_text(alloc, text, 2, 30, CONFIG)?;
+    Ok(doc)
 }
 
 // The same after it was opened, and after what a row asks; what is refused changes nothing.
 pub(crate) fn after(alloc: Global, text: &str, asks: &[Ask]) -> Result<Doc, NoMemory>
-    ensures { IfOk result (λ doc. doc.plugins ≡ 1) }
+    ensures { IfOk result (λ doc. length doc.sessions ≡ 2) }
 {
     let mut doc = loaded(alloc, text)?;
     let _opened = told(alloc, &mut doc, Ask::End);
+    Ok(later(alloc, doc, asks))
+}
+
+// The document after further asks.
+pub(crate) fn later(alloc: Global, doc: Doc, asks: &[Ask]) -> Doc
+    requires { length doc.sessions ≡ 2 }
+    ensures { length result.sessions ≡ 2 }
+{
+    let mut doc = doc;
     for ask in asks {
         let _told = told(alloc, &mut doc, *ask);
     }
-    Ok(doc)
+    doc
 }
 
 // What the last ask comes to, after all before it.

@@ -1,6 +1,6 @@
 //! What an edit of a plugin comes to in a document.
 
-ghost use Rattle.std.specs.Prelude.{◌≡◌};
+ghost use Rattle.std.specs.Prelude.{◌≡◌, length};
 
 use crate::asks::{Ask, Given, after, last, notes, put, shows, shows_now, stands, told};
 use doc_session::{Body, Doc, DocFault, Effects};
@@ -108,7 +108,7 @@ fn a_document_is_opened(rt: HostRuntime) {
 
 // Whether the document refuses the plugin's text for this, and is as it was.
 fn stays(alloc: Global, doc: Doc, put: Given, fault: DocFault) -> bool
-    requires { doc.plugins ≡ 1 }
+    requires { length doc.sessions ≡ 2 }
 {
     let mut doc = doc;
     match told(alloc, &mut doc, Ask::Give(put)) {

@@ -5,6 +5,8 @@
 #[cfg(test)]
 mod asks;
 #[cfg(test)]
+mod collecting;
+#[cfg(test)]
 mod documents;
 #[cfg(test)]
 mod regions;

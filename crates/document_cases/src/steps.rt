@@ -1,8 +1,11 @@
 //! Documents that undo: what is one step, what ends a run of typing, and what those outside are told.
 
-ghost use Rattle.std.specs.Prelude.{◌≡◌};
+ghost use Rattle.std.specs.Prelude.{◌≡◌, length};
 
-use crate::asks::{Ask, Given, after, last, notes, put, put_into, shows, shows_now, stands, told};
+use crate::asks::{
+    Ask, Given, LINE_FEEDS, LINES, after, last, notes, put, put_into, shows, shows_now, stands,
+    told,
+};
 use doc_session::{Body, Doc};
 use std::alloc::Global;
 
@@ -58,7 +61,7 @@ fn tells(alloc: Global, asks: &[Ask], ask: Ask, want: (u64, u64), sent: bool) ->
 }
 
 // Whether nothing is told but the answer.
-fn is_still(alloc: Global, asks: &[Ask], ask: Ask) -> bool {
+pub(crate) fn is_still(alloc: Global, asks: &[Ask], ask: Ask) -> bool {
     match last(alloc, "", asks, ask) {
         Ok(effects) => {
             effects.body == Body::Null
@@ -117,10 +120,6 @@ fn redo_gives_back_until_something_is_typed(rt: HostRuntime) {
     assert!(rt; shows(alloc, "", &[UNDO, REDO], "", 0));
 }
 
-const LINES: [Ask; 21] = [Ask::Line; 21];
-
-const LINE_FEEDS: &str = "\n\n\n\n\n\n\n\n\n\n\n\n\n\n\n\n\n\n\n\n\n";
-
 #[test]
 fn twenty_steps_are_left_of_twenty_one(rt: HostRuntime) {
     let alloc = rt.alloc();
@@ -136,8 +135,8 @@ fn undoes_twenty(alloc: Global) -> bool {
 }
 
 // Whether twenty undos of the document leave one line feed, and the next one does nothing.
-fn undoes_all_but_one(alloc: Global, doc: Doc) -> bool
-    requires { doc.plugins ≡ 1 }
+pub(crate) fn undoes_all_but_one(alloc: Global, doc: Doc) -> bool
+    requires { length doc.sessions ≡ 2 }
 {
     let mut doc = doc;
     for _ in 0..20 {
