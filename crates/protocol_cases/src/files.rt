@@ -7,17 +7,40 @@ use std::alloc::Global;
 use std::fs;
 use std::rt::Files;
 
-/// The names of the scripts in the folder, in order.
+/// The paths of the scripts in the folder, and in the folders that stand in it, from the folder on and in order.
 pub fn script_names(rt: &HostRuntime, folder: &str) -> anyhow::Result<Vec<String>> {
     let mut names = Vec::new(rt.alloc());
     for entry in fs::read_dir(rt, folder)? {
         let entry = entry?;
         if entry.file_name().ends_with(".script") {
             names.push(String::from_str(rt.alloc(), entry.file_name())?)?;
+        } else {
+            push_scripts_of(rt, folder, entry.file_name(), &mut names)?;
         }
     }
     names.sort()?;
     Ok(names)
+}
+
+/// Puts the paths of the scripts of an inner folder at the end, where it is a folder.
+fn push_scripts_of(
+    rt: &HostRuntime,
+    folder: &str,
+    inner: &str,
+    names: &mut Vec<String>,
+) -> anyhow::Result<()> {
+    let path = format!(in rt.alloc(); "{folder}/{inner}")?;
+    if !fs::metadata(rt, path.as_str())?.is_dir() {
+        return Ok(());
+    }
+    for entry in fs::read_dir(rt, path.as_str())? {
+        let entry = entry?;
+        let name = entry.file_name();
+        if name.ends_with(".script") {
+            names.push(format!(in rt.alloc(); "{inner}/{name}")?)?;
+        }
+    }
+    Ok(())
 }
 
 /// Runs the case of a file, and prints its line.

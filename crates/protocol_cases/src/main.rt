@@ -1,7 +1,7 @@
 //! Runs scripts of the front-end protocol, and prints for each one whether its run did what it says.
 //!
-//! A script is a file `NAME.script` of the folder that the program's one word names, or of the one that it runs in; the files are
-//! taken in the order of their names. Each line begins with its mark:
+//! A script is a file `NAME.script` of the folder that the program's one word names, or of the one that it runs in, or of a folder in
+//! that one; the files are taken in the order of their paths. Each line begins with its mark:
 //!
 //! | line | says |
 //! |---|---|
