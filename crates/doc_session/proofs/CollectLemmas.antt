@@ -310,7 +310,7 @@ IsUncollected-collected doc made plain engine stack found stands is limit engine
       saved = stands.saved;
       saved_before = stands.saved_before;
       window = stands.window;
-      search = stands.search;
+      query = stands.query;
       screen = stands.screen;
     })
 
@@ -399,7 +399,7 @@ DocStandsFor-whole doc plain stands none = record {
   saved = stands.saved;
   saved_before = stands.saved_before;
   window = stands.window;
-  search = stands.search;
+  query = stands.query;
   screen = stands.screen;
 }
 
@@ -436,7 +436,7 @@ IsUncollected-sessions doc plain sessions others stands same are = record {
   saved = stands.saved;
   saved_before = stands.saved_before;
   window = stands.window;
-  search = stands.search;
+  query = stands.query;
   screen = stands.screen;
 }
 

@@ -199,7 +199,7 @@ module _ (doc made : Doc) (request : Run) (plain next : Document) (stands : DocS
         saved = untold.saved;
         saved_before = untold.saved_before;
         window = untold.window;
-        search = untold.search;
+        query = untold.query;
         screen = screen-updated request next ∙ ap (λ window. shown_lines window request (layout_of next)) untold.window;
       }
       by false wants = record {
@@ -215,6 +215,6 @@ module _ (doc made : Doc) (request : Run) (plain next : Document) (stands : DocS
         saved = untold.saved;
         saved_before = untold.saved_before;
         window = untold.window;
-        search = untold.search;
+        query = untold.query;
         screen = (unwanted plain next request made.view.shown untold.shown untold.screen_stays wants).0;
       }

@@ -46,17 +46,17 @@ IsUntold-still doc made plain kind regions others stands is same are =
       saved = stands.saved;
       saved_before = stands.saved_before;
       window = stands.window;
-      search = stands.search;
+      query = stands.query;
       screen_stays = refl;
       shown = stands.screen;
     })
 
 -- a line that makes no revision and ends the run: other regions, another window, another search
-pub IsUntold-looking : (doc : Doc) (plain : Document) (regions others : List Region) (window lines : Run) (search sought : Search) → DocStandsFor doc plain →
-    regions ≡ others → lines ≡ window → sought ≡ search → AreRegionsOf (text_of plain) others →
-    IsUntold (looking_doc doc (record doc.view { regions = regions; window = window; search = search })) plain
-    (record (selected_document plain None others) { window = lines; search = sought })
-IsUntold-looking doc plain regions others window lines search sought stands same lines_are sought_is are = record {
+pub IsUntold-looking : (doc : Doc) (plain : Document) (regions others : List Region) (window lines : Run) (query sought : Search) → DocStandsFor doc plain →
+    regions ≡ others → lines ≡ window → sought ≡ query → AreRegionsOf (text_of plain) others →
+    IsUntold (looking_doc doc (record doc.view { regions = regions; window = window; query = query })) plain
+    (record (selected_document plain None others) { window = lines; query = sought })
+IsUntold-looking doc plain regions others window lines query sought stands same lines_are sought_is are = record {
   parts = stands.parts;
   limit = stands.limit;
   sessions = stands.sessions;
@@ -69,7 +69,7 @@ IsUntold-looking doc plain regions others window lines search sought stands same
   saved = stands.saved;
   saved_before = stands.saved_before;
   window = lines_are;
-  search = sought_is;
+  query = sought_is;
   screen_stays = refl;
   shown = stands.screen;
 }
@@ -82,20 +82,20 @@ AreRegionsOf-plain text regions are = record {
   inside = AreWithin-plain (length text) regions are.inside;
 }
 
-pub AreRegionsOf-next : (text : List ℕ) (search : Search) (wrap_around : Option Bool) (regions : List Region) → AreRegionsOf text regions →
-    AreRegionsOf text (next_found text search wrap_around regions)
-AreRegionsOf-next text search wrap_around regions are = record {
-  some = with_match-some regions (next_match (results text search) wrap_around regions) are.some;
-  sound = with_match-sound regions (next_match (results text search) wrap_around regions) are.sound;
-  inside = next_found-within text search wrap_around regions are.inside;
+pub AreRegionsOf-next : (text : List ℕ) (query : Search) (wrap_around : Option Bool) (regions : List Region) → AreRegionsOf text regions →
+    AreRegionsOf text (next_found text query wrap_around regions)
+AreRegionsOf-next text query wrap_around regions are = record {
+  some = with_match-some regions (next_match (results text query) wrap_around regions) are.some;
+  sound = with_match-sound regions (next_match (results text query) wrap_around regions) are.sound;
+  inside = next_found-within text query wrap_around regions are.inside;
 }
 
-pub AreRegionsOf-previous : (text : List ℕ) (search : Search) (wrap_around : Option Bool) (regions : List Region) → AreRegionsOf text regions →
-    AreRegionsOf text (previous_found text search wrap_around regions)
-AreRegionsOf-previous text search wrap_around regions are = record {
-  some = with_match-some regions (previous_match (results text search) wrap_around regions) are.some;
-  sound = with_match-sound regions (previous_match (results text search) wrap_around regions) are.sound;
-  inside = previous_found-within text search wrap_around regions are.inside;
+pub AreRegionsOf-previous : (text : List ℕ) (query : Search) (wrap_around : Option Bool) (regions : List Region) → AreRegionsOf text regions →
+    AreRegionsOf text (previous_found text query wrap_around regions)
+AreRegionsOf-previous text query wrap_around regions are = record {
+  some = with_match-some regions (previous_match (results text query) wrap_around regions) are.some;
+  sound = with_match-sound regions (previous_match (results text query) wrap_around regions) are.sound;
+  inside = previous_found-within text query wrap_around regions are.inside;
 }
 
 -- a revision, and what it leaves beside the engine
@@ -135,7 +135,7 @@ IsUntold-revised doc made plain history author taken left stands after agree lim
       saved = stands.saved;
       saved_before = omega (arith, stands.saved_before, after.one_more);
       window = stands.window;
-      search = stands.search;
+      query = stands.query;
       screen_stays = refl;
       shown = stands.screen;
     })

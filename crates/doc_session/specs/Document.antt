@@ -27,7 +27,7 @@ pub record Document : Type 0 where
   pub typing : Option Typing
   pub regions : List Region
   pub window : Run
-  pub search : Search
+  pub query : Search
   pub saved : ℕ
   pub screen : Screen
 
@@ -63,7 +63,7 @@ loaded_document text plugins limit = record {
   typing = None;
   regions = caret_of 0 ∷ [];
   window = first_window;
-  search = no_search;
+  query = no_search;
   saved = 0;
   screen = [];
 }

@@ -155,7 +155,7 @@ pub record IsUntold (doc : Doc) (before plain : Document) : Type 0 where
   pub saved : doc.saved ≡ plain.saved
   pub saved_before : plain.saved ≤ head plain.history
   pub window : plain.window ≡ doc.view.window
-  pub search : plain.search ≡ doc.view.search
+  pub query : plain.query ≡ doc.view.query
   pub screen_stays : plain.screen ≡ before.screen
   pub shown : before.screen ≡ screen_of doc.view.shown (layout_of before)
 
@@ -178,7 +178,7 @@ pub record IsUncollected (doc : Doc) (plain : Document) : Type 0 where
   pub saved : doc.saved ≡ plain.saved
   pub saved_before : plain.saved ≤ head plain.history
   pub window : plain.window ≡ doc.view.window
-  pub search : plain.search ≡ doc.view.search
+  pub query : plain.query ≡ doc.view.query
   pub screen : plain.screen ≡ screen_of doc.view.shown (layout_of plain)
 
 -- the document after a line that makes no revision and ends the run, with this view of its text

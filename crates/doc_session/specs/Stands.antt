@@ -34,5 +34,5 @@ pub record DocStandsFor (doc : Doc) (plain : Document) : Type 0 where
   pub saved : doc.saved ≡ plain.saved
   pub saved_before : plain.saved ≤ head plain.history
   pub window : plain.window ≡ doc.view.window
-  pub search : plain.search ≡ doc.view.search
+  pub query : plain.query ≡ doc.view.query
   pub screen : plain.screen ≡ screen_of doc.view.shown (layout_of plain)

@@ -170,16 +170,16 @@ scrolled_document document window = record (looking_document document) { window 
 
 abbrev pub seeking_document : Document → List ℕ → Option Bool → Document
 seeking_document document chars case_sensitive =
-    record (looking_document document) { search = search_for document.search chars case_sensitive }
+    record (looking_document document) { query = search_for document.query chars case_sensitive }
 
 -- the next match is selected, or the previous one; where there is none the regions stay, with their goals
 abbrev pub at_next_match : Document → Option Bool → Document
 at_next_match document wrap_around =
-    selected_document document None (next_found (text_of document) document.search wrap_around document.regions)
+    selected_document document None (next_found (text_of document) document.query wrap_around document.regions)
 
 abbrev pub at_previous_match : Document → Option Bool → Document
 at_previous_match document wrap_around =
-    selected_document document None (previous_found (text_of document) document.search wrap_around document.regions)
+    selected_document document None (previous_found (text_of document) document.query wrap_around document.regions)
 
 -- the lines that a command requests: at that line alone
 abbrev pub request_of : EditAct → Run

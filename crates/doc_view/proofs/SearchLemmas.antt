@@ -88,22 +88,22 @@ or-holds P (Some x) p one other = one
 abbrev pub IsInside : ℕ → Run → Type 0
 IsInside len run = (run.start < run.end) × (run.end ≤ len)
 
-module _ (text : List ℕ) (search : Search) (wrap_around : Option Bool) (regions : List Region) where
-  all_inside : AllByRecursion (IsInside (length text)) (results text search)
-  all_inside = matches_of-inside text search.chars (not search.case_counts)
+module _ (text : List ℕ) (query : Search) (wrap_around : Option Bool) (regions : List Region) where
+  all_inside : AllByRecursion (IsInside (length text)) (results text query)
+  all_inside = matches_of-inside text query.chars (not query.case_counts)
 
-  pub next_match-inside : IfSome (next_match (results text search) wrap_around regions) (IsInside (length text))
+  pub next_match-inside : IfSome (next_match (results text query) wrap_around regions) (IsInside (length text))
   next_match-inside =
-      or-holds (IsInside (length text)) (find (λ (run : Run). nat_le (end_of_regions regions) run.start) (results text search)) _
-      (find-holds (IsInside (length text)) (λ (run : Run). nat_le (end_of_regions regions) run.start) (results text search) all_inside)
-      (wraps-holds (IsInside (length text)) wrap_around (slice_get (results text search) 0) (first-holds (IsInside (length text)) (results text search) all_inside))
+      or-holds (IsInside (length text)) (find (λ (run : Run). nat_le (end_of_regions regions) run.start) (results text query)) _
+      (find-holds (IsInside (length text)) (λ (run : Run). nat_le (end_of_regions regions) run.start) (results text query) all_inside)
+      (wraps-holds (IsInside (length text)) wrap_around (slice_get (results text query) 0) (first-holds (IsInside (length text)) (results text query) all_inside))
 
-  pub previous_match-inside : IfSome (previous_match (results text search) wrap_around regions) (IsInside (length text))
+  pub previous_match-inside : IfSome (previous_match (results text query) wrap_around regions) (IsInside (length text))
   previous_match-inside =
-      or-holds (IsInside (length text)) (last_or None (filter (λ (run : Run). nat_le run.end (start_of_regions regions)) (results text search))) _
-      (last-holds (IsInside (length text)) None (filter (λ (run : Run). nat_le run.end (start_of_regions regions)) (results text search)) tt
-      (filter-holds (IsInside (length text)) (λ (run : Run). nat_le run.end (start_of_regions regions)) (results text search) all_inside))
-      (wraps-holds (IsInside (length text)) wrap_around (last_or None (results text search)) (last-holds (IsInside (length text)) None (results text search) tt all_inside))
+      or-holds (IsInside (length text)) (last_or None (filter (λ (run : Run). nat_le run.end (start_of_regions regions)) (results text query))) _
+      (last-holds (IsInside (length text)) None (filter (λ (run : Run). nat_le run.end (start_of_regions regions)) (results text query)) tt
+      (filter-holds (IsInside (length text)) (λ (run : Run). nat_le run.end (start_of_regions regions)) (results text query) all_inside))
+      (wraps-holds (IsInside (length text)) wrap_around (last_or None (results text query)) (last-holds (IsInside (length text)) None (results text query) tt all_inside))
 
 -- ---- the regions then
 
@@ -120,12 +120,12 @@ with_match-within : (len : ℕ) (regions : List Region) (found : Option Run) →
 with_match-within len regions None are inside = are
 with_match-within len regions (Some run) are inside = (omega (arith, inside.0, inside.1), tt)
 
-pub next_found-within : (text : List ℕ) (search : Search) (wrap_around : Option Bool) (regions : List Region) → AreWithin (length text) regions →
-    AreWithin (length text) (next_found text search wrap_around regions)
-next_found-within text search wrap_around regions are =
-    with_match-within (length text) regions (next_match (results text search) wrap_around regions) are (next_match-inside text search wrap_around regions)
+pub next_found-within : (text : List ℕ) (query : Search) (wrap_around : Option Bool) (regions : List Region) → AreWithin (length text) regions →
+    AreWithin (length text) (next_found text query wrap_around regions)
+next_found-within text query wrap_around regions are =
+    with_match-within (length text) regions (next_match (results text query) wrap_around regions) are (next_match-inside text query wrap_around regions)
 
-pub previous_found-within : (text : List ℕ) (search : Search) (wrap_around : Option Bool) (regions : List Region) → AreWithin (length text) regions →
-    AreWithin (length text) (previous_found text search wrap_around regions)
-previous_found-within text search wrap_around regions are =
-    with_match-within (length text) regions (previous_match (results text search) wrap_around regions) are (previous_match-inside text search wrap_around regions)
+pub previous_found-within : (text : List ℕ) (query : Search) (wrap_around : Option Bool) (regions : List Region) → AreWithin (length text) regions →
+    AreWithin (length text) (previous_found text query wrap_around regions)
+previous_found-within text query wrap_around regions are =
+    with_match-within (length text) regions (previous_match (results text query) wrap_around regions) are (previous_match-inside text query wrap_around regions)

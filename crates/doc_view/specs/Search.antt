@@ -14,11 +14,11 @@ no_search = record { chars = []; case_counts = true }
 
 -- the search for other characters, where case counts, or does not, or counts as before
 abbrev pub search_for : Search → List ℕ → Option Bool → Search
-search_for search chars case_counts = record { chars = chars; case_counts = unwrap_or case_counts search.case_counts }
+search_for query chars case_counts = record { chars = chars; case_counts = unwrap_or case_counts query.case_counts }
 
 -- THE RESULTS of a search in a text: all matches, in order
 abbrev pub results : List ℕ → Search → List Run
-results text search = matches_of text search.chars (not search.case_counts)
+results text query = matches_of text query.chars (not query.case_counts)
 
 -- the greater end of the last region, and the lesser end of the first
 abbrev pub end_of_regions : List Region → ℕ
@@ -52,7 +52,7 @@ with_match regions (Some run) = (record { anchor = run.start; caret = run.end; g
 
 -- the regions after a search forward and backward
 abbrev pub next_found : List ℕ → Search → Option Bool → List Region → List Region
-next_found text search wrap_around regions = with_match regions (next_match (results text search) wrap_around regions)
+next_found text query wrap_around regions = with_match regions (next_match (results text query) wrap_around regions)
 
 abbrev pub previous_found : List ℕ → Search → Option Bool → List Region → List Region
-previous_found text search wrap_around regions = with_match regions (previous_match (results text search) wrap_around regions)
+previous_found text query wrap_around regions = with_match regions (previous_match (results text query) wrap_around regions)

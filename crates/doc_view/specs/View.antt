@@ -16,7 +16,7 @@ pub record View : Type 0 where
   pub text : List ℕ
   pub regions : List Region
   pub window : Run
-  pub search : Search
+  pub query : Search
   pub shown : Option Asked
 
 -- the pieces of the text (it is not wrapped yet), its layout, and the place of the last region's caret

@@ -39,7 +39,7 @@ pub struct ViewState {
     lines: Arc<Lines, Global>,
     /// The lines of it that are shown.
     window: Run,
-    search: Arc<Search, Global>,
+    query: Arc<Search, Global>,
     /// The lines that were asked for at the last update, if there was one. These its front end has.
     shown: Option<Asked>,
 }
@@ -55,7 +55,7 @@ impl Model for ViewState {
       text = (arc_value v.text).text;
       regions = (arc_value v.sel).regions;
       window = v.window;
-      search = arc_value v.search;
+      query = arc_value v.query;
       shown = v.shown;
     } };
 
@@ -66,7 +66,7 @@ impl ViewState {
     /// The view of a text that its front end was told nothing of: one caret, at the start, and no search.
     pub fn of_text(alloc: Global, text: Text, window: Run) -> Result<ViewState, NoMemory>
         ensures { IfOk result (λ made.
-            made ≡ record { text = text; regions = caret_of 0 ∷ []; window = window; search = no_search; shown = None }) }
+            made ≡ record { text = text; regions = caret_of 0 ∷ []; window = window; query = no_search; shown = None }) }
     {
         let kept = kept_text(alloc, text)?;
         let sel = Sel::caret_at(alloc, 0)?;
@@ -76,7 +76,7 @@ impl ViewState {
             sel: Arc::new(alloc, sel)?,
             lines: Arc::new(alloc, lines)?,
             window,
-            search: Arc::new(alloc, Search::none(alloc))?,
+            query: Arc::new(alloc, Search::none(alloc))?,
             shown: None,
         })
     }
@@ -108,7 +108,7 @@ impl ViewState {
             sel: Arc::new(alloc, without_goals(alloc, &self.sel)?)?,
             lines: Arc::try_clone(&self.lines)?,
             window: self.window,
-            search: Arc::try_clone(&self.search)?,
+            query: Arc::try_clone(&self.query)?,
             shown: self.shown,
         })
     }
@@ -131,17 +131,17 @@ impl ViewState {
     ) -> Result<ViewState, NoMemory>
         ensures { IfOk result (λ made. made ≡ record self.now {
           regions = map without_goal self.now.regions;
-          search = search_for self.now.search chars case_counts;
+          query = search_for self.now.query chars case_counts;
         }) }
     {
-        let search = Arc::new(alloc, self.search.for_chars(chars, case_counts))?;
-        Ok(self.without_goals(alloc)?.with_search(search))
+        let query = Arc::new(alloc, self.query.for_chars(chars, case_counts))?;
+        Ok(self.without_goals(alloc)?.with_search(query))
     }
 
     /// The view with the next match of its search selected, if there is one. This copies the text and walks it, and lays it out.
     pub fn at_next(&self, alloc: Global, wrap_around: Option<bool>) -> Result<ViewState, NoMemory>
         ensures { IfOk result (λ made. made ≡ record self.now {
-          regions = next_found self.now.text self.now.search wrap_around self.now.regions;
+          regions = next_found self.now.text self.now.query wrap_around self.now.regions;
         }) }
     {
         let matches = self.results(alloc)?;
@@ -156,7 +156,7 @@ impl ViewState {
         wrap_around: Option<bool>,
     ) -> Result<ViewState, NoMemory>
         ensures { IfOk result (λ made. made ≡ record self.now {
-          regions = previous_found self.now.text self.now.search wrap_around self.now.regions;
+          regions = previous_found self.now.text self.now.query wrap_around self.now.regions;
         }) }
     {
         let matches = self.results(alloc)?;
@@ -166,11 +166,11 @@ impl ViewState {
 
     // All matches of the search.
     fn results(&self, alloc: Global) -> Result<Runs, NoMemory>
-        ensures { IfOk result (λ runs. runs ≡ results self.now.text self.now.search) }
+        ensures { IfOk result (λ runs. runs ≡ results self.now.text self.now.query) }
     {
         let end = text_end(&*self.text);
         let text = self.text.text(alloc, 0, end)?;
-        self.search.results(alloc, &text)
+        self.query.results(alloc, &text)
     }
 
     // The view with a match selected, if there is one.
@@ -192,11 +192,11 @@ impl ViewState {
         view
     }
 
-    fn with_search(self, search: Arc<Search, Global>) -> ViewState
-        ensures { result ≡ record self { search = arc_value search } }
+    fn with_search(self, query: Arc<Search, Global>) -> ViewState
+        ensures { result ≡ record self { query = arc_value query } }
     {
         let mut view = self;
-        view.search = search;
+        view.query = query;
         view
     }
 
@@ -209,7 +209,7 @@ impl ViewState {
             sel: Arc::try_clone(&self.sel)?,
             lines: Arc::try_clone(&self.lines)?,
             window: self.window,
-            search: Arc::try_clone(&self.search)?,
+            query: Arc::try_clone(&self.query)?,
             shown: self.shown,
         })
     }
@@ -348,7 +348,7 @@ impl ViewState {
             sel: Arc::new(alloc, sel)?,
             lines: Arc::new(alloc, lines)?,
             window: self.window,
-            search: Arc::try_clone(&self.search)?,
+            query: Arc::try_clone(&self.query)?,
             shown: self.shown,
         })
     }

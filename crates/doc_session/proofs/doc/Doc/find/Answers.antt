@@ -17,9 +17,9 @@ pub returns-clause-stepped : goal.returns-clause-stepped
 returns-clause-stepped c = λ plain stands.
     let now = c.args.self.now in
     let next = seeking_document plain c.args.chars c.args.case_counts in
-    let view_is = c.in_ok-seeking.ensures ∙ ap (λ (d : Doc). record d.view { regions = map without_goal d.view.regions; search = search_for d.view.search c.args.chars c.args.case_counts }) c.self.view_is in
+    let view_is = c.in_ok-seeking.ensures ∙ ap (λ (d : Doc). record d.view { regions = map without_goal d.view.regions; query = search_for d.view.query c.args.chars c.args.case_counts }) c.self.view_is in
     let regions_are = ap (map without_goal) stands.regions in
     c.looking.ensures.stepped plain next stands
     (subst (λ (v : View). IsUntold (looking_doc now v) plain next) (sym view_is)
-    (IsUntold-looking now plain (map without_goal now.view.regions) (map without_goal plain.regions) now.view.window plain.window (search_for now.view.search c.args.chars c.args.case_counts) (search_for plain.search c.args.chars c.args.case_counts) stands regions_are stands.window (ap (λ (s : Search). search_for s c.args.chars c.args.case_counts) stands.search)
+    (IsUntold-looking now plain (map without_goal now.view.regions) (map without_goal plain.regions) now.view.window plain.window (search_for now.view.query c.args.chars c.args.case_counts) (search_for plain.query c.args.chars c.args.case_counts) stands regions_are stands.window (ap (λ (s : Search). search_for s c.args.chars c.args.case_counts) stands.query)
     (AreRegionsOf-plain (text_of plain) plain.regions stands.regions_are)))

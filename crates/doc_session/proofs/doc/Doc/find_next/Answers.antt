@@ -16,10 +16,10 @@ pub returns-clause-stepped : goal.returns-clause-stepped
 returns-clause-stepped c = λ plain stands.
     let now = c.args.self.now in
     let next = at_next_match plain c.args.wrap_around in
-    let view_is = c.in_ok-at_next.ensures ∙ ap (λ (d : Doc). record d.view { regions = next_found d.view.text d.view.search c.args.wrap_around d.view.regions }) c.self.view_is in
-    let regions_are = ap₂ (λ (text : List ℕ) (regions : List Region). next_found text now.view.search c.args.wrap_around regions) stands.parts.shown_is stands.regions ∙
-    ap (λ search. next_found (text_of plain) search c.args.wrap_around plain.regions) (sym stands.search) in
+    let view_is = c.in_ok-at_next.ensures ∙ ap (λ (d : Doc). record d.view { regions = next_found d.view.text d.view.query c.args.wrap_around d.view.regions }) c.self.view_is in
+    let regions_are = ap₂ (λ (text : List ℕ) (regions : List Region). next_found text now.view.query c.args.wrap_around regions) stands.parts.shown_is stands.regions ∙
+    ap (λ query. next_found (text_of plain) query c.args.wrap_around plain.regions) (sym stands.query) in
     c.looking.ensures.stepped plain next stands
     (subst (λ (v : View). IsUntold (looking_doc now v) plain next) (sym view_is)
-    (IsUntold-looking now plain (next_found now.view.text now.view.search c.args.wrap_around now.view.regions) (next_found (text_of plain) plain.search c.args.wrap_around plain.regions) now.view.window plain.window now.view.search plain.search stands regions_are stands.window stands.search
-    (AreRegionsOf-next (text_of plain) plain.search c.args.wrap_around plain.regions stands.regions_are)))
+    (IsUntold-looking now plain (next_found now.view.text now.view.query c.args.wrap_around now.view.regions) (next_found (text_of plain) plain.query c.args.wrap_around plain.regions) now.view.window plain.window now.view.query plain.query stands regions_are stands.window stands.query
+    (AreRegionsOf-next (text_of plain) plain.query c.args.wrap_around plain.regions stands.regions_are)))

@@ -35,7 +35,7 @@ returns-clause-stands c =
       saved = refl;
       saved_before = omega arith;
       window = sym (ap (λ (v : View). v.window) c.in_ok-of_text.ensures);
-      search = sym (ap (λ (v : View). v.search) c.in_ok-of_text.ensures);
+      query = sym (ap (λ (v : View). v.query) c.in_ok-of_text.ensures);
       screen = rw c.in_ok-of_text.ensures refl;
     })
 

@@ -19,5 +19,5 @@ returns-clause-stepped c = λ plain stands.
     let regions_are = ap (map without_goal) stands.regions in
     c.looking.ensures.stepped plain next stands
     (subst (λ (v : View). IsUntold (looking_doc now v) plain next) (sym view_is)
-    (IsUntold-looking now plain (map without_goal now.view.regions) (map without_goal plain.regions) now.view.window plain.window now.view.search plain.search stands regions_are stands.window stands.search
+    (IsUntold-looking now plain (map without_goal now.view.regions) (map without_goal plain.regions) now.view.window plain.window now.view.query plain.query stands regions_are stands.window stands.query
     (AreRegionsOf-plain (text_of plain) plain.regions stands.regions_are)))

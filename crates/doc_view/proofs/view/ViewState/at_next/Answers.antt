@@ -10,4 +10,4 @@ with_match-requires c =
     let regions = c.deref.result.now.regions in
     subst (λ o. IfSome o (IsInside (length now.text)))
     (sym (c.next_match-found.ensures ∙ ap (λ matches. next_match matches c.args.wrap_around regions) (c.as_slice.ensures ∙ c.in_ok-matches.ensures)))
-    (next_match-inside now.text now.search c.args.wrap_around regions)
+    (next_match-inside now.text now.query c.args.wrap_around regions)
