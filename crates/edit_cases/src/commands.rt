@@ -256,7 +256,7 @@ fn a_tab_goes_to_the_next_stop(rt: HostRuntime) {
 }
 
 #[test]
-fn carets_delete_words_and_clusters(rt: HostRuntime) {
+fn carets_delete_words(rt: HostRuntime) {
     let alloc = rt.alloc();
     assert!(rt;
         gives(
@@ -288,6 +288,11 @@ fn carets_delete_words_and_clusters(rt: HostRuntime) {
             &[(6, 6)]
         )
     );
+}
+
+#[test]
+fn carets_delete_clusters_backward(rt: HostRuntime) {
+    let alloc = rt.alloc();
     assert!(rt;
         gives(
             alloc,
@@ -311,21 +316,26 @@ fn carets_delete_words_and_clusters(rt: HostRuntime) {
     assert!(rt;
         gives(
             alloc,
-            "a\r\nb",
-            &[(1, 1)],
-            EditAct::DeleteForward,
-            "ab",
-            &[(1, 1)]
-        )
-    );
-    assert!(rt;
-        gives(
-            alloc,
             "abcd",
             &[(0, 0)],
             EditAct::DeleteBackward,
             "abcd",
             &[(0, 0)]
+        )
+    );
+}
+
+#[test]
+fn carets_delete_characters_forward(rt: HostRuntime) {
+    let alloc = rt.alloc();
+    assert!(rt;
+        gives(
+            alloc,
+            "a\r\nb",
+            &[(1, 1)],
+            EditAct::DeleteForward,
+            "ab",
+            &[(1, 1)]
         )
     );
     assert!(rt;
