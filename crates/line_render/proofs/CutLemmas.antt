@@ -10,7 +10,7 @@ use Rattle.plain_edits.specs.declared.style.Span.{Span}
 use Rattle.selection_core.specs.Selection.{lesser_end, greater_end}
 use Rattle.span_styles.specs.Triples.{LieInLine}
 use Rattle.line_render.specs.Rendered.{reaches_in, cut_span, cut_spans}
-use Rattle.line_render.specs.Inner.{touching_spans, onto_run, cut_region, selected_runs, selected_span}
+use Rattle.line_render.specs.Inner.{touching_spans, onto_run, cut_region, selected_runs, styled_span}
 
 -- what passes the one test passes the other, so that the other changes nothing
 pub filter-narrow : {X : Type 0} (p q : X → Bool) → ((x : X) → p x ≡ true → q x ≡ true) → (xs : List X) → filter p (filter q xs) ≡ filter p xs
@@ -83,12 +83,12 @@ LieInLine-cut_spans start end len is (span ∷ spans) = by (reaches_in start end
     by true reaches rest = (cut_inside start end len span.start span.end is reaches, rest)
     by false reaches rest = rest
 
-LieInLine-onto_run : (len : ℕ) (run : Run) (spans : List Span) → run.start ≤ run.end → run.end ≤ len → LieInLine len spans → LieInLine len (onto_run run spans)
+LieInLine-onto_run : (len : ℕ) (run : Run) (spans : List Span) → run.start ≤ run.end → run.end ≤ len → LieInLine len spans → LieInLine len (onto_run 0 run spans)
 LieInLine-onto_run len run [] ordered inside lie = ((ordered, inside), tt)
 LieInLine-onto_run len run (next ∷ spans) ordered inside lie = by (next.start == run.end) (next.style == 0) refl
   where
     by : (b c : Bool) → (next.start == run.end) ≡ b → LieInLine len
-        (if b && c then record { start = run.start; end = next.end; style = 0 } ∷ spans else selected_span run ∷ next ∷ spans)
+        (if b && c then record { start = run.start; end = next.end; style = 0 } ∷ spans else styled_span 0 run ∷ next ∷ spans)
     by true true same = ((let up = lie.0.0 in let joins : next.start ≡ run.end = grind (arith, nat_tests) in omega arith, lie.0.1), lie.1)
     by true false same = ((ordered, inside), lie)
     by false c same = ((ordered, inside), lie)
@@ -99,7 +99,7 @@ LieInLine-selected_runs start end len is (region ∷ regions) =
     by (nat_lt (cut_region start end region).start (cut_region start end region).end) (LieInLine-selected_runs start end len is regions)
   where
     by : (b : Bool) → LieInLine len (selected_runs start end regions) →
-        LieInLine len (if b then onto_run (cut_region start end region) (selected_runs start end regions) else selected_runs start end regions)
+        LieInLine len (if b then onto_run 0 (cut_region start end region) (selected_runs start end regions) else selected_runs start end regions)
     by true rest =
         LieInLine-onto_run len (cut_region start end region) (selected_runs start end regions)
         (let rise : lesser_end region ≤ greater_end region = omega arith in omega arith) (omega arith) rest

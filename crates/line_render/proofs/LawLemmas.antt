@@ -1,5 +1,5 @@
 -- The pieces of a text follow each other up to its end, and of them the last one alone is told to be the last.
-use Rattle.std.proofs.Common.{◌≡◌, ◌↔◌, ℕ, zero, suc, ◌+◌, ◌-◌, ◌<◌, ◌≤◌, Bool, true, false, nat_le, List, [], ◌∷◌, ◌++◌, length, map, take, drop, Option, Some, None, refl, ap, ap₂, sym, subst, ◌∙◌, arith, append_assoc, length-append}
+use Rattle.std.proofs.Common.{◌≡◌, ◌↔◌, ℕ, zero, suc, ◌+◌, ◌-◌, ◌<◌, ◌≤◌, Bool, true, false, nat_le, List, [], ◌∷◌, ◌++◌, length, map, take, drop, get_or, Option, Some, None, refl, ap, ap₂, sym, subst, ◌∙◌, arith, append_assoc, length-append}
 use Rattle.std.specs.Prelude.{if◌then◌else◌, ◌==◌, ◌&&◌, not, slice_get, slice_range, unwrap_or}
 use Rattle.std.specs.List.{AllByRecursion, concat, onto_first, count_by}
 use Rattle.std.proofs.lemmas.Bool.{eq-eqb, ne_eqb, le-leb, eqb-true}
@@ -353,3 +353,46 @@ own-layout_line_of text pieces index piece gap are is inside = (into, back)
             let next = next_start text 0 index pieces piece chained is last in
             let before : gap < next.0.start = there.last (suc index) next.0 (omega arith) next.1 in
             let start = next.2 in omega arith
+
+-- ---- what pieces tell by their characters
+
+told-piece : (text : List ℕ) (piece part : Piece) → (piece.start ≤ piece.end) × (piece.end ≤ length text) → (part.start ≤ part.end) × (part.end ≤ length text) →
+    piece.start ≡ part.start → text_of_piece text piece ≡ text_of_piece text part → piece.ln ≡ part.ln → piece ≡ part
+told-piece text piece part one other start line number =
+    let end : piece.end ≡ part.end =
+    omega (arith, one.0, other.0, start, ap length line, length-text_of_piece text piece one.0 one.1, length-text_of_piece text part other.0 other.1) in
+    ap₂ (λ s e. made s e piece.ln) start end ∙ ap (made part.start part.end) number
+  where
+    made : ℕ → ℕ → Option ℕ → Piece
+    made start end ln = record { start = start; end = end; ln = ln }
+
+told-first : (text : List ℕ) (from : ℕ) (piece part : Piece) (pieces parts : List Piece) → AreChained text from (piece ∷ pieces) → AreChained text from (part ∷ parts) →
+    map (text_of_piece text) (piece ∷ pieces) ≡ map (text_of_piece text) (part ∷ parts) →
+    map (λ (p : Piece). p.ln) (piece ∷ pieces) ≡ map (λ (p : Piece). p.ln) (part ∷ parts) → piece ≡ part
+told-first text from piece part pieces parts chained other lines numbers =
+    told-piece text piece part (inside piece pieces chained) (inside part parts other)
+    (head_start text from piece pieces chained ∙ sym (head_start text from part parts other))
+    (ap (λ ls. get_or ls 0 []) lines) (ap (λ ns. get_or ns 0 None) numbers)
+  where
+    inside : (p : Piece) (ps : List Piece) → AreChained text from (p ∷ ps) → (p.start ≤ p.end) × (p.end ≤ length text)
+    inside p ps chain = let known = ends_inside text from 0 (p ∷ ps) p chain refl in (known.1, known.2)
+
+told-chained : (text : List ℕ) (from : ℕ) (pieces parts : List Piece) → AreChained text from pieces → AreChained text from parts →
+    map (text_of_piece text) pieces ≡ map (text_of_piece text) parts → map (λ (p : Piece). p.ln) pieces ≡ map (λ (p : Piece). p.ln) parts → pieces ≡ parts
+told-chained text from [] parts chained other lines numbers = absurd chained
+told-chained text from (piece ∷ pieces) [] chained other lines numbers = absurd other
+told-chained text from (piece ∷ []) (part ∷ []) chained other lines numbers =
+    ap (λ p. p ∷ []) (told-first text from piece part [] [] chained other lines numbers)
+told-chained text from (piece ∷ []) (part ∷ next ∷ parts) chained other lines numbers = absurd (omega (arith, ap length numbers))
+told-chained text from (piece ∷ next ∷ pieces) (part ∷ []) chained other lines numbers = absurd (omega (arith, ap length numbers))
+told-chained text from (piece ∷ next ∷ pieces) (part ∷ after ∷ parts) chained other lines numbers =
+    let first = told-first text from piece part (next ∷ pieces) (after ∷ parts) chained other lines numbers in
+    ap₂ (λ p ps. p ∷ ps) first
+    (told-chained text piece.end (next ∷ pieces) (after ∷ parts) chained.4
+    (subst (λ end. AreChained text end (after ∷ parts)) (sym (ap (λ (p : Piece). p.end) first)) other.4) (ap (drop 1) lines) (ap (drop 1) numbers))
+
+-- PIECES OF A TEXT are told by their characters and numbers
+pub pieces-told : (text : List ℕ) (pieces parts : List Piece) → ArePieces text pieces → ArePieces text parts →
+    map (text_of_piece text) pieces ≡ map (text_of_piece text) parts → map (λ (p : Piece). p.ln) pieces ≡ map (λ (p : Piece). p.ln) parts → pieces ≡ parts
+pieces-told text pieces parts are others lines numbers =
+    told-chained text 0 pieces parts (AreChained-pieces text pieces are) (AreChained-pieces text parts others) lines numbers

@@ -1,5 +1,6 @@
 mod OrderLemmas
 mod CaretLemmas
+pub mod RunLemmas
 mod SelectedLemmas
 mod CutLemmas
 mod FeedLemmas

@@ -1,77 +1,17 @@
 -- The maximal runs of selected characters are those of the regions, one after the other.
-use Rattle.std.proofs.Common.{◌≡◌, ℕ, zero, suc, Bool, true, false, ◌+◌, ◌-◌, ◌<◌, ◌≤◌, List, [], ◌∷◌, map, Option, Some, None, refl, ap, ap₂, sym, ◌∙◌, arith}
-use Rattle.std.specs.Prelude.{min, not, nat_lt, nat_le, ◌&&◌, ◌||◌, ◌==◌, if◌then◌else◌}
-use Rattle.std.specs.List.{filter, range_with_len}
-use Rattle.std.proofs.lemmas.Bool.{eq-eqb, le-leb, ltb-true, ltb-false}
+use Rattle.std.proofs.Common.{◌≡◌, ℕ, Bool, true, false, ◌+◌, ◌-◌, ◌<◌, ◌≤◌, List, [], ◌∷◌, Option, Some, None, refl, ap, sym, ◌∙◌, arith}
+use Rattle.std.specs.Prelude.{min, not, nat_lt, nat_le, ◌&&◌, ◌||◌, if◌then◌else◌}
+use Rattle.std.specs.List.{filter}
+use Rattle.std.proofs.lemmas.Bool.{le-leb, ltb-true, ltb-false}
 use Rattle.std.proofs.lemmas.Bool.Decides.{nat_tests}
 use Rattle.plain_text.specs.declared.run.Run.{Run}
 use Rattle.plain_text.specs.declared.selection.Region.{Region}
 use Rattle.plain_edits.specs.declared.style.Span.{Span}
 use Rattle.selection_core.specs.Selection.{lesser_end, greater_end, IsSelection}
-use Rattle.span_styles.specs.Spans.{onto_spans, spans_from}
 use Rattle.line_render.specs.Rendered.{is_selected, selected_spans}
-use Rattle.line_render.specs.Inner.{touching_regions, onto_run, cut_region, selected_runs, selected_span}
+use Rattle.line_render.specs.Inner.{touching_regions, onto_run, cut_region, selected_runs}
 use Rattle.line_render.proofs.OrderLemmas.{AreFrom, AreFrom-selection, AreFrom-filter, ends_rise}
-
--- ---- runs of a layer that is given by a rule
-
-abbrev run_of : ℕ → ℕ → Run
-run_of start end = record { start = start; end = end }
-
--- the runs of so many characters from one on
-abbrev runs_by : (ℕ → Option ℕ) → ℕ → ℕ → List Span
-runs_by styles from n = spans_from from (map styles (range_with_len from n))
-
-runs_by-same : (f g : ℕ → Option ℕ) (from n : ℕ) → ((i : ℕ) → from ≤ i → i < from + n → f i ≡ g i) → runs_by f from n ≡ runs_by g from n
-runs_by-same f g from zero same = refl
-runs_by-same f g from (suc n) same =
-    ap₂ (λ s ss. onto_spans from s ss) (same from (omega arith) (omega arith)) (runs_by-same f g (from + 1) n (λ i le lt. same i (omega arith) (omega arith)))
-
--- the first `a` have no style
-runs_by-none : (f : ℕ → Option ℕ) (from a b n m : ℕ) → ((i : ℕ) → from ≤ i → i < from + a → f i ≡ None) → n ≡ a + b → m ≡ from + a →
-    runs_by f from n ≡ runs_by f m b
-runs_by-none f from zero b n m none long at =
-    ap₂ (λ i j. runs_by f i j) (let here : from ≡ m = omega arith in here) (let all : n ≡ b = omega arith in all)
-runs_by-none f from (suc a) b n m none long at =
-    ap (λ j. runs_by f from j) (let more : n ≡ suc (a + b) = omega arith in more) ∙
-    ap (λ s. onto_spans from s (runs_by f (from + 1) (a + b))) (none from (omega arith) (omega arith)) ∙
-    runs_by-none f (from + 1) a b (a + b) m (λ i le lt. none i (omega arith) (omega arith)) refl (omega arith)
-
--- one selected character, and one more
-onto_spans-run : (from to : ℕ) (spans : List Span) → to ≡ from + 1 → onto_spans from (Some 0) spans ≡ onto_run (run_of from to) spans
-onto_spans-run from to [] next = ap (λ n. selected_span (run_of from n) ∷ []) (sym next)
-onto_spans-run from to (first ∷ spans) next =
-    ap (λ n. if first.start == n && first.style == 0 then record { start = from; end = first.end; style = 0 } ∷ spans else selected_span (run_of from n) ∷ first ∷ spans) (sym next)
-
-onto_spans-longer : (from next to : ℕ) (spans : List Span) → next ≡ from + 1 → onto_spans from (Some 0) (onto_run (run_of next to) spans) ≡ onto_run (run_of from to) spans
-onto_spans-longer from next to [] is =
-    ap (λ b. if b && true then selected_span (run_of from to) ∷ [] else record { start = from; end = from + 1; style = 0 } ∷ selected_span (run_of next to) ∷ [])
-    (eq-eqb next (from + 1) is)
-onto_spans-longer from next to (first ∷ spans) is = by (first.start == to && first.style == 0)
-  where
-    joins : (end : ℕ) (rest : List Span) →
-        (if next == from + 1 && true then record { start = from; end = end; style = 0 } ∷ rest
-        else record { start = from; end = from + 1; style = 0 } ∷ record { start = next; end = end; style = 0 } ∷ rest) ≡ record { start = from; end = end; style = 0 } ∷ rest
-    joins end rest = ap (λ b. if b && true then record { start = from; end = end; style = 0 } ∷ rest
-        else record { start = from; end = from + 1; style = 0 } ∷ record { start = next; end = end; style = 0 } ∷ rest) (eq-eqb next (from + 1) is)
-
-    by : (b : Bool) → onto_spans from (Some 0) (if b then record { start = next; end = first.end; style = 0 } ∷ spans else selected_span (run_of next to) ∷ first ∷ spans) ≡
-        (if b then record { start = from; end = first.end; style = 0 } ∷ spans else selected_span (run_of from to) ∷ first ∷ spans)
-    by true = joins first.end spans
-    by false = joins to (first ∷ spans)
-
--- the first `a + 1` are selected
-runs_by-all : (f : ℕ → Option ℕ) (from a b n m : ℕ) → ((i : ℕ) → from ≤ i → i < m → f i ≡ Some 0) → n ≡ suc a + b → m ≡ from + suc a →
-    runs_by f from n ≡ onto_run (run_of from m) (runs_by f m b)
-runs_by-all f from zero b n m all long at =
-    ap (λ j. runs_by f from j) (let more : n ≡ suc b = omega arith in more) ∙
-    ap₂ (λ s i. onto_spans from s (runs_by f i b)) (all from (omega arith) (omega arith)) (let here : from + 1 ≡ m = omega arith in here) ∙
-    onto_spans-run from m (runs_by f m b) (omega arith)
-runs_by-all f from (suc a) b n m all long at =
-    ap (λ j. runs_by f from j) (let more : n ≡ suc (suc a + b) = omega arith in more) ∙
-    ap₂ (λ s ss. onto_spans from s ss) (all from (omega arith) (omega arith))
-    (runs_by-all f (from + 1) a b (suc a + b) m (λ i le lt. all i (omega arith) lt) refl (omega arith)) ∙
-    onto_spans-longer from (from + 1) m (runs_by f m b) refl
+use Rattle.line_render.proofs.RunLemmas.{runs_by, runs_by-same, runs_by-none, runs_by-all}
 
 -- ---- the characters that regions select
 
@@ -157,21 +97,21 @@ selected_runs-spans start end len low from n (region ∷ regions) is are reach l
         styled-by (stands_in region (start + i) || is_selected regions (start + i)) (is_selected regions (start + i))
         (or_only (stands_in region (start + i)) (is_selected regions (start + i)) (test_right (lesser_end region) (start + i) (greater_end region) (omega arith)))
 
-    reached : run.start < run.end → whole ≡ onto_run run (runs_by (styled regions start) run.end (len - run.end))
+    reached : run.start < run.end → whole ≡ onto_run 0 run (runs_by (styled regions start) run.end (len - run.end))
     reached some =
         let le = are.0 in
         let begin : from ≤ run.start = omega arith in
         let end_in : run.end ≤ len = omega arith in
         runs_by-none (styled (region ∷ regions) start) from (run.start - from) (n - (run.start - from)) n run.start (λ i from_here lt. before i (omega arith)) (omega arith) (omega arith) ∙
-        runs_by-all (styled (region ∷ regions) start) run.start (run.end - run.start - 1) (len - run.end) (n - (run.start - from)) run.end (inside some) (omega arith) (omega arith) ∙
-        ap (onto_run run) (runs_by-same (styled (region ∷ regions) start) (styled regions start) run.end (len - run.end) (λ i from_end lt. after i from_end (omega arith)))
+        runs_by-all 0 (styled (region ∷ regions) start) run.start (run.end - run.start - 1) (len - run.end) (n - (run.start - from)) run.end (inside some) (omega arith) (omega arith) ∙
+        ap (onto_run 0 run) (runs_by-same (styled (region ∷ regions) start) (styled regions start) run.end (len - run.end) (λ i from_end lt. after i from_end (omega arith)))
 
     by : (b : Bool) → nat_lt run.start run.end ≡ b → selected_runs start end regions ≡ runs_by (styled regions start) from n →
         (run.end + (len - run.end) ≡ len → selected_runs start end regions ≡ runs_by (styled regions start) run.end (len - run.end)) →
-        (if b then onto_run run (selected_runs start end regions) else selected_runs start end regions) ≡ whole
+        (if b then onto_run 0 run (selected_runs start end regions) else selected_runs start end regions) ≡ whole
     by true some rest_same rest =
         let lt = ltb-true run.start run.end some in
-        ap (onto_run run) (rest (omega arith)) ∙ sym (reached lt)
+        ap (onto_run 0 run) (rest (omega arith)) ∙ sym (reached lt)
     by false some rest_same rest = rest_same ∙ sym (skipped (ltb-false run.start run.end some))
 
 -- ---- the regions that touch

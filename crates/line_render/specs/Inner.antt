@@ -22,25 +22,25 @@ shown_gaps start gaps low (caret ∷ carets) =
     then (caret - start) ∷ shown_gaps start gaps (caret - start + 1) carets
     else shown_gaps start gaps low carets
 
--- a run as a span of selected characters
-abbrev pub selected_span : Run → Span
-selected_span run = record { start = run.start; end = run.end; style = 0 }
+-- a run as a span of one style
+abbrev pub styled_span : ℕ → Run → Span
+styled_span style run = record { start = run.start; end = run.end; style = style }
 
--- spans with a run of selected characters before them, which joins the first one where that begins at its end
-abbrev pub onto_run : Run → List Span → List Span
-onto_run run [] = selected_span run ∷ []
-onto_run run (next ∷ spans) =
-    if next.start == run.end && next.style == 0
-    then record { start = run.start; end = next.end; style = 0 } ∷ spans
-    else selected_span run ∷ next ∷ spans
+-- spans with a run of one style before them, which joins the first one where that begins at its end in the same style
+abbrev pub onto_run : ℕ → Run → List Span → List Span
+onto_run style run [] = styled_span style run ∷ []
+onto_run style run (next ∷ spans) =
+    if next.start == run.end && next.style == style
+    then record { start = run.start; end = next.end; style = style } ∷ spans
+    else styled_span style run ∷ next ∷ spans
 
--- the same where the run is there and not empty
+-- the same of a run of selected characters, where it is there, and where it is not empty
 abbrev pub onto_some : Option Run → List Span → List Span
 onto_some None spans = spans
-onto_some (Some run) spans = onto_run run spans
+onto_some (Some run) spans = onto_run 0 run spans
 
 abbrev pub onto_any : Run → List Span → List Span
-onto_any run spans = if nat_lt run.start run.end then onto_run run spans else spans
+onto_any run spans = if nat_lt run.start run.end then onto_run 0 run spans else spans
 
 -- a region as far as it stands between two gaps, counted from the first
 abbrev pub cut_region : ℕ → ℕ → Region → Run
