@@ -2,8 +2,4 @@
 #![tactic(auto)]
 
 #[cfg(test)]
-mod counted;
-#[cfg(test)]
 mod runs;
-#[cfg(test)]
-mod shelf;
