@@ -5,6 +5,8 @@
 #[cfg(test)]
 mod board;
 #[cfg(test)]
+mod made;
+#[cfg(test)]
 mod player;
 #[cfg(test)]
 mod plugins;

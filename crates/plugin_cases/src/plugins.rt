@@ -1,10 +1,10 @@
 //! Lines of plugins: what they ask, why they are refused, and what plugins are told.
 
+use crate::made::are_same;
 use json_rpc::message_of;
 use plain_text::{List, NoMemory, Text};
 use plugin_wire::{ask_of, buffer_line, close_line, notice_line, start_line, stop_line};
 use std::alloc::Global;
-use std::test::Fail;
 use xi_plain::{Act, Command, Delta, El, Fault, Id, Notice, Style, WireSpan};
 
 // Each method with every member.
@@ -34,62 +34,69 @@ fn text(alloc: Global, characters: &str) -> Result<Text, NoMemory> {
     Text::from_str(alloc, characters)
 }
 
+fn push_insert(alloc: Global, els: &mut List<El>, characters: &str) -> Result<(), NoMemory> {
+    let text = text(alloc, characters)?;
+    els.push(El::Insert { text })
+}
+
 /// The delta of [`EDIT`], with these texts before, between and after its copies.
 fn delta(alloc: Global, texts: [&str; 3]) -> Result<Delta, NoMemory> {
     let [first, second, third] = texts;
     let mut els = List::new(alloc);
-    els.push(El::Insert {
-        text: text(alloc, first)?,
-    })?;
+    push_insert(alloc, &mut els, first)?;
     els.push(El::Copy { a: 3, b: 3 })?;
-    els.push(El::Insert {
-        text: text(alloc, second)?,
-    })?;
+    push_insert(alloc, &mut els, second)?;
     els.push(El::Copy { a: 3, b: 9 })?;
-    els.push(El::Insert {
-        text: text(alloc, third)?,
-    })?;
+    push_insert(alloc, &mut els, third)?;
     Ok(Delta { els, base_len: 9 })
 }
 
 fn edit(alloc: Global, named: Option<u64>) -> Result<Act, NoMemory> {
+    let view = text(alloc, "v")?;
+    let author = text(alloc, "a")?;
+    let delta = delta(alloc, ["\"\u{1}", "", "a\u{e9}\u{2028}\u{1f600}"])?;
     Ok(Act::PluginEdit {
-        view: text(alloc, "v")?,
+        view,
         rev: 5,
-        delta: delta(alloc, ["\"\u{1}", "", "a\u{e9}\u{2028}\u{1f600}"])?,
+        delta,
         priority: 4294967295,
         after_cursor: true,
-        author: text(alloc, "a")?,
+        author,
         named,
     })
 }
 
+const NARROW: WireSpan = WireSpan {
+    start: 5,
+    end: 5,
+    style: Style {
+        fg_color: Some(0),
+        bg_color: Some(4294967295),
+        weight: Some(1000),
+        italic: Some(true),
+        underline: Some(false),
+    },
+};
+
+const PLAIN: WireSpan = WireSpan {
+    start: 1,
+    end: 4,
+    style: Style {
+        fg_color: None,
+        bg_color: None,
+        weight: None,
+        italic: None,
+        underline: None,
+    },
+};
+
 fn update_spans(alloc: Global) -> Result<Act, NoMemory> {
+    let view = text(alloc, "v")?;
     let mut spans = List::new(alloc);
-    spans.push(WireSpan {
-        start: 5,
-        end: 5,
-        style: Style {
-            fg_color: Some(0),
-            bg_color: Some(4294967295),
-            weight: Some(1000),
-            italic: Some(true),
-            underline: Some(false),
-        },
-    })?;
-    spans.push(WireSpan {
-        start: 1,
-        end: 4,
-        style: Style {
-            fg_color: None,
-            bg_color: None,
-            weight: None,
-            italic: None,
-            underline: None,
-        },
-    })?;
+    spans.push(NARROW)?;
+    spans.push(PLAIN)?;
     Ok(Act::UpdateSpans {
-        view: text(alloc, "v")?,
+        view,
         rev: 2,
         start: 7,
         len: 5,
@@ -98,8 +105,9 @@ fn update_spans(alloc: Global) -> Result<Act, NoMemory> {
 }
 
 fn get_data(alloc: Global) -> Result<Act, NoMemory> {
+    let view = text(alloc, "v")?;
     Ok(Act::GetData {
-        view: text(alloc, "v")?,
+        view,
         rev: 9223372036854775807,
         start: 3,
         max: 0,
@@ -107,22 +115,18 @@ fn get_data(alloc: Global) -> Result<Act, NoMemory> {
 }
 
 fn line_count(alloc: Global) -> Result<Act, NoMemory> {
-    Ok(Act::LineCount {
-        view: text(alloc, "v")?,
-    })
+    let view = text(alloc, "v")?;
+    Ok(Act::LineCount { view })
 }
 
 fn alert(alloc: Global) -> Result<Act, NoMemory> {
-    Ok(Act::Alert {
-        msg: text(alloc, "m")?,
-    })
+    let msg = text(alloc, "m")?;
+    Ok(Act::Alert { msg })
 }
 
 fn ack(alloc: Global) -> Result<Act, NoMemory> {
-    Ok(Act::Ack {
-        view: text(alloc, "v")?,
-        rev: 1,
-    })
+    let view = text(alloc, "v")?;
+    Ok(Act::Ack { view, rev: 1 })
 }
 
 /// The line with a part of it changed.
@@ -131,49 +135,53 @@ fn changed(alloc: Global, line: &str, part: &str, new: &str) -> Result<String, N
     Ok(format!(in alloc; "{before}{new}{after}")?)
 }
 
-fn is_same(command: &Command, id: &Id, act: &Act) -> bool {
-    command.id == *id && command.act == *act
+fn command(id: Id, act: Result<Act, NoMemory>) -> Result<Command, NoMemory> {
+    Ok(Command { id, act: act? })
 }
 
 /// Whether the line asks this.
-fn asks(alloc: Global, line: &str, id: &Id, act: Act) -> Result<bool, NoMemory> {
-    let command = ask_of(alloc, line.as_bytes())?;
-    let same = is_same(&command, id, &act);
-    Ok(same)
+fn asks(alloc: Global, line: &str, id: Id, act: Result<Act, NoMemory>) -> bool {
+    are_same(ask_of(alloc, line.as_bytes()), command(id, act))
+}
+
+/// Whether the line asks this, and its id is a word.
+fn asks_by_word(alloc: Global, line: &str, word: &str, act: Result<Act, NoMemory>) -> bool {
+    match text(alloc, word) {
+        Ok(word) => asks(alloc, line, Id::Word(word), act),
+        Err(_) => false,
+    }
 }
 
 /// Whether [`EDIT`] with a part of it changed asks an edit that names this group.
-fn asks_edit(alloc: Global, part: &str, new: &str, named: Option<u64>) -> Result<bool, NoMemory> {
-    let line = changed(alloc, EDIT, part, new)?;
-    asks(alloc, line.as_str(), &Id::Num(1), edit(alloc, named)?)
+fn asks_edit(alloc: Global, part: &str, new: &str, named: Option<u64>) -> bool {
+    match changed(alloc, EDIT, part, new) {
+        Ok(line) => asks(alloc, line.as_str(), Id::Num(1), edit(alloc, named)),
+        Err(_) => false,
+    }
 }
 
 #[test]
-fn lines_of_plugins_ask(rt: HostRuntime) -> Result<(), Fail> {
+fn lines_of_plugins_ask(rt: HostRuntime) {
     let alloc = rt.alloc();
-    let word = Id::Word(text(alloc, "b")?);
-    assert!(rt; asks(alloc, EDIT, &Id::Num(1), edit(alloc, Some(4))?)?);
-    assert!(rt; asks(alloc, GET_DATA, &word, get_data(alloc)?)?);
-    assert!(rt; asks(alloc, UPDATE_SPANS, &Id::NoId, update_spans(alloc)?)?);
-    assert!(rt; asks(alloc, LINE_COUNT, &Id::NoId, line_count(alloc)?)?);
-    assert!(rt; asks(alloc, ALERT, &Id::NoId, alert(alloc)?)?);
-    assert!(rt; asks(alloc, ACK, &Id::NoId, ack(alloc)?)?);
-    Ok(())
+    assert!(rt; asks(alloc, EDIT, Id::Num(1), edit(alloc, Some(4))));
+    assert!(rt; asks_by_word(alloc, GET_DATA, "b", get_data(alloc)));
+    assert!(rt; asks(alloc, UPDATE_SPANS, Id::NoId, update_spans(alloc)));
+    assert!(rt; asks(alloc, LINE_COUNT, Id::NoId, line_count(alloc)));
+    assert!(rt; asks(alloc, ALERT, Id::NoId, alert(alloc)));
+    assert!(rt; asks(alloc, ACK, Id::NoId, ack(alloc)));
 }
 
 #[test]
-fn what_may_be_left_out_is(rt: HostRuntime) -> Result<(), Fail> {
+fn what_may_be_left_out_is(rt: HostRuntime) {
     let alloc = rt.alloc();
-    assert!(rt; asks_edit(alloc, "\"undo_group\":4,", "", None)?);
-    assert!(rt; asks_edit(alloc, "\"undo_group\":4", "\"undo_group\":null", None)?);
-    assert!(rt; asks_edit(alloc, "[3,3]", "[3,3],\"to\":null", Some(4))?);
-    Ok(())
+    assert!(rt; asks_edit(alloc, "\"undo_group\":4,", "", None));
+    assert!(rt; asks_edit(alloc, "\"undo_group\":4", "\"undo_group\":null", None));
+    assert!(rt; asks_edit(alloc, "[3,3]", "[3,3],\"to\":null", Some(4)));
 }
 
-#[test]
-fn what_is_empty_is_asked(rt: HostRuntime) -> Result<(), Fail> {
-    let alloc = rt.alloc();
-    let nothing = Act::PluginEdit {
+/// An edit of nothing, by no name.
+fn empty_edit(alloc: Global) -> Act {
+    Act::PluginEdit {
         view: Text::new(alloc),
         rev: 0,
         delta: Delta {
@@ -184,17 +192,39 @@ fn what_is_empty_is_asked(rt: HostRuntime) -> Result<(), Fail> {
         after_cursor: false,
         author: Text::new(alloc),
         named: Some(0),
-    };
-    assert!(rt; asks(alloc, EMPTY_EDIT, &Id::Num(-9223372036854775808), nothing)?);
-    let no_spans = Act::UpdateSpans {
-        view: text(alloc, "v")?,
+    }
+}
+
+fn no_spans(alloc: Global) -> Result<Act, NoMemory> {
+    let view = text(alloc, "v")?;
+    Ok(Act::UpdateSpans {
+        view,
         rev: 0,
         start: 0,
         len: 0,
         spans: List::new(alloc),
-    };
-    assert!(rt; asks(alloc, NO_SPANS, &Id::Num(18446744073709551615), no_spans)?);
-    Ok(())
+    })
+}
+
+#[test]
+fn what_is_empty_is_asked(rt: HostRuntime) {
+    let alloc = rt.alloc();
+    assert!(rt;
+        asks(
+            alloc,
+            EMPTY_EDIT,
+            Id::Num(-9223372036854775808),
+            Ok(empty_edit(alloc))
+        )
+    );
+    assert!(rt;
+        asks(
+            alloc,
+            NO_SPANS,
+            Id::Num(18446744073709551615),
+            no_spans(alloc)
+        )
+    );
 }
 
 /// Why a line is refused; nothing where it is not.
@@ -206,19 +236,18 @@ fn refusal(alloc: Global, line: &str) -> Result<Text, NoMemory> {
     }
 }
 
-/// Whether the line with a part of it changed is refused by this member.
-fn names(alloc: Global, line: &str, part: &str, new: &str, member: &str) -> bool {
-    match named(alloc, line, part, new, member) {
-        Ok(is) => is,
-        Err(_) => false,
-    }
+/// Why a line is refused whose member is wrong.
+fn bad_params(alloc: Global, member: &str) -> Result<Text, NoMemory> {
+    let fault = Fault::BadParams(text(alloc, member)?);
+    message_of(alloc, &fault)
 }
 
-fn named(alloc: Global, line: &str, part: &str, new: &str, member: &str) -> Result<bool, NoMemory> {
-    let line = changed(alloc, line, part, new)?;
-    let wanted = message_of(alloc, &Fault::BadParams(text(alloc, member)?))?;
-    let found = refusal(alloc, line.as_str())?;
-    Ok(found == wanted)
+/// Whether the line with a part of it changed is refused by this member.
+fn names(alloc: Global, line: &str, part: &str, new: &str, member: &str) -> bool {
+    match changed(alloc, line, part, new) {
+        Ok(line) => are_same(refusal(alloc, line.as_str()), bad_params(alloc, member)),
+        Err(_) => false,
+    }
 }
 
 #[test]
@@ -325,12 +354,14 @@ fn other_lines_of_plugins_are_refused(rt: HostRuntime) {
 
 /// The line that tells of a revision with these texts before, between and after its copies.
 fn told(alloc: Global, texts: [&str; 3]) -> Result<Text, NoMemory> {
+    let view = text(alloc, "v")?;
+    let delta = delta(alloc, texts)?;
     let notice = Notice {
-        view: text(alloc, "v")?,
+        view,
         author: 4294967295,
         rev: 18446744073709551615,
         new_len: 7,
-        delta: delta(alloc, texts)?,
+        delta,
     };
     notice_line(alloc, &notice)
 }
@@ -355,16 +386,24 @@ const STOPPED: &str = "{\"method\":\"shutdown\",\"params\":{}}\n";
 const TOLD: &str =
     "{\"method\":\"update\",\"params\":{\"author\":4294967295,\"delta\":{\"base_len\":9,\"els\":[{\"insert\":\"\\\"\\n\"},{\"copy\":[3,3]},{\"insert\":\"\u{e9}\u{2028}\"},{\"copy\":[3,9]},{\"insert\":\"\u{1f600}\"}]},\"new_len\":7,\"rev\":18446744073709551615,\"view_id\":\"v\"}}\n";
 
-#[test]
-fn plugins_are_told_in_exact_bytes(rt: HostRuntime) -> Result<(), Fail> {
-    let alloc = rt.alloc();
+fn opened(alloc: Global) -> Result<Text, NoMemory> {
     let view = text(alloc, "view-id-1")?;
+    buffer_line(alloc, &view, 0)
+}
+
+fn closed(alloc: Global) -> Result<Text, NoMemory> {
+    let view = text(alloc, "view-id-1")?;
+    close_line(alloc, &view)
+}
+
+#[test]
+fn plugins_are_told_in_exact_bytes(rt: HostRuntime) {
+    let alloc = rt.alloc();
     assert!(rt; is(start_line(alloc, 1), STARTED));
-    assert!(rt; is(buffer_line(alloc, &view, 0), OPENED));
-    assert!(rt; is(close_line(alloc, &view), CLOSED));
+    assert!(rt; is(opened(alloc), OPENED));
+    assert!(rt; is(closed(alloc), CLOSED));
     assert!(rt; is(stop_line(alloc), STOPPED));
     assert!(rt; is(told(alloc, ["\"\n", "\u{e9}\u{2028}", "\u{1f600}"]), TOLD));
-    Ok(())
 }
 
 /// The delta that a notice tells, asked for in the place of that of [`EDIT`].
@@ -376,12 +415,22 @@ fn echoed(alloc: Global, notice: &str) -> Result<String, NoMemory> {
     Ok(format!(in alloc; "{before}{delta},\"priority\"{after}")?)
 }
 
+/// Whether what was told of a delta asks for it.
+fn echo_asks(alloc: Global, notice: &str) -> bool {
+    match echoed(alloc, notice) {
+        Ok(line) => asks(alloc, line.as_str(), Id::Num(1), edit(alloc, Some(4))),
+        Err(_) => false,
+    }
+}
+
+fn told_is_asked(alloc: Global) -> bool {
+    match told(alloc, ["\"\u{1}", "", "a\u{e9}\u{2028}\u{1f600}"]) {
+        Ok(notice) => echo_asks(alloc, notice.as_str()),
+        Err(_) => false,
+    }
+}
+
 #[test]
-fn a_delta_that_is_told_is_asked_as_the_same(rt: HostRuntime) -> Result<(), Fail> {
-    let alloc = rt.alloc();
-    let texts = ["\"\u{1}", "", "a\u{e9}\u{2028}\u{1f600}"];
-    let notice = told(alloc, texts)?;
-    let line = echoed(alloc, notice.as_str())?;
-    assert!(rt; asks(alloc, line.as_str(), &Id::Num(1), edit(alloc, Some(4))?)?);
-    Ok(())
+fn a_delta_that_is_told_is_asked_as_the_same(rt: HostRuntime) {
+    assert!(rt; told_is_asked(rt.alloc()));
 }
