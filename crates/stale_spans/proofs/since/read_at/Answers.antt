@@ -1,0 +1,21 @@
+use Rattle.std.proofs.Common.{Err, Ok, ap, arith, length, refl}
+use Rattle.std.proofs.lemmas.Result.{err_from_is_err_and}
+use Rattle.stale_spans.proofs.ReadLemmas.{IsEditOfHead-read, IsRefused-rev, kept-answered}
+use Rattle.stale_spans.proofs.since.read_at.Goals as goal
+
+pub returns-in_err-units-clause-refused : goal.returns-in_err-units-clause-refused
+returns-in_err-units-clause-refused c = λ history stands.
+    let p = err_from_is_err_and c.from_residual.result c.from_residual.ensures.1 in
+    rw p.1 (IsRefused-rev history c.args.rev (Err c.in_err-units.field-0.0) (c.in_err-units.ensures.unknown history stands)
+    (c.in_err-units.ensures.collected history stands) c.in_err-units.field-0.0 _ refl p.2)
+
+pub returns-clause-edit : goal.returns-clause-edit
+returns-clause-edit c =
+    IsEditOfHead-read c.args.engine.now c.args.rev (record { text = c.in_ok-text.text; units = c.in_ok-units.units }) c.requires
+    c.in_ok-text.ensures.text c.in_ok-units.ensures.since
+    (omega (arith, c.len-shown.type_inv, c.len-shown.ensures, ap length c.head_rope.ensures.shown))
+
+pub returns-clause-accepted : goal.returns-clause-accepted
+returns-clause-accepted c = λ history stands.
+    kept-answered history c.args.rev (Ok c.in_ok-units.units) (c.in_ok-units.ensures.unknown history stands)
+    (c.in_ok-units.ensures.collected history stands) c.in_ok-units.units refl
