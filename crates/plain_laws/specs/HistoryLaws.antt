@@ -2,6 +2,8 @@
 use Rattle.std.specs.Prelude.{◌≡◌, ℕ, ◌+◌, ◌≤◌, ◌↔◌, Bool, true, false, not, if◌then◌else◌, List, length, None, IfSome}
 use Rattle.std.specs.List.{list_all, AllByRecursion}
 use Rattle.plain_text.specs.Numbers.{has, IsRising, flipped}
+use Rattle.plain_text.specs.declared.run.Run.{Run}
+use Rattle.plain_edits.specs.declared.style.Span.{Span}
 use Rattle.plain_edits.specs.declared.delta.UnitDelta.{UnitDelta}
 use Rattle.plain_edits.specs.Delta.{applied}
 use Rattle.plain_edits.specs.UnitDelta.{IsCanonical, unit_keeps, unit_adds}
@@ -11,7 +13,7 @@ use Rattle.plain_edits.specs.Collection.{is_clean, clean_floor, IsAtRest, is_at_
 use Rattle.plain_edits.specs.Change.{passes_at, change_keeps, change_adds}
 use Rattle.plain_edits.specs.Blocks.{edited_by_blocks}
 use Rattle.plain_edits.specs.Caret.{index_after, moved_caret, mapped_gap}
-use Rattle.plain_edits.specs.Styles.{Layer, style_of, is_shown_at, carried_layer, mapped_layer, layer_after_steps}
+use Rattle.plain_edits.specs.Styles.{Layer, style_of, is_shown_at, carried_layer, mapped_layer, layer_after_steps, number_at, spanned_style, with_spans}
 use Rattle.plain_edits.specs.HistorySteps.{Step, after_step, after_steps, heads_after, MayCome, IsWellFormed}
 
 -- the edit step goes by blocks: each insertion goes into the block of its gap
@@ -92,6 +94,16 @@ StylesStay = (history : History) (steps : List Step) (layer : Layer) (index : �
     style_of (after_steps history steps) (head (after_steps history steps)) (layer_after_steps history steps layer) index ≡
     (if list_all (λ rev. is_shown_at (after_steps history steps) rev index) (heads_after history steps)
     then style_of (after_steps history steps) (head history) layer index else None)
+
+-- SPANS REACH THEIR CHARACTERS: of what the head shows, a character that the revision shows gets what the spans make of its style, by where it
+-- stood in the text of the revision; and every other one keeps its style, also one that came between them since
+abbrev pub SpansReachTheirCharacters : Type 0
+SpansReachTheirCharacters = (history : History) (rev : ℕ) (range : Run) (spans : List Span) (layer : Layer) (index : ℕ) →
+    is_shown_at history (head history) index ≡ true →
+    style_of history (head history) (with_spans history rev range spans layer) index ≡
+    (if is_shown_at history rev index
+    then spanned_style range spans (number_at history rev index) (style_of history (head history) layer index)
+    else style_of history (head history) layer index)
 
 -- the test of rest finds the groups at rest
 abbrev pub RestIsTested : Type 0

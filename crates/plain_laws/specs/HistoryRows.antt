@@ -124,9 +124,41 @@ pub record CaretBesideInsertion : Type 0 where
   pub selection : moved_regions (loaded (codes "ab")) beside_caret false (record { anchor = 2; caret = 1; goal = Some 7 } ∷ []) ≡
       record { anchor = 3; caret = 2; goal = Some 7 } ∷ []
 
+-- `ptq`, of which group 1 deletes `t`, and into which group 2 puts `E`, against the loaded text; and then group 3 `X` behind `E`, against the
+-- head
+abbrev pub two_since : History
+two_since = then_edit (then_edit (loaded (codes "ptq")) 0 (deleting 3 1 2) 1 0) 0 (inserting 3 1 (codes "E")) 2 0
+
+abbrev pub three_since : History → History
+three_since history = then_edit history 2 (inserting 3 2 (codes "X")) 3 0
+
+-- what came since a revision: what stays of its text, and what appears at which gap; a collection that drops `t` changes none of it
+pub record EditsSince : Type 0 where
+  pub text : text_at two_since 2 ≡ codes "pEq"
+  pub loaded_keeps : map (change_keeps two_since 0 2) (range_with_len 0 3) ≡ true ∷ false ∷ true ∷ []
+  pub loaded_adds : map (change_adds two_since 0 2) (range_with_len 0 4) ≡ [] ∷ codes "E" ∷ [] ∷ [] ∷ []
+  pub first_keeps : map (change_keeps two_since 1 2) (range_with_len 0 2) ≡ true ∷ true ∷ []
+  pub first_adds : map (change_adds two_since 1 2) (range_with_len 0 3) ≡ [] ∷ codes "E" ∷ [] ∷ []
+  pub head_keeps : map (change_keeps two_since 2 2) (range_with_len 0 3) ≡ true ∷ true ∷ true ∷ []
+  pub head_adds : map (change_adds two_since 2 2) (range_with_len 0 4) ≡ [] ∷ [] ∷ [] ∷ [] ∷ []
+  pub dropped : kept (collected_at two_since 2 (1 ∷ [])) ≡ 3
+  pub floor_keeps : map (change_keeps (three_since (collected_at two_since 2 (1 ∷ []))) 2 3) (range_with_len 0 3) ≡ true ∷ true ∷ true ∷ []
+  pub floor_adds : map (change_adds (three_since (collected_at two_since 2 (1 ∷ []))) 2 3) (range_with_len 0 4) ≡ [] ∷ [] ∷ codes "X" ∷ [] ∷ []
+  pub same_adds : map (change_adds (three_since two_since) 2 3) (range_with_len 0 4) ≡ [] ∷ [] ∷ codes "X" ∷ [] ∷ []
+
 -- `abcd`, at whose start the front end inserts `X`
 abbrev pub before_spans : History
 before_spans = then_edit (loaded (codes "abcd")) 0 (inserting 4 0 (codes "X")) 1 65536
+
+-- the same with `X` behind `b`, without `b`, and without `b` and `c`
+abbrev pub between_spans : History
+between_spans = then_edit (loaded (codes "abcd")) 0 (inserting 4 2 (codes "X")) 1 65536
+
+abbrev pub without_one : History
+without_one = then_edit (loaded (codes "abcd")) 0 (deleting 4 1 2) 1 65536
+
+abbrev pub without_two : History
+without_two = then_edit (loaded (codes "abcd")) 0 (deleting 4 1 3) 1 65536
 
 -- a span of characters with a style
 abbrev pub span : ℕ → ℕ → ℕ → Span
@@ -142,6 +174,13 @@ styled = None ∷ None ∷ Some 2 ∷ Some 2 ∷ None ∷ []
 -- stale spans style the characters that they named; a later span wins, and the range is cleared first
 pub record StaleSpans : Type 0 where
   pub stale : with_spans before_spans 0 (record { start = 1; end = 3 }) (span 1 3 2 ∷ []) unstyled ≡ styled
+  pub came_between : with_spans between_spans 0 (record { start = 1; end = 3 }) (span 1 3 2 ∷ []) unstyled ≡
+      None ∷ Some 2 ∷ None ∷ Some 2 ∷ None ∷ []
+  pub came_between_keeps : with_spans between_spans 0 (record { start = 1; end = 3 }) [] (None ∷ Some 3 ∷ Some 4 ∷ Some 3 ∷ None ∷ []) ≡
+      None ∷ None ∷ Some 4 ∷ None ∷ None ∷ []
+  pub one_deleted : with_spans without_one 0 (record { start = 1; end = 3 }) (span 1 3 2 ∷ []) (None ∷ None ∷ None ∷ []) ≡
+      None ∷ Some 2 ∷ None ∷ []
+  pub all_deleted : with_spans without_two 0 (record { start = 1; end = 3 }) (span 1 3 2 ∷ []) (Some 3 ∷ None ∷ []) ≡ Some 3 ∷ None ∷ []
   pub later_wins : with_spans before_spans 0 (record { start = 0; end = 2 }) (span 0 2 3 ∷ span 1 2 4 ∷ []) styled ≡
       None ∷ Some 3 ∷ Some 4 ∷ Some 2 ∷ None ∷ []
   pub cleared : with_spans before_spans 1 (record { start = 3; end = 5 }) [] styled ≡ None ∷ None ∷ Some 2 ∷ None ∷ None ∷ []

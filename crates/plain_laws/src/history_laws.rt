@@ -1,6 +1,6 @@
 //! Laws of undo, collection, change, carets and styles, each the contract of a function: they hold of all sound histories.
 
-ghost use Rattle.plain_laws.specs.HistoryLaws.{EditsGoByBlocks, CanonicalDeltasAreOne, LastUndoCounts, UndoneEditsHide, CollectionsChangeNoText, StepsGiveNothingBack, HistoriesStayWellFormed, CollectionsMayCome, DroppedIsHidden, DroppedStays, ChangesLead, CaretsFollowChanges, StylesFollowChanges, StylesStay, RestIsTested, RestingGroupsQualify, CleanFloorsAreGreatest, FlippedIsExclusive};
+ghost use Rattle.plain_laws.specs.HistoryLaws.{EditsGoByBlocks, CanonicalDeltasAreOne, LastUndoCounts, UndoneEditsHide, CollectionsChangeNoText, StepsGiveNothingBack, HistoriesStayWellFormed, CollectionsMayCome, DroppedIsHidden, DroppedStays, ChangesLead, CaretsFollowChanges, StylesFollowChanges, StylesStay, SpansReachTheirCharacters, RestIsTested, RestingGroupsQualify, CleanFloorsAreGreatest, FlippedIsExclusive};
 
 /// An edit goes block by block: an insertion goes into the block of its gap.
 pub fn edits_go_by_blocks()
@@ -70,6 +70,11 @@ pub fn styles_follow_changes()
 /// A style never moves to another character, whatever steps come between.
 pub fn styles_stay()
     ensures { StylesStay }
+{}
+
+/// Spans against a revision style the characters that they named, where the head shows them, and no others.
+pub fn spans_reach_their_characters()
+    ensures { SpansReachTheirCharacters }
 {}
 
 /// The test of rest and being at rest are the same.

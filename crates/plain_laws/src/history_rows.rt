@@ -1,6 +1,6 @@
 //! Worked rows of undo, collection, change and styles, each the contract of a function.
 
-ghost use Rattle.plain_laws.specs.HistoryRows.{HiddenOnArrival, CollectionAfterGroups, DroppedCharacters, CleanFloors, MergedEdits, EditRefusals, StalePluginInsertion, CaretBesideInsertion, StaleSpans, SelectiveUndo, FlippedSets};
+ghost use Rattle.plain_laws.specs.HistoryRows.{HiddenOnArrival, CollectionAfterGroups, DroppedCharacters, CleanFloors, MergedEdits, EditRefusals, StalePluginInsertion, CaretBesideInsertion, EditsSince, StaleSpans, SelectiveUndo, FlippedSets};
 
 /// An edit in an undone group is hidden on arrival and hides nothing.
 pub fn hidden_on_arrival()
@@ -40,6 +40,11 @@ pub fn stale_plugin_insertion()
 /// A caret goes right of an insertion at its gap, or stays left of it.
 pub fn caret_beside_an_insertion()
     ensures { CaretBesideInsertion }
+{}
+
+/// What came since a revision is an edit of its text, whatever was collected.
+pub fn edits_since()
+    ensures { EditsSince }
 {}
 
 /// Spans against an old revision style the characters that they named.
