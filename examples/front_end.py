@@ -2,7 +2,8 @@
 """A front end: it opens a view, types each line of its own input, and rebuilds the screen from the updates. The keys of a terminal in the
 input are commands, and a line of keys alone types no LF.
 
-    printf 'one\\ntwo' | python3 examples/front_end.py CORE             prints the screen, with the caret as |
+    printf 'one\\ntwo' | python3 examples/front_end.py CORE             prints the screen, with the caret as | and what is selected in brackets
+    printf 'one\\ntwo' | python3 examples/front_end.py CORE 40          wraps the lines at 40 columns
     printf 'one\\ntwo' | python3 examples/front_end.py CORE --script    prints the session, as a script of protocol_cases
 """
 import json, queue, re, subprocess, sys, threading
@@ -51,6 +52,16 @@ def after(old, ops):
     return new
 
 
+def shown(line):
+    """A line without its LF, with its carets, and with brackets around what is selected: the spans with the id 0."""
+    text, end, marks = line["text"].rstrip("\n").encode(), 0, [(at, "|") for at in line["cursor"]]
+    for start, count, id in zip(*[iter(line["styles"])] * 3):
+        end += start + count
+        if id == 0: marks += (end - count, "["), (end, "]")
+    for at, mark in sorted(marks, key=lambda it: (it[0], "[|]".index(it[1])), reverse=True): text = text[:at] + mark.encode() + text[at:]
+    return text.decode()
+
+
 def read():
     """Takes lines until the core ends, on a thread of its own: a core that nobody reads stops at a full pipe."""
     for line in core.stdout:
@@ -62,6 +73,7 @@ def read():
 
 
 threading.Thread(target=read, daemon=True).start()
+for width in filter(str.isdigit, sys.argv[2:]): request("modify_user_config", {"domain": "general", "changes": {"wrap_width": int(width)}})
 view, clipboard = request("new_view", {}), ""
 for line in sys.stdin:
     typed = [part for part in KEY.split(line) if part]
@@ -74,8 +86,5 @@ for line in sys.stdin:
         if method in ("copy", "cut"): clipboard = result
 core.stdin.close()
 while answers.get() is not None: pass
-for line in [] if "--script" in sys.argv else screen:
-    text = line["text"].encode() if line else b"-"
-    for at in reversed(line["cursor"] if line else []): text = text[:at] + b"|" + text[at:]
-    print(f"{line.get('ln', '') if line else '':4}  {text.decode()}".rstrip("\n"))
+for line in [] if "--script" in sys.argv else screen: print(f"{line.get('ln', ''):4}  {shown(line)}" if line else "      -")
 for line, lines in zip(sent, got if "--script" in sys.argv else []): print("> " + line, *("< " + it for it in lines), sep="\n")

@@ -3,7 +3,7 @@ use Rattle.std.proofs.Common.{◌≡◌, List, [], ◌∷◌, ◌++◌, refl, sy
 use Rattle.xi_plain.specs.declared.entry.Entry.{Entry}
 use Rattle.core_session.specs.declared.session.Core.{Core}
 use Rattle.xi_plain.specs.Journal.{closing_entry}
-use Rattle.core_session.specs.Session.{views_after, written}
+use Rattle.core_session.specs.Session.{first_session, views_of, written}
 use Rattle.core_session.specs.Core.{IsServing, journal_of}
 use Rattle.core_session.specs.Shows.{AreShown, last_requested, Shows}
 use Rattle.core_session.proofs.ShowsLemmas.{no_lines, shows_push}
@@ -11,12 +11,12 @@ pub use Rattle.core_session.proofs.SessionLemmas.{IsOfLine-command_of, written-p
 pub use Rattle.core_session.proofs.RowLemmas.{first_insertion}
 
 -- what a session wrote shows its journal with the closing entry, which writes nothing
-pub shows_closed : {K : Type 0} (core : Core K) → IsServing core → Shows (journal_of core ++ closing_entry ∷ []) (written [] (journal_of core))
+pub shows_closed : {K : Type 0} (core : Core K) → IsServing core → Shows (journal_of core ++ closing_entry ∷ []) (written first_session (journal_of core))
 shows_closed core serving =
     let journal = journal_of core in
     let shows = (shows_push journal closing_entry serving.showing no_lines tt).shows in
     record {
-      pieces = sym (written-push journal closing_entry ∙ append-nil (written [] journal));
+      pieces = sym (written-push journal closing_entry ∙ append-nil (written first_session journal));
       screens = shows.screens;
       sends = shows.sends;
     }
@@ -29,7 +29,7 @@ shows_none = record {
   sends = λ front entry back is. absurd (none_there front entry back is);
 }
   where
-    none_before : (front back : List Entry) → [] ≡ front ++ back → AreShown (last_requested front) (views_after [] front) (written [] front)
+    none_before : (front back : List Entry) → [] ≡ front ++ back → AreShown (last_requested front) (views_of front) (written first_session front)
     none_before [] back is = tt
     none_before (entry ∷ front) back is = absurd cc
 

@@ -8,6 +8,7 @@ pub mod ShowsLemmas
 pub mod OpenLemmas
 pub mod FaultLemmas
 pub mod PrepareLemmas
+pub mod ConfigLemmas
 pub mod LawLemmas
 pub mod OnlyViewLemmas
 pub mod RowLemmas

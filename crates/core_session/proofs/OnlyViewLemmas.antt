@@ -8,11 +8,10 @@ use Rattle.plain_text.specs.declared.run.Run.{Run}
 use Rattle.plain_screen.specs.declared.screen.Op.{Op}
 use Rattle.plain_screen.specs.Screen.{Screen, screen_after}
 use Rattle.view_update.specs.Reading.{ViewUpdate}
-use Rattle.core_session.specs.Session.{OpenView, view_id, step, views_after, written, piece_of}
+use Rattle.core_session.specs.Session.{OpenView, first_session, view_id, outcome, session_of, views_of, written, piece_of}
 use Rattle.core_session.specs.Shows.{updates_in, rebuilt_from, rebuilt, IsShown, AreShown, SendsTo, NotesSendTo, requested, last_requested}
-use Rattle.core_session.specs.Core.{views_of}
 use Rattle.core_session.specs.Laws.{only_rebuilt_from, only_rebuilt, IsOnlyShown, OnlyViewIsShown}
-use Rattle.core_session.proofs.SessionLemmas.{views_after-push, all_append}
+use Rattle.core_session.proofs.SessionLemmas.{views_of-push, all_append}
 use Rattle.core_session.proofs.ViewLemmas.{AtMostFirst, Stays}
 use Rattle.core_session.proofs.StepLemmas.{FirstStays, first_stays}
 use Rattle.core_session.proofs.ShowsLemmas.{updates_in-push}
@@ -54,28 +53,29 @@ told_after (view ∷ views) (next ∷ after) (Some note ∷ notes) stays told = 
 
 -- after these entries at most the first view is open, and what was written tells of no other
 IsSoFar : List Entry → Type 0
-IsSoFar entries = AtMostFirst (views_of entries) × AreTold (views_of entries) (updates_in (written [] entries))
+IsSoFar entries = AtMostFirst (views_of entries) × AreTold (views_of entries) (updates_in (written first_session entries))
 
 so_far_push : (before : List Entry) (entry : Entry) → IsSoFar before →
-    NotesSendTo (requested entry.command.act) (views_of (before ++ entry ∷ [])) (updates_in (piece_of (views_of before) entry.command)) →
+    NotesSendTo (requested entry.command.act) (views_of (before ++ entry ∷ [])) (updates_in (piece_of (session_of before) entry.command)) →
     IsSoFar (before ++ entry ∷ [])
 unfolding FirstStays AreTold IsSoFar
 so_far_push before entry so sends =
-    let views = views_of before in
+    let session = session_of before in
     let next = views_of (before ++ entry ∷ []) in
-    let is : step views entry.command ≡ next = sym (views_after-push before entry) in
-    let At : List OpenView → Type 0 = λ after. AtMostFirst after × Stays views after in
-    let stays : At next = subst At is (first_stays views entry.command.act so.0) in
-    let all : AreTold next (updates_in (written [] before) ++ updates_in (piece_of views entry.command)) =
-    all_append (IsTold next) (updates_in (written [] before)) (updates_in (piece_of views entry.command))
-    (told_after views next (updates_in (written [] before)) stays.1 so.1)
-    (sent_told (requested entry.command.act) next (updates_in (piece_of views entry.command)) stays.0 sends) in
+    let is : (outcome session entry.command.act).views ≡ next = sym (views_of-push before entry) in
+    let At : List OpenView → Type 0 = λ after. AtMostFirst after × Stays session.views after in
+    let stays : At next = subst At is (first_stays session entry.command.act so.0) in
+    let piece = updates_in (piece_of session entry.command) in
+    let all : AreTold next (updates_in (written first_session before) ++ piece) =
+    all_append (IsTold next) (updates_in (written first_session before)) piece
+    (told_after session.views next (updates_in (written first_session before)) stays.1 so.1)
+    (sent_told (requested entry.command.act) next piece stays.0 sends) in
     (stays.0, subst (AreTold next) (sym (updates_in-push before entry)) all)
 
 -- each entry tells of the views that are open after it alone
 TellsEach : List Entry → Type 0
 TellsEach journal = (front : List Entry) (entry : Entry) (back : List Entry) → journal ≡ front ++ (entry ∷ back) →
-    NotesSendTo (requested entry.command.act) (views_after [] (front ++ entry ∷ [])) (updates_in (piece_of (views_after [] front) entry.command))
+    NotesSendTo (requested entry.command.act) (views_of (front ++ entry ∷ [])) (updates_in (piece_of (session_of front) entry.command))
 
 so_far : (before entries : List Entry) → IsSoFar before → TellsEach (before ++ entries) → IsSoFar (before ++ entries)
 unfolding TellsEach
@@ -120,4 +120,4 @@ only_view_is_shown journal front back bytes shows is =
     let each : TellsEach front =
     λ before entry after cut. shows.sends before entry (after ++ back) (is ∙ ap (λ xs. xs ++ back) cut ∙ append_assoc before (entry ∷ after) back) in
     let so : IsSoFar front = so_far [] front (tt, tt) each in
-    shown_only (last_requested front) (views_of front) (written [] front) so.0 so.1 (shows.screens front back is)
+    shown_only (last_requested front) (views_of front) (written first_session front) so.0 so.1 (shows.screens front back is)

@@ -15,31 +15,35 @@ use Rattle.core_session.specs.declared.act.ActEffects.{ActEffects}
 use Rattle.core_session.specs.declared.act.Reply.{Reply as ReplyInMemory}
 use Rattle.core_session.specs.declared.act.Reply.TheVariants.{Opened}
 use Rattle.xi_plain.specs.declared.command.EditAct.{EditAct}
+use Rattle.xi_plain.specs.declared.config.Config.{Config}
 use Rattle.plain_edits.specs.Edits.{Refusal}
 use Rattle.core_session.specs.Answer.{Reply, accepted, result_of}
 use Rattle.core_session.specs.Core.{ServesDocument, ServesView, Stands}
 use Rattle.core_session.specs.Inner.{TakesEvents, IsOutcome, document_then, reply_of}
-use Rattle.core_session.specs.Session.{OpenView, view_id, named_view, first_document, open_outcome, text_limit, updates_for, scroll_for, keeping, front_outcome, edit_came, spent_total, other_step}
+use Rattle.core_session.specs.Session.{OpenView, view_id, named_view, first_document, open_outcome, text_limit, updates_for, scroll_for, keeping, taking, front_outcome, edit_came, spent_total, other_step}
 use Rattle.core_session.proofs.ViewLemmas.{same_id}
 
 -- a document that was just loaded takes events
-pub TakesEvents-loaded : (doc : Doc) (text : List ℕ) → DocStandsFor doc (loaded_document text 0 text_limit) → TakesEvents doc
-TakesEvents-loaded doc text stands = (ap length stands.sessions, omega (arith, head-stands doc.engine (loaded text) stands.parts.stands))
+pub TakesEvents-loaded : (doc : Doc) (text : List ℕ) (config : Config) → DocStandsFor doc (loaded_document text 0 text_limit config) →
+    TakesEvents doc
+TakesEvents-loaded doc text config stands = (ap length stands.sessions, omega (arith, head-stands doc.engine (loaded text) stands.parts.stands))
 
-pub stands-first : (doc : Doc) (text : List ℕ) → text ≡ [] → DocStandsFor doc (loaded_document text 0 text_limit) → DocStandsFor doc first_document
-stands-first doc text none stands = subst (λ t. DocStandsFor doc (loaded_document t 0 text_limit)) none stands
+pub stands-first : (doc : Doc) (text : List ℕ) (config : Config) → text ≡ [] → DocStandsFor doc (loaded_document text 0 text_limit config) →
+    DocStandsFor doc (first_document config)
+stands-first doc text config none stands = subst (λ t. DocStandsFor doc (loaded_document t 0 text_limit config)) none stands
 
-pub IsOutcome-opened : (document : Option Doc) (path : Option (List ℕ)) (views : List OpenView) (made : Doc) (effects : Effects) (came : ActEffects) →
-    is_some document ≡ false → is_some path ≡ false → Stands document views → ServesDocument made (event_step first_document Other).document →
-    AreEffectsOf (event_step first_document Other) effects → came ≡ record { reply = Opened; next = Some made; update = effects.update; scroll = effects.scroll } →
-    IsOutcome document (open_outcome views path) came
-IsOutcome-opened (Some doc) path views made effects came here there stands kept shown is = absurd cc
-IsOutcome-opened None (Some path) views made effects came here there stands kept shown is = absurd cc
-IsOutcome-opened None None (view ∷ views) made effects came here there stands kept shown is = absurd stands
-IsOutcome-opened None None [] made effects came here there stands kept shown is =
+pub IsOutcome-opened : (document : Option Doc) (config : Config) (path : Option (List ℕ)) (views : List OpenView) (made : Doc) (effects : Effects)
+    (came : ActEffects) → is_some document ≡ false → is_some path ≡ false → Stands document views →
+    ServesDocument made (event_step (first_document config) Other).document → AreEffectsOf (event_step (first_document config) Other) effects →
+    came ≡ record { reply = Opened; next = Some made; update = effects.update; scroll = effects.scroll } →
+    IsOutcome document (open_outcome config views path) came
+IsOutcome-opened (Some doc) config path views made effects came here there stands kept shown is = absurd cc
+IsOutcome-opened None config (Some path) views made effects came here there stands kept shown is = absurd cc
+IsOutcome-opened None config None (view ∷ views) made effects came here there stands kept shown is = absurd stands
+IsOutcome-opened None config None [] made effects came here there stands kept shown is =
     rw is (record {
       reply = refl;
-      updates = ap (updates_for view_id) shown.update ∙ sym (append-nil (updates_for view_id (event_step first_document Other).update));
+      updates = ap (updates_for view_id) shown.update ∙ sym (append-nil (updates_for view_id (event_step (first_document config) Other).update));
       scroll = ap (scroll_for view_id) shown.scroll;
       stands = record { id = refl; serves = kept };
     })
@@ -50,16 +54,16 @@ told_only : (view : OpenView) (step : EventStep) (effects : Effects) → view.id
 told_only view step effects first shown =
     ap (updates_for view_id) shown.update ∙ ap (λ id. updates_for id step.update) (sym first) ∙ sym (append-nil (updates_for view.id step.update))
 
--- a line that is none of the only view's own
-pub IsOutcome-other : (doc : Doc) (reply : ReplyInMemory) (view : OpenView) (made : Doc) (effects : Effects) (came : ActEffects) →
-    ServesView doc view → ServesDocument made (event_step view.document Other).document → AreEffectsOf (event_step view.document Other) effects →
-    came ≡ record { reply = reply; next = Some made; update = effects.update; scroll = effects.scroll } →
-    IsOutcome (Some doc) (keeping (view ∷ []) (reply_of reply)) came
-IsOutcome-other doc reply view made effects came serves kept shown is =
+-- the only view takes a step that scrolls nowhere
+pub IsOutcome-taking : (doc : Doc) (reply : ReplyInMemory) (steps : OpenView → EventStep) (view : OpenView) (made : Doc) (effects : Effects)
+    (came : ActEffects) → ServesView doc view → (steps view).scroll ≡ None → ServesDocument made (steps view).document →
+    AreEffectsOf (steps view) effects → came ≡ record { reply = reply; next = Some made; update = effects.update; scroll = effects.scroll } →
+    IsOutcome (Some doc) (taking (reply_of reply) None steps (view ∷ [])) came
+IsOutcome-taking doc reply steps view made effects came serves nowhere kept shown is =
     rw is (record {
       reply = refl;
-      updates = told_only view (event_step view.document Other) effects serves.id shown;
-      scroll = ap (scroll_for view_id) shown.scroll;
+      updates = told_only view (steps view) effects serves.id shown;
+      scroll = ap (scroll_for view_id) (shown.scroll ∙ nowhere);
       stands = record { id = serves.id; serves = kept };
     })
 

@@ -1,8 +1,9 @@
 -- What an event and a line come to in memory, by what the calls below them say.
-use Rattle.std.proofs.Common.{◌≡◌, ℕ, List, ◌++◌, length, Option, None, Result, Ok, Err, IfOk, IfErr, ◌∙◌, subst}
+use Rattle.std.proofs.Common.{◌≡◌, ℕ, ◌<◌, List, ◌++◌, length, Option, None, Result, Ok, Err, IfOk, IfErr, ◌∙◌, subst}
 use Rattle.std.specs.Prelude.{OnOk, option_map}
 use Rattle.std.specs.Str.{encode_utf8_all}
 use Rattle.xi_plain.specs.declared.command.Command.{Command}
+use Rattle.xi_plain.specs.declared.config.Config.{Config}
 use Rattle.view_update.specs.Reading.{ViewUpdate, Scroll}
 use Rattle.doc_session.specs.InMemory.{Doc}
 use Rattle.doc_session.specs.declared.event.Effects.{Effects}
@@ -15,7 +16,7 @@ use Rattle.doc_session.specs.Stands.{DocStandsFor}
 use Rattle.doc_session.specs.Step.{AreEffectsOf, event_step, refusal_at}
 use Rattle.core_session.specs.declared.act.ActEffects.{ActEffects}
 use Rattle.core_session.specs.Answer.{Reply, answers}
-use Rattle.core_session.specs.Session.{OpenView, view_id, outcome, update_notes, scroll_notes, updates_for, scroll_for}
+use Rattle.core_session.specs.Session.{Session, config_after, view_id, outcome, update_notes, scroll_notes, updates_for, scroll_for}
 use Rattle.core_session.specs.Inner.{IsMade, IsOutcome, IsPrepared, AreLinesOf, UpdatesReadBack, reply_of}
 
 -- an event of a document in which no plugin has a session
@@ -24,26 +25,27 @@ pub IsMade-after : (old : Doc) (event : Event) (result : Result (Doc × Effects)
     ((plain : Document) → DocStandsFor old plain → IfOk result (λ made. AreEffectsOf (event_step plain event) made.1)) →
     ((plain : Document) → DocStandsFor old plain → OnOk result (refusal_at plain event ≡ None)) →
     ((plain : Document) → DocStandsFor old plain → IfErr result (DocRefuses (refusal_at plain event))) →
-    IfOk result (λ made. (length made.0.sessions ≡ length old.sessions) × (made.0.config ≡ old.config)) → IsMade old event result
+    IfOk result (λ made. length made.0.sessions ≡ length old.sessions) → IsMade old event result
 IsMade-after old event (Err fault) none stands effects accepted refused kept =
     record { served = stands; effects = effects; accepted = accepted; refused = refused }
 IsMade-after old event (Ok made) none stands effects accepted refused kept = record {
-  served = λ plain here. record { stands = stands plain here; no_sessions = kept.0 ∙ none };
+  served = λ plain here. record { stands = stands plain here; no_sessions = kept ∙ none };
   effects = effects;
   accepted = accepted;
   refused = refused;
 }
 
--- a command, by what its act came to and by the lines of that
-pub IsPrepared-by : (before : Option Doc) (views : List OpenView) (command : Command) (effects : ActEffects) (piece : List ℕ) →
-    IsOutcome before (outcome views command.act) effects → UpdatesReadBack (updates_for view_id effects.update) →
+-- a command, by what its act came to, by the lines of that, and by the configuration after it
+pub IsPrepared-by : (before : Option Doc) (session : Session) (command : Command) (effects : ActEffects) (piece : List ℕ) (config : Config) →
+    IsOutcome before (outcome session command.act) effects → config ≡ config_after session.config command.act → 0 < config.tab →
+    UpdatesReadBack (updates_for view_id effects.update) →
     AreLinesOf (answers command.id (reply_of effects.reply) ++
     (update_notes (updates_for view_id effects.update) ++ scroll_notes (scroll_for view_id (option_map position_view effects.scroll)))) (encode_utf8_all piece) →
-    IsPrepared before views (record { command = command; piece = piece; next = effects.next })
-IsPrepared-by before views command effects piece is reads lines =
+    IsPrepared before session (record { command = command; piece = piece; next = effects.next; config = config })
+IsPrepared-by before session command effects piece config is next tab reads lines =
     let At : Reply → List ViewUpdate → Option Scroll → Type 0 =
     λ reply updates scroll. AreLinesOf (answers command.id reply ++ (update_notes updates ++ scroll_notes scroll)) (encode_utf8_all piece) in
-    let done = outcome views command.act in
+    let done = outcome session command.act in
     let by_reply : At done.reply (updates_for view_id effects.update) (scroll_for view_id (option_map position_view effects.scroll)) =
     subst (λ reply. At reply (updates_for view_id effects.update) (scroll_for view_id (option_map position_view effects.scroll))) is.reply lines in
     let by_updates : At done.reply done.updates (scroll_for view_id (option_map position_view effects.scroll)) =
@@ -51,5 +53,5 @@ IsPrepared-by before views command effects piece is reads lines =
     record {
       lines = subst (λ scroll. At done.reply done.updates scroll) is.scroll by_updates;
       reads_back = subst UpdatesReadBack is.updates reads;
-      stands = is.stands;
+      stands = record { views = is.stands; config = next; tab = tab };
     }

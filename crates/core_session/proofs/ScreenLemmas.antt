@@ -1,16 +1,17 @@
 -- Where no update is wanted the screen shows what was asked for, as it did before.
 use Rattle.std.proofs.Common.{◌≡◌, ℕ, zero, suc, ◌+◌, ◌||◌, ◌&&◌, length, arith, Bool, true, false, List, [], ◌∷◌, Option, Some, None, refl, ap, sym, ◌∙◌, subst}
-use Rattle.std.specs.Prelude.{not, is_some, slice_get, option_map}
+use Rattle.std.specs.Prelude.{if◌then◌else◌, not, is_some, slice_get, option_map}
 use Rattle.std.proofs.lemmas.Bool.Decides.{nat_tests}
 use Rattle.plain_text.specs.declared.run.Run.{Run}
 use Rattle.plain_screen.specs.declared.screen.Line.{Line}
 use Rattle.plain_screen.specs.Plan.{is_within}
 use Rattle.plain_screen.specs.Screen.{Screen}
+use Rattle.plain_screen.specs.declared.screen.Update.{Update}
 use Rattle.plain_screen.proofs.callers.SameLemmas.{is_same_layout-Decides}
 use Rattle.doc_session.specs.Document.{Document, is_pristine, layout_of, no_request}
-use Rattle.doc_session.specs.Effects.{are_valid, differ, is_shown, wants_update}
+use Rattle.doc_session.specs.Effects.{are_valid, differ, is_shown, update_after, update_of, wants_update}
 use Rattle.doc_session.specs.SameLayout.{is_same_layout}
-use Rattle.doc_session.specs.ScreenOf.{IsUpToDate}
+use Rattle.doc_session.specs.ScreenOf.{IsScreenOf, IsUpToDate}
 
 -- ---- the lines that are valid
 
@@ -77,6 +78,35 @@ IsUpToDate-kept request last before next wants screen told =
       equal = equal;
       valid = λ i here. valid_by next.window request 0 (layout_of next) next.screen long equal flags.1 i i (omega arith) here;
     }
+
+-- ---- an empty screen
+
+-- a screen without lines shows no layout that has one
+none_there : (window request : Run) (lines : List Line) → are_valid window request 0 lines [] ≡ true → lines ≡ []
+none_there window request [] valid = refl
+none_there window request (line ∷ lines) valid = absurd cc
+
+IsUpToDate-nothing : (last : Run) (document : Document) → document.screen ≡ [] → layout_of document ≡ [] → IsUpToDate last document
+IsUpToDate-nothing last document empty none =
+    let At : Screen → List Line → Type 0 = λ screen lines. IsScreenOf screen document.window last lines in
+    let here : At [] [] = record { length = refl; equal = λ i line given. absurd cc; valid = λ i asked. refl } in
+    subst (λ screen. At screen (layout_of document)) (sym empty) (subst (At []) (sym none) here)
+
+unwanted : (wants : Bool) (update : Update) → (if wants then Some update else None) ≡ None → wants ≡ false
+unwanted true update none = absurd cc
+unwanted false update none = refl
+
+-- a front end that has nothing and is told nothing lacks nothing
+pub IsUpToDate-untold : (request last : Run) (before next : Document) → before.screen ≡ [] → next.screen ≡ [] →
+    update_after request before next ≡ None → IsUpToDate last before
+IsUpToDate-untold request last before next empty still none =
+    let wants : wants_update request before next ≡ false = unwanted (wants_update request before next) (update_of request next) none in
+    let flags =
+    none_wanted (is_same_layout (layout_of before) (layout_of next)) (differ (is_pristine before) (is_pristine next)) (is_shown request next) wants in
+    let layouts : layout_of before ≡ layout_of next = (is_same_layout-Decides (layout_of before) (layout_of next)).0 flags.0 in
+    let valid : are_valid next.window request 0 (layout_of next) [] ≡ true =
+    subst (λ screen. are_valid next.window request 0 (layout_of next) screen ≡ true) still flags.1 in
+    IsUpToDate-nothing last before empty (layouts ∙ none_there next.window request (layout_of next) valid)
 
 -- ---- a request that is over
 

@@ -9,7 +9,7 @@ use Rattle.serde_json.specs.Data.{Data}
 use Rattle.json_rpc.specs.Line.{line_of, IsLineOf}
 use Rattle.xi_plain.specs.declared.command.Command.{Command}
 use Rattle.xi_plain.specs.declared.entry.Entry.{Entry}
-use Rattle.core_session.specs.Session.{OpenView, messages, step, views_after, lines_written, written, piece_of}
+use Rattle.core_session.specs.Session.{Session, first_session, messages, outcome, step, session_after, session_of, views_of, lines_written, written, piece_of}
 use Rattle.core_session.specs.Core.{IsOfLine, IsOpen, front_entry}
 use Rattle.core_session.specs.Inner.{AreLinesOf}
 use Rattle.std.proofs.Math.Seq.{take-nil}
@@ -22,56 +22,68 @@ use Rattle.front_wire.specs.Front.{command_of}
 use Rattle.front_wire.proofs.ForCallers.{closes-command_of}
 
 -- entries after entries
-pub views_after-append : (views : List OpenView) (front back : List Entry) →
-    views_after views (front ++ back) ≡ views_after (views_after views front) back
-views_after-append views [] back = refl
-views_after-append views (entry ∷ front) back = views_after-append (step views entry.command) front back
+pub session_after-append : (session : Session) (front back : List Entry) →
+    session_after session (front ++ back) ≡ session_after (session_after session front) back
+session_after-append session [] back = refl
+session_after-append session (entry ∷ front) back = session_after-append (step session entry.command) front back
 
 -- the messages of entries, one after the other
-pub all_messages : List OpenView → List Entry → List Data
-all_messages views [] = []
-all_messages views (entry ∷ entries) = messages views entry.command ++ all_messages (step views entry.command) entries
+pub all_messages : Session → List Entry → List Data
+all_messages session [] = []
+all_messages session (entry ∷ entries) = messages session entry.command ++ all_messages (step session entry.command) entries
 
-pub all_messages-append : (views : List OpenView) (front back : List Entry) →
-    all_messages views (front ++ back) ≡ all_messages views front ++ all_messages (views_after views front) back
+pub all_messages-append : (session : Session) (front back : List Entry) →
+    all_messages session (front ++ back) ≡ all_messages session front ++ all_messages (session_after session front) back
 unfolding all_messages
-all_messages-append views [] back = refl
-all_messages-append views (entry ∷ front) back =
-    ap (λ rest. messages views entry.command ++ rest) (all_messages-append (step views entry.command) front back) ∙
-    sym (append_assoc (messages views entry.command) (all_messages (step views entry.command) front)
-    (all_messages (views_after (step views entry.command) front) back))
+all_messages-append session [] back = refl
+all_messages-append session (entry ∷ front) back =
+    ap (λ rest. messages session entry.command ++ rest) (all_messages-append (step session entry.command) front back) ∙
+    sym (append_assoc (messages session entry.command) (all_messages (step session entry.command) front)
+    (all_messages (session_after (step session entry.command) front) back))
 
 -- one more entry
-pub views_after-push : (journal : List Entry) (entry : Entry) →
-    views_after [] (journal ++ entry ∷ []) ≡ step (views_after [] journal) entry.command
-views_after-push journal entry = views_after-append [] journal (entry ∷ [])
+pub session_of-push : (journal : List Entry) (entry : Entry) →
+    session_of (journal ++ entry ∷ []) ≡ step (session_of journal) entry.command
+session_of-push journal entry = session_after-append first_session journal (entry ∷ [])
 
-pub all_messages-push : (journal : List Entry) (entry : Entry) →
-    all_messages [] (journal ++ entry ∷ []) ≡ all_messages [] journal ++ messages (views_after [] journal) entry.command
-unfolding all_messages
-all_messages-push journal entry =
-    all_messages-append [] journal (entry ∷ []) ∙
-    ap (λ rest. all_messages [] journal ++ rest) (append-nil (messages (views_after [] journal) entry.command))
+pub views_of-push : (journal : List Entry) (entry : Entry) →
+    views_of (journal ++ entry ∷ []) ≡ (outcome (session_of journal) entry.command.act).views
+views_of-push journal entry = ap (λ (session : Session). session.views) (session_of-push journal entry)
+
+-- the messages of a journal
+pub messages_of : List Entry → List Data
+messages_of journal = all_messages first_session journal
+
+pub messages_of-push : (journal : List Entry) (entry : Entry) →
+    messages_of (journal ++ entry ∷ []) ≡ messages_of journal ++ messages (session_of journal) entry.command
+unfolding all_messages messages_of
+messages_of-push journal entry =
+    all_messages-append first_session journal (entry ∷ []) ∙
+    ap (λ rest. messages_of journal ++ rest) (append-nil (messages (session_of journal) entry.command))
 
 -- the lines of messages after messages
 pub lines_written-append : (front back : List Data) → lines_written (front ++ back) ≡ lines_written front ++ lines_written back
 lines_written-append front back = ap concat (map-append line_of front back) ∙ concat-append (map line_of front) (map line_of back)
 
 -- what entries write is the lines of their messages
-pub written-messages : (views : List OpenView) (entries : List Entry) → written views entries ≡ lines_written (all_messages views entries)
+written-all : (session : Session) (entries : List Entry) → written session entries ≡ lines_written (all_messages session entries)
 unfolding all_messages
-written-messages views [] = refl
-written-messages views (entry ∷ entries) =
-    ap (λ rest. piece_of views entry.command ++ rest) (written-messages (step views entry.command) entries) ∙
-    sym (lines_written-append (messages views entry.command) (all_messages (step views entry.command) entries))
+written-all session [] = refl
+written-all session (entry ∷ entries) =
+    ap (λ rest. piece_of session entry.command ++ rest) (written-all (step session entry.command) entries) ∙
+    sym (lines_written-append (messages session entry.command) (all_messages (step session entry.command) entries))
+
+pub written-messages : (journal : List Entry) → written first_session journal ≡ lines_written (messages_of journal)
+unfolding messages_of
+written-messages journal = written-all first_session journal
 
 -- one more entry writes its piece
 pub written-push : (journal : List Entry) (entry : Entry) →
-    written [] (journal ++ entry ∷ []) ≡ written [] journal ++ piece_of (views_after [] journal) entry.command
+    written first_session (journal ++ entry ∷ []) ≡ written first_session journal ++ piece_of (session_of journal) entry.command
 written-push journal entry =
-    let said = messages (views_after [] journal) entry.command in
-    written-messages [] (journal ++ entry ∷ []) ∙ ap lines_written (all_messages-push journal entry) ∙
-    lines_written-append (all_messages [] journal) said ∙ ap (λ front. front ++ lines_written said) (sym (written-messages [] journal))
+    let said = messages (session_of journal) entry.command in
+    written-messages (journal ++ entry ∷ []) ∙ ap lines_written (messages_of-push journal entry) ∙
+    lines_written-append (messages_of journal) said ∙ ap (λ front. front ++ lines_written said) (sym (written-messages journal))
 
 -- texts of lines, one after the other
 pub all_append : {X : Type 0} (P : X → Type 0) (xs ys : List X) → AllByRecursion P xs → AllByRecursion P ys → AllByRecursion P (xs ++ ys)

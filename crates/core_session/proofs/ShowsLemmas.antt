@@ -1,6 +1,6 @@
 -- One more entry is shown, where those before it are.
 use Rattle.std.proofs.Common.{◌≡◌, ℕ, ◌-◌, ◌<◌, length, arith, Bool, true, false, List, [], ◌∷◌, ◌++◌, map, Option, Some, None, refl, ap, sym, ◌∙◌, subst, append-nil, ◌⊎◌, inl, inr}
-use Rattle.std.specs.Prelude.{if◌then◌else◌, is_some, ℤ, pos, codes, ◌^◌}
+use Rattle.std.specs.Prelude.{if◌then◌else◌, ℤ, pos, codes, ◌^◌}
 use Rattle.std.specs.Str.{bytes_eq}
 use Rattle.std.specs.List.{filter_map, cons_option, AllByRecursion}
 use Rattle.serde_json.specs.Data.{Data}
@@ -11,6 +11,7 @@ use Rattle.xi_plain.specs.declared.command.Id.TheVariants.{NoId, Num, Word}
 use Rattle.xi_plain.specs.declared.command.Fault.{Fault}
 use Rattle.xi_plain.specs.declared.command.Fault.TheVariants.{Parse, Invalid, NoMethod, BadParams}
 use Rattle.xi_plain.specs.declared.command.Command.{Command}
+use Rattle.xi_plain.specs.declared.config.Config.{Config}
 use Rattle.xi_plain.specs.declared.entry.Entry.{Entry}
 use Rattle.xi_plain.specs.declared.command.Act.{Act}
 use Rattle.plain_text.specs.declared.run.Run.{Run}
@@ -24,20 +25,20 @@ use Rattle.view_update.proofs.ForCallers.{others_are_no_updates}
 use Rattle.doc_session.specs.InMemory.{Doc}
 use Rattle.doc_session.specs.Document.{Document, no_request}
 use Rattle.doc_session.specs.ScreenOf.{IsUpToDate}
-use Rattle.doc_session.specs.Step.{EventStep}
+use Rattle.doc_session.specs.Step.{EventStep, going_on}
 use Rattle.core_session.specs.Answer.{Reply, accepted, refused, spent, not_built, silent, answers, refusal, refused_by, spent_refusal, not_built_refusal}
 use Rattle.json_rpc.specs.Refusal.{code_of, message_of}
-use Rattle.core_session.specs.Session.{OpenView, view_of, view_id, first_view, Outcome, outcome, opening_outcome, taking, leaving, other_step, outcome_messages, stepped, update_notes, scroll_notes, updates_for, messages, step, views_after, lines_written, written, piece_of}
+use Rattle.core_session.specs.Session.{OpenView, Session, first_session, session_of, view_of, view_id, views_of, first_document, first_view, Outcome, outcome, opening_outcome, taking, leaving, other_step, outcome_messages, stepped, update_notes, scroll_notes, updates_for, messages, step, lines_written, written, piece_of}
 use Rattle.core_session.specs.Shows.{updates_in, screen_with, rebuilt_from, rebuilt, IsShown, AreShown, SendsTo, NotesSendTo, requested, last_requested, Shows}
 use Rattle.doc_session.proofs.ForCallers.{head-stands}
-use Rattle.core_session.specs.Core.{IsOfLine, IsOpen, Stands, screen_of, views_of, IsShowing, front_entry}
+use Rattle.core_session.specs.Core.{IsOfLine, IsOpen, Stands, StandsForSession, screen_of, IsShowing, front_entry}
 use Rattle.core_session.specs.Inner.{MayBeAsked, UpdatesReadBack, AreLinesOf}
 use Rattle.core_session.specs.Laws.{HaveRevisions}
 use Rattle.core_session.proofs.RevisionLemmas.{revisions_few}
 use Rattle.core_session.proofs.ViewLemmas.{other_way, only_view, AtMostFirst}
 use Rattle.core_session.proofs.StepLemmas.{MakesScreen, UpdateWithin, KeepsStep, KeepEach, NoneRequested, by_outcome, first_of}
-use Rattle.core_session.proofs.ScreenLemmas.{IsUpToDate-over}
-use Rattle.core_session.proofs.SessionLemmas.{views_after-push, all_messages, all_messages-push, written-messages, IsOpen-push}
+use Rattle.core_session.proofs.ScreenLemmas.{IsUpToDate-over, IsUpToDate-untold}
+use Rattle.core_session.proofs.SessionLemmas.{session_of-push, views_of-push, messages_of, messages_of-push, written-messages, IsOpen-push}
 
 -- the updates that messages say
 pub updates_of : List Data → List (Option ViewUpdate)
@@ -228,24 +229,26 @@ settles_steps requests [] reply scroll steps first keep = λ id. refl
 settles_steps requests (view ∷ next ∷ views) reply scroll steps first keep = absurd first
 settles_steps requests (view ∷ []) reply scroll steps first keep = λ id. settles_one id view (steps view).document (steps view).update keep.0.screen
 
-no_screen : (b : Bool) → screen_of (if b then Some first_view else None) ≡ []
-no_screen true = refl
-no_screen false = refl
+no_screen : (config : Config) (b : Bool) → screen_of (if b then Some (first_view config) else None) ≡ []
+no_screen config true = refl
+no_screen config false = refl
 
-settles_opening : (requests : List ℕ → Run) → KeepEach requests other_step (first_view ∷ []) → Settles [] opening_outcome
+settles_opening : (config : Config) (requests : List ℕ → Run) → KeepEach requests other_step (first_view config ∷ []) →
+    Settles [] (opening_outcome config)
 unfolding Settles KeepEach KeepsStep
-settles_opening requests keep = λ id.
-    let step = other_step first_view in
+settles_opening config requests keep = λ id.
+    let step = other_step (first_view config) in
     let notes = note_list (updates_for view_id step.update ++ []) in
-    ap (λ screen. rebuilt_from id (Some screen) notes) (sym (no_screen (bytes_eq id view_id))) ∙
-    settles_one id first_view step.document step.update keep.0.screen
+    ap (λ screen. rebuilt_from id (Some screen) notes) (sym (no_screen config (bytes_eq id view_id))) ∙
+    settles_one id (first_view config) step.document step.update keep.0.screen
 
 settles_leaving : (views : List OpenView) → Settles views (leaving views)
 unfolding Settles note_list
 settles_leaving views = λ id. refl
 
-pub settles : (views : List OpenView) (act : Act) → AtMostFirst views → Settles views (outcome views act)
-settles views act first = by_outcome (λ requests. Settles) settles_steps settles_opening (λ requests views none. settles_leaving views) views act first
+pub settles : (session : Session) (act : Act) → AtMostFirst session.views → Settles session.views (outcome session act)
+settles session act first =
+    by_outcome (λ requests. Settles) settles_steps settles_opening (λ requests views none. settles_leaving views) session act first
 
 -- ---- the lines that an entry sends
 
@@ -270,17 +273,21 @@ sends_steps requests [] reply scroll steps first keep = tt
 sends_steps requests (view ∷ next ∷ views) reply scroll steps first keep = absurd first
 sends_steps requests (view ∷ []) reply scroll steps first keep = sends_one requests view (steps view).document (steps view).update keep.0.sends
 
-sends_opening : (requests : List ℕ → Run) → KeepEach requests other_step (first_view ∷ []) → Sends requests opening_outcome
+sends_opening : (config : Config) (requests : List ℕ → Run) → KeepEach requests other_step (first_view config ∷ []) →
+    Sends requests (opening_outcome config)
 unfolding Sends KeepEach KeepsStep
-sends_opening requests keep = sends_one requests first_view (other_step first_view).document (other_step first_view).update keep.0.sends
+sends_opening config requests keep =
+    let step = other_step (first_view config) in
+    sends_one requests (first_view config) step.document step.update keep.0.sends
 
 sends_leaving : (requests : List ℕ → Run) (views : List OpenView) → Sends requests (leaving views)
 unfolding Sends note_list
 sends_leaving requests views = tt
 
-pub sends : (views : List OpenView) (act : Act) → AtMostFirst views → Sends (requested act) (outcome views act)
-sends views act first =
-    by_outcome (λ requests _ done. Sends requests done) sends_steps sends_opening (λ requests views none. sends_leaving requests views) views act first
+pub sends : (session : Session) (act : Act) → AtMostFirst session.views → Sends (requested act) (outcome session act)
+sends session act first =
+    by_outcome (λ requests _ done. Sends requests done) sends_steps sends_opening (λ requests views none. sends_leaving requests views) session act
+    first
 
 -- ---- the lines that are valid
 
@@ -304,15 +311,12 @@ shown_steps : (requests : List ℕ → Run) (views : List OpenView) (reply : Rep
 unfolding StaysUpToDate
 shown_steps requests views reply scroll steps first keep = λ lasts before. shown_each requests steps views lasts keep before
 
--- the front end of a view that was just opened is told something
-first_told : is_some (other_step first_view).update ≡ true
-first_told = refl
-
-shown_opening : (requests : List ℕ → Run) → KeepEach requests other_step (first_view ∷ []) → StaysUpToDate requests [] opening_outcome
+shown_opening : (config : Config) (requests : List ℕ → Run) → KeepEach requests other_step (first_view config ∷ []) →
+    StaysUpToDate requests [] (opening_outcome config)
 unfolding AreUpToDate StaysUpToDate KeepEach KeepsStep
-shown_opening requests keep = λ lasts before.
-    let told : (other_step first_view).update ≡ None → ⊥ = λ none. (let lost : false ≡ true = sym (ap is_some none) ∙ first_told in cc) in
-    (keep.0.shown no_request (λ none. absurd (told none)), tt)
+shown_opening config requests keep = λ lasts before.
+    let first = first_document config in
+    (keep.0.shown no_request (λ none. IsUpToDate-untold no_request no_request first (going_on first None) refl refl none), tt)
 
 shown_leaving : (requests : List ℕ → Run) (views : List OpenView) → NoneRequested requests views → StaysUpToDate requests views (leaving views)
 unfolding AreUpToDate StaysUpToDate NoneRequested
@@ -321,36 +325,37 @@ shown_leaving requests (view ∷ views) none = λ lasts before.
     let At : Run → Type 0 = λ request. IsUpToDate request view.document in
     (subst At (sym none.0) (IsUpToDate-over (lasts view.id) view.document before.0), shown_leaving requests views none.1 lasts before.1)
 
-stays_up_to_date : (views : List OpenView) (act : Act) → AtMostFirst views → StaysUpToDate (requested act) views (outcome views act)
-stays_up_to_date views act first = by_outcome StaysUpToDate shown_steps shown_opening shown_leaving views act first
+stays_up_to_date : (session : Session) (act : Act) → AtMostFirst session.views → StaysUpToDate (requested act) session.views (outcome session act)
+stays_up_to_date session act first = by_outcome StaysUpToDate shown_steps shown_opening shown_leaving session act first
 
 -- ---- one more entry is shown
 
 -- the updates in what is written are those in the pieces
 pub updates_in-push : (journal : List Entry) (entry : Entry) →
-    updates_in (written [] (journal ++ entry ∷ [])) ≡ updates_in (written [] journal) ++ updates_in (piece_of (views_of journal) entry.command)
+    updates_in (written first_session (journal ++ entry ∷ [])) ≡
+    updates_in (written first_session journal) ++ updates_in (piece_of (session_of journal) entry.command)
 updates_in-push journal entry =
-    let said = messages (views_of journal) entry.command in
-    ap updates_in (written-messages [] (journal ++ entry ∷ [])) ∙ updates_in-lines (all_messages [] (journal ++ entry ∷ [])) ∙
-    ap updates_of (all_messages-push journal entry) ∙ updates_of-append (all_messages [] journal) said ∙
-    ap (λ xs. xs ++ updates_of said) (sym (ap updates_in (written-messages [] journal) ∙ updates_in-lines (all_messages [] journal))) ∙
-    ap (λ ys. updates_in (written [] journal) ++ ys) (sym (updates_in-lines said))
+    let said = messages (session_of journal) entry.command in
+    ap updates_in (written-messages (journal ++ entry ∷ [])) ∙ updates_in-lines (messages_of (journal ++ entry ∷ [])) ∙
+    ap updates_of (messages_of-push journal entry) ∙ updates_of-append (messages_of journal) said ∙
+    ap (λ xs. xs ++ updates_of said) (sym (ap updates_in (written-messages journal) ∙ updates_in-lines (messages_of journal))) ∙
+    ap (λ ys. updates_in (written first_session journal) ++ ys) (sym (updates_in-lines said))
 
 -- the screens that are rebuilt by what was written, and those of the views
 ScreensAre : List Entry → Type 0
-ScreensAre journal = (id : List ℕ) → rebuilt id (written [] journal) ≡ Some (screen_of (view_of (views_of journal) id))
+ScreensAre journal = (id : List ℕ) → rebuilt id (written first_session journal) ≡ Some (screen_of (view_of (views_of journal) id))
 
 rebuilt_push : (journal : List Entry) (entry : Entry) → ScreensAre journal →
-    updates_in (piece_of (views_of journal) entry.command) ≡ note_list (outcome (views_of journal) entry.command.act).updates →
+    updates_in (piece_of (session_of journal) entry.command) ≡ note_list (outcome (session_of journal) entry.command.act).updates →
     ScreensAre (journal ++ entry ∷ [])
 unfolding Settles ScreensAre
 rebuilt_push journal entry before said = λ id.
-    let views = views_of journal in
+    let session = session_of journal in
     ap (rebuilt_from id (Some [])) (updates_in-push journal entry) ∙
-    rebuilt_from-append id (Some []) (updates_in (written [] journal)) (updates_in (piece_of views entry.command)) ∙
-    ap (λ screen. rebuilt_from id screen (updates_in (piece_of views entry.command))) (before id) ∙
-    ap (rebuilt_from id (Some (screen_of (view_of views id)))) said ∙ settles views entry.command.act (first_of journal) id ∙
-    ap (λ after. Some (screen_of (view_of after id))) (sym (views_after-push journal entry))
+    rebuilt_from-append id (Some []) (updates_in (written first_session journal)) (updates_in (piece_of session entry.command)) ∙
+    ap (λ screen. rebuilt_from id screen (updates_in (piece_of session entry.command))) (before id) ∙
+    ap (rebuilt_from id (Some (screen_of (view_of session.views id)))) said ∙ settles session entry.command.act (first_of journal) id ∙
+    ap (λ after. Some (screen_of (view_of after id))) (sym (views_of-push journal entry))
 
 -- views are shown where their documents' screens show them
 screen_is : (view : OpenView) (bytes : List ℕ) → ((id : List ℕ) → rebuilt id bytes ≡ Some (screen_of (view_of (view ∷ []) id))) →
@@ -403,65 +408,66 @@ AreUpToDate-same requests others (view ∷ views) same told =
 
 -- what a journal shows after the entry that was added
 shown_push : (journal : List Entry) (entry : Entry) → IsShowing journal → ScreensAre (journal ++ entry ∷ []) →
-    AreShown (last_requested (journal ++ entry ∷ [])) (views_of (journal ++ entry ∷ [])) (written [] (journal ++ entry ∷ []))
+    AreShown (last_requested (journal ++ entry ∷ [])) (views_of (journal ++ entry ∷ [])) (written first_session (journal ++ entry ∷ []))
 unfolding ScreensAre StaysUpToDate
 shown_push journal entry showing screens =
-    let views = views_of journal in
-    let before : AreUpToDate (last_requested journal) views =
-    up_to_date-AreShown (last_requested journal) views (written [] journal) (first_of journal) showing.screens
+    let session = session_of journal in
+    let before : AreUpToDate (last_requested journal) session.views =
+    up_to_date-AreShown (last_requested journal) session.views (written first_session journal) (first_of journal) showing.screens
     (showing.shows.screens journal [] (sym (append-nil journal))) in
-    let after : AreUpToDate (requested entry.command.act) (step views entry.command) =
-    stays_up_to_date views entry.command.act (first_of journal) (last_requested journal) before in
-    let put = subst (AreUpToDate (requested entry.command.act)) (sym (views_after-push journal entry)) after in
-    AreShown-up_to_date (last_requested (journal ++ entry ∷ [])) (views_of (journal ++ entry ∷ [])) (written [] (journal ++ entry ∷ []))
+    let after : AreUpToDate (requested entry.command.act) (outcome session entry.command.act).views =
+    stays_up_to_date session entry.command.act (first_of journal) (last_requested journal) before in
+    let put = subst (AreUpToDate (requested entry.command.act)) (sym (views_of-push journal entry)) after in
+    AreShown-up_to_date (last_requested (journal ++ entry ∷ [])) (views_of (journal ++ entry ∷ [])) (written first_session (journal ++ entry ∷ []))
     (first_of (journal ++ entry ∷ [])) screens
     (AreUpToDate-same (requested entry.command.act) (last_requested (journal ++ entry ∷ [])) (views_of (journal ++ entry ∷ []))
     (λ id. sym (last_requested-push journal entry id)) put)
 
 screens_push : (journal : List Entry) (entry : Entry) → IsShowing journal → ScreensAre (journal ++ entry ∷ []) →
-    (front back : List Entry) → SplitsPush journal entry front back → AreShown (last_requested front) (views_after [] front) (written [] front)
+    (front back : List Entry) → SplitsPush journal entry front back → AreShown (last_requested front) (views_of front) (written first_session front)
 unfolding SplitsPush
 screens_push journal entry showing screens front back (inl (none, all)) =
-    let At : List Entry → Type 0 = λ entries. AreShown (last_requested entries) (views_after [] entries) (written [] entries) in
+    let At : List Entry → Type 0 = λ entries. AreShown (last_requested entries) (views_of entries) (written first_session entries) in
     subst At (sym all) (shown_push journal entry showing screens)
 screens_push journal entry showing screens front back (inr (rest, is, last)) = showing.shows.screens front rest is
 
 -- the entry at hand is the one that was added, or one before
-sends_push : (journal : List Entry) (entry : Entry) → Shows journal (written [] journal) →
-    updates_in (piece_of (views_of journal) entry.command) ≡ note_list (outcome (views_of journal) entry.command.act).updates →
+sends_push : (journal : List Entry) (entry : Entry) → Shows journal (written first_session journal) →
+    updates_in (piece_of (session_of journal) entry.command) ≡ note_list (outcome (session_of journal) entry.command.act).updates →
     (front : List Entry) (last : Entry) (back : List Entry) → SplitsPush journal entry front (last ∷ back) →
-    NotesSendTo (requested last.command.act) (views_after [] (front ++ last ∷ [])) (updates_in (piece_of (views_after [] front) last.command))
+    NotesSendTo (requested last.command.act) (views_of (front ++ last ∷ [])) (updates_in (piece_of (session_of front) last.command))
 unfolding SplitsPush Sends
 sends_push journal entry each said front last back (inl (none, all)) = absurd cc
 sends_push journal entry each said front last back (inr ([], is, only)) =
     let At : List Entry → Entry → Type 0 =
     λ entries e.
-    NotesSendTo (requested e.command.act) (views_after [] (entries ++ e ∷ [])) (updates_in (piece_of (views_after [] entries) e.command)) in
+    NotesSendTo (requested e.command.act) (views_of (entries ++ e ∷ [])) (updates_in (piece_of (session_of entries) e.command)) in
     let added : last ≡ entry = cc in
     let whole : journal ≡ front = is ∙ append-nil front in
     let To : List OpenView → List (Option ViewUpdate) → Type 0 = NotesSendTo (requested entry.command.act) in
-    let Of : List OpenView → Type 0 = λ views. To views (updates_in (piece_of (views_of journal) entry.command)) in
-    let Notes : List (Option ViewUpdate) → Type 0 = λ notes. To (step (views_of journal) entry.command) notes in
+    let session = session_of journal in
+    let Of : List OpenView → Type 0 = λ views. To views (updates_in (piece_of session entry.command)) in
+    let Notes : List (Option ViewUpdate) → Type 0 = λ notes. To (outcome session entry.command.act).views notes in
     let here : At journal entry =
-    subst Of (sym (views_after-push journal entry)) (subst Notes (sym said) (sends (views_of journal) entry.command.act (first_of journal))) in
+    subst Of (sym (views_of-push journal entry)) (subst Notes (sym said) (sends session entry.command.act (first_of journal))) in
     let Last : Entry → Type 0 = λ e. At front e in
     let Before : List Entry → Type 0 = λ entries. At entries entry in
     subst Last (sym added) (subst Before whole here)
 sends_push journal entry each said front last back (inr (r ∷ rest, is, only)) =
     let same : r ≡ last = cc in
     let At : Entry → Type 0 =
-    λ e. NotesSendTo (requested e.command.act) (views_after [] (front ++ e ∷ [])) (updates_in (piece_of (views_after [] front) e.command)) in
+    λ e. NotesSendTo (requested e.command.act) (views_of (front ++ e ∷ [])) (updates_in (piece_of (session_of front) e.command)) in
     subst At same (each.sends front r rest is)
 
 -- what one more entry of a served session comes to
 pub shows_push : (journal : List Entry) (entry : Entry) → IsShowing journal →
-    AreLines (messages (views_of journal) entry.command) → UpdatesReadBack (outcome (views_of journal) entry.command.act).updates →
+    AreLines (messages (session_of journal) entry.command) → UpdatesReadBack (outcome (session_of journal) entry.command.act).updates →
     IsShowing (journal ++ entry ∷ [])
 unfolding AreLines ScreensAre
 shows_push journal entry showing lines reads =
-    let views = views_of journal in
-    let said : updates_in (piece_of views entry.command) ≡ note_list (outcome views entry.command.act).updates =
-    updates_in-lines (messages views entry.command) ∙ updates_of-outcome entry.command.id (outcome views entry.command.act) lines reads in
+    let session = session_of journal in
+    let said : updates_in (piece_of session entry.command) ≡ note_list (outcome session entry.command.act).updates =
+    updates_in-lines (messages session entry.command) ∙ updates_of-outcome entry.command.id (outcome session entry.command.act) lines reads in
     let screens = rebuilt_push journal entry showing.screens said in
     record {
       shows = record {
@@ -473,16 +479,16 @@ shows_push journal entry showing lines reads =
       screens = screens;
     }
 
--- a command that was prepared is an entry that is served, with the document that it makes
-pub serves_push : (journal : List Entry) (command : Command) (next : Option Doc) (piece : List ℕ) →
+-- a command that was prepared is an entry that is served, with the document that it makes and the configuration after it
+pub serves_push : (journal : List Entry) (command : Command) (next : Option Doc) (config : Config) (piece : List ℕ) →
     AllByRecursion IsOpen journal → IsShowing journal → IsOfLine command.act →
-    AreLinesOf (messages (views_of journal) command) piece → UpdatesReadBack (outcome (views_of journal) command.act).updates →
-    Stands next (step (views_of journal) command) →
+    AreLinesOf (messages (session_of journal) command) piece → UpdatesReadBack (outcome (session_of journal) command.act).updates →
+    StandsForSession next config (step (session_of journal) command) →
     AllByRecursion IsOpen (journal ++ front_entry command true ∷ []) × IsShowing (journal ++ front_entry command true ∷ []) ×
-    Stands next (views_of (journal ++ front_entry command true ∷ []))
+    StandsForSession next config (session_of (journal ++ front_entry command true ∷ []))
 unfolding AreLines
-serves_push journal command next piece sent showing asks lines reads stands = (
+serves_push journal command next config piece sent showing asks lines reads stands = (
   IsOpen-push journal command sent asks,
   shows_push journal (front_entry command true) showing lines.each reads,
-  subst (Stands next) (sym (views_after-push journal (front_entry command true))) stands,
+  subst (StandsForSession next config) (sym (session_of-push journal (front_entry command true))) stands,
 )

@@ -5,7 +5,8 @@ use Rattle.std.specs.List.{AllByRecursion}
 use Rattle.std.specs.Str.{encode_utf8_all, bytes_eq}
 use Rattle.xi_plain.specs.declared.command.EditAct.{EditAct}
 use Rattle.xi_plain.specs.declared.command.Act.{Act}
-use Rattle.xi_plain.specs.declared.command.Act.TheVariants.{Bad, Nothing, NewView, CloseView, Save, Edit, Closing}
+use Rattle.xi_plain.specs.declared.command.Act.TheVariants.{Bad, Nothing, Configure, NewView, CloseView, Save, Edit, Closing}
+use Rattle.xi_plain.specs.declared.config.Config.{Config}
 use Rattle.plain_edits.specs.Edits.{Refusal}
 use Rattle.plain_edits.specs.Collection.{Collection}
 use Rattle.plain_edits.specs.History.{head}
@@ -16,16 +17,15 @@ use Rattle.plain_screen.proofs.callers.PlanLemmas.{screen_after-plan_from}
 use Rattle.plain_text.specs.declared.run.Run.{Run}
 use Rattle.view_update.specs.Reading.{Scroll}
 use Rattle.xi_plain.specs.declared.entry.Entry.{Entry}
-use Rattle.core_session.specs.Core.{views_of}
-use Rattle.doc_session.specs.declared.event.Event.TheVariants.{Front, Other}
+use Rattle.doc_session.specs.declared.event.Event.TheVariants.{Config as Configured, Front, Other}
 use Rattle.doc_session.specs.Document.{Document, layout_of, no_request}
 use Rattle.doc_session.specs.ScreenOf.{IsScreenOf, IsUpToDate}
 use Rattle.doc_session.specs.Collecting.{collected_document, collection_after, with_collection}
 use Rattle.doc_session.specs.Effects.{ops_of, settled, update_after, update_of, updated, wants_update}
-use Rattle.doc_session.specs.Step.{EventStep, event_step, act_step, going_on, refusal_at, request_of}
+use Rattle.doc_session.specs.Step.{EventStep, event_step, act_step, configured_document, going_on, refusal_at, request_of}
 use Rattle.doc_session.proofs.ForCallers.{by_front, IsScreenOf-shown, request_of-refused}
 use Rattle.core_session.specs.Answer.{Reply, spent}
-use Rattle.core_session.specs.Session.{OpenView, view_of, named_view, Outcome, outcome, taking, leaving, keeping, opening_outcome, first_view, other_step, own_step, edit_came, edit_outcome, undone_outcome, spent_total, step, views_after}
+use Rattle.core_session.specs.Session.{OpenView, Session, first_session, view_of, named_view, views_of, Outcome, outcome, changed, config_step, taking, leaving, keeping, open_outcome, opening_outcome, first_view, other_step, own_step, edit_came, edit_outcome, undone_outcome, spent_total, step, session_after}
 use Rattle.core_session.specs.Shows.{SendsWithin, requested}
 use Rattle.core_session.proofs.PlanLemmas.{sends-plan_from}
 use Rattle.core_session.proofs.ScreenLemmas.{IsUpToDate-kept}
@@ -90,21 +90,29 @@ keeps_collected request before next update keeps = by (collection_after next)
     by None = keeps
     by (Some found) = record { few = keeps.few; screen = keeps.screen; sends = keeps.sends; shown = keeps.shown }
 
+-- a step that makes no revision
+keeps_still : (document next : Document) → next.history ≡ document.history → next.screen ≡ document.screen →
+    Keeps no_request document (collected_document (settled no_request document next)) (update_after no_request document next)
+keeps_still document next same screen =
+    keeps_collected no_request document (settled no_request document next) (update_after no_request document next)
+    (keeps_by no_request (wants_update no_request document next) document next refl screen (omega (arith, ap head same)))
+
 keeps_other : (document : Document) → KeepsStep no_request document (event_step document Other)
 unfolding KeepsStep
-keeps_other document =
-    let next = going_on document None in
-    keeps_collected no_request document (settled no_request document next) (update_after no_request document next)
-    (keeps_by no_request (wants_update no_request document next) document next refl refl (omega arith))
+keeps_other document = keeps_still document (going_on document None) refl refl
+
+keeps_config : (config : Config) (document : Document) → KeepsStep no_request document (event_step document (Configured config))
+unfolding KeepsStep
+keeps_config config document = keeps_still document (configured_document document config) refl refl
 
 keeps_act : (document : Document) (act : EditAct) → KeepsStep (request_of act) document (event_step document (Front act))
 unfolding KeepsStep
 keeps_act document act =
     keeps_collected (request_of act) document (act_step document act).document (act_step document act).update
     (by_front (λ step. Keeps (request_of act) document step.document step.update) document act
-    (λ next body scroll same screen.
+    (λ next body scroll same config screen.
     keeps_by (request_of act) (wants_update (request_of act) document next) document next refl screen (omega (arith, ap head same)))
-    (λ next body scroll one_more screen.
+    (λ next body scroll one_more config screen.
     keeps_by (request_of act) (wants_update (request_of act) document next) document next refl screen (omega (arith, one_more))))
 
 -- each view's step keeps this, with what is requested of the view
@@ -122,12 +130,16 @@ unfolding NoneRequested
 nothing_requested requests [] none = tt
 nothing_requested requests (view ∷ views) none = (none view.id, nothing_requested requests views none)
 
-keep_others : (requests : List ℕ → Run) (views : List OpenView) → NoneRequested requests views → KeepEach requests other_step views
+keep_each : (requests : List ℕ → Run) (steps : OpenView → EventStep) (views : List OpenView) →
+    ((view : OpenView) → KeepsStep no_request view.document (steps view)) → NoneRequested requests views → KeepEach requests steps views
 unfolding KeepEach NoneRequested
-keep_others requests [] none = tt
-keep_others requests (view ∷ views) none =
-    let At : Run → Type 0 = λ request. KeepsStep request view.document (other_step view) in
-    (subst At (sym none.0) (keeps_other view.document), keep_others requests views none.1)
+keep_each requests steps [] keep none = tt
+keep_each requests steps (view ∷ views) keep none =
+    let At : Run → Type 0 = λ request. KeepsStep request view.document (steps view) in
+    (subst At (sym none.0) (keep view), keep_each requests steps views keep none.1)
+
+keep_others : (requests : List ℕ → Run) (views : List OpenView) → NoneRequested requests views → KeepEach requests other_step views
+keep_others requests views none = keep_each requests other_step views (λ view. keeps_other view.document) none
 
 -- nor is it where the view that was named is not there
 none_found : (views : List OpenView) (name : List ℕ) (act : EditAct) → AtMostFirst views → named_view views name ≡ None →
@@ -185,7 +197,7 @@ keep_own requests (view ∷ []) id own step first found keeps =
 module _ (P : (List ℕ → Run) → List OpenView → Outcome → Type 0)
     (steps : (requests : List ℕ → Run) (views : List OpenView) (reply : Reply) (scroll : Option Scroll) (each : OpenView → EventStep) →
     AtMostFirst views → KeepEach requests each views → P requests views (taking reply scroll each views))
-    (opens : (requests : List ℕ → Run) → KeepEach requests other_step (first_view ∷ []) → P requests [] opening_outcome)
+    (opens : (config : Config) (requests : List ℕ → Run) → KeepEach requests other_step (first_view config ∷ []) → P requests [] (opening_outcome config))
     (leaves : (requests : List ℕ → Run) (views : List OpenView) → NoneRequested requests views → P requests views (leaving views)) where
   still : (requests : List ℕ → Run) (views : List OpenView) (reply : Reply) → AtMostFirst views → NoneRequested requests views →
       P requests views (keeping views reply)
@@ -217,35 +229,44 @@ module _ (P : (List ℕ → Run) → List OpenView → Outcome → Type 0)
   undoes act views None first is = still (requested act) views _ first (none act views is)
   undoes act views (Some own) first is = still (requested act) views _ first (none act views is)
 
-  pub by_outcome : (views : List OpenView) (act : Act) → AtMostFirst views → P (requested act) views (outcome views act)
-  by_outcome views (Edit name act) first = edits views name (named_view views name) act first refl
-  by_outcome views (CloseView name) first = undoes (CloseView name) views (named_view views name) first (λ id. refl)
-  by_outcome views (Save name path) first = undoes (Save name path) views (named_view views name) first (λ id. refl)
-  by_outcome views Closing first = leaves (requested Closing) views (none Closing views (λ id. refl))
-  by_outcome [] (NewView None) first = opens (requested (NewView None)) (keep_others _ (first_view ∷ []) (none (NewView None) (first_view ∷ []) (λ id. refl)))
-  by_outcome [] (NewView (Some path)) first = still (requested (NewView (Some path))) [] _ first (none (NewView (Some path)) [] (λ id. refl))
-  by_outcome (view ∷ views) (NewView path) first =
-      still (requested (NewView path)) (view ∷ views) _ first (none (NewView path) (view ∷ views) (λ id. refl))
-  by_outcome views (Bad fault) first = still (requested (Bad fault)) views _ first (none (Bad fault) views (λ id. refl))
-  by_outcome views Nothing first = still (requested Nothing) views _ first (none Nothing views (λ id. refl))
-  by_outcome views act first = still (requested act) views _ first (none act views (λ id. refl))
+  opened : (config : Config) (views : List OpenView) (path : Option (List ℕ)) → AtMostFirst views →
+      P (requested (NewView path)) views (open_outcome config views path)
+  opened config [] None first =
+      opens config (requested (NewView None)) (keep_others _ (first_view config ∷ []) (none (NewView None) (first_view config ∷ []) (λ id. refl)))
+  opened config [] (Some path) first = still (requested (NewView (Some path))) [] _ first (none (NewView (Some path)) [] (λ id. refl))
+  opened config (view ∷ views) path first = still (requested (NewView path)) (view ∷ views) _ first (none (NewView path) (view ∷ views) (λ id. refl))
+
+  pub by_outcome : (session : Session) (act : Act) → AtMostFirst session.views → P (requested act) session.views (outcome session act)
+  by_outcome session (Edit name act) first = edits session.views name (named_view session.views name) act first refl
+  by_outcome session (CloseView name) first = undoes (CloseView name) session.views (named_view session.views name) first (λ id. refl)
+  by_outcome session (Save name path) first = undoes (Save name path) session.views (named_view session.views name) first (λ id. refl)
+  by_outcome session Closing first = leaves (requested Closing) session.views (none Closing session.views (λ id. refl))
+  by_outcome session (NewView path) first = opened session.config session.views path first
+  by_outcome session (Configure changes) first =
+      let next = changed session.config changes in
+      steps (requested (Configure changes)) session.views _ _ (config_step next) first
+      (keep_each (requested (Configure changes)) (config_step next) session.views (λ view. keeps_config next view.document)
+      (none (Configure changes) session.views (λ id. refl)))
+  by_outcome session (Bad fault) first = still (requested (Bad fault)) session.views _ first (none (Bad fault) session.views (λ id. refl))
+  by_outcome session Nothing first = still (requested Nothing) session.views _ first (none Nothing session.views (λ id. refl))
+  by_outcome session act first = still (requested act) session.views _ first (none act session.views (λ id. refl))
 
 -- at most the first view is open after a journal
 unfoldable pub FirstStays : List OpenView → Outcome → Type 0
 FirstStays views done = AtMostFirst done.views × Stays views done.views
 
-pub first_stays : (views : List OpenView) (act : Act) → AtMostFirst views → FirstStays views (outcome views act)
+pub first_stays : (session : Session) (act : Act) → AtMostFirst session.views → FirstStays session.views (outcome session act)
 unfolding AtMostFirst Stays FirstStays
-first_stays views act first =
+first_stays session act first =
     by_outcome (λ requests before done. AtMostFirst before → FirstStays before done)
-    (λ requests views reply scroll steps at keep. λ _. first_stepped steps views at) (λ requests keep. λ _. (refl, tt))
-    (λ requests views none. λ at. (at, stays_same views)) views act first first
+    (λ requests views reply scroll steps at keep. λ _. first_stepped steps views at) (λ config requests keep. λ _. (refl, tt))
+    (λ requests views none. λ at. (at, stays_same views)) session act first first
 
-first_after : (views : List OpenView) (entries : List Entry) → AtMostFirst views → AtMostFirst (views_after views entries)
+first_after : (session : Session) (entries : List Entry) → AtMostFirst session.views → AtMostFirst (session_after session entries).views
 unfolding FirstStays
-first_after views [] first = first
-first_after views (entry ∷ entries) first = first_after (step views entry.command) entries (first_stays views entry.command.act first).0
+first_after session [] first = first
+first_after session (entry ∷ entries) first = first_after (step session entry.command) entries (first_stays session entry.command.act first).0
 
 pub first_of : (journal : List Entry) → AtMostFirst (views_of journal)
 unfolding AtMostFirst
-first_of journal = first_after [] journal tt
+first_of journal = first_after first_session journal tt

@@ -3,6 +3,7 @@ use Rattle.std.specs.Prelude.{◌≡◌, ℕ, ◌<◌, ◌≤◌, Bool, true, fa
 use Rattle.std.specs.List.{AllByRecursion}
 use Rattle.xi_plain.specs.declared.command.Act.{Act}
 use Rattle.xi_plain.specs.declared.command.Command.{Command}
+use Rattle.xi_plain.specs.declared.config.Config.{Config}
 use Rattle.xi_plain.specs.declared.entry.Entry.{Entry}
 use Rattle.xi_plain.specs.declared.entry.ShelfNote.TheVariants.{NoCall}
 use Rattle.xi_plain.specs.Journal.{closes, may_have_note}
@@ -13,7 +14,7 @@ use Rattle.doc_session.specs.InMemory.{Doc}
 use Rattle.doc_session.specs.Document.{Document}
 use Rattle.doc_session.specs.Stands.{DocStandsFor}
 use Rattle.core_session.specs.declared.session.Core.{Core}
-use Rattle.core_session.specs.Session.{OpenView, view_id, view_of, piece_of, views_after, written}
+use Rattle.core_session.specs.Session.{OpenView, Session, first_session, session_of, view_id, view_of, views_of, piece_of, written}
 use Rattle.core_session.specs.Shows.{Shows, rebuilt}
 
 -- the document in memory stands for the plain one, and no plugin has a session in it
@@ -45,6 +46,12 @@ Stands (Some doc) [] = ⊥
 Stands (Some doc) (view ∷ []) = ServesView doc view
 Stands (Some doc) (view ∷ next ∷ views) = ⊥
 
+-- the document and the configuration in memory are those of the session, and a tab has columns
+pub record StandsForSession (document : Option Doc) (held : Config) (session : Session) : Type 0 where
+  pub views : Stands document session.views
+  pub config : held ≡ session.config
+  pub tab : 0 < held.tab
+
 -- THE JOURNAL of a session
 abbrev pub journal_of : {K : Type 0} → Core K → List Entry
 journal_of core = core.journal.items
@@ -57,13 +64,9 @@ sink_of core = core.sink
 abbrev pub HasRoom : {K : Type 0} → Core K → Type 0
 HasRoom core = vec_len core.journal < vec_capacity core.journal
 
--- the views that the journal defines
-abbrev pub views_of : List Entry → List OpenView
-views_of journal = views_after [] journal
-
--- the document in memory is that of the view that these entries define
-abbrev pub HasViewsAfter : {K : Type 0} → Core K → List Entry → Type 0
-HasViewsAfter core journal = Stands core.document (views_of journal)
+-- the document and the configuration in memory are those of the session that these entries define
+abbrev pub HasSessionAfter : {K : Type 0} → Core K → List Entry → Type 0
+HasSessionAfter core journal = StandsForSession core.document core.config (session_of journal)
 
 -- the screen that the front end has of a view; it is empty where none is open
 abbrev pub screen_of : Option OpenView → Screen
@@ -72,15 +75,16 @@ screen_of (Some view) = view.document.screen
 
 -- what the entries write shows them, and by its updates the front end has, of each view, the screen that the view's document says
 pub record IsShowing (journal : List Entry) : Type 0 where
-  pub shows : Shows journal (written [] journal)
-  pub screens : (id : List ℕ) → rebuilt id (written [] journal) ≡ Some (screen_of (view_of (views_of journal) id))
+  pub shows : Shows journal (written first_session journal)
+  pub screens : (id : List ℕ) → rebuilt id (written first_session journal) ≡ Some (screen_of (view_of (views_of journal) id))
 
--- THE SESSION TAKES LINES: all its entries were sent, what they wrote shows them, and its document is that of the view that they define
+-- THE SESSION TAKES LINES: all its entries were sent, what they wrote shows them, and its document and its configuration are those that
+-- they define
 pub record IsServing {K : Type 0} (core : Core K) : Type 0 where
   pub room : HasRoom core
   pub sent : AllByRecursion IsOpen (journal_of core)
   pub showing : IsShowing (journal_of core)
-  pub stands : Stands core.document (views_of (journal_of core))
+  pub stands : StandsForSession core.document core.config (session_of (journal_of core))
 
 -- the entry of a command of the front end
 abbrev pub front_entry : Command → Bool → Entry
@@ -88,7 +92,7 @@ front_entry command sent = record { caller = 0; command = command; shelf = NoCal
 
 -- the piece that a command writes after these entries
 abbrev pub piece_after : List Entry → Command → List ℕ
-piece_after journal command = piece_of (views_of journal) command
+piece_after journal command = piece_of (session_of journal) command
 
 -- the command is one more entry, which was sent: the sink gained its piece, and no call of it failed
 pub record AddsSentEntry {K : Type 0} (tell : K → SinkState) (old new : Core K) (command : Command) : Type 0 where

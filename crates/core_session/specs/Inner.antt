@@ -11,7 +11,7 @@ use Rattle.doc_session.specs.InMemory.{Doc}
 use Rattle.doc_session.specs.Document.{Document}
 use Rattle.doc_session.specs.Stands.{DocStandsFor}
 use Rattle.core_session.specs.declared.session.Prepared.{Prepared}
-use Rattle.core_session.specs.Session.{OpenView, view_id, outcome, messages, lines_written, step, updates_for, scroll_for, Outcome}
+use Rattle.core_session.specs.Session.{Session, view_id, outcome, messages, lines_written, step, updates_for, scroll_for, Outcome}
 use Rattle.doc_session.specs.Fault.{DocRefuses}
 use Rattle.doc_session.specs.Step.{AreEffectsOf, event_step, refusal_at}
 use Rattle.doc_session.specs.declared.event.Effects.{Effects}
@@ -24,7 +24,7 @@ use Rattle.core_session.specs.declared.act.Reply.{Reply as ReplyInMemory}
 use Rattle.core_session.specs.declared.act.Reply.TheVariants.{Opened, Accepted, Copied, Refused, Spent, NotBuilt, Silent}
 use Rattle.core_session.specs.declared.act.ActEffects.{ActEffects}
 use Rattle.core_session.specs.Answer.{Reply, accepted, refused, spent, not_built, silent}
-use Rattle.core_session.specs.Core.{ServesDocument, Stands}
+use Rattle.core_session.specs.Core.{ServesDocument, Stands, StandsForSession}
 
 -- no plugin has a session in the document, and it may take one more edit
 abbrev pub TakesEvents : Doc → Type 0
@@ -60,11 +60,11 @@ pub record IsMade (old : Doc) (event : Event) (result : Result (Doc × Effects) 
   pub accepted : (plain : Document) → DocStandsFor old plain → IfOk result (λ _. refusal_at plain event ≡ None)
   pub refused : (plain : Document) → DocStandsFor old plain → IfErr result (DocRefuses (refusal_at plain event))
 
--- what a command comes to, before it is an entry: its piece and its document
-pub record IsPrepared (before : Option Doc) (views : List OpenView) (made : Prepared) : Type 0 where
-  pub lines : AreLinesOf (messages views made.command) (encode_utf8_all made.piece)
-  pub reads_back : UpdatesReadBack (outcome views made.command.act).updates
-  pub stands : Stands (document_then made.next before) (step views made.command)
+-- what a command comes to, before it is an entry: its piece, its document and the configuration
+pub record IsPrepared (before : Option Doc) (session : Session) (made : Prepared) : Type 0 where
+  pub lines : AreLinesOf (messages session made.command) (encode_utf8_all made.piece)
+  pub reads_back : UpdatesReadBack (outcome session made.command.act).updates
+  pub stands : StandsForSession (document_then made.next before) made.config (step session made.command)
 
 -- what a reply in memory is
 abbrev pub reply_of : ReplyInMemory → Reply

@@ -15,7 +15,7 @@ use Rattle.view_update.specs.Reading.{ViewUpdate, read_params}
 use Rattle.view_update.specs.Written.{update_data}
 use Rattle.doc_session.specs.InMemory.{Doc}
 use Rattle.core_session.specs.Core.{Stands}
-use Rattle.core_session.specs.Session.{OpenView, view_id, views_after, written}
+use Rattle.core_session.specs.Session.{OpenView, first_session, session_of, view_id, views_of, written}
 use Rattle.core_session.specs.Shows.{updates_in, rebuilt, IsShown, last_requested, Shows}
 
 -- the document of each of the views has at most so many revisions after its loading
@@ -24,7 +24,7 @@ HaveRevisions most views = AllByRecursion (λ view. head view.document.history �
 
 -- a document has at most as many revisions as its journal has entries
 abbrev pub RevisionsAreFew : Type 0
-RevisionsAreFew = (journal : List Entry) → HaveRevisions (length journal) (views_after [] journal)
+RevisionsAreFew = (journal : List Entry) → HaveRevisions (length journal) (views_of journal)
 
 -- NOTHING WAITS in a session, in whose documents no plugin has a session: what no undo reaches any more is collected at once
 abbrev pub NothingWaits : Type 0
@@ -72,4 +72,9 @@ OtherViewShowsNothing = (view : List ℕ) (update : Update) → IsFairUpdate vie
 -- is open
 abbrev pub OnlyViewIsShown : Type 0
 OnlyViewIsShown = (journal front back : List Entry) (bytes : List ℕ) → Shows journal bytes → journal ≡ front ++ back →
-    IsOnlyShown (last_requested front) (views_after [] front) (only_rebuilt (written [] front))
+    IsOnlyShown (last_requested front) (views_of front) (only_rebuilt (written first_session front))
+
+-- all views are laid out and edited as their session is
+abbrev pub AllAreConfigured : Type 0
+AllAreConfigured = (journal : List Entry) →
+    AllByRecursion (λ (view : OpenView). view.document.config ≡ (session_of journal).config) (views_of journal)

@@ -8,7 +8,7 @@ use Rattle.xi_plain.specs.declared.command.Act.TheVariants.{NewView, Edit}
 use Rattle.xi_plain.specs.declared.entry.Entry.{Entry}
 use Rattle.xi_plain.specs.declared.entry.ShelfNote.TheVariants.{NoCall}
 use Rattle.xi_plain.specs.Journal.{closing_entry}
-use Rattle.core_session.specs.Session.{view_id, views_after, written}
+use Rattle.core_session.specs.Session.{first_session, session_of, view_id, written}
 use Rattle.core_session.specs.Shows.{rebuilt}
 use Rattle.core_session.specs.Laws.{only_rebuilt}
 
@@ -51,11 +51,11 @@ third_bytes =
 
 -- the first view is answered, and has one empty line with the caret; the closing entry writes nothing
 abbrev pub FirstView : Type 0
-FirstView = written [] (opening ∷ closing_entry ∷ []) ≡ opening_bytes
+FirstView = written first_session (opening ∷ closing_entry ∷ []) ≡ opening_bytes
 
 -- an insertion after it tells its line, and where the caret is
 abbrev pub FirstInsertion : Type 0
-FirstInsertion = written [] (opening ∷ insertion (97 ∷ []) ∷ []) ≡ opening_bytes ++ first_bytes
+FirstInsertion = written first_session (opening ∷ insertion (97 ∷ []) ∷ []) ≡ opening_bytes ++ first_bytes
 
 -- an update of a second view
 abbrev pub second_view_bytes : List ℕ
@@ -70,5 +70,5 @@ pub record StrangeNotes : Type 0 where
 
 -- each of three insertions tells its line and where the caret is; the last begins a line
 abbrev pub ThreeInsertions : Type 0
-ThreeInsertions = written (views_after [] (opening ∷ [])) (insertion (97 ∷ []) ∷ insertion (233 ∷ []) ∷ insertion (10 ∷ []) ∷ []) ≡
+ThreeInsertions = written (session_of (opening ∷ [])) (insertion (97 ∷ []) ∷ insertion (233 ∷ []) ∷ insertion (10 ∷ []) ∷ []) ≡
     first_bytes ++ (second_bytes ++ third_bytes)

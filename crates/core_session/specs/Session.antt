@@ -1,5 +1,5 @@
 -- THE PLAIN SESSION: what the entries of a journal do, one after the other, and what each writes.
-use Rattle.std.specs.Prelude.{ℕ, ◌^◌, Bool, true, false, if◌then◌else◌, List, [], ◌∷◌, ◌++◌, map, codes, Option, Some, None}
+use Rattle.std.specs.Prelude.{ℕ, ◌^◌, false, if◌then◌else◌, List, [], ◌∷◌, ◌++◌, map, codes, Option, Some, None, unwrap_or}
 use Rattle.std.specs.Str.{encode_utf8_all, bytes_eq}
 use Rattle.std.specs.List.{concat}
 use Rattle.serde_json.specs.Data.{Data, null}
@@ -8,8 +8,10 @@ use Rattle.xi_plain.specs.declared.command.Fault.{Fault}
 use Rattle.xi_plain.specs.declared.command.Fault.TheVariants.{BadParams}
 use Rattle.xi_plain.specs.declared.command.EditAct.{EditAct}
 use Rattle.xi_plain.specs.declared.command.Act.{Act}
-use Rattle.xi_plain.specs.declared.command.Act.TheVariants.{Bad, Nothing, NewView, CloseView, Save, Edit, Closing}
+use Rattle.xi_plain.specs.declared.command.Act.TheVariants.{Bad, Nothing, Configure, NewView, CloseView, Save, Edit, Closing}
 use Rattle.xi_plain.specs.declared.command.Command.{Command}
+use Rattle.xi_plain.specs.declared.config.Changes.{Changes}
+use Rattle.xi_plain.specs.declared.config.Config.{Config}
 use Rattle.xi_plain.specs.declared.entry.Entry.{Entry}
 use Rattle.plain_screen.specs.declared.screen.Update.{Update}
 use Rattle.plain_edits.specs.Edits.{Refusal, spent as spent_by}
@@ -19,7 +21,7 @@ use Rattle.json_rpc.specs.Response.{text_data}
 use Rattle.view_update.specs.Written.{update_data}
 use Rattle.view_update.specs.Notes.{scroll_data}
 use Rattle.view_update.specs.Reading.{ViewUpdate, Scroll}
-use Rattle.doc_session.specs.declared.event.Event.TheVariants.{Front, Other}
+use Rattle.doc_session.specs.declared.event.Event.TheVariants.{Config as Configured, Front, Other}
 use Rattle.doc_session.specs.Document.{Document, loaded_document}
 use Rattle.doc_session.specs.Step.{EventStep, event_step, refusal_at}
 use Rattle.core_session.specs.Answer.{Reply, accepted, refused, result_of, spent, not_built, silent, answers}
@@ -37,6 +39,11 @@ view_of (view ∷ views) id = if bytes_eq id view.id then Some view else view_of
 -- the view that a text names, in bytes, where it is open
 abbrev pub named_view : List OpenView → List ℕ → Option OpenView
 named_view views name = view_of views (encode_utf8_all name)
+
+-- A SESSION: how all its texts are laid out and edited, and the views that are open
+pub record Session : Type 0 where
+  pub config : Config
+  pub views : List OpenView
 
 -- what an act comes to: what it is answered, the views that are open after it, and the updates and the place to scroll to that the
 -- front end is told, if any
@@ -107,17 +114,46 @@ view_id = codes "view-id-1"
 abbrev pub text_limit : ℕ
 text_limit = 2 ^ 40
 
+-- how texts are laid out and edited at first: tabs of four columns, which are typed as such, and lines that are not wrapped
+abbrev pub first_config : Config
+first_config = record { tab = 4; width = 0; spaces = false }
+
+-- a session without entries
+abbrev pub first_session : Session
+first_session = record { config = first_config; views = [] }
+
+-- the configuration after a change: a member of which nothing is said stays
+abbrev pub changed : Config → Changes → Config
+changed config changes = record {
+  tab = unwrap_or changes.tab config.tab;
+  width = unwrap_or changes.width config.width;
+  spaces = unwrap_or changes.spaces config.spaces;
+}
+
+-- that of a session after an act
+abbrev pub config_after : Config → Act → Config
+config_after config (Configure changes) = changed config changes
+config_after config act = config
+
 -- the document of the first view, on an empty text, without plugins
-abbrev pub first_document : Document
-first_document = loaded_document [] 0 text_limit
+abbrev pub first_document : Config → Document
+first_document config = loaded_document [] 0 text_limit config
 
 -- the first view, before its front end was told anything
-abbrev pub first_view : OpenView
-first_view = record { id = view_id; document = first_document }
+abbrev pub first_view : Config → OpenView
+first_view config = record { id = view_id; document = first_document config }
 
 -- the first view is opened
-abbrev pub opening_outcome : Outcome
-opening_outcome = taking (accepted (text_data view_id)) None other_step (first_view ∷ [])
+abbrev pub opening_outcome : Config → Outcome
+opening_outcome config = taking (accepted (text_data view_id)) None other_step (first_view config ∷ [])
+
+-- the step of a view that is told a configuration
+abbrev pub config_step : Config → OpenView → EventStep
+config_step config view = event_step view.document (Configured config)
+
+-- a change of the configuration is accepted: each view takes its step, and nothing is scrolled
+abbrev pub config_outcome : List OpenView → Config → Outcome
+config_outcome views config = taking (accepted null) None (config_step config) views
 
 -- the characters that would be spent in all, where an edit is refused for that
 abbrev pub spent_total : Option Refusal → Option ℕ
@@ -146,46 +182,57 @@ undone_outcome views None = refusing_view views
 undone_outcome views (Some view) = keeping views not_built
 
 -- a view is opened, where none was, on no file
-abbrev pub open_outcome : List OpenView → Option (List ℕ) → Outcome
-open_outcome [] None = opening_outcome
-open_outcome views path = keeping views not_built
+abbrev pub open_outcome : Config → List OpenView → Option (List ℕ) → Outcome
+open_outcome config [] None = opening_outcome config
+open_outcome config views path = keeping views not_built
 
 -- THE OUTCOME of an act. A view that is not there is refused first, and what is not done yet last
-abbrev pub outcome : List OpenView → Act → Outcome
-outcome views (Bad fault) = refusing views fault
-outcome views Nothing = keeping views (accepted null)
-outcome views (NewView path) = open_outcome views path
-outcome views (CloseView name) = undone_outcome views (named_view views name)
-outcome views (Save name path) = undone_outcome views (named_view views name)
-outcome views (Edit name act) = edit_outcome views (named_view views name) act
-outcome views Closing = leaving views
-outcome views act = keeping views not_built
+abbrev pub outcome : Session → Act → Outcome
+outcome session (Bad fault) = refusing session.views fault
+outcome session Nothing = keeping session.views (accepted null)
+outcome session (Configure changes) = config_outcome session.views (changed session.config changes)
+outcome session (NewView path) = open_outcome session.config session.views path
+outcome session (CloseView name) = undone_outcome session.views (named_view session.views name)
+outcome session (Save name path) = undone_outcome session.views (named_view session.views name)
+outcome session (Edit name act) = edit_outcome session.views (named_view session.views name) act
+outcome session Closing = leaving session.views
+outcome session act = keeping session.views not_built
 
 -- the messages of an outcome in their order
 abbrev pub outcome_messages : Id → Outcome → List Data
 outcome_messages id done = answers id done.reply ++ (update_notes done.updates ++ scroll_notes done.scroll)
 
 -- the messages of an entry
-abbrev pub messages : List OpenView → Command → List Data
-messages views command = outcome_messages command.id (outcome views command.act)
+abbrev pub messages : Session → Command → List Data
+messages session command = outcome_messages command.id (outcome session command.act)
 
 -- the lines of messages, one after the other
 abbrev pub lines_written : List Data → List ℕ
 lines_written written = concat (map line_of written)
 
 -- THE PIECE of an entry: the lines of its messages
-abbrev pub piece_of : List OpenView → Command → List ℕ
-piece_of views command = lines_written (messages views command)
+abbrev pub piece_of : Session → Command → List ℕ
+piece_of session command = lines_written (messages session command)
 
--- the views that are open after an entry, and after entries
-abbrev pub step : List OpenView → Command → List OpenView
-step views command = (outcome views command.act).views
+-- THE STEP: the session after an entry, and after entries
+abbrev pub step : Session → Command → Session
+step session command = record {
+  config = config_after session.config command.act;
+  views = (outcome session command.act).views;
+}
 
-abbrev pub views_after : List OpenView → List Entry → List OpenView
-views_after views [] = views
-views_after views (entry ∷ entries) = views_after (step views entry.command) entries
+abbrev pub session_after : Session → List Entry → Session
+session_after session [] = session
+session_after session (entry ∷ entries) = session_after (step session entry.command) entries
+
+-- the session that the entries of a journal define, and its views
+abbrev pub session_of : List Entry → Session
+session_of journal = session_after first_session journal
+
+abbrev pub views_of : List Entry → List OpenView
+views_of journal = (session_of journal).views
 
 -- WHAT ENTRIES WRITE: the pieces of each, one after the other
-abbrev pub written : List OpenView → List Entry → List ℕ
-written views [] = []
-written views (entry ∷ entries) = piece_of views entry.command ++ written (step views entry.command) entries
+abbrev pub written : Session → List Entry → List ℕ
+written session [] = []
+written session (entry ∷ entries) = piece_of session entry.command ++ written (step session entry.command) entries

@@ -15,7 +15,7 @@ use Rattle.view_update.specs.Reading.{ViewUpdate, line_update}
 use Rattle.doc_session.specs.Document.{Document, layout_of, no_request}
 use Rattle.doc_session.specs.ScreenOf.{IsScreenOf}
 use Rattle.doc_session.specs.Step.{request_of}
-use Rattle.core_session.specs.Session.{OpenView, view_of, piece_of, views_after, written}
+use Rattle.core_session.specs.Session.{OpenView, first_session, session_of, view_of, views_of, piece_of, written}
 
 -- the notes `update` in the lines of these bytes: each is an update of a view, or `None` where it can't be read
 abbrev pub updates_in : List ℕ → List (Option ViewUpdate)
@@ -87,8 +87,8 @@ NotesSendTo requests views notes = AllByRecursion (NoteSendsTo requests views) n
 -- written by then, with the lines that this entry requested; and each update that it wrote is of one of them and sends lines of its
 -- window, or that the entry requested, alone
 pub record Shows (journal : List Entry) (bytes : List ℕ) : Type 0 where
-  pub pieces : bytes ≡ written [] journal
-  pub screens : (front back : List Entry) → journal ≡ front ++ back → AreShown (last_requested front) (views_after [] front) (written [] front)
+  pub pieces : bytes ≡ written first_session journal
+  pub screens : (front back : List Entry) → journal ≡ front ++ back → AreShown (last_requested front) (views_of front) (written first_session front)
   pub sends : (front : List Entry) (entry : Entry) (back : List Entry) → journal ≡ front ++ (entry ∷ back) →
-      NotesSendTo (requested entry.command.act) (views_after [] (front ++ entry ∷ []))
-      (updates_in (piece_of (views_after [] front) entry.command))
+      NotesSendTo (requested entry.command.act) (views_of (front ++ entry ∷ []))
+      (updates_in (piece_of (session_of front) entry.command))

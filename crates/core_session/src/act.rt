@@ -4,11 +4,11 @@ ghost use Rattle.plain_edits.specs.Edits.{Refusal};
 ghost use Rattle.xi_plain.specs.declared.command.Act.{Act};
 ghost use Rattle.doc_session.specs.Fault.{DocRefuses};
 ghost use Rattle.doc_session.specs.InMemory.{Doc};
-ghost use Rattle.doc_session.specs.Step.{EventStep, HasCaller};
+ghost use Rattle.doc_session.specs.Step.{EventStep, MayCome};
 ghost use Rattle.core_session.specs.Core.{ServesView, Stands};
 ghost use Rattle.core_session.specs.Inner.{IsMade, IsOutcome, IsSpentOrLack, MayBeAsked, TakesEvents, reply_of};
 ghost use Rattle.core_session.specs.Answer.{accepted, result_of};
-ghost use Rattle.core_session.specs.Session.{OpenView, view_id, named_view, outcome, edit_came, edit_outcome, undone_outcome, open_outcome, front_outcome, keeping, refusing, refusing_view, spent_total};
+ghost use Rattle.core_session.specs.Session.{OpenView, Session, config_after, config_outcome, view_id, named_view, outcome, edit_came, edit_outcome, undone_outcome, open_outcome, front_outcome, keeping, refusing, refusing_view, spent_total};
 
 use doc_session::{Body, Doc, DocFault, Effects, Event};
 use plain_screen::Update;
@@ -26,13 +26,6 @@ const VIEW_MEMBER: &str = "view_id";
 
 /// The most characters that may be inserted into a document.
 const TEXT_LIMIT: u64 = 1 << 40;
-
-/// How a text is laid out before anyone says otherwise.
-const FIRST_CONFIG: Config = Config {
-    tab: 4,
-    width: 0,
-    spaces: false,
-};
 
 /// What an act is answered.
 #[derive(Drop)]
@@ -63,21 +56,54 @@ pub struct ActEffects {
     pub scroll: Option<(u64, u64)>,
 }
 
-/// Does what a command asks, beside the present document.
-pub fn act_on(alloc: Global, document: &Option<Doc>, act: &Act) -> Result<ActEffects, NoMemory>
-    requires { MayBeAsked document.now }
-    ensures { (views : List OpenView) → Stands document.now views
-        → IfOk result (IsOutcome document.now (outcome views act.now)) }
+/// Does what a command asks, beside the present document. `config` is how texts are laid out and edited from then on.
+pub fn act_on(
+    alloc: Global,
+    document: &Option<Doc>,
+    config: Config,
+    act: &Act,
+) -> Result<ActEffects, NoMemory>
+    requires asked { MayBeAsked document.now }
+    requires tab { 0 < config.tab }
+    ensures { (session : Session) → Stands document.now session.views → config ≡ config_after session.config act.now
+        → IfOk result (IsOutcome document.now (outcome session act.now)) }
 {
     match act {
         Act::Bad(fault) => refused(alloc, document, fault),
         Act::Nothing => others(alloc, document, Reply::Accepted),
-        Act::NewView { path } => open(alloc, document, path),
+        Act::Configure(_) => configure(alloc, document, config),
+        Act::NewView { path } => open(alloc, document, config, path),
         Act::CloseView { view } => undone(alloc, document, view),
         Act::Save { view, path: _ } => undone(alloc, document, view),
         Act::Edit { view, act } => edit(alloc, document, view, act),
         Act::Closing => Ok(changed_nothing(Reply::Silent)),
         _ => others(alloc, document, Reply::NotBuilt),
+    }
+}
+
+/// Texts are laid out and edited so from now on: a document is told, also where nothing changes.
+fn configure(alloc: Global, document: &Option<Doc>, config: Config) -> Result<ActEffects, NoMemory>
+    requires asked { MayBeAsked document.now }
+    requires tab { 0 < config.tab }
+    ensures { (views : List OpenView) → Stands document.now views
+        → IfOk result (IsOutcome document.now (config_outcome views config)) }
+{
+    match document {
+        Some(doc) => configure_document(alloc, doc, config),
+        None => Ok(changed_nothing(Reply::Accepted)),
+    }
+}
+
+/// The same, where there is a document.
+fn configure_document(alloc: Global, doc: &Doc, config: Config) -> Result<ActEffects, NoMemory>
+    requires asked { MayBeAsked (Some doc.now) }
+    requires tab { 0 < config.tab }
+    ensures { (view : OpenView) → ServesView doc.now view
+        → IfOk result (IsOutcome (Some doc.now) (config_outcome (view ∷ []) config)) }
+{
+    match after_alone(alloc, doc, Event::Config(config)) {
+        Ok((next, effects)) => Ok(taken(Reply::Accepted, next, effects)),
+        Err(_) => Err(NoMemory),
     }
 }
 
@@ -146,15 +172,21 @@ fn undone(alloc: Global, document: &Option<Doc>, name: &Text) -> Result<ActEffec
     }
 }
 
-fn open(alloc: Global, document: &Option<Doc>, path: &Option<Text>) -> Result<ActEffects, NoMemory>
-    requires { MayBeAsked document.now }
+fn open(
+    alloc: Global,
+    document: &Option<Doc>,
+    config: Config,
+    path: &Option<Text>,
+) -> Result<ActEffects, NoMemory>
+    requires asked { MayBeAsked document.now }
+    requires tab { 0 < config.tab }
     ensures { (views : List OpenView) → Stands document.now views
-        → IfOk result (IsOutcome document.now (open_outcome views path.now)) }
+        → IfOk result (IsOutcome document.now (open_outcome config views path.now)) }
 {
     if document.is_some() || path.is_some() {
         return others(alloc, document, Reply::NotBuilt);
     }
-    let doc = Doc::of_text(alloc, Text::new(alloc), 0, TEXT_LIMIT, FIRST_CONFIG)?;
+    let doc = Doc::of_text(alloc, Text::new(alloc), 0, TEXT_LIMIT, config)?;
     match after_alone(alloc, &doc, Event::Other) {
         Ok((next, effects)) => Ok(taken(Reply::Opened, next, effects)),
         Err(_) => Err(NoMemory),
@@ -260,7 +292,7 @@ fn answer_of(body: Body) -> Reply
 /// The document after an event of the front end, whose steps nobody counts.
 fn after_alone(alloc: Global, doc: &Doc, event: Event) -> Result<(Doc, Effects), DocFault>
     requires alone { TakesEvents doc.now }
-    requires caller { HasCaller 0 event }
+    requires event { MayCome 0 event }
     ensures { IsMade doc.now event result }
 {
     counted::<Brand>(alloc, doc, event, Blank::new(1))
@@ -274,7 +306,7 @@ fn counted<L: Ledger>(
 ) -> Result<(Doc, Effects), DocFault>
     requires blank { (blank.name ≡ L.name) × ((blank.parts ≡ L.parts) × (0 < blank.parts)) }
     requires alone { TakesEvents doc.now }
-    requires caller { HasCaller 0 event }
+    requires event { MayCome 0 event }
     ensures { IsMade doc.now event result }
 {
     let mut steps = Steps::<L>::new(blank);

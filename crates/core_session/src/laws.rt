@@ -1,10 +1,15 @@
 //! Laws of the definitions, each the contract of a function: they hold of all journals and all bytes.
 
-ghost use Rattle.core_session.specs.Laws.{NothingWaits, OnlyViewIsShown, OtherViewIsPassedOver, OtherViewShowsNothing, RevisionsAreFew, UnreadShowsNothing};
+ghost use Rattle.core_session.specs.Laws.{AllAreConfigured, NothingWaits, OnlyViewIsShown, OtherViewIsPassedOver, OtherViewShowsNothing, RevisionsAreFew, UnreadShowsNothing};
 
 /// A document has at most as many revisions as its journal has entries.
 pub fn revisions_are_few()
     ensures { RevisionsAreFew }
+{}
+
+/// All views are laid out and edited as their session is.
+pub fn all_are_configured()
+    ensures { AllAreConfigured }
 {}
 
 /// In the documents of a session no group waits to be collected.

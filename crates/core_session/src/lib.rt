@@ -1,4 +1,4 @@
-//! A session: its journal, its documents and its sink.
+//! A session: its journal, its documents, its configuration and its sink.
 //!
 //! Each line of the front end becomes one entry of the journal and one piece of bytes, which is written before the next line is
 //! taken. `specs/Session.antt` has the plain session, which is a fold over the journal; `specs/Shows.antt` says what a front end can
@@ -6,6 +6,7 @@
 #![tactic(auto)]
 
 mod act;
+mod config;
 pub mod laws;
 mod piece;
 mod prepare;

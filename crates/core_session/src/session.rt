@@ -7,13 +7,14 @@ ghost use Rattle.xi_plain.specs.Journal.{closing_entry};
 ghost use Rattle.core_session.specs.Inner.{document_then};
 ghost use Rattle.front_wire.specs.Front.{command_of};
 
+use crate::config::FIRST_CONFIG;
 use crate::prepare::prepare;
 use crate::write::write_piece;
 use doc_session::Doc;
 use outside::Sink;
 use plain_text::Text;
 use std::alloc::Global;
-use xi_plain::{Act, Command, Entry, Id, ShelfNote};
+use xi_plain::{Act, Command, Config, Entry, Id, ShelfNote};
 
 /// What became of a line.
 #[derive(Clone, Copy)]
@@ -33,18 +34,22 @@ pub struct Prepared {
     pub piece: Text,
     /// The document that takes the place of the present one, where there is another.
     pub next: Option<Doc>,
+    /// How texts are laid out and edited from then on.
+    pub config: Config,
 }
 
-/// A session with its journal, its document and the sink that it writes to. There is always room for its closing entry.
+/// A session with its journal, its document, its configuration and the sink that it writes to. There is always room for its closing entry.
 #[derive(Drop)]
 pub struct Core<K> {
     journal: Vec<Entry>,
     document: Option<Doc>,
+    config: Config,
     sink: K,
 }
 
 impl<K: Sink> Core<K> {
-    ghost use Rattle.core_session.specs.Core.{IsOfLine, IsServing, AddsSentEntry, AddsUnsentEntry, ChangesNothing, HasViewsAfter, HasRoom, journal_of, sink_of, views_of};
+    ghost use Rattle.core_session.specs.Core.{IsOfLine, IsServing, AddsSentEntry, AddsUnsentEntry, ChangesNothing, HasSessionAfter, HasRoom, journal_of, sink_of};
+    ghost use Rattle.core_session.specs.Session.{session_of};
     ghost use Rattle.core_session.specs.Inner.{IsPrepared};
 
     /// A session without entries. For want of memory the sink is given back.
@@ -58,6 +63,7 @@ impl<K: Sink> Core<K> {
             Ok(journal) => Ok(Core {
                 journal,
                 document: None,
+                config: FIRST_CONFIG,
                 sink,
             }),
             Err(_) => Err(sink),
@@ -74,9 +80,9 @@ impl<K: Sink> Core<K> {
         ensures no_memory { result ≡ Entered.NoMemory → ChangesNothing self.old self.new }
         ensures complete { (Rose (K.faults (sink_of self.old)) (K.faults (sink_of self.new)) → ⊥)
             → (result ≡ Entered.Taken) ⊎ (result ≡ Entered.NoMemory) }
-        ensures dropped { result ≢ Entered.Taken → HasViewsAfter self.new (journal_of self.old) }
+        ensures dropped { result ≢ Entered.Taken → HasSessionAfter self.new (journal_of self.old) }
     {
-        let Ok(made) = prepare(alloc, &self.document, line) else {
+        let Ok(made) = prepare(alloc, &self.document, self.config, line) else {
             return Entered::NoMemory;
         };
         if self.journal.reserve(2).is_err() {
@@ -85,23 +91,24 @@ impl<K: Sink> Core<K> {
         self.put(made)
     }
 
-    /// Writes the piece, makes the entry, and puts the document in its place last. A broken write drops it.
+    /// Writes the piece, makes the entry, and puts document and configuration in their places last. A broken write drops them.
     fn put(&mut self, made: Prepared) -> Entered
         requires serving { IsServing self.old }
         requires room { vec_len self.old.journal + 2 ≤ vec_capacity self.old.journal }
         requires asks { IsOfLine made.command.act }
-        requires prepared { IsPrepared self.old.document (views_of (journal_of self.old)) made }
+        requires prepared { IsPrepared self.old.document (session_of (journal_of self.old)) made }
         ensures sent { result ≡ Entered.Taken
             → AddsSentEntry (sink_state K.held K.faults K.failures) self.old self.new made.command }
         ensures unsent { result ≡ Entered.SinkFault → (n : ℕ)
             × AddsUnsentEntry (sink_state K.held K.faults K.failures) self.old self.new made.command n }
         ensures made { result ≢ Entered.NoMemory }
-        ensures dropped { result ≢ Entered.Taken → self.new.document ≡ self.old.document }
+        ensures dropped { result ≢ Entered.Taken → HasSessionAfter self.new (journal_of self.old) }
     {
         let Prepared {
             command,
             piece,
             next,
+            config,
         } = made;
         let bytes = piece.as_str().as_bytes();
         let taken = write_piece(&mut self.sink, bytes);
@@ -111,6 +118,7 @@ impl<K: Sink> Core<K> {
             return Entered::SinkFault;
         }
         put_document(&mut self.document, next);
+        self.config = config;
         Entered::Taken
     }
 
@@ -131,6 +139,7 @@ impl<K: Sink> Core<K> {
         let Core {
             journal,
             document: _,
+            config: _,
             sink,
         } = self;
         (journal, sink)

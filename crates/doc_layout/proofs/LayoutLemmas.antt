@@ -38,5 +38,5 @@ IsPieceIn-pieces text pieces index piece are is =
     let inside = piece-inside text pieces index piece are is in record {
       ordered = inside.0;
       inside = inside.1;
-      alike = λ regions. rendered-pieces text pieces index piece regions [] are is;
+      alike = λ regions spans. rendered-pieces text pieces index piece regions spans are is;
     }

@@ -1,30 +1,38 @@
--- What a layout tells: its text, and the gaps of its carets.
-use Rattle.std.proofs.Common.{◌≡◌, ◌≢◌, ℕ, zero, suc, ◌+◌, ◌-◌, ◌<◌, ◌≤◌, Bool, true, false, cond, List, [], ◌∷◌, length, map, Some, refl, ap, sym, ◌∙◌, arith, inl, inr}
+-- What a layout tells: its text, its pieces, and the gaps of its carets.
+use Rattle.std.proofs.Common.{◌≡◌, ◌≢◌, ℕ, zero, suc, ◌+◌, ◌-◌, ◌<◌, ◌≤◌, Bool, true, false, cond, List, [], ◌∷◌, length, map, Some, refl, ap, sym, subst, ◌∙◌, arith, inl, inr}
 use Rattle.std.specs.Prelude.{◌||◌, option_map, slice_get, unwrap_or}
 use Rattle.std.specs.List.{concat, filter, range_with_len}
 use Rattle.std.proofs.lemmas.Bool.{eq-eqb, ne_eqb, cases_lt}
+use Rattle.plain_text.specs.declared.run.Run.{Run}
 use Rattle.plain_text.specs.declared.selection.Region.{Region}
 use Rattle.plain_text.specs.Numbers.{has}
 use Rattle.plain_text.specs.Text.{place_of}
 use Rattle.plain_text.proofs.callers.PlaceLemmas.{place_of-rises_strictly}
 use Rattle.plain_screen.specs.declared.piece.Piece.{Piece}
 use Rattle.plain_screen.specs.declared.screen.Line.{Line}
-use Rattle.plain_screen.specs.View.{ArePieces, layout_line_of, whole_lines}
-use Rattle.plain_screen.proofs.callers.ViewLemmas.{ArePieces-whole_lines, IsLayoutLineOf-layout_line_of, pieces-text}
+use Rattle.plain_screen.specs.View.{ArePieces, layout_line_of}
+use Rattle.plain_screen.proofs.callers.ViewLemmas.{IsLayoutLineOf-layout_line_of, pieces-text}
 use Rattle.line_render.specs.Rendered.{carets_of, cursor_of, is_last_piece, own_gaps, text_of_piece}
-use Rattle.line_render.proofs.ForCallers.{own-layout_line_of}
+use Rattle.line_render.proofs.ForCallers.{own-layout_line_of, pieces-told}
 use Rattle.doc_layout.specs.Layout.{layout, layout_line}
 
 -- ---- the text
 
-texts-layout : (text : List ℕ) (regions : List Region) (pieces : List Piece) →
-    map (λ (line : Line). line.text) (layout text pieces regions) ≡ map (text_of_piece text) pieces
-texts-layout text regions [] = refl
-texts-layout text regions (piece ∷ pieces) = ap (λ ts. text_of_piece text piece ∷ ts) (texts-layout text regions pieces)
+texts-layout : (text : List ℕ) (regions : List Region) (results : List Run) (pieces : List Piece) →
+    map (λ (line : Line). line.text) (layout text pieces regions results) ≡ map (text_of_piece text) pieces
+texts-layout text regions results [] = refl
+texts-layout text regions results (piece ∷ pieces) = ap (λ ts. text_of_piece text piece ∷ ts) (texts-layout text regions results pieces)
 
-text-layout : (text : List ℕ) (pieces : List Piece) (regions : List Region) → ArePieces text pieces →
-    concat (map (λ (line : Line). line.text) (layout text pieces regions)) ≡ text
-text-layout text pieces regions are = ap concat (texts-layout text regions pieces) ∙ pieces-text text pieces are
+text-layout : (text : List ℕ) (pieces : List Piece) (regions : List Region) (results : List Run) → ArePieces text pieces →
+    concat (map (λ (line : Line). line.text) (layout text pieces regions results)) ≡ text
+text-layout text pieces regions results are = ap concat (texts-layout text regions results pieces) ∙ pieces-text text pieces are
+
+-- ---- the pieces
+
+numbers-layout : (text : List ℕ) (regions : List Region) (results : List Run) (pieces : List Piece) →
+    map (λ (line : Line). line.ln) (layout text pieces regions results) ≡ map (λ (piece : Piece). piece.ln) pieces
+numbers-layout text regions results [] = refl
+numbers-layout text regions results (piece ∷ pieces) = ap (λ ns. piece.ln ∷ ns) (numbers-layout text regions results pieces)
 
 -- ---- the carets of a line
 
@@ -100,17 +108,19 @@ slice-map f [] index = refl
 slice-map f (x ∷ xs) zero = refl
 slice-map f (x ∷ xs) (suc index) = slice-map f xs index
 
-lines-same : (text : List ℕ) (pieces : List Piece) (regions others : List Region) (index : ℕ) (piece : Piece) →
-    layout text pieces regions ≡ layout text pieces others → slice_get pieces index ≡ Some piece → layout_line text regions piece ≡ layout_line text others piece
-lines-same text pieces regions others index piece same is =
-    let at : option_map (layout_line text regions) (slice_get pieces index) ≡ option_map (layout_line text others) (slice_get pieces index) =
-    sym (slice-map (layout_line text regions) pieces index) ∙ ap (λ ls. slice_get ls index) same ∙ slice-map (layout_line text others) pieces index in
-    ap (λ o. unwrap_or o (layout_line text regions piece))
-    (sym (ap (option_map (layout_line text regions)) is) ∙ at ∙ ap (option_map (layout_line text others)) is)
+lines-same : (text : List ℕ) (pieces : List Piece) (regions others : List Region) (results founds : List Run) (index : ℕ) (piece : Piece) →
+    layout text pieces regions results ≡ layout text pieces others founds → slice_get pieces index ≡ Some piece →
+    layout_line text regions results piece ≡ layout_line text others founds piece
+lines-same text pieces regions others results founds index piece same is =
+    let one : Piece → Line = layout_line text regions results in
+    let other : Piece → Line = layout_line text others founds in
+    let at : option_map one (slice_get pieces index) ≡ option_map other (slice_get pieces index) =
+    sym (slice-map one pieces index) ∙ ap (λ ls. slice_get ls index) same ∙ slice-map other pieces index in
+    ap (λ o. unwrap_or o (one piece)) (sym (ap (option_map one) is) ∙ at ∙ ap (option_map other) is)
 
-carets-told : (text : List ℕ) (pieces : List Piece) (regions others : List Region) (gap : ℕ) → ArePieces text pieces →
-    layout text pieces regions ≡ layout text pieces others → gap ≤ length text → has (carets_of regions) gap ≡ has (carets_of others) gap
-carets-told text pieces regions others gap are same inside =
+carets-told : (text : List ℕ) (pieces : List Piece) (regions others : List Region) (results founds : List Run) (gap : ℕ) → ArePieces text pieces →
+    layout text pieces regions results ≡ layout text pieces others founds → gap ≤ length text → has (carets_of regions) gap ≡ has (carets_of others) gap
+carets-told text pieces regions others results founds gap are same inside =
     let index = layout_line_of pieces gap in
     let there = slice-inside pieces index (IsLayoutLineOf-layout_line_of text pieces gap are).inside in
     let piece = there.0 in
@@ -119,19 +129,29 @@ carets-told text pieces regions others gap are same inside =
     let own = (own-layout_line_of text pieces index piece gap are there.1 inside).1 refl in
     let fits = own_gaps-le (is_last_piece text piece) (length line) in
     sym (own-told (carets_of regions) piece.start gaps gap line own.0 own.1 fits) ∙
-    ap (λ (l : Line). has l.cursor (place_of line (gap - piece.start))) (lines-same text pieces regions others index piece same there.1) ∙
+    ap (λ (l : Line). has l.cursor (place_of line (gap - piece.start))) (lines-same text pieces regions others results founds index piece same there.1) ∙
     own-told (carets_of others) piece.start gaps gap line own.0 own.1 fits
 
-pub layouts-tell : (text other : List ℕ) (regions others : List Region) →
-    layout text (whole_lines text) regions ≡ layout other (whole_lines other) others →
-    (text ≡ other) × ((gap : ℕ) → gap ≤ length text → has (carets_of regions) gap ≡ has (carets_of others) gap)
-layouts-tell text other regions others same = (texts, λ gap inside. carets-told text (whole_lines text) regions others gap (ArePieces-whole_lines text) one inside)
+pub layouts-tell : (text other : List ℕ) (pieces parts : List Piece) (regions others : List Region) (results founds : List Run) →
+    ArePieces text pieces → ArePieces other parts → layout text pieces regions results ≡ layout other parts others founds →
+    (text ≡ other) × (pieces ≡ parts) × ((gap : ℕ) → gap ≤ length text → has (carets_of regions) gap ≡ has (carets_of others) gap)
+layouts-tell text other pieces parts regions others results founds are cut same =
+    (texts, cuts, λ gap inside. carets-told text pieces regions others results founds gap are one inside)
   where
     texts : text ≡ other
     texts =
-        sym (text-layout text (whole_lines text) regions (ArePieces-whole_lines text)) ∙
+        sym (text-layout text pieces regions results are) ∙
         ap (λ lines. concat (map (λ (line : Line). line.text) lines)) same ∙
-        text-layout other (whole_lines other) others (ArePieces-whole_lines other)
+        text-layout other parts others founds cut
 
-    one : layout text (whole_lines text) regions ≡ layout text (whole_lines text) others
-    one = same ∙ ap (λ t. layout t (whole_lines t) others) (sym texts)
+    again : layout text pieces regions results ≡ layout text parts others founds
+    again = same ∙ ap (λ t. layout t parts others founds) (sym texts)
+
+    cuts : pieces ≡ parts
+    cuts =
+        pieces-told text pieces parts are (subst (λ t. ArePieces t parts) (sym texts) cut)
+        (sym (texts-layout text regions results pieces) ∙ ap (map (λ (line : Line). line.text)) again ∙ texts-layout text others founds parts)
+        (sym (numbers-layout text regions results pieces) ∙ ap (map (λ (line : Line). line.ln)) again ∙ numbers-layout text others founds parts)
+
+    one : layout text pieces regions results ≡ layout text pieces others founds
+    one = again ∙ ap (λ ps. layout text ps others founds) (sym cuts)

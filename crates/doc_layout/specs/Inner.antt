@@ -1,14 +1,16 @@
 -- What private functions say: a piece of a text, lines that are asked for, and an update in the making.
-use Rattle.std.specs.Prelude.{◌≡◌, ℕ, ◌<◌, ◌≤◌, Bool, true, false, not, ◌||◌, List, [], length}
+use Rattle.std.specs.Prelude.{◌≡◌, ℕ, ◌<◌, ◌≤◌, Bool, true, false, not, ◌||◌, List, [], ◌∷◌, length, Option, Some, None}
 use Rattle.std.specs.List.{list_all, range_with_len}
 use Rattle.plain_text.specs.declared.run.Run.{Run}
 use Rattle.plain_text.specs.declared.selection.Region.{Region}
+use Rattle.plain_edits.specs.declared.style.Span.{Span}
 use Rattle.plain_screen.specs.declared.piece.Piece.{Piece}
 use Rattle.plain_screen.specs.declared.screen.Line.{Line}
 use Rattle.plain_screen.specs.declared.screen.Op.{Op}
 use Rattle.plain_screen.specs.declared.screen.Op.TheVariants.{Invalidate, Ins}
 use Rattle.plain_screen.specs.Plan.{is_within}
 use Rattle.line_render.specs.Rendered.{rendered, rendered_piece, text_of_piece}
+use Rattle.line_render.specs.Inner.{onto_run}
 use Rattle.doc_layout.specs.declared.asked.Asked.{Asked}
 use Rattle.doc_layout.specs.Told.{is_asked}
 
@@ -16,7 +18,20 @@ use Rattle.doc_layout.specs.Told.{is_asked}
 pub record IsPieceIn (text : List ℕ) (piece : Piece) (is_last : Bool) : Type 0 where
   pub ordered : piece.start ≤ piece.end
   pub inside : piece.end ≤ length text
-  pub alike : (regions : List Region) → rendered text piece regions [] ≡ rendered_piece (text_of_piece text piece) piece is_last regions []
+  pub alike : (regions : List Region) (spans : List Span) →
+      rendered text piece regions spans ≡ rendered_piece (text_of_piece text piece) piece is_last regions spans
+
+-- ---- what a search found
+
+-- spans with a result of the search before them, where there is one: found characters have the id 1
+abbrev pub onto_found : Option Run → List Span → List Span
+onto_found None spans = spans
+onto_found (Some run) spans = onto_run 1 run spans
+
+-- results as spans, where those that touch are one
+abbrev pub joined_spans : List Run → List Span
+joined_spans [] = []
+joined_spans (run ∷ results) = onto_run 1 run (joined_spans results)
 
 -- ---- lines that are asked for
 

@@ -1,19 +1,22 @@
--- The layout of a text that is cut into pieces, with the carets of regions, and the place of a gap on it. (A line has no styles yet.)
-use Rattle.std.specs.Prelude.{ℕ, List, [], map}
+-- The layout of a text that is cut into pieces, with the carets and the selected characters of regions and the results of a search, and the
+-- place of a gap on it.
+use Rattle.std.specs.Prelude.{ℕ, List, length, map}
+use Rattle.plain_text.specs.declared.run.Run.{Run}
 use Rattle.plain_text.specs.declared.selection.Region.{Region}
 use Rattle.plain_screen.specs.declared.piece.Piece.{Piece}
 use Rattle.plain_screen.specs.declared.screen.Line.{Line}
 use Rattle.plain_screen.specs.View.{layout_line_of}
 use Rattle.line_render.specs.Rendered.{rendered}
 use Rattle.plain_view.specs.Viewed.{byte_column_of}
+use Rattle.doc_layout.specs.Found.{found_spans}
 
--- a line of the layout: that of its piece, with the carets of these regions that are its own; what is selected is not shown yet
-abbrev pub layout_line : List ℕ → List Region → Piece → Line
-layout_line text regions piece = record (rendered text piece regions []) { styles = [] }
+-- a line of the layout: that of its piece, with the carets, selected and found characters that are its own
+abbrev pub layout_line : List ℕ → List Region → List Run → Piece → Line
+layout_line text regions results piece = rendered text piece regions (found_spans results (length text))
 
--- THE LAYOUT of a text in these pieces, with the carets of these regions
-abbrev pub layout : List ℕ → List Piece → List Region → List Line
-layout text pieces regions = map (layout_line text regions) pieces
+-- THE LAYOUT of a text in these pieces, with these regions and these results of a search: each piece is rendered
+abbrev pub layout : List ℕ → List Piece → List Region → List Run → List Line
+layout text pieces regions results = map (layout_line text regions results) pieces
 
 -- a place on the layout: a line, from 0, and a byte offset in it
 pub record Position : Type 0 where

@@ -5,6 +5,7 @@
 #![tactic(auto)]
 
 mod asked;
+mod found;
 pub mod laws;
 mod layout;
 mod plan;
@@ -12,9 +13,11 @@ pub mod rows;
 mod texts;
 mod wire;
 mod wire_builder;
+mod wrapping;
 
 pub use asked::Asked;
 pub use layout::layout_of;
 pub use plan::{scroll_of, update_of};
 pub use texts::whole_text;
 pub use wire::to_wire;
+pub use wrapping::wrapped;

@@ -128,32 +128,32 @@ request_of-refused plain act refusal refused = by (form_of act)
 
 -- ---- the two forms of a step
 
--- it makes no revision, or one; the screen is as before until the front end is told
+-- it makes no revision, or one; configuration and screen are as before, the screen until the front end is told
 module _ (P : EventStep → Type 0) (plain : Document) (act : EditAct)
-    (still : (next : Document) (body : Body) (scroll : Option Position) → next.history ≡ plain.history → next.screen ≡ plain.screen →
+    (still : (next : Document) (body : Body) (scroll : Option Position) → next.history ≡ plain.history → next.config ≡ plain.config → next.screen ≡ plain.screen →
     P (step_to (request_of act) plain next body scroll None))
-    (made : (next : Document) (body : Body) (scroll : Option Position) → head next.history ≡ head plain.history + 1 → next.screen ≡ plain.screen →
+    (made : (next : Document) (body : Body) (scroll : Option Position) → head next.history ≡ head plain.history + 1 → next.config ≡ plain.config → next.screen ≡ plain.screen →
     P (step_to (request_of act) plain next body scroll (Some (notice_of plain.history next.history 0)))) where
   still_asking : (request : Run) → request_of act ≡ request → (next : Document) (body : Body) (scroll : Option Position) →
-      next.history ≡ plain.history → next.screen ≡ plain.screen → P (step_to request plain next body scroll None)
-  still_asking request is next body scroll history screen =
-      subst (λ r. P (step_to r plain next body scroll None)) is (still next body scroll history screen)
+      next.history ≡ plain.history → next.config ≡ plain.config → next.screen ≡ plain.screen → P (step_to request plain next body scroll None)
+  still_asking request is next body scroll history config screen =
+      subst (λ r. P (step_to r plain next body scroll None)) is (still next body scroll history config screen)
 
   made_asking : request_of act ≡ no_request → (next : Document) (body : Body) (scroll : Option Position) →
-      head next.history ≡ head plain.history + 1 → next.screen ≡ plain.screen → P (revision_step plain next 0 body scroll)
-  made_asking is next body scroll more screen =
-      subst (λ r. P (step_to r plain next body scroll (Some (notice_of plain.history next.history 0)))) is (made next body scroll more screen)
+      head next.history ≡ head plain.history + 1 → next.config ≡ plain.config → next.screen ≡ plain.screen → P (revision_step plain next 0 body scroll)
+  made_asking is next body scroll more config screen =
+      subst (λ r. P (step_to r plain next body scroll (Some (notice_of plain.history next.history 0)))) is (made next body scroll more config screen)
 
   command_forms : (effect : Effect) → request_of act ≡ no_request → P (command_step plain act effect)
   command_forms effect is = by (is_idle plain effect)
     where
       by : (idle : Bool) → P (if idle then idle_step plain act effect else typed_step plain act effect)
-      by true = still_asking no_request is _ _ _ refl refl
-      by false = made_asking is _ _ _ (length_push plain.history.revisions _) refl
+      by true = still_asking no_request is _ _ _ refl refl refl
+      by false = made_asking is _ _ _ (length_push plain.history.revisions _) refl refl
 
   turn_forms : (group : Option ℕ) (groups : Groups) → request_of act ≡ no_request → P (history_step plain group groups)
-  turn_forms None groups is = still_asking no_request is _ _ _ refl refl
-  turn_forms (Some group) groups is = made_asking is _ _ _ (length_push plain.history.revisions _) refl
+  turn_forms None groups is = still_asking no_request is _ _ _ refl refl refl
+  turn_forms (Some group) groups is = made_asking is _ _ _ (length_push plain.history.revisions _) refl refl
 
   abbrev At : EditAct → Type 0
   At a = P (act_step plain a)
@@ -167,17 +167,17 @@ module _ (P : EventStep → Type 0) (plain : Document) (act : EditAct)
       by (redoes is) = subst At (sym is) (turn_forms (next_redo plain.groups) (redone_one plain.groups) (ap request_of is))
       by (scrolls first last is) =
           let next = scrolled_document plain (record { start = first; end = last }) in
-          subst At (sym is) (still_asking no_request (ap request_of is) next Null (scroll_after plain next) refl refl)
+          subst At (sym is) (still_asking no_request (ap request_of is) next Null (scroll_after plain next) refl refl refl)
       by (requests first last is) =
           let next = looking_document plain in
-          subst At (sym is) (still_asking (record { start = first; end = last }) (ap request_of is) next Null (scroll_after plain next) refl refl)
+          subst At (sym is) (still_asking (record { start = first; end = last }) (ap request_of is) next Null (scroll_after plain next) refl refl refl)
       by (finds chars case_sensitive regex whole_words is) =
           let next = seeking_document plain chars case_sensitive in
-          subst At (sym is) (still_asking no_request (ap request_of is) next Null (scroll_after plain next) refl refl)
+          subst At (sym is) (still_asking no_request (ap request_of is) next Null (scroll_after plain next) refl refl refl)
       by (finds_next wrap_around allow_same is) =
           let next = at_next_match plain wrap_around in
-          subst At (sym is) (still_asking no_request (ap request_of is) next Null (scroll_after plain next) refl refl)
+          subst At (sym is) (still_asking no_request (ap request_of is) next Null (scroll_after plain next) refl refl refl)
       by (finds_previous wrap_around allow_same is) =
           let next = at_previous_match plain wrap_around in
-          subst At (sym is) (still_asking no_request (ap request_of is) next Null (scroll_after plain next) refl refl)
+          subst At (sym is) (still_asking no_request (ap request_of is) next Null (scroll_after plain next) refl refl refl)
       by (commands is) = subst P (sym (is.step plain)) (command_forms (effect_on plain act) is.request)

@@ -311,6 +311,7 @@ IsUncollected-collected doc made plain engine stack found stands is limit engine
       saved_before = stands.saved_before;
       window = stands.window;
       query = stands.query;
+      config = stands.config;
       screen = stands.screen;
     })
 
@@ -400,6 +401,7 @@ DocStandsFor-whole doc plain stands none = record {
   saved_before = stands.saved_before;
   window = stands.window;
   query = stands.query;
+  config = stands.config;
   screen = stands.screen;
 }
 
@@ -437,6 +439,7 @@ IsUncollected-sessions doc plain sessions others stands same are = record {
   saved_before = stands.saved_before;
   window = stands.window;
   query = stands.query;
+  config = stands.config;
   screen = stands.screen;
 }
 

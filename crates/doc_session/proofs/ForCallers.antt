@@ -2,6 +2,7 @@
 pub use Rattle.doc_session.proofs.ActLemmas.{by_front, request_of-refused}
 pub use Rattle.doc_session.proofs.AgreeLemmas.{IsLast, IsLast-next_undo, fresh, has-next_undo, next_undo-opened}
 pub use Rattle.doc_session.proofs.CollectLemmas.{collection_of-lags, collection_of-nothing, floor-found, fold_forgotten, part-collected}
+pub use Rattle.doc_session.proofs.ConfigLemmas.{config-event_step}
 pub use Rattle.doc_session.proofs.FitLemmas.{command_fits}
 pub use Rattle.doc_session.proofs.HeadLemmas.{head-stands}
 pub use Rattle.doc_session.proofs.MoveLemmas.{head-after, head-undid, sound-given}

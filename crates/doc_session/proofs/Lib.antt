@@ -11,9 +11,11 @@ pub mod FrontLemmas
 pub mod UntoldLemmas
 pub mod IdleLemmas
 pub mod SomeLemmas
+pub mod PieceLemmas
 pub mod SettleLemmas
 pub mod StepLemmas
 pub mod FitLemmas
 pub mod ScreenLemmas
 pub mod ShowLemmas
+pub mod ConfigLemmas
 pub mod ForCallers

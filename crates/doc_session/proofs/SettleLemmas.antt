@@ -3,23 +3,24 @@ use Rattle.std.proofs.Common.{◌≡◌, ℕ, ◌+◌, ◌<◌, Bool, true, fals
 use Rattle.std.specs.Prelude.{if◌then◌else◌, ◌==◌, not, ◌&&◌, ◌||◌, unwrap_or, is_some}
 use Rattle.std.specs.List.{enumerate_from, list_all, range_with_len}
 use Rattle.plain_text.specs.declared.run.Run.{Run}
-use Rattle.plain_text.specs.declared.selection.Region.{Region}
 use Rattle.plain_screen.specs.declared.piece.Piece.{Piece}
 use Rattle.plain_screen.specs.declared.screen.Line.{Line}
 use Rattle.plain_screen.specs.declared.screen.Update.{Update}
 use Rattle.plain_screen.specs.Plan.{is_within, shown_lines}
 use Rattle.plain_screen.specs.Screen.{Screen, screen_after}
-use Rattle.plain_screen.specs.View.{whole_lines}
 use Rattle.plain_screen.proofs.callers.PlanLemmas.{screen_after-plan_from}
 use Rattle.plain_screen.proofs.callers.SameLemmas.{is_same_layout-Decides}
-use Rattle.plain_screen.proofs.callers.ViewLemmas.{ArePieces-whole_lines, IsLayoutLineOf-layout_line_of}
+use Rattle.xi_plain.specs.declared.config.Config.{Config}
+use Rattle.line_break.specs.Pieces.{wrapped_pieces}
 use Rattle.selection_core.specs.Selection.{last_caret}
 use Rattle.doc_layout.specs.declared.asked.Asked.{Asked}
 use Rattle.doc_layout.specs.Told.{is_asked, planned, screen_of, scroll_between}
+use Rattle.doc_view.specs.declared.search.Search.{Search}
 use Rattle.doc_view.specs.declared.told.Pristine.{Pristine}
+use Rattle.doc_view.specs.Search.{results}
 use Rattle.doc_view.specs.Told.{has_lines, is_lacking, settled_view, told}
 use Rattle.doc_view.specs.View.{View, asked_in, layout_in, point_in}
-use Rattle.doc_session.specs.Document.{Document, caret_point, is_pristine, layout_of, text_of}
+use Rattle.doc_session.specs.Document.{Document, caret_point, is_pristine, layout_of, pieces_of, results_of, text_of}
 use Rattle.doc_session.specs.Effects.{are_valid, differ, is_shown, ops_of, settled, update_after, update_of, updated, wants_update}
 use Rattle.doc_session.specs.InMemory.{Doc}
 use Rattle.doc_session.specs.Inner.{IsUncollected, IsUntold, is_pristine_in, pristine_to}
@@ -28,6 +29,7 @@ use Rattle.doc_session.specs.SameLayout.{is_same_layout}
 use Rattle.doc_session.specs.Stands.{DocStandsFor}
 use Rattle.doc_session.specs.Step.{scroll_if}
 use Rattle.doc_session.proofs.HeadLemmas.{head-stands}
+use Rattle.doc_session.proofs.PieceLemmas.{pieces-some}
 
 -- ---- the screen
 
@@ -51,13 +53,12 @@ are_valid-told last now index (line ∷ lines) =
     one a true = refl
     one a false = refl
 
--- on an empty screen none is, and a layout has a line
-pub are_valid-none : (window request : Run) (text : List ℕ) (regions : List Region) → are_valid window request 0 (layout text (whole_lines text) regions) [] ≡ false
-are_valid-none window request text regions =
-    let inside = (IsLayoutLineOf-layout_line_of text (whole_lines text) 0 (ArePieces-whole_lines text)).inside in
-    by (whole_lines text) (omega (arith, inside))
+-- on an empty screen no line is valid, and a layout has a line
+pub are_valid-none : (window request : Run) (document : Document) → are_valid window request 0 (layout_of document) [] ≡ false
+are_valid-none window request document = by (pieces_of document) (pieces-some document.config.width document.config.tab (text_of document))
   where
-    by : (pieces : List Piece) → 0 < length pieces → are_valid window request 0 (layout text pieces regions) [] ≡ false
+    by : (pieces : List Piece) → 0 < length pieces →
+        are_valid window request 0 (layout (text_of document) pieces document.regions (results_of document)) [] ≡ false
     by [] some = absurd (omega (arith, some))
     by (piece ∷ pieces) some = refl
 
@@ -94,11 +95,16 @@ text-settled before after request pristine = by (is_lacking before after request
     by false = refl
 
 -- what a view keeps is of the plain document
-view-lines : (view : View) (plain : Document) → view.text ≡ text_of plain → view.regions ≡ plain.regions → layout_in view ≡ layout_of plain
-view-lines view plain text regions = ap₂ (λ t rs. layout t (whole_lines t) rs) text regions
+module _ (view : View) (plain : Document) (text : view.text ≡ text_of plain) (regions : view.regions ≡ plain.regions) (config : plain.config ≡ view.config) where
+  view-lines : plain.query ≡ view.query → layout_in view ≡ layout_of plain
+  view-lines query =
+      ap₂ (λ (k : Config) (q : Search). layout view.text (wrapped_pieces k.width k.tab view.text) view.regions (results view.text q)) (sym config) (sym query) ∙
+      ap₂ (λ t rs. layout t (wrapped_pieces plain.config.width plain.config.tab t) rs (results t plain.query)) text regions
 
-view-point : (view : View) (plain : Document) → view.text ≡ text_of plain → view.regions ≡ plain.regions → point_in view ≡ caret_point plain
-view-point view plain text regions = ap₂ (λ t rs. position_of t (whole_lines t) (last_caret rs)) text regions
+  view-point : point_in view ≡ caret_point plain
+  view-point =
+      ap (λ (k : Config). position_of view.text (wrapped_pieces k.width k.tab view.text) (last_caret view.regions)) (sym config) ∙
+      ap₂ (λ t rs. position_of t (wrapped_pieces plain.config.width plain.config.tab t) (last_caret rs)) text regions
 
 -- the occasion of a document that has the screen of the one before, where an event requests these lines
 module _ (plain next : Document) (request : Run) (shown : Option Asked) (was : plain.screen ≡ screen_of shown (layout_of plain))
@@ -117,7 +123,7 @@ module _ (plain next : Document) (request : Run) (shown : Option Asked) (was : p
   has_lines-is one = by shown ∙ sym (ap (are_valid next.window request 0 (layout_of next)) (screen-same one))
     where
       by : (last : Option Asked) → has_lines last now_asked (length (layout_of next)) ≡ are_valid next.window request 0 (layout_of next) (screen_of last (layout_of next))
-      by None = sym (are_valid-none next.window request (text_of next) next.regions)
+      by None = sym (are_valid-none next.window request next)
       by (Some last) = sym (are_valid-told last now_asked 0 (layout_of next))
 
   pub wants_update-is : (not (has_lines shown now_asked (length (layout_of next))) || (differ (is_pristine plain) (is_pristine next) || not same)) ≡
@@ -142,10 +148,10 @@ module _ (doc made : Doc) (request : Run) (plain next : Document) (stands : DocS
   pristine-untold = ap₂ (λ now saved. now == saved) (head-stands made.engine next.history untold.parts.stands) untold.saved
 
   lines-before : layout_in doc.view ≡ layout_of plain
-  lines-before = view-lines doc.view plain stands.parts.shown_is stands.regions
+  lines-before = view-lines doc.view plain stands.parts.shown_is stands.regions stands.config stands.query
 
   lines-after : layout_in made.view ≡ layout_of next
-  lines-after = view-lines made.view next untold.parts.shown_is untold.regions
+  lines-after = view-lines made.view next untold.parts.shown_is untold.regions untold.config untold.query
 
   -- what it asks for
   asked-is : asked_in made.view request ≡ record { window = next.window; request = request }
@@ -173,8 +179,9 @@ module _ (doc made : Doc) (request : Run) (plain next : Document) (stands : DocS
   pub scroll-told : (asked : Bool) (scroll : Option Position) →
       scroll ≡ (if asked then scroll_between (point_in doc.view) (point_in made.view) else None) → scroll ≡ scroll_if asked plain next
   scroll-told asked scroll is =
-      is ∙ ap₂ (λ was now. if asked then scroll_between was now else None) (view-point doc.view plain stands.parts.shown_is stands.regions)
-      (view-point made.view next untold.parts.shown_is untold.regions)
+      is ∙ ap₂ (λ was now. if asked then scroll_between was now else None)
+      (view-point doc.view plain stands.parts.shown_is stands.regions stands.config)
+      (view-point made.view next untold.parts.shown_is untold.regions untold.config)
 
   pub IsUncollected-told : (final : Doc) → final ≡ record made { view = settled_view doc.view made.view request (pristine_to doc made) } →
       IsUncollected final (settled request plain next)
@@ -200,6 +207,7 @@ module _ (doc made : Doc) (request : Run) (plain next : Document) (stands : DocS
         saved_before = untold.saved_before;
         window = untold.window;
         query = untold.query;
+        config = untold.config;
         screen = screen-updated request next ∙ ap (λ window. shown_lines window request (layout_of next)) untold.window;
       }
       by false wants = record {
@@ -216,5 +224,6 @@ module _ (doc made : Doc) (request : Run) (plain next : Document) (stands : DocS
         saved_before = untold.saved_before;
         window = untold.window;
         query = untold.query;
+        config = untold.config;
         screen = (unwanted plain next request made.view.shown untold.shown untold.screen_stays wants).0;
       }

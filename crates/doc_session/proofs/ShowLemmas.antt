@@ -4,7 +4,7 @@ use Rattle.plain_text.specs.declared.run.Run.{Run}
 use Rattle.plain_edits.specs.Collection.{Collection}
 use Rattle.doc_session.specs.InMemory.{Doc}
 use Rattle.doc_session.specs.declared.event.Event.{Event}
-use Rattle.doc_session.specs.declared.event.Event.TheVariants.{Ack, Edit, Ended, Front, Other}
+use Rattle.doc_session.specs.declared.event.Event.TheVariants.{Ack, Config as Configure, Edit, Ended, Front, Other}
 use Rattle.doc_session.specs.Collecting.{acknowledged_document, collected_document, collection_after, ended_document, with_collection}
 use Rattle.doc_session.specs.Document.{Document, no_request}
 use Rattle.doc_session.specs.Asking.{plugin_edit}
@@ -12,7 +12,7 @@ use Rattle.doc_session.specs.Grouping.{named_group}
 use Rattle.doc_session.specs.Effects.{settled}
 use Rattle.doc_session.specs.ScreenOf.{IsShownAfter, IsUpToDate}
 use Rattle.doc_session.specs.Stands.{DocStandsFor}
-use Rattle.doc_session.specs.Step.{act_step, given_document, going_on, request_of}
+use Rattle.doc_session.specs.Step.{act_step, configured_document, given_document, going_on, request_of}
 use Rattle.doc_session.proofs.ActLemmas.{by_front}
 use Rattle.doc_session.proofs.ScreenLemmas.{IsUpToDate-settled}
 
@@ -33,13 +33,16 @@ module _ (doc : Doc) (plain : Document) (stands : DocStandsFor doc plain) where
   shown-step (Front act) = λ before.
       let request = request_of act in
       shown-collected request (act_step plain act).document
-      (by_front (λ step. IsUpToDate request step.document) plain act (λ next body scroll history stays. shown-next request next stays)
-      (λ next body scroll more stays. shown-next request next stays))
+      (by_front (λ step. IsUpToDate request step.document) plain act (λ next body scroll history config stays. shown-next request next stays)
+      (λ next body scroll more config stays. shown-next request next stays))
   shown-step (Edit caller edit named) = λ before.
       let joined = named_group plain.history named in
       let next = given_document plain (plugin_edit plain caller edit joined) joined edit.after_cursor in
       shown-collected no_request (settled no_request plain next) (shown-next no_request next refl)
   shown-step (Ack caller rev) = λ before. shown-collected no_request (acknowledged_document plain caller rev) (before refl)
   shown-step (Ended caller) = λ before. shown-collected no_request (ended_document plain caller) (before refl)
+  shown-step (Configure config) = λ before.
+      let next = configured_document plain config in
+      shown-collected no_request (settled no_request plain next) (shown-next no_request next refl)
   shown-step Other = λ before.
       shown-collected no_request (settled no_request plain (going_on plain None)) (shown-next no_request (going_on plain None) refl)

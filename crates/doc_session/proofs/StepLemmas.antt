@@ -1,11 +1,11 @@
 -- The steps of the document in memory are those of the plain one.
 use Rattle.std.proofs.Common.{◌≡◌, ℕ, Bool, List, length, Option, refl, ap, ap₂, sym, ◌∙◌, subst}
 use Rattle.plain_text.specs.declared.selection.Region.{Region}
-use Rattle.plain_screen.specs.View.{whole_lines}
 use Rattle.plain_edits.specs.History.{History}
 use Rattle.plain_edits.specs.HistorySteps.{Step, after_step}
 use Rattle.xi_plain.specs.declared.command.EditAct.{EditAct}
 use Rattle.xi_plain.specs.declared.config.Config.{Config}
+use Rattle.line_break.specs.Pieces.{wrapped_pieces}
 use Rattle.edit_ops.specs.declared.replacement.Replacement.{Replacement}
 use Rattle.plain_edits.specs.declared.delta.UnitDelta.{UnitDelta}
 use Rattle.edit_ops.specs.Commands.{Effect, IsEffect, copied_text, effect_of}
@@ -16,7 +16,6 @@ use Rattle.rev_engine.specs.Engine.{IsSaidBy, StandsFor, asked_by}
 use Rattle.rev_engine.specs.Given.{AskedEdit}
 use Rattle.undo_groups.specs.Groups.{Groups}
 use Rattle.doc_view.specs.Idle.{do_nothing}
-use Rattle.doc_view.specs.View.{pieces_in}
 use Rattle.doc_view.specs.declared.moved.Goals.{Goals}
 use Rattle.doc_view.specs.Moved.{AreMoved, with_goals}
 use Rattle.doc_session.specs.InMemory.{Doc}
@@ -29,7 +28,7 @@ use Rattle.doc_session.specs.Document.{Document, text_of}
 use Rattle.doc_session.specs.Grouping.{group_by, groups_by, named_group, run_group}
 use Rattle.doc_session.specs.Inner.{IsAfter, IsAfterEdit, effect_in, known_group, next_document}
 use Rattle.doc_session.specs.Stands.{DocStandsFor}
-use Rattle.doc_session.specs.Step.{effect_on, first_config, is_idle, regions_by}
+use Rattle.doc_session.specs.Step.{effect_on, is_idle, regions_by}
 use Rattle.doc_session.specs.Typing.{run_on}
 use Rattle.doc_session.proofs.GroupLemmas.{known_group-named}
 use Rattle.doc_session.proofs.MoveLemmas.{mapped_regions-moved, sound-given}
@@ -55,15 +54,15 @@ next_document-is plain history left groups typing regions stack_is typing_is reg
 
 -- the effect of a command is that on the plain document
 pub effect-is : (doc : Doc) (plain : Document) (act : EditAct) → DocStandsFor doc plain → effect_in doc.view act ≡ effect_on plain act
-effect-is doc plain act stands = ap₂ (λ text regions. effect_of first_config text (whole_lines text) regions act) stands.parts.shown_is stands.regions
+effect-is doc plain act stands =
+    let view = doc.view in
+    ap (λ (k : Config). effect_of k view.text (wrapped_pieces k.width k.tab view.text) view.regions act) (sym stands.config) ∙
+    ap₂ (λ text regions. effect_of plain.config text (wrapped_pieces plain.config.width plain.config.tab text) regions act) stands.parts.shown_is stands.regions
 
 -- what the view made of a command is its effect
-pub effect-made : (doc now : Doc) (config : Config) (act : EditAct) (units : UnitDelta) (after : List Region) → doc ≡ now → config ≡ first_config →
-    IsEffect doc.view.text (effect_of config doc.view.text (pieces_in doc.view) doc.view.regions act) units after →
-    IsEffect now.view.text (effect_in now.view act) units after
-effect-made doc now config act units after same plain is =
-    subst (λ (d : Doc). IsEffect d.view.text (effect_in d.view act) units after) same
-    (subst (λ (k : Config). IsEffect doc.view.text (effect_of k doc.view.text (pieces_in doc.view) doc.view.regions act) units after) plain is)
+pub effect-made : (doc now : Doc) (act : EditAct) (units : UnitDelta) (after : List Region) → doc ≡ now →
+    IsEffect doc.view.text (effect_in doc.view act) units after → IsEffect now.view.text (effect_in now.view act) units after
+effect-made doc now act units after same is = subst (λ (d : Doc). IsEffect d.view.text (effect_in d.view act) units after) same is
 
 -- and it does nothing exactly where its unit delta does not
 pub idle-is : (doc : Doc) (plain : Document) (act : EditAct) (units : UnitDelta) (after : List Region) (idle : Bool) → DocStandsFor doc plain →

@@ -2,6 +2,7 @@
 use Rattle.std.proofs.Common.{◌≡◌, ◌≢◌, ℕ, Bool, List, [], length, map, Option, None, refl, ap, sym, ◌∙◌, subst, arith}
 use Rattle.plain_text.specs.declared.run.Run.{Run}
 use Rattle.plain_text.specs.declared.selection.Region.{Region}
+use Rattle.xi_plain.specs.declared.config.Config.{Config}
 use Rattle.plain_edits.specs.History.{History}
 use Rattle.rev_engine.specs.State.{State}
 use Rattle.edit_ops.specs.Regions.{without_goal}
@@ -18,7 +19,7 @@ use Rattle.doc_session.specs.Document.{Document, text_of}
 use Rattle.doc_session.specs.InMemory.{Doc}
 use Rattle.doc_session.specs.Inner.{IsAfter, IsUntold, head_shown, looking_doc, next_document}
 use Rattle.doc_session.specs.Stands.{AreRegionsOf, DocStandsFor}
-use Rattle.doc_session.specs.Step.{selected_document}
+use Rattle.doc_session.specs.Step.{configured_document, selected_document}
 use Rattle.doc_session.specs.Typing.{run_on}
 use Rattle.doc_session.proofs.AgreeLemmas.{Agree-still}
 use Rattle.doc_session.proofs.HeadLemmas.{head_shown-stands}
@@ -47,6 +48,7 @@ IsUntold-still doc made plain kind regions others stands is same are =
       saved_before = stands.saved_before;
       window = stands.window;
       query = stands.query;
+      config = stands.config;
       screen_stays = refl;
       shown = stands.screen;
     })
@@ -70,6 +72,29 @@ IsUntold-looking doc plain regions others window lines query sought stands same 
   saved_before = stands.saved_before;
   window = lines_are;
   query = sought_is;
+  config = stands.config;
+  screen_stays = refl;
+  shown = stands.screen;
+}
+
+-- and one that lays the text out for another configuration
+pub IsUntold-configured : (doc : Doc) (plain : Document) (config : Config) → DocStandsFor doc plain →
+    IsUntold (looking_doc doc (record doc.view { config = config })) plain (configured_document plain config)
+IsUntold-configured doc plain config stands = record {
+  parts = stands.parts;
+  limit = stands.limit;
+  sessions = stands.sessions;
+  acknowledged = stands.acknowledged;
+  groups = stands.groups;
+  typing = ap (λ typing. run_on typing None) stands.typing;
+  agree = Agree-still plain.history.revisions plain.history.collected plain.groups plain.typing stands.agree None;
+  regions = stands.regions;
+  regions_are = stands.regions_are;
+  saved = stands.saved;
+  saved_before = stands.saved_before;
+  window = stands.window;
+  query = stands.query;
+  config = refl;
   screen_stays = refl;
   shown = stands.screen;
 }
@@ -136,6 +161,7 @@ IsUntold-revised doc made plain history author taken left stands after agree lim
       saved_before = omega (arith, stands.saved_before, after.one_more);
       window = stands.window;
       query = stands.query;
+      config = stands.config;
       screen_stays = refl;
       shown = stands.screen;
     })

@@ -34,11 +34,12 @@ least_acknowledged head [] = head
 least_acknowledged head (None ∷ sessions) = least_acknowledged head sessions
 least_acknowledged head (Some rev ∷ sessions) = min rev (least_acknowledged head sessions)
 
--- each open session has acknowledged a revision from the floor to the head
+-- a session has ended, or has acknowledged a revision from the floor to the head
 abbrev pub IsAcknowledged : History → Option ℕ → Type 0
 IsAcknowledged history None = ⊤
 IsAcknowledged history (Some rev) = (history.floor ≤ rev) × (rev ≤ head history)
 
+-- each of the sessions has ended, or has acknowledged such a revision
 abbrev pub AreAcknowledged : History → List (Option ℕ) → Type 0
 AreAcknowledged history sessions = AllByRecursion (IsAcknowledged history) sessions
 

@@ -1,18 +1,16 @@
 -- What contracts see of a document in memory.
 use Rattle.std.specs.Prelude.{ℕ, List, Option}
-use Rattle.xi_plain.specs.declared.config.Config.{Config}
 use Rattle.rev_engine.specs.State.{State}
 use Rattle.undo_groups.specs.Groups.{Groups}
 use Rattle.doc_view.specs.View.{View}
 use Rattle.doc_session.specs.declared.typing.Typing.{Typing}
 
--- its revisions, its undo groups and its run of typing, the revision that was loaded or last saved, how texts are laid out, what
--- the sessions of the plugins have acknowledged, or nothing where they have ended, and its view on the head text
+-- its revisions, its undo groups and its run of typing, the revision that was loaded or last saved, what the sessions of the plugins have
+-- acknowledged, or nothing where they have ended, and its view on the head text, with its configuration
 pub record Doc : Type 0 where
   pub engine : State
   pub groups : Groups
   pub typing : Option Typing
   pub saved : ℕ
-  pub config : Config
   pub sessions : List (Option ℕ)
   pub view : View

@@ -31,7 +31,7 @@ use Rattle.doc_session.specs.Document.{Document, layout_of, text_of}
 use Rattle.doc_session.specs.Effects.{notice_of}
 use Rattle.doc_session.specs.InMemory.{Doc}
 use Rattle.doc_session.specs.Stands.{AreRegionsOf}
-use Rattle.doc_session.specs.Step.{AreEffectsOf, EventStep, first_config}
+use Rattle.doc_session.specs.Step.{AreEffectsOf, EventStep}
 use Rattle.doc_session.specs.Typing.{run_on}
 use Rattle.doc_session.specs.Whole.{IsStateOf}
 
@@ -124,7 +124,7 @@ next_document document history left =
 
 -- the effect of a command on a view
 abbrev pub effect_in : View → EditAct → Effect
-effect_in view act = effect_of first_config view.text (pieces_in view) view.regions act
+effect_in view act = effect_of view.config view.text (pieces_in view) view.regions act
 
 -- an edit in characters is the front end's, and is that of a command on a view
 pub record IsFrontEdit (view : View) (act : EditAct) (edit : UnitEdit) : Type 0 where
@@ -156,6 +156,7 @@ pub record IsUntold (doc : Doc) (before plain : Document) : Type 0 where
   pub saved_before : plain.saved ≤ head plain.history
   pub window : plain.window ≡ doc.view.window
   pub query : plain.query ≡ doc.view.query
+  pub config : plain.config ≡ doc.view.config
   pub screen_stays : plain.screen ≡ before.screen
   pub shown : before.screen ≡ screen_of doc.view.shown (layout_of before)
 
@@ -179,6 +180,7 @@ pub record IsUncollected (doc : Doc) (plain : Document) : Type 0 where
   pub saved_before : plain.saved ≤ head plain.history
   pub window : plain.window ≡ doc.view.window
   pub query : plain.query ≡ doc.view.query
+  pub config : plain.config ≡ doc.view.config
   pub screen : plain.screen ≡ screen_of doc.view.shown (layout_of plain)
 
 -- the document after a line that makes no revision and ends the run, with this view of its text

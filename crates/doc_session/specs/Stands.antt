@@ -19,7 +19,7 @@ pub record AreRegionsOf (text : List ℕ) (regions : List Region) : Type 0 where
 
 -- the document in memory stands for the plain one: they have the same history, limit, sessions, which have acknowledged kept revisions,
 -- undo groups, which agree with the history and of which none waits for a session where none is open, run of typing, regions on the head
--- text, saved revision, window and search, and the front end's screen is as the last update left it, or empty where there was none
+-- text, saved revision, window, search and configuration, and the front end's screen is as the last update left it, or empty where there was none
 pub record DocStandsFor (doc : Doc) (plain : Document) : Type 0 where
   pub parts : IsStateOf plain.history doc.engine doc.view.text
   pub limit : doc.engine.limit ≡ plain.limit
@@ -35,4 +35,5 @@ pub record DocStandsFor (doc : Doc) (plain : Document) : Type 0 where
   pub saved_before : plain.saved ≤ head plain.history
   pub window : plain.window ≡ doc.view.window
   pub query : plain.query ≡ doc.view.query
+  pub config : plain.config ≡ doc.view.config
   pub screen : plain.screen ≡ screen_of doc.view.shown (layout_of plain)

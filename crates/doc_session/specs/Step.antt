@@ -1,5 +1,5 @@
 -- THE STEP: what an event comes to in a plain document.
-use Rattle.std.specs.Prelude.{◌≡◌, ℕ, ◌+◌, ◌≤◌, Bool, true, false, if◌then◌else◌, List, length, map, Option, Some, None, option_map, ⊤}
+use Rattle.std.specs.Prelude.{◌≡◌, ℕ, ◌+◌, ◌<◌, ◌≤◌, Bool, true, false, if◌then◌else◌, List, length, map, Option, Some, None, option_map, ⊤}
 use Rattle.plain_text.specs.declared.run.Run.{Run}
 use Rattle.plain_text.specs.declared.selection.Region.{Region}
 use Rattle.xi_plain.specs.declared.config.Config.{Config}
@@ -23,7 +23,7 @@ use Rattle.doc_session.specs.declared.event.Body.{Body}
 use Rattle.doc_session.specs.declared.event.Body.TheVariants.{Null, Copied, Edited}
 use Rattle.doc_session.specs.declared.event.Effects.{Effects}
 use Rattle.doc_session.specs.declared.event.Event.{Event}
-use Rattle.doc_session.specs.declared.event.Event.TheVariants.{Ack, Edit, Ended, Front, Other}
+use Rattle.doc_session.specs.declared.event.Event.TheVariants.{Ack, Config as Configure, Edit, Ended, Front, Other}
 use Rattle.doc_session.specs.declared.typing.Kind.{Kind}
 use Rattle.doc_session.specs.Document.{Document, no_request, pieces_of, text_of}
 use Rattle.doc_session.specs.Typing.{kind_of, run_on, run_with}
@@ -80,13 +80,9 @@ edited_document document asked joined kind regions = record document {
 
 -- ---- commands of the front end
 
--- how texts are edited at first: tabs of four columns, which are typed as such, and lines that are not wrapped
-abbrev pub first_config : Config
-first_config = record { tab = 4; width = 0; spaces = false }
-
 -- THE EFFECT OF A COMMAND on the text and the regions
 abbrev pub effect_on : Document → EditAct → Effect
-effect_on document act = effect_of first_config (text_of document) (pieces_of document) document.regions act
+effect_on document act = effect_of document.config (text_of document) (pieces_of document) document.regions act
 
 -- whether it makes no revision: it drops nothing, and adds nothing
 abbrev pub is_idle : Document → Effect → Bool
@@ -215,6 +211,22 @@ plugin_step document caller edit named =
     given_step document (plugin_edit document caller edit (named_group document.history named))
     (named_group document.history named) edit.after_cursor
 
+-- ---- configuration
+
+-- the text is laid out and edited so from now on; regions, with their goals, and revisions stay, and nothing is scrolled
+abbrev pub configured_document : Document → Config → Document
+configured_document document config = record (going_on document None) { config = config }
+
+abbrev pub config_step : Document → Config → EventStep
+config_step document config = still_step document (configured_document document config) Null None
+
+-- the configuration after an event
+abbrev pub config_after : Config → Event → Config
+config_after config (Configure next) = next
+config_after config event = config
+
+-- ---- sessions of plugins
+
 -- what a session tells is answered null, and nothing is written
 abbrev pub silent_step : Document → EventStep
 silent_step next = record { document = next; body = Null; update = None; scroll = None; notice = None }
@@ -227,6 +239,7 @@ taken_step document (Front act) = act_step document act
 taken_step document (Edit caller edit named) = plugin_step document caller edit named
 taken_step document (Ack caller rev) = silent_step (acknowledged_document document caller rev)
 taken_step document (Ended caller) = silent_step (ended_document document caller)
+taken_step document (Configure config) = config_step document config
 taken_step document Other = other_step document
 
 -- THE STEP of an event that is not refused: then old groups are collected
@@ -256,15 +269,18 @@ refusal_at document (Front act) = command_refusal document (effect_on document a
 refusal_at document (Edit caller edit named) = asked_refusal document (plugin_edit document caller edit None)
 refusal_at document (Ack caller rev) = acknowledgement_refusal document.history rev
 refusal_at document (Ended caller) = None
+refusal_at document (Configure config) = None
 refusal_at document Other = None
 
--- an event of a plugin is one of those that there are
-abbrev pub HasCaller : ℕ → Event → Type 0
-HasCaller plugins (Front act) = ⊤
-HasCaller plugins (Edit caller edit named) = (1 ≤ caller) × (caller ≤ plugins)
-HasCaller plugins (Ack caller rev) = (1 ≤ caller) × (caller ≤ plugins)
-HasCaller plugins (Ended caller) = (1 ≤ caller) × (caller ≤ plugins)
-HasCaller plugins Other = ⊤
+-- THE EVENTS that may come to a document with so many plugins: what a plugin does is done by one of these, and a configuration has a tab
+-- width
+abbrev pub MayCome : ℕ → Event → Type 0
+MayCome plugins (Front act) = ⊤
+MayCome plugins (Edit caller edit named) = (1 ≤ caller) × (caller ≤ plugins)
+MayCome plugins (Ack caller rev) = (1 ≤ caller) × (caller ≤ plugins)
+MayCome plugins (Ended caller) = (1 ≤ caller) × (caller ≤ plugins)
+MayCome plugins (Configure config) = 0 < config.tab
+MayCome plugins Other = ⊤
 
 -- the effects are those of the step
 pub record AreEffectsOf (step : EventStep) (effects : Effects) : Type 0 where

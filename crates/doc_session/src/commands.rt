@@ -1,18 +1,7 @@
 ghost use Rattle.std.specs.Prelude.{◌≡◌};
-ghost use Rattle.doc_session.specs.Step.{copies, first_config, scrolls};
+ghost use Rattle.doc_session.specs.Step.{copies, scrolls};
 
-use xi_plain::{Config, EditAct};
-
-/// How texts are edited at first: tabs of four columns, which are typed as such, and lines that are not wrapped.
-pub(crate) fn first_config() -> Config
-    ensures { result ≡ first_config }
-{
-    Config {
-        tab: 4,
-        width: 0,
-        spaces: false,
-    }
-}
+use xi_plain::EditAct;
 
 /// Whether a command scrolls to the last caret, where that stands elsewhere then.
 pub(crate) fn scrolls(act: &EditAct) -> bool

@@ -16,15 +16,16 @@ ghost use Rattle.doc_session.specs.Agree.{Agree};
 ghost use Rattle.doc_layout.specs.Told.{scroll_between};
 ghost use Rattle.doc_session.specs.Inner.{IsAfter, IsAfterEdit, IsFrontEdit, IsLeftOf, IsMoved, IsStepped, IsTakenFrom, IsTurned, IsUncollected, IsUntold, MayCollectIn, effect_in, head_shown, is_pristine_in, looking_doc, next_document, pristine_to};
 ghost use Rattle.doc_session.specs.PositionView.{position_view};
+ghost use Rattle.doc_session.specs.declared.event.Body.TheVariants.{Null};
 ghost use Rattle.doc_session.specs.ScreenOf.{IsShownAfter};
 ghost use Rattle.doc_session.specs.Stands.{DocStandsFor};
-ghost use Rattle.doc_session.specs.Step.{AreEffectsOf, HasCaller, act_step, answer_to, at_next_match, at_previous_match, command_refusal, command_step, effect_on, event_step, history_step, idle_step, look_step, looking_document, other_step, plugin_step, refusal_at, revision_step, scroll_if, scrolled_document, seeking_document, silent_step, step_to, taken_step, typed_step};
+ghost use Rattle.doc_session.specs.Step.{AreEffectsOf, MayCome, act_step, answer_to, at_next_match, at_previous_match, command_refusal, command_step, config_step, effect_on, event_step, history_step, idle_step, look_step, looking_document, other_step, plugin_step, refusal_at, revision_step, scroll_if, scrolled_document, seeking_document, silent_step, step_to, taken_step, typed_step};
 ghost use Rattle.doc_session.specs.Whole.{IsWhole};
-ghost use Rattle.doc_view.specs.Told.{settled_view, told};
+ghost use Rattle.doc_view.specs.Told.{IsTextLeft, settled_view, told};
 ghost use Rattle.doc_view.specs.View.{point_in};
 
 use crate::collecting::{forgetting, retired_groups};
-use crate::commands::{copies, first_config, scrolls};
+use crate::commands::{copies, scrolls};
 use crate::event::{Body, Effects, Event};
 use crate::fault::DocFault;
 use crate::left::{Left, joined_or_opened, left_by, named_or_opened};
@@ -33,7 +34,7 @@ use crate::sessions::Sessions;
 use crate::taken::{Taken, taken_by, taken_head, taken_turn};
 use crate::typing::{Typing, kind_of, run_group, run_on, run_with};
 use doc_layout::{scroll_of, whole_text};
-use doc_view::{Goals, Pristine, ViewState, does_nothing};
+use doc_view::{Goals, Pristine, TextLeft, ViewState, does_nothing};
 use plain_edits::UnitDelta;
 use plain_screen::Update;
 use plain_text::{NoMemory, Run, Sel, Steps, Text};
@@ -64,8 +65,6 @@ pub struct Doc {
     typing: Option<Typing>,
     /// The revision that was loaded or last saved.
     saved: u64,
-    /// How texts are laid out and edited. It is kept, and not read yet.
-    config: Config,
     /// What the sessions of the plugins have acknowledged.
     sessions: Sessions,
     /// The view on the head text.
@@ -84,7 +83,6 @@ impl Model for Doc {
       groups = d.stack;
       typing = d.typing;
       saved = d.saved;
-      config = d.config;
       sessions = d.sessions;
       view = d.view;
     } };
@@ -102,9 +100,9 @@ impl Doc {
         limit: u64,
         config: Config,
     ) -> Result<Doc, NoMemory>
-        requires { limit ≤ 2 ^ 60 }
-        ensures stands { IfOk result (λ made. DocStandsFor made (loaded_document text plugins limit)) }
-        ensures config { IfOk result (λ made. made.config ≡ config) }
+        requires limit { limit ≤ 2 ^ 60 }
+        requires tab { 0 < config.tab }
+        ensures stands { IfOk result (λ made. DocStandsFor made (loaded_document text plugins limit config)) }
     {
         let sessions = Sessions::open(alloc, plugins)?;
         let engine = Engine::of_text(alloc, text, limit)?;
@@ -116,23 +114,24 @@ impl Doc {
             stack,
             typing: None,
             saved: 0,
-            config,
             sessions,
-            view: ViewState::of_text(alloc, shown, FIRST_WINDOW)?,
+            view: ViewState::of_text(alloc, shown, FIRST_WINDOW, config)?,
         })
     }
 
     /// The document after an event, beside this one, and what those outside are told of it. An edit costs its elements, each times the
-    /// height of the text, and the layout, which is made anew, as it is where regions move; one against an old revision the union and
-    /// the runs of the later revisions besides; an undo or a redo what `Engine::set_undone_by` does; and a command what
-    /// `edit_ops::edit_of` does; a search what `find_core::matches` does. No step is counted yet.
+    /// height of the text, and the layout, which is made anew with the breaks of each logical line, as it is for another width or tab width;
+    /// one against an old revision costs the union and the runs of the later revisions besides; an undo or a redo what
+    /// `Engine::set_undone_by` does; and a command what `edit_ops::edit_of` does, and where a region moves one walk over the pieces. A search
+    /// costs what `find_core::matches` does, and such a walk. Where nothing of that moves an event costs the regions, and the lines that are
+    /// told. No step is counted yet.
     pub fn after<L: Ledger>(
         &self,
         alloc: Global,
         event: Event,
         steps: &mut Steps<L>,
     ) -> Result<(Doc, Effects), DocFault>
-        requires caller { HasCaller (length self.now.sessions) event }
+        requires event { MayCome (length self.now.sessions) event }
         requires has_number { head self.now.engine.revisions < 2 ^ 63 - 1 }
         ensures stands { (plain : Document) → DocStandsFor self.now plain
             → IfOk result (λ made. DocStandsFor made.0 (event_step plain event).document) }
@@ -142,7 +141,7 @@ impl Doc {
         ensures refused { (plain : Document) → DocStandsFor self.now plain
             → IfErr result (DocRefuses (refusal_at plain event)) }
         ensures shown { (plain : Document) → DocStandsFor self.now plain → IsShownAfter plain event }
-        ensures kept { IfOk result (λ made. (length made.0.sessions ≡ length self.now.sessions) × (made.0.config ≡ self.now.config)) }
+        ensures kept { IfOk result (λ made. length made.0.sessions ≡ length self.now.sessions) }
         ensures steps { steps.new ≡ steps.old }
     {
         let _steps = steps;
@@ -158,7 +157,7 @@ impl Doc {
         event: Event,
         steps: &mut Steps<L>,
     ) -> Result<Effects, DocFault>
-        requires caller { HasCaller (length self.old.sessions) event }
+        requires event { MayCome (length self.old.sessions) event }
         requires has_number { head self.old.engine.revisions < 2 ^ 63 - 1 }
         ensures stands { (plain : Document) → DocStandsFor self.old plain
             → OnOk result (DocStandsFor self.new (event_step plain event).document) }
@@ -169,7 +168,7 @@ impl Doc {
             → IfErr result (DocRefuses (refusal_at plain event)) }
         ensures shown { (plain : Document) → DocStandsFor self.old plain → IsShownAfter plain event }
         ensures same { OnErr result (self.new ≡ self.old) }
-        ensures kept { (length self.new.sessions ≡ length self.old.sessions) × (self.new.config ≡ self.old.config) }
+        ensures kept { length self.new.sessions ≡ length self.old.sessions }
         ensures steps { steps.new ≡ steps.old }
     {
         let (next, effects) = self.after(alloc, event, steps)?;
@@ -179,7 +178,7 @@ impl Doc {
 
     // The document after an event, before anything is collected, and what those outside are told of it.
     fn next(&self, alloc: Global, event: Event) -> Result<(Doc, Effects), DocFault>
-        requires caller { HasCaller (length self.now.sessions) event }
+        requires event { MayCome (length self.now.sessions) event }
         requires has_number { head self.now.engine.revisions < 2 ^ 63 - 1 }
         ensures stepped { (plain : Document) → DocStandsFor self.now plain
             → IfOk result (IsStepped (taken_step plain event)) }
@@ -187,7 +186,6 @@ impl Doc {
         ensures refused { (plain : Document) → DocStandsFor self.now plain
             → IfErr result (DocRefuses (refusal_at plain event)) }
         ensures plugins { IfOk result (λ made. length made.0.sessions ≡ length self.now.sessions) }
-        ensures config { IfOk result (λ made. made.0.config ≡ self.now.config) }
     {
         match event {
             Event::Front(act) => self.act(alloc, act),
@@ -198,6 +196,7 @@ impl Doc {
             } => self.edit(alloc, caller, edit, named),
             Event::Ack { caller, rev } => self.acknowledged(alloc, caller, rev),
             Event::Ended { caller } => Ok(self.ended(alloc, caller)?),
+            Event::Config(config) => Ok(self.configured(alloc, config)?),
             Event::Other => Ok(self.other(alloc)?),
         }
     }
@@ -212,7 +211,6 @@ impl Doc {
         ensures refused { (plain : Document) → DocStandsFor self.now plain
             → IfErr result (DocRefuses (command_refusal plain (effect_on plain act))) }
         ensures sessions { IfOk result (λ made. made.0.sessions ≡ self.now.sessions) }
-        ensures config { IfOk result (λ made. made.0.config ≡ self.now.config) }
     {
         match act {
             EditAct::Undo => Ok(self.undo(alloc)?),
@@ -245,9 +243,8 @@ impl Doc {
         ensures refused { (plain : Document) → DocStandsFor self.now plain
             → IfErr result (DocRefuses (command_refusal plain (effect_on plain act.now))) }
         ensures sessions { IfOk result (λ made. made.0.sessions ≡ self.now.sessions) }
-        ensures config { IfOk result (λ made. made.0.config ≡ self.now.config) }
     {
-        let (units, sel) = self.view.effect(alloc, act, &first_config())?;
+        let (units, sel) = self.view.effect(alloc, act)?;
         if does_nothing(&units) {
             return Ok(self.idle(alloc, act, sel)?);
         }
@@ -262,12 +259,12 @@ impl Doc {
         ensures stepped { (plain : Document) → DocStandsFor self.now plain
             → IfOk result (IsStepped (idle_step plain act.now (effect_on plain act.now))) }
         ensures sessions { IfOk result (λ made. made.0.sessions ≡ self.now.sessions) }
-        ensures config { IfOk result (λ made. made.0.config ≡ self.now.config) }
     {
         let body = self.answer(alloc, act)?;
         let view = self.view.with_regions(alloc, sel)?;
         let next = self.with_view(alloc, view, run_on(self.typing, kind_of(act)))?;
         let said = Said {
+            text: TextLeft::Same,
             request: NO_REQUEST,
             body,
             scrolls: scrolls(act),
@@ -293,7 +290,6 @@ impl Doc {
         ensures refused { (plain : Document) → DocStandsFor self.now plain
             → IfErr result (DocRefuses (asked_refusal plain (front_edit plain None (effect_on plain act.now).replacements))) }
         ensures sessions { IfOk result (λ made. made.0.sessions ≡ self.now.sessions) }
-        ensures config { IfOk result (λ made. made.0.config ≡ self.now.config) }
     {
         let kind = kind_of(act);
         let joined = run_group(run_on(self.typing, kind));
@@ -339,7 +335,6 @@ impl Doc {
         ensures stepped { (plain : Document) → DocStandsFor self.now plain
             → IfOk result (IsStepped (history_step plain (next_undo plain.groups) (undone_one plain.groups))) }
         ensures sessions { IfOk result (λ made. made.0.sessions ≡ self.now.sessions) }
-        ensures config { IfOk result (λ made. made.0.config ≡ self.now.config) }
     {
         let _before = self.stack.given();
         let mut stack = self.stack.copy(alloc)?;
@@ -354,7 +349,6 @@ impl Doc {
         ensures stepped { (plain : Document) → DocStandsFor self.now plain
             → IfOk result (IsStepped (history_step plain (next_redo plain.groups) (redone_one plain.groups))) }
         ensures sessions { IfOk result (λ made. made.0.sessions ≡ self.now.sessions) }
-        ensures config { IfOk result (λ made. made.0.config ≡ self.now.config) }
     {
         let _before = self.stack.given();
         let mut stack = self.stack.copy(alloc)?;
@@ -375,7 +369,6 @@ impl Doc {
         ensures stepped { (plain : Document) → DocStandsFor self.now plain
             → IfOk result (IsStepped (history_step plain group stack)) }
         ensures sessions { IfOk result (λ made. made.0.sessions ≡ self.now.sessions) }
-        ensures config { IfOk result (λ made. made.0.config ≡ self.now.config) }
     {
         match group {
             Some(group) => self.turned(alloc, stack, group),
@@ -390,7 +383,6 @@ impl Doc {
         ensures stepped { (plain : Document) → DocStandsFor self.now plain
             → IfOk result (IsStepped (history_step plain (Some group) stack)) }
         ensures sessions { IfOk result (λ made. made.0.sessions ≡ self.now.sessions) }
-        ensures config { IfOk result (λ made. made.0.config ≡ self.now.config) }
     {
         let taken = taken_turn(alloc, &self.engine, group)?;
         let sel = self
@@ -409,9 +401,8 @@ impl Doc {
         ensures stepped { (plain : Document) → DocStandsFor self.now plain
             → IfOk result (IsStepped (look_step no_request plain (scrolled_document plain window))) }
         ensures sessions { IfOk result (λ made. made.0.sessions ≡ self.now.sessions) }
-        ensures config { IfOk result (λ made. made.0.config ≡ self.now.config) }
     {
-        self.looking(alloc, self.view.scrolled(alloc, window)?, NO_REQUEST)
+        self.looking(alloc, self.view.scrolled(alloc, window)?, NO_REQUEST, true)
     }
 
     // The front end requests these lines.
@@ -419,9 +410,8 @@ impl Doc {
         ensures stepped { (plain : Document) → DocStandsFor self.now plain
             → IfOk result (IsStepped (look_step request plain (looking_document plain))) }
         ensures sessions { IfOk result (λ made. made.0.sessions ≡ self.now.sessions) }
-        ensures config { IfOk result (λ made. made.0.config ≡ self.now.config) }
     {
-        self.looking(alloc, self.view.without_goals(alloc)?, request)
+        self.looking(alloc, self.view.without_goals(alloc)?, request, true)
     }
 
     // The front end looks for these characters, and says whether case counts, or nothing of it.
@@ -434,12 +424,12 @@ impl Doc {
         ensures stepped { (plain : Document) → DocStandsFor self.now plain
             → IfOk result (IsStepped (look_step no_request plain (seeking_document plain chars case_counts))) }
         ensures sessions { IfOk result (λ made. made.0.sessions ≡ self.now.sessions) }
-        ensures config { IfOk result (λ made. made.0.config ≡ self.now.config) }
     {
         self.looking(
             alloc,
             self.view.seeking(alloc, chars, case_counts)?,
             NO_REQUEST,
+            true,
         )
     }
 
@@ -452,9 +442,13 @@ impl Doc {
         ensures stepped { (plain : Document) → DocStandsFor self.now plain
             → IfOk result (IsStepped (look_step no_request plain (at_next_match plain wrap_around))) }
         ensures sessions { IfOk result (λ made. made.0.sessions ≡ self.now.sessions) }
-        ensures config { IfOk result (λ made. made.0.config ≡ self.now.config) }
     {
-        self.looking(alloc, self.view.at_next(alloc, wrap_around)?, NO_REQUEST)
+        self.looking(
+            alloc,
+            self.view.at_next(alloc, wrap_around)?,
+            NO_REQUEST,
+            true,
+        )
     }
 
     // The previous match is selected, if there is one.
@@ -466,33 +460,35 @@ impl Doc {
         ensures stepped { (plain : Document) → DocStandsFor self.now plain
             → IfOk result (IsStepped (look_step no_request plain (at_previous_match plain wrap_around))) }
         ensures sessions { IfOk result (λ made. made.0.sessions ≡ self.now.sessions) }
-        ensures config { IfOk result (λ made. made.0.config ≡ self.now.config) }
     {
         self.looking(
             alloc,
             self.view.at_previous(alloc, wrap_around)?,
             NO_REQUEST,
+            true,
         )
     }
 
-    // The same document with another view of its text, at a line that requests these lines and makes no revision.
+    // The same document with another view of its text, at a line that requests these lines and makes no revision. Whether it scrolls to the
+    // last caret is said.
     fn looking(
         &self,
         alloc: Global,
         view: ViewState,
         request: Run,
+        scrolls: bool,
     ) -> Result<(Doc, Effects), NoMemory>
         requires text { view.text ≡ self.now.view.text }
-        ensures stepped { (plain later : Document) → DocStandsFor self.now plain
-            → IsUntold (looking_doc self.now view) plain later → IfOk result (IsStepped (look_step request plain later)) }
+        ensures stepped { (plain later : Document) → DocStandsFor self.now plain → IsUntold (looking_doc self.now view) plain later
+            → IfOk result (IsStepped (step_to request plain later Null (scroll_if scrolls plain later) None)) }
         ensures sessions { IfOk result (λ made. made.0.sessions ≡ self.now.sessions) }
-        ensures config { IfOk result (λ made. made.0.config ≡ self.now.config) }
     {
         let next = self.with_view(alloc, view, run_on(self.typing, None))?;
         let said = Said {
+            text: TextLeft::Same,
             request,
             body: Body::Null,
-            scrolls: true,
+            scrolls,
             notice: None,
         };
         self.told(alloc, next, said)
@@ -515,7 +511,6 @@ impl Doc {
         ensures refused { (plain : Document) → DocStandsFor self.now plain
             → IfErr result (DocRefuses (asked_refusal plain (plugin_edit plain caller edit None))) }
         ensures sessions { IfOk result (λ made. made.0.sessions ≡ self.now.sessions) }
-        ensures config { IfOk result (λ made. made.0.config ≡ self.now.config) }
     {
         let made = named_or_opened(alloc, &self.stack, named)?;
         let group = made.group;
@@ -548,7 +543,6 @@ impl Doc {
             → left.sel.regions ≢ [] → IfOk result (IsStepped (revision_step plain (next_document plain history left) author body
             (scroll_if scrolls plain (next_document plain history left)))) }
         ensures sessions { IfOk result (λ made. made.0.sessions ≡ self.now.sessions) }
-        ensures config { IfOk result (λ made. made.0.config ≡ self.now.config) }
     {
         let Taken {
             engine,
@@ -557,6 +551,7 @@ impl Doc {
         } = taken;
         let next = self.revised(alloc, engine, left)?;
         let said = Said {
+            text: TextLeft::Edited,
             request: NO_REQUEST,
             body,
             scrolls,
@@ -586,43 +581,45 @@ impl Doc {
             stack,
             typing,
             saved: self.saved,
-            config: self.config,
             sessions,
             view,
         })
+    }
+
+    // The text is laid out and edited so from now on.
+    fn configured(&self, alloc: Global, config: Config) -> Result<(Doc, Effects), NoMemory>
+        requires tab { 0 < config.tab }
+        ensures stepped { (plain : Document) → DocStandsFor self.now plain → IfOk result (IsStepped (config_step plain config)) }
+        ensures sessions { IfOk result (λ made. made.0.sessions ≡ self.now.sessions) }
+    {
+        let view = self.view.with_config(alloc, config)?;
+        self.looking(alloc, view, NO_REQUEST, false)
     }
 
     // A line that is no command of this document; the front end is told what it lacks.
     fn other(&self, alloc: Global) -> Result<(Doc, Effects), NoMemory>
         ensures stepped { (plain : Document) → DocStandsFor self.now plain → IfOk result (IsStepped (other_step plain)) }
         ensures sessions { IfOk result (λ made. made.0.sessions ≡ self.now.sessions) }
-        ensures config { IfOk result (λ made. made.0.config ≡ self.now.config) }
     {
-        let next = self.with_view(alloc, self.view.copy()?, run_on(self.typing, None))?;
-        let said = Said {
-            request: NO_REQUEST,
-            body: Body::Null,
-            scrolls: false,
-            notice: None,
-        };
-        self.told(alloc, next, said)
+        self.looking(alloc, self.view.copy()?, NO_REQUEST, false)
     }
 
     // The document is `next` after an event; the front end is told what it lacks.
     fn told(&self, alloc: Global, next: Doc, said: Said) -> Result<(Doc, Effects), NoMemory>
+        requires text { IsTextLeft said.text self.now.view next.view }
         ensures stepped { (plain later : Document) → DocStandsFor self.now plain → IsUntold next plain later
             → IfOk result (IsStepped (step_to said.request plain later said.body (scroll_if said.scrolls plain later) said.notice)) }
         ensures sessions { IfOk result (λ made. made.0.sessions ≡ next.sessions) }
-        ensures config { IfOk result (λ made. made.0.config ≡ next.config) }
     {
         let Said {
+            text,
             request,
             body,
             scrolls,
             notice,
         } = said;
         let scroll = self.scroll_to(&next, scrolls);
-        let (next, update) = self.updated(alloc, next, request)?;
+        let (next, update) = self.updated(alloc, next, text, request)?;
         let effects = Effects {
             body,
             update,
@@ -638,8 +635,10 @@ impl Doc {
         &self,
         alloc: Global,
         next: Doc,
+        text: TextLeft,
         request: Run,
     ) -> Result<(Doc, Option<Update>), NoMemory>
+        requires text { IsTextLeft text self.now.view next.view }
         ensures doc { IfOk result (λ made. made.0
             ≡ record next { view = settled_view self.now.view next.view request (pristine_to self.now next) }) }
         ensures update { IfOk result (λ made. made.1 ≡ told self.now.view next.view request (pristine_to self.now next)) }
@@ -653,17 +652,15 @@ impl Doc {
             stack,
             typing,
             saved,
-            config,
             sessions,
             view,
         } = next;
-        let (view, update) = self.view.settled(alloc, view, request, pristine)?;
+        let (view, update) = self.view.settled(alloc, view, text, request, pristine)?;
         let next = Doc {
             engine,
             stack,
             typing,
             saved,
-            config,
             sessions,
             view,
         };
@@ -698,7 +695,6 @@ impl Doc {
         ensures refused { (plain : Document) → DocStandsFor self.now plain
             → IfErr result (DocRefuses (acknowledgement_refusal plain.history rev)) }
         ensures plugins { IfOk result (λ made. length made.0.sessions ≡ length self.now.sessions) }
-        ensures config { IfOk result (λ made. made.0.config ≡ self.now.config) }
     {
         self.acknowledgeable(rev)?;
         let sessions = self.sessions.acknowledged(alloc, caller, rev)?;
@@ -729,7 +725,6 @@ impl Doc {
         ensures stepped { (plain : Document) → DocStandsFor self.now plain
             → IfOk result (IsStepped (silent_step (ended_document plain caller))) }
         ensures plugins { IfOk result (λ made. length made.0.sessions ≡ length self.now.sessions) }
-        ensures config { IfOk result (λ made. made.0.config ≡ self.now.config) }
     {
         let sessions = self.sessions.ended(alloc, caller)?;
         self.silent(alloc, sessions)
@@ -740,14 +735,12 @@ impl Doc {
         ensures stepped { (later : Document) → IsUncollected (record self.now { sessions = sessions }) later
             → IfOk result (IsStepped (silent_step later)) }
         ensures sessions { IfOk result (λ made. made.0.sessions ≡ sessions) }
-        ensures config { IfOk result (λ made. made.0.config ≡ self.now.config) }
     {
         let next = Doc {
             engine: self.engine.copy(alloc)?,
             stack: self.stack.copy(alloc)?,
             typing: self.typing,
             saved: self.saved,
-            config: self.config,
             sessions,
             view: self.view.copy()?,
         };
@@ -782,7 +775,6 @@ impl Doc {
             → floor ≤ least_acknowledged (head plain.history) plain.sessions → IfOk result (λ made.
             IsUncollected made (with_collection plain (Some (record { floor = floor; groups = groups.now.keys })))) }
         ensures sessions { IfOk result (λ made. made.sessions ≡ self.now.sessions) }
-        ensures config { IfOk result (λ made. made.config ≡ self.now.config) }
     {
         let mut engine = self.engine.copy(alloc)?;
         engine.collect(alloc, floor, groups)?;
@@ -792,7 +784,6 @@ impl Doc {
             stack,
             typing: self.typing,
             saved: self.saved,
-            config: self.config,
             sessions: self.sessions.copy(alloc)?,
             view: self.view.copy()?,
         })
@@ -814,7 +805,6 @@ impl Doc {
             stack: self.stack.copy(alloc)?,
             typing,
             saved: self.saved,
-            config: self.config,
             sessions: self.sessions.copy(alloc)?,
             view,
         })
@@ -861,7 +851,6 @@ impl Doc {
 fn after_collection(alloc: Global, doc: Doc) -> Result<Doc, NoMemory>
     ensures stands { (plain : Document) → IsUncollected doc plain → IfOk result (λ made. DocStandsFor made (collected_document plain)) }
     ensures sessions { IfOk result (λ made. made.sessions ≡ doc.sessions) }
-    ensures config { IfOk result (λ made. made.config ≡ doc.config) }
 {
     match doc.collectable(alloc)? {
         Some((floor, groups)) => doc.without(alloc, floor, &groups),

@@ -1,7 +1,7 @@
 use plain_screen::Update;
 use plain_text::Text;
 use rev_engine::Edit;
-use xi_plain::{EditAct, Notice};
+use xi_plain::{Config, EditAct, Notice};
 
 /// What happens to a document.
 #[derive(Drop)]
@@ -25,6 +25,8 @@ pub enum Event {
     Ended {
         caller: u32,
     },
+    /// The text is laid out and edited so from now on, whether it was before or not. This ends the run of typing.
+    Config(Config),
     /// A line of the front end that is none of this document's, or the one that opens its view: it ends the run of typing.
     Other,
 }

@@ -1,11 +1,13 @@
 use crate::event::Body;
+use doc_view::TextLeft;
 use plain_text::Run;
 use xi_plain::Notice;
 
-/// What is said of an event beside its update: which lines it requests, what it is answered, whether the front end scrolls to the last
-/// caret where that stands elsewhere then, and what the plugins are told.
+/// What is said of an event beside its update: what it left of the text, which lines it requests, what it is answered, whether the front
+/// end scrolls to the last caret where that stands elsewhere then, and what the plugins are told.
 #[derive(Drop)]
 pub(crate) struct Said {
+    pub(crate) text: TextLeft,
     pub(crate) request: Run,
     pub(crate) body: Body,
     pub(crate) scrolls: bool,

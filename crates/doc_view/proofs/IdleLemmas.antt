@@ -1,6 +1,6 @@
 -- An edit of replacements does nothing exactly where its one run is the whole text and it adds nothing.
-use Rattle.std.proofs.Common.{◌≡◌, ◌≢◌, ◌↔◌, ℕ, zero, suc, ◌+◌, ◌<◌, ◌≤◌, Bool, true, false, List, [], ◌∷◌, ◌++◌, length, refl, ap, ap₂, sym, ◌∙◌, arith, inl, inr}
-use Rattle.std.specs.Prelude.{if◌then◌else◌, nat_lt, nat_le, ◌==◌, ◌&&◌, ◌||◌, IsTrue}
+use Rattle.std.proofs.Common.{◌≡◌, ◌≢◌, ℕ, zero, suc, ◌+◌, ◌<◌, ◌≤◌, Bool, true, false, List, [], ◌∷◌, ◌++◌, length, refl, ap, ap₂, sym, ◌∙◌, arith, inl, inr}
+use Rattle.std.specs.Prelude.{if◌then◌else◌, nat_lt, nat_le, ◌==◌, ◌&&◌, ◌||◌}
 use Rattle.std.specs.List.{list_all, range_with_len}
 use Rattle.std.proofs.lemmas.Bool.{cases_lt, eq-eqb, eqb-true, lt-ltb, le-leb, ne_eqb}
 use Rattle.std.proofs.lemmas.Bool.Decides.{nat_tests}
@@ -101,16 +101,6 @@ none_added base (added ∷ adds) are =
     longer : (text more : List ℕ) → text ≢ [] → (length (text ++ more) == 0) ≡ false
     longer [] more filled = absurd (filled refl)
     longer (c ∷ text) more filled = ne_eqb (length (c ∷ (text ++ more))) 0 (λ none. omega (arith, none))
-
--- a list is empty exactly where the test says so
-pub nothing_added : (adds : List Added) (b : Bool) → IsTrue b ↔ (adds ≡ []) → b ≡ true → (length adds == 0) ≡ true
-nothing_added adds true is on = ap (λ xs. length xs == 0) (is.0 refl)
-nothing_added adds false is on = absurd cc
-
-pub some_added : (adds : List Added) (b : Bool) → IsTrue b ↔ (adds ≡ []) → b ≡ false → (length adds == 0) ≡ false
-some_added [] true is off = absurd cc
-some_added [] false is off = absurd (let told = is.1 refl in cc)
-some_added (added ∷ adds) b is off = ne_eqb (length (added ∷ adds)) 0 (λ none. omega (arith, none))
 
 -- ---- both
 

@@ -1,6 +1,7 @@
 pub mod MovedLemmas
-pub mod GoalLemmas
 pub mod SearchLemmas
+pub mod LaidLemmas
+pub mod WrappedLemmas
 pub mod IdleLemmas
 pub mod PointLemmas
 pub mod SameLemmas

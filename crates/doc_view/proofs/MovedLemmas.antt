@@ -1,5 +1,5 @@
 -- Regions that an edit moves: they lie in the text after it, and without their goals they are the same selection.
-use Rattle.std.proofs.Common.{◌≡◌, ℕ, zero, suc, ◌+◌, ◌≤◌, Bool, true, false, cond, List, [], ◌∷◌, length, map, Result, Ok, Err, sym, subst, arith}
+use Rattle.std.proofs.Common.{◌≡◌, ◌≢◌, ℕ, zero, suc, ◌+◌, ◌≤◌, Bool, true, false, cond, List, [], ◌∷◌, length, map, Result, Ok, Err, refl, sym, subst, arith}
 use Rattle.std.specs.Prelude.{if◌then◌else◌, ◌||◌, min, max, IfOk}
 use Rattle.std.specs.List.{range_with_len, sum_by}
 use Rattle.std.proofs.lemmas.List.Sums.{sum_by-cons}
@@ -109,3 +109,7 @@ AreMoved-map units after goals regions (Ok sel) within is sound = record {
   inside = subst (AreWithin (length_after units)) (sym is) (AreWithin-mapped units after (with_goals goals regions) within);
 }
 AreMoved-map units after goals regions (Err error) within is sound = tt
+
+pub some-plain : (regions : List Region) → regions ≢ [] → map without_goal regions ≢ []
+some-plain [] some = λ none. some refl
+some-plain (region ∷ regions) some = λ none. cc

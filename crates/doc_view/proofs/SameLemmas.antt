@@ -1,7 +1,8 @@
 -- Two lists are the same exactly where they are equally long and each two items are.
-use Rattle.std.proofs.Common.{◌≡◌, ◌≢◌, ℕ, zero, suc, ◌<◌, Bool, true, false, List, [], ◌∷◌, length, take, refl, ap, ap₂, sym, ◌∙◌, arith}
-use Rattle.std.specs.Prelude.{◌&&◌, get_or}
+use Rattle.std.proofs.Common.{◌≡◌, ◌≢◌, ◌↔◌, ℕ, zero, suc, ◌<◌, Bool, true, false, List, [], ◌∷◌, length, take, refl, ap, ap₂, sym, ◌∙◌, arith}
+use Rattle.std.specs.Prelude.{◌&&◌, ◌==◌, IsTrue, get_or, slice_index_or}
 use Rattle.std.specs.Cmp.Lexicographic.{pointwise}
+use Rattle.std.proofs.lemmas.Bool.{ne_eqb}
 
 -- lists of two lengths are not
 pub apart : {X : Type 0} (same : X → X → Bool) (xs ys : List X) → length xs ≢ length ys → pointwise same xs ys ≡ false
@@ -44,3 +45,28 @@ one-more same (a ∷ xs) (b ∷ ys) (suc index) x y here there one other is so_f
         (c && pointwise same (take (suc index) xs) (take (suc index) ys)) ≡ true
     by true so_far rest = rest so_far
     by false so_far rest = absurd cc
+
+-- the same of items that a body reads with some default, which no index inside asks for
+get_or-inside : {X : Type 0} (xs : List X) (index : ℕ) (d e : X) → index < length xs → slice_index_or xs index d ≡ get_or xs index e
+get_or-inside [] index d e inside = absurd (omega (arith, inside))
+get_or-inside (x ∷ xs) zero d e inside = refl
+get_or-inside (x ∷ xs) (suc index) d e inside = get_or-inside xs index d e (omega (arith, inside))
+
+pub one-differs-at : {X : Type 0} (same : X → X → Bool) (xs ys : List X) (index : ℕ) (d e : X) → index < length xs → index < length ys →
+    same (slice_index_or xs index d) (slice_index_or ys index e) ≡ false → pointwise same xs ys ≡ false
+one-differs-at same xs ys index d e here there differ =
+    one-differs same xs ys index (slice_index_or xs index d) (slice_index_or ys index e) here there (get_or-inside xs index d (slice_index_or xs index d) here)
+    (get_or-inside ys index e (slice_index_or ys index e) there) differ
+
+pub one-more-at : {X : Type 0} (same : X → X → Bool) (xs ys : List X) (index : ℕ) (d e : X) → index < length xs → index < length ys →
+    same (slice_index_or xs index d) (slice_index_or ys index e) ≡ true → pointwise same (take index xs) (take index ys) ≡ true →
+    pointwise same (take (suc index) xs) (take (suc index) ys) ≡ true
+one-more-at same xs ys index d e here there is so_far =
+    one-more same xs ys index (slice_index_or xs index d) (slice_index_or ys index e) here there (get_or-inside xs index d (slice_index_or xs index d) here)
+    (get_or-inside ys index e (slice_index_or ys index e) there) is so_far
+
+-- ---- a list has no items exactly where the test says so
+pub empty-is : {X : Type 0} (xs : List X) (b : Bool) → IsTrue b ↔ (xs ≡ []) → b ≡ (length xs == 0)
+empty-is xs true is = sym (ap (λ ys. length ys == 0) (is.0 refl))
+empty-is [] false is = absurd (let told = is.1 refl in cc)
+empty-is (x ∷ xs) false is = sym (ne_eqb (length (x ∷ xs)) 0 (λ none. omega (arith, none)))

@@ -1,15 +1,19 @@
 -- Which match a search selects, and that it lies in the text.
 use Rattle.std.proofs.Common.{◌≡◌, ◌≢◌, ℕ, zero, suc, ◌+◌, ◌-◌, ◌<◌, ◌≤◌, Bool, true, false, cond, List, [], ◌∷◌, length, Option, Some, None, refl, ap, sym, ◌∙◌, arith}
-use Rattle.std.specs.Prelude.{if◌then◌else◌, slice_get, nat_le, not, IfSome}
+use Rattle.std.specs.Prelude.{if◌then◌else◌, slice_get, nat_le, not, ◌==◌, IfSome}
 use Rattle.std.specs.Option.{option_or, unwrap_or}
 use Rattle.std.specs.List.{AllByRecursion, filter, find, last_or}
+use Rattle.std.proofs.lemmas.Bool.{eqb-true}
 use Rattle.plain_text.specs.declared.run.Run.{Run}
 use Rattle.plain_text.specs.declared.selection.Region.{Region}
-use Rattle.find_core.proofs.ForCallers.{matches_of-inside}
+use Rattle.find_core.specs.Laws.{AreMatchesFrom}
+use Rattle.find_core.specs.Matches.{folded, matches_of}
+use Rattle.find_core.proofs.ForCallers.{matches_of-are, matches_of-inside}
 use Rattle.selection_core.specs.Mapped.{AreWithin}
 use Rattle.selection_core.specs.Selection.{IsSelection, greater_end}
+use Rattle.doc_layout.specs.Found.{RiseApart}
 use Rattle.doc_view.specs.declared.search.Search.{Search}
-use Rattle.doc_view.specs.Search.{end_of_regions, if_wraps, next_found, next_match, previous_found, previous_match, results, start_of_regions, with_match}
+use Rattle.doc_view.specs.Search.{end_of_regions, if_wraps, is_for_nothing, next_found, next_match, previous_found, previous_match, results, start_of_regions, with_match}
 
 -- ---- the last of a list
 
@@ -129,3 +133,29 @@ pub previous_found-within : (text : List ℕ) (query : Search) (wrap_around : Op
     AreWithin (length text) (previous_found text query wrap_around regions)
 previous_found-within text query wrap_around regions are =
     with_match-within (length text) regions (previous_match (results text query) wrap_around regions) are (previous_match-inside text query wrap_around regions)
+
+-- ---- all results
+
+-- a search for no characters has none
+pub results-none : (text : List ℕ) (query : Search) → is_for_nothing query ≡ true → results text query ≡ []
+results-none text query none = by query.chars none
+  where
+    by : (chars : List ℕ) → (length chars == 0) ≡ true → matches_of text chars (not query.case_counts) ≡ []
+    by [] none = refl
+    by (c ∷ chars) none = absurd (omega (arith, eqb-true (length (c ∷ chars)) 0 none))
+
+-- they rise in the text, and none begins before the one before it ends
+RiseApart-are : (chars text : List ℕ) (len from : ℕ) (runs : List Run) → AreMatchesFrom chars text from runs → AllByRecursion (IsInside len) runs →
+    RiseApart len from runs
+RiseApart-are chars text len from [] are inside = tt
+RiseApart-are chars text len from (run ∷ runs) are inside =
+    (are.0.after, inside.0.0, inside.0.1, RiseApart-are chars text len run.end runs are.1 inside.1)
+
+pub RiseApart-results : (text : List ℕ) (query : Search) → RiseApart (length text) 0 (results text query)
+RiseApart-results text query = by query.chars (not query.case_counts)
+  where
+    by : (chars : List ℕ) (fold : Bool) → RiseApart (length text) 0 (matches_of text chars fold)
+    by [] fold = tt
+    by (c ∷ chars) fold =
+        RiseApart-are (folded fold (c ∷ chars)) (folded fold text) (length text) 0 (matches_of text (c ∷ chars) fold)
+        (matches_of-are text (c ∷ chars) fold (omega arith)) (matches_of-inside text (c ∷ chars) fold)

@@ -1,26 +1,31 @@
 -- What private functions say: what a view keeps.
-use Rattle.std.specs.Prelude.{◌≡◌, ℕ, Bool, true, ◌&&◌, ◌==◌, List, [], ◌∷◌, length}
+use Rattle.std.specs.Prelude.{◌≡◌, ℕ, ◌<◌, Bool, true, ◌&&◌, ◌==◌, List, [], ◌∷◌, length}
 use Rattle.std.specs.Str.{all_scalars}
 use Rattle.plain_text.specs.declared.run.Run.{Run}
 use Rattle.plain_text.specs.declared.selection.Region.{Region}
+use Rattle.xi_plain.specs.declared.config.Config.{Config}
 use Rattle.plain_screen.specs.declared.screen.Line.{Line}
-use Rattle.plain_screen.specs.View.{whole_lines}
+use Rattle.line_break.specs.Pieces.{wrapped_pieces}
 use Rattle.plain_view.specs.Viewed.{Viewed}
 use Rattle.selection_core.specs.Mapped.{AreWithin}
 use Rattle.selection_core.specs.Selection.{IsSelection}
 use Rattle.doc_layout.specs.Layout.{layout}
+use Rattle.doc_view.specs.declared.search.Search.{Search}
+use Rattle.doc_view.specs.Search.{results}
 
--- the text is one of characters, in its pieces
-pub record IsTextKept (viewed : Viewed) : Type 0 where
+-- the text is one of characters, in its pieces for this configuration, which has a tab width
+pub record IsTextKept (config : Config) (viewed : Viewed) : Type 0 where
   pub characters : all_scalars viewed.text ≡ true
-  pub pieces : viewed.pieces ≡ whole_lines viewed.text
+  pub tab : 0 < config.tab
+  pub pieces : viewed.pieces ≡ wrapped_pieces config.width config.tab viewed.text
 
--- so it is, the regions are a selection in it, and the lines are its layout with their carets
-pub record IsViewKept (viewed : Viewed) (regions : List Region) (lines : List Line) : Type 0 where
-  pub text : IsTextKept viewed
+-- so it is, what was found is all that is looked for, the regions are a selection in the text, and the lines are its layout with both
+pub record IsViewKept (config : Config) (viewed : Viewed) (regions : List Region) (query : Search) (found : List Run) (lines : List Line) : Type 0 where
+  pub text : IsTextKept config viewed
+  pub found_are : found ≡ results viewed.text query
   pub sound : IsSelection regions
   pub inside : AreWithin (length viewed.text) regions
-  pub lines_are : lines ≡ layout viewed.text viewed.pieces regions
+  pub lines_are : lines ≡ layout viewed.text viewed.pieces regions found
 
 -- ---- edits that do nothing
 

@@ -1,5 +1,5 @@
 -- SEARCH: what a view looks for, and which match a command selects.
-use Rattle.std.specs.Prelude.{ℕ, Bool, true, false, not, if◌then◌else◌, nat_le, List, [], ◌∷◌, Option, Some, None, slice_get}
+use Rattle.std.specs.Prelude.{ℕ, Bool, true, false, not, if◌then◌else◌, nat_le, ◌==◌, List, [], ◌∷◌, length, Option, Some, None, slice_get}
 use Rattle.std.specs.Option.{option_or, unwrap_or}
 use Rattle.std.specs.List.{filter, find, last_or}
 use Rattle.plain_text.specs.declared.run.Run.{Run}
@@ -15,6 +15,10 @@ no_search = record { chars = []; case_counts = true }
 -- the search for other characters, where case counts, or does not, or counts as before
 abbrev pub search_for : Search → List ℕ → Option Bool → Search
 search_for query chars case_counts = record { chars = chars; case_counts = unwrap_or case_counts query.case_counts }
+
+-- whether it is for no characters
+abbrev pub is_for_nothing : Search → Bool
+is_for_nothing query = length query.chars == 0
 
 -- THE RESULTS of a search in a text: all matches, in order
 abbrev pub results : List ℕ → Search → List Run

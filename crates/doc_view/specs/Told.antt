@@ -1,11 +1,19 @@
 -- What the front end lacks after an event.
-use Rattle.std.specs.Prelude.{ℕ, Bool, true, false, not, ◌||◌, if◌then◌else◌, length, Option, Some, None}
+use Rattle.std.specs.Prelude.{◌≡◌, ℕ, Bool, true, false, not, ◌&&◌, ◌||◌, ◌==◌, if◌then◌else◌, List, length, Option, Some, None, ⊤}
+use Rattle.std.specs.Bool.{beq}
+use Rattle.std.specs.Str.{bytes_eq}
+use Rattle.std.specs.Cmp.Lexicographic.{pointwise}
 use Rattle.plain_text.specs.declared.run.Run.{Run}
+use Rattle.plain_text.specs.declared.selection.Region.{Region}
 use Rattle.plain_screen.specs.declared.screen.Update.{Update}
 use Rattle.plain_screen.specs.SameLayout.{is_same_layout}
 use Rattle.doc_layout.specs.declared.asked.Asked.{Asked}
 use Rattle.doc_layout.specs.Told.{is_covered, planned}
+use Rattle.doc_view.specs.declared.search.Search.{Search}
 use Rattle.doc_view.specs.declared.told.Pristine.{Pristine}
+use Rattle.doc_view.specs.declared.told.TextLeft.{TextLeft}
+use Rattle.doc_view.specs.declared.told.TextLeft.TheVariants.{Same, Edited}
+use Rattle.doc_view.specs.Search.{is_for_nothing}
 use Rattle.doc_view.specs.View.{View, asked_in, layout_in}
 
 -- whether two truths differ
@@ -26,6 +34,11 @@ abbrev pub is_lacking : View → View → Run → Pristine → Bool
 is_lacking before after request pristine =
     not (has_asked after request) || (differ pristine.before pristine.after || not (is_same_layout (layout_in before) (layout_in after)))
 
+-- the text is left so: where it is said to be the same it is
+abbrev pub IsTextLeft : TextLeft → View → View → Type 0
+IsTextLeft Same before after = after.text ≡ before.text
+IsTextLeft Edited before after = ⊤
+
 -- what it is told
 abbrev pub told : View → View → Run → Pristine → Option Update
 told before after request pristine =
@@ -35,3 +48,22 @@ told before after request pristine =
 abbrev pub settled_view : View → View → Run → Pristine → View
 settled_view before after request pristine =
     if is_lacking before after request pristine then record after { shown = Some (asked_in after request) } else after
+
+-- ---- layouts of one text that need no comparison
+
+-- whether two regions have the same ends, and whether all of two selections have: a layout reads no more of them
+abbrev pub has_same_ends : Region → Region → Bool
+has_same_ends region other = region.anchor == other.anchor && region.caret == other.caret
+
+abbrev pub are_same_ends : List Region → List Region → Bool
+are_same_ends regions others = pointwise has_same_ends regions others
+
+-- whether two searches are for the same characters, where case counts in both or in none, or there are none
+abbrev pub is_same_search : Search → Search → Bool
+is_same_search query other = bytes_eq query.chars other.chars && (is_for_nothing query || beq query.case_counts other.case_counts)
+
+-- WHETHER ONE TEXT IS LAID OUT ALIKE in two views: with one tab width, one width, the same search and the same ends of regions
+abbrev pub is_laid_out_alike : View → View → Bool
+is_laid_out_alike before after =
+    before.config.tab == after.config.tab && (before.config.width == after.config.width &&
+    (is_same_search before.query after.query && are_same_ends before.regions after.regions))

@@ -2,29 +2,32 @@
 use Rattle.std.specs.Prelude.{ℕ, List, Option}
 use Rattle.plain_text.specs.declared.run.Run.{Run}
 use Rattle.plain_text.specs.declared.selection.Region.{Region}
+use Rattle.xi_plain.specs.declared.config.Config.{Config}
 use Rattle.plain_screen.specs.declared.piece.Piece.{Piece}
 use Rattle.plain_screen.specs.declared.screen.Line.{Line}
-use Rattle.plain_screen.specs.View.{whole_lines}
+use Rattle.line_break.specs.Pieces.{wrapped_pieces}
 use Rattle.selection_core.specs.Selection.{last_caret}
 use Rattle.doc_layout.specs.declared.asked.Asked.{Asked}
 use Rattle.doc_layout.specs.Layout.{layout, Position, position_of}
 use Rattle.doc_view.specs.declared.search.Search.{Search}
+use Rattle.doc_view.specs.Search.{results}
 
--- the text, the regions on it, the lines that are shown, what is looked for, and the lines that were asked for at the last update, if
--- there was one: these its front end has
+-- the text, how it is laid out and edited, the regions on it, the lines that are shown, what is looked for, and the lines that were asked
+-- for at the last update, if there was one: these its front end has
 pub record View : Type 0 where
   pub text : List ℕ
+  pub config : Config
   pub regions : List Region
   pub window : Run
   pub query : Search
   pub shown : Option Asked
 
--- the pieces of the text (it is not wrapped yet), its layout, and the place of the last region's caret
+-- the pieces of the text by wrapping, its layout, and the place of the last region's caret
 abbrev pub pieces_in : View → List Piece
-pieces_in view = whole_lines view.text
+pieces_in view = wrapped_pieces view.config.width view.config.tab view.text
 
 abbrev pub layout_in : View → List Line
-layout_in view = layout view.text (pieces_in view) view.regions
+layout_in view = layout view.text (pieces_in view) view.regions (results view.text view.query)
 
 abbrev pub point_in : View → Position
 point_in view = position_of view.text (pieces_in view) (last_caret view.regions)

@@ -15,5 +15,5 @@ mod view;
 pub use idle::does_nothing;
 pub use moved::Goals;
 pub use search::Search;
-pub use told::Pristine;
+pub use told::{Pristine, TextLeft};
 pub use view::ViewState;

@@ -1,11 +1,13 @@
-// Whether two layouts are the same, line by line, up to the first that differs.
+// Whether two layouts are the same, line by line, up to the first that differs; and whether ends of regions, and searches, are.
 ghost use Rattle.std.specs.Prelude.{◌≡◌};
 ghost use Rattle.std.specs.Str.{bytes_eq};
 ghost use Rattle.std.specs.Cmp.Lexicographic.{pointwise};
 ghost use Rattle.plain_screen.specs.SameLayout.{is_same_layout, is_same_line, is_same_number, is_same_triple};
+ghost use Rattle.doc_view.specs.Told.{are_same_ends, has_same_ends, is_same_search};
 
+use crate::search::Search;
 use plain_screen::{Line, Triple};
-use plain_text::Text;
+use plain_text::{Region, Text};
 
 pub(crate) fn is_same_layout(lines: &[Line], others: &[Line]) -> bool
     ensures { result ≡ is_same_layout lines.now others.now }
@@ -19,6 +21,33 @@ pub(crate) fn is_same_layout(lines: &[Line], others: &[Line]) -> bool
         }
     }
     true
+}
+
+pub(crate) fn are_same_ends(regions: &[Region], others: &[Region]) -> bool
+    ensures { result ≡ are_same_ends regions.now others.now }
+{
+    if regions.len() != others.len() {
+        return false;
+    }
+    for index in 0..regions.len() {
+        if !has_same_ends(&regions[index], &others[index]) {
+            return false;
+        }
+    }
+    true
+}
+
+fn has_same_ends(region: &Region, other: &Region) -> bool
+    ensures { result ≡ has_same_ends region.now other.now }
+{
+    region.anchor == other.anchor && region.caret == other.caret
+}
+
+pub(crate) fn is_same_search(query: &Search, other: &Search) -> bool
+    ensures { result ≡ is_same_search query.now other.now }
+{
+    is_same_text(&query.chars, &other.chars)
+        && (query.is_for_nothing() || query.case_counts == other.case_counts)
 }
 
 fn is_same_line(line: &Line, other: &Line) -> bool

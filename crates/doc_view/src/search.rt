@@ -3,7 +3,7 @@ ghost use Rattle.std.specs.Prelude.{◌≡◌, List, IfOk, None, Some, nat_le, s
 ghost use Rattle.std.specs.List.{filter, find, last_or};
 ghost use Rattle.plain_text.specs.declared.run.Run.{Run as RunValue};
 ghost use Rattle.plain_text.specs.declared.selection.Region.{Region as RegionValue};
-ghost use Rattle.doc_view.specs.Search.{end_of_regions, if_wraps, next_match, no_search, previous_match, results, search_for, start_of_regions, with_match};
+ghost use Rattle.doc_view.specs.Search.{end_of_regions, if_wraps, is_for_nothing, next_match, no_search, previous_match, results, search_for, start_of_regions, with_match};
 
 use find_core::matches;
 use plain_text::{NoMemory, Region, Regions, Run, Runs, Sel, Text};
@@ -35,6 +35,13 @@ impl Search {
             chars,
             case_counts: case_counts.unwrap_or(self.case_counts),
         }
+    }
+
+    /// Whether it looks for no characters, which are found nowhere.
+    pub(crate) fn is_for_nothing(&self) -> bool
+        ensures { result ≡ is_for_nothing self.now }
+    {
+        self.chars.is_empty()
     }
 
     /// All matches in a text. This walks the text, and copies it where case does not count.

@@ -4,3 +4,10 @@ pub struct Pristine {
     pub before: bool,
     pub after: bool,
 }
+
+/// What an event left of the text of a view: the same text, or maybe another.
+#[derive(Clone, Copy, PartialEq, Eq)]
+pub enum TextLeft {
+    Same,
+    Edited,
+}

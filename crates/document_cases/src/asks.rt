@@ -2,7 +2,7 @@
 
 ghost use Rattle.std.specs.Prelude.{◌≡◌, ◌-◌, ◌^◌, ◌<◌, ◌≤◌, length, IfOk};
 ghost use Rattle.plain_edits.specs.History.{head};
-ghost use Rattle.doc_session.specs.Step.{HasCaller};
+ghost use Rattle.doc_session.specs.Step.{MayCome};
 
 use doc_session::{Doc, DocFault, Effects, Event};
 use plain_edits::{Delta, El, Els};
@@ -54,6 +54,15 @@ pub(crate) enum Ask {
     // The first or the second plugin has the text of a revision, or its session ends.
     Ack(Plugin, u64),
     Ended(Plugin),
+    // Lines are wrapped at so many columns from now on, and tabs are typed as such or as spaces.
+    Wrap(u32, Tabs),
+}
+
+// How a tab is typed.
+#[derive(Clone, Copy, PartialEq, Eq)]
+pub(crate) enum Tabs {
+    AsTab,
+    AsSpaces,
 }
 
 // One of the two plugins.
@@ -112,7 +121,7 @@ fn els_of(alloc: Global, given: Given) -> Result<Els, NoMemory> {
 }
 
 fn giving(els: Els, given: Given) -> Event
-    ensures { HasCaller 2 result }
+    ensures { MayCome 2 result }
 {
     let edit = Edit {
         rev: given.rev,
@@ -134,26 +143,36 @@ fn giving(els: Els, given: Given) -> Event
 
 fn acknowledging(caller: u32, rev: u64) -> Event
     requires { (1 ≤ caller) × (caller ≤ 2) }
-    ensures { HasCaller 2 result }
+    ensures { MayCome 2 result }
 {
     Event::Ack { caller, rev }
 }
 
 fn ending(caller: u32) -> Event
     requires { (1 ≤ caller) × (caller ≤ 2) }
-    ensures { HasCaller 2 result }
+    ensures { MayCome 2 result }
 {
     Event::Ended { caller }
 }
 
+fn wrapping(width: u32, tabs: Tabs) -> Event
+    ensures { MayCome 2 result }
+{
+    Event::Config(Config {
+        tab: 4,
+        width,
+        spaces: tabs == Tabs::AsSpaces,
+    })
+}
+
 fn typing(chars: Text) -> Event
-    ensures { HasCaller 2 result }
+    ensures { MayCome 2 result }
 {
     Event::Front(EditAct::Insert { chars })
 }
 
 fn pasting(chars: Text) -> Event
-    ensures { HasCaller 2 result }
+    ensures { MayCome 2 result }
 {
     Event::Front(EditAct::Paste { chars })
 }
@@ -202,7 +221,7 @@ fn command_of(ask: Ask) -> EditAct {
 }
 
 fn event_of(alloc: Global, ask: Ask) -> Result<Event, NoMemory>
-    ensures { IfOk result (HasCaller 2) }
+    ensures { IfOk result (MayCome 2) }
 {
     match ask {
         Ask::Type(chars) => Ok(typing(Text::from_str(alloc, chars)?)),
@@ -211,6 +230,7 @@ fn event_of(alloc: Global, ask: Ask) -> Result<Event, NoMemory>
         Ask::Give(given) => Ok(giving(els_of(alloc, given)?, given)),
         Ask::Ack(plugin, rev) => Ok(acknowledging(number(plugin), rev)),
         Ask::Ended(plugin) => Ok(ending(number(plugin))),
+        Ask::Wrap(width, tabs) => Ok(wrapping(width, tabs)),
         ask => Ok(Event::Front(command_of(ask))),
     }
 }
@@ -224,7 +244,7 @@ fn counted<L: Ledger>(
     requires name { blank.name ≡ L.name }
     requires parts { blank.parts ≡ L.parts }
     requires some { 0 < blank.parts }
-    requires caller { HasCaller (length doc.old.sessions) event }
+    requires event { MayCome (length doc.old.sessions) event }
     requires has_number { head doc.old.engine.revisions < 2 ^ 63 - 1 }
     ensures { length doc.new.sessions ≡ length doc.old.sessions }
 {
@@ -233,7 +253,7 @@ fn counted<L: Ledger>(
 }
 
 fn take(alloc: Global, doc: &mut Doc, event: Event) -> Result<Effects, DocFault>
-    requires { HasCaller (length doc.old.sessions) event }
+    requires { MayCome (length doc.old.sessions) event }
     ensures { length doc.new.sessions ≡ length doc.old.sessions }
 {
     if 1000 < doc.head() {

@@ -7,6 +7,8 @@ mod asks;
 #[cfg(test)]
 mod collecting;
 #[cfg(test)]
+mod configured;
+#[cfg(test)]
 mod documents;
 #[cfg(test)]
 mod regions;

@@ -20,7 +20,7 @@ use Rattle.doc_session.specs.Collecting.{collected_document, collection_after, w
 use Rattle.doc_session.specs.Document.{Document, no_request, pieces_of, text_of}
 use Rattle.doc_session.specs.Effects.{settled, updated, wants_update}
 use Rattle.doc_session.specs.Grouping.{group_by, groups_by, run_group}
-use Rattle.doc_session.specs.Step.{effect_on, first_config, history_step, idle_step, is_idle, selected_document, taken_step, typed_document, typed_step, undone_document}
+use Rattle.doc_session.specs.Step.{effect_on, history_step, idle_step, is_idle, selected_document, taken_step, typed_document, typed_step, undone_document}
 use Rattle.doc_session.specs.Typing.{run_on, run_with}
 use Rattle.doc_session.proofs.ForCallers.{effect-some, next_undo-opened, typing-some, typing-within}
 use Rattle.doc_session.specs.declared.event.Event.TheVariants.{Front}
@@ -195,7 +195,7 @@ run_taken_back (chars ∷ texts) plain is has some = by (run_taken_back texts) (
         let next = selected_document plain inserts effect.regions in
         let still : IsBefore next = (is.0, is.1, is.2, ap (λ t. run_on t inserts) is.3) in
         let left : HasRegions next =
-        (effect-some first_config (text_of plain) (pieces_of plain) plain.regions has.0 (Insert chars), typing-within (text_of plain) chars plain.regions has.1 idle) in
+        (effect-some plain.config (text_of plain) (pieces_of plain) plain.regions has.0 (Insert chars), typing-within (text_of plain) chars plain.regions has.1 idle) in
         let rest : concat texts ≢ [] = λ empty. some (ap (λ t. t ++ concat texts) (none_typed plain chars has idle) ∙ empty) in
         later (collected_document (settled no_request plain next)) (collected-IsBefore (settled no_request plain next) (settled-IsBefore plain next still))
         (collected-HasRegions (settled no_request plain next) (settled-HasRegions plain next left)) rest ∙

@@ -17,13 +17,13 @@ use Rattle.undo_groups.specs.Groups.{Groups, groups_of, next_redo, next_undo, re
 use Rattle.doc_session.specs.declared.event.Body.{Body}
 use Rattle.doc_session.specs.declared.event.Body.TheVariants.{Null}
 use Rattle.doc_session.specs.declared.event.Event.{Event}
-use Rattle.doc_session.specs.declared.event.Event.TheVariants.{Ack, Edit, Ended, Front, Other}
+use Rattle.doc_session.specs.declared.event.Event.TheVariants.{Ack, Config as Configure, Edit, Ended, Front, Other}
 use Rattle.doc_session.specs.Asking.{asked_refusal, front_edit}
 use Rattle.doc_session.specs.Collecting.{acknowledged_document, collected_document, collection_after, ended_document, least_acknowledged, with_collection}
 use Rattle.doc_session.specs.Document.{Document, no_request}
 use Rattle.doc_session.specs.Effects.{settled, update_after, updated, wants_update}
 use Rattle.doc_session.specs.Layout.{Position}
-use Rattle.doc_session.specs.Step.{EventStep, act_step, answer_to, at_next_match, at_previous_match, command_step, edited_document, effect_on, event_step, going_on, history_step, idle_step, is_idle, looking_document, refusal_at, revision_step, scroll_if, scrolled_document, scrolls, seeking_document, selected_document, step_to, taken_step, typed_step, undone_document}
+use Rattle.doc_session.specs.Step.{EventStep, act_step, answer_to, at_next_match, at_previous_match, command_step, configured_document, edited_document, effect_on, event_step, going_on, history_step, idle_step, is_idle, looking_document, refusal_at, revision_step, scroll_if, scrolled_document, scrolls, seeking_document, selected_document, step_to, taken_step, typed_step, undone_document}
 use Rattle.doc_session.specs.Grouping.{run_group}
 use Rattle.doc_session.specs.Typing.{kind_of, run_on}
 use Rattle.doc_session.proofs.ForCallers.{floor-found, head-after, least-within}
@@ -149,6 +149,8 @@ along-taken d (Front act) front = along-act d act
 along-taken d (Edit caller edit named) front = absurd front
 along-taken d (Ack caller rev) front = absurd front
 along-taken d (Ended caller) front = absurd front
+along-taken d (Configure config) front =
+    along-step_to no_request d (configured_document d config) (configured_document (bare d) config) Null None None refl
 along-taken d Other front = along-other d
 
 along-event : (d : Document) (event : Event) → IsOfFront event → GoAlong (event_step d event) (event_step (bare d) event)
@@ -217,6 +219,7 @@ floor-taken d (Front act) front has = floor-act d act has
 floor-taken d (Edit caller edit named) front has = absurd front
 floor-taken d (Ack caller rev) front has = absurd front
 floor-taken d (Ended caller) front has = absurd front
+floor-taken d (Configure config) front has = floor-settled no_request d (configured_document d config) has
 floor-taken d Other front has = floor-settled no_request d (going_on d None) has
 
 floor-event : (d : Document) (event : Event) → IsOfFront event → HasFloor d → HasFloor (after_event d event)
@@ -228,6 +231,7 @@ refusal-bare : (d : Document) (event : Event) → IsOfFront event → HasFloor d
 refusal-bare d (Edit caller edit named) front has = absurd front
 refusal-bare d (Ack caller rev) front has = absurd front
 refusal-bare d (Ended caller) front has = absurd front
+refusal-bare d (Configure config) front has = refl
 refusal-bare d Other front has = refl
 refusal-bare d (Front act) front has = by (is_idle d effect)
   where
@@ -290,4 +294,5 @@ acknowledgements_are_unseen d (Ack caller rev) told has =
     (record { body = refl; update = refl; scroll = refl; notice = refl }, told_by_sessions d (acknowledged_document d caller rev).sessions has)
 acknowledgements_are_unseen d (Ended caller) told has =
     (record { body = refl; update = refl; scroll = refl; notice = refl }, told_by_sessions d (ended_document d caller).sessions has)
+acknowledgements_are_unseen d (Configure config) told has = absurd told
 acknowledgements_are_unseen d Other told has = absurd told

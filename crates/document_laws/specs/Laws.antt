@@ -8,7 +8,7 @@ use Rattle.xi_plain.specs.declared.command.EditAct.TheVariants.{Insert, Undo, Re
 use Rattle.undo_groups.specs.Groups.{Groups, after_opening, next_redo, next_undo}
 use Rattle.doc_session.specs.declared.event.Event.{Event}
 use Rattle.doc_session.specs.declared.event.Body.TheVariants.{Null}
-use Rattle.doc_session.specs.declared.event.Event.TheVariants.{Ack, Edit, Ended, Front, Other}
+use Rattle.doc_session.specs.declared.event.Event.TheVariants.{Ack, Config as Configure, Edit, Ended, Front, Other}
 use Rattle.doc_session.specs.declared.typing.Kind.TheVariants as Kinds
 use Rattle.doc_session.specs.Document.{Document, text_of}
 use Rattle.doc_session.specs.InMemory.{Doc}
@@ -107,6 +107,7 @@ IsOfFront (Front act) = ⊤
 IsOfFront (Edit caller edit named) = ⊥
 IsOfFront (Ack caller rev) = ⊥
 IsOfFront (Ended caller) = ⊥
+IsOfFront (Configure config) = ⊤
 IsOfFront Other = ⊤
 
 -- what the session of a plugin tells
@@ -115,6 +116,7 @@ IsOfSession (Front act) = ⊥
 IsOfSession (Edit caller edit named) = ⊥
 IsOfSession (Ack caller rev) = ⊤
 IsOfSession (Ended caller) = ⊤
+IsOfSession (Configure config) = ⊥
 IsOfSession Other = ⊥
 
 -- COLLECTION IS INVISIBLE: two such documents refuse the same events of the front end for the same causes, tell the same of the others, and are

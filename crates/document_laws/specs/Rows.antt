@@ -1,21 +1,27 @@
 -- Worked rows: what the steps of undo and collection give in small cases.
-use Rattle.std.specs.Prelude.{◌≡◌, ℕ, false, List, [], ◌∷◌, ◌++◌, Option, Some, None}
+use Rattle.std.specs.Prelude.{◌≡◌, ℕ, true, false, List, [], ◌∷◌, ◌++◌, Option, Some, None, map}
 use Rattle.std.specs.List.{fold}
 use Rattle.plain_edits.specs.declared.delta.El.TheVariants as Els
 use Rattle.plain_edits.specs.Collection.{kept}
 use Rattle.plain_edits.specs.Edits.{collected, unknown}
 use Rattle.plain_edits.specs.History.{head}
-use Rattle.xi_plain.specs.declared.command.EditAct.TheVariants.{Insert, InsertNewline, Undo, Redo}
+use Rattle.xi_plain.specs.declared.command.EditAct.TheVariants.{Insert, InsertNewline, InsertTab, Undo, Redo}
+use Rattle.xi_plain.specs.declared.config.Config.{Config}
+use Rattle.plain_screen.specs.declared.screen.Line.{Line}
 use Rattle.doc_session.specs.declared.event.Body.TheVariants.{Edited}
 use Rattle.doc_session.specs.declared.event.Event.{Event}
-use Rattle.doc_session.specs.declared.event.Event.TheVariants.{Ack, Edit, Ended, Front, Other}
-use Rattle.doc_session.specs.Document.{Document, loaded_document, text_of}
+use Rattle.doc_session.specs.declared.event.Event.TheVariants.{Ack, Config as Configure, Edit, Ended, Front, Other}
+use Rattle.doc_session.specs.Document.{Document, layout_of, loaded_document, text_of}
 use Rattle.doc_session.specs.Step.{event_step, refusal_at}
 use Rattle.document_laws.specs.Laws.{after_event}
 
+-- tabs of four columns, and lines that are not wrapped
+abbrev pub usual : Config
+usual = record { tab = 4; width = 0; spaces = false }
+
 -- an empty document with one plugin, and its text after events
 abbrev pub empty_document : Document
-empty_document = loaded_document [] 1 100
+empty_document = loaded_document [] 1 100 usual
 
 abbrev pub after_events : List Event → Document
 after_events events = fold after_event empty_document events
@@ -46,6 +52,25 @@ pub record Steps : Type 0 where
   pub ended : text_after (types 97 ∷ Other ∷ types 98 ∷ Front Undo ∷ []) ≡ 97 ∷ []
   pub redone : text_after (types 97 ∷ Front Undo ∷ Front Redo ∷ []) ≡ 97 ∷ []
   pub at_ends : head (after_events (Front Undo ∷ Front Redo ∷ [])).history ≡ 0
+
+-- lines are wrapped at two columns, or tabs are typed as spaces
+abbrev pub wraps : Event
+wraps = Configure (record usual { width = 2 })
+
+abbrev pub spaces_tabs : Event
+spaces_tabs = Configure (record usual { spaces = true })
+
+-- what a change of the configuration comes to
+pub record Configures : Type 0 where
+  -- the text is laid out anew, and the front end is told, but not where to scroll
+  pub pieces : map (λ (line : Line). line.ln) (layout_of (after_events (types 97 ∷ types 32 ∷ types 98 ∷ wraps ∷ []))) ≡ Some 1 ∷ None ∷ []
+  pub places : (event_step (after_events (types 97 ∷ types 32 ∷ types 98 ∷ [])) wraps).scroll ≡ None
+  -- where no line is another it writes nothing; and it ends a run of typing
+  pub still : (event_step (after_events (types 97 ∷ [])) wraps).update ≡ None
+  pub ended : text_after (types 97 ∷ Configure usual ∷ types 98 ∷ Front Undo ∷ []) ≡ 97 ∷ []
+  -- it makes no revision, and what is typed then follows it
+  pub head : head (after_events (types 97 ∷ spaces_tabs ∷ [])).history ≡ 1
+  pub tabs : text_after (types 97 ∷ Front InsertTab ∷ spaces_tabs ∷ Front InsertTab ∷ []) ≡ 97 ∷ 9 ∷ 32 ∷ 32 ∷ 32 ∷ 32 ∷ []
 
 -- an edit that joins an undone group is hidden on arrival, and comes with a redo
 pub record JoinsUndone : Type 0 where

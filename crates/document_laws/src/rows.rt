@@ -1,10 +1,15 @@
 //! Worked rows, each the contract of a function: what the definitions give in small cases.
 
-ghost use Rattle.document_laws.specs.Rows.{Collects, JoinsUndone, Steps};
+ghost use Rattle.document_laws.specs.Rows.{Collects, Configures, JoinsUndone, Steps};
 
 /// Insertions that follow each other are one step, and a new line is another.
 pub fn steps()
     ensures { Steps }
+{}
+
+/// Another configuration lays the text out anew and ends a run of typing.
+pub fn configures()
+    ensures { Configures }
 {}
 
 /// An edit that joins an undone group is hidden on arrival.

@@ -17,7 +17,7 @@ use Rattle.outside.specs.Source.{SourceState, Gives}
 use Rattle.outside.proofs.ForCallers.{Gives-append, Gains-append, Gains-none, Rose-earlier}
 use Rattle.core_session.specs.declared.session.Core.{Core}
 use Rattle.xi_plain.specs.Journal.{closing_entry, may_follow, can_be, is_legal, IsLegal, commands, front_entries}
-use Rattle.core_session.specs.Session.{written}
+use Rattle.core_session.specs.Session.{first_session, written}
 use Rattle.core_session.specs.Core.{IsOfLine, IsOpen, IsServing, AddsSentEntry, AddsUnsentEntry, ChangesNothing, journal_of, sink_of, piece_after, front_entry}
 use Rattle.core_session.proofs.ForCallers.{written-push, IsOfLine-command_of, shows_closed}
 use Rattle.xi_top.specs.declared.ending.Ending.{Ending}
@@ -88,7 +88,7 @@ sent_whole : {K : Type 0} (tell : K → SinkState) (start : SinkState) (core : C
 sent_whole tell start core whole = record {
   each = sent_front (journal_of core) (closing_entry ∷ []) whole.serving.sent (refl, tt);
   failures = whole.failures;
-  bytes = written [] (journal_of core);
+  bytes = written first_session (journal_of core);
   gains = whole.gains;
   shows = shows_closed core whole.serving;
 }
@@ -114,8 +114,8 @@ module _ {K : Type 0} (tell : K → SinkState) (start : SinkState) where
       record {
         serving = adds.serving;
         gains =
-            subst At (sym (ap (written []) adds.entry ∙ written-push (journal_of old) (front_entry command true)))
-            (Gains-append start.held (tell (sink_of old)).held (tell (sink_of new)).held (written [] (journal_of old))
+            subst At (sym (ap (written first_session) adds.entry ∙ written-push (journal_of old) (front_entry command true)))
+            (Gains-append start.held (tell (sink_of old)).held (tell (sink_of new)).held (written first_session (journal_of old))
             (piece_after (journal_of old) command) whole.gains adds.gains);
         stays = omega (arith, whole.stays, adds.faults_stay);
         failures = adds.failures_same ∙ whole.failures;
@@ -123,8 +123,8 @@ module _ {K : Type 0} (tell : K → SinkState) (start : SinkState) where
 
   whole_same : (old new : Core K) → IsWhole tell start old → ChangesNothing old new → IsWhole tell start new
   whole_same old new whole same =
-      let Gained : K → Type 0 = λ sink. Gains start.held (tell sink).held (written [] (journal_of new)) in
-      let At : List Entry → Type 0 = λ entries. Gains start.held (tell (sink_of old)).held (written [] entries) in
+      let Gained : K → Type 0 = λ sink. Gains start.held (tell sink).held (written first_session (journal_of new)) in
+      let At : List Entry → Type 0 = λ entries. Gains start.held (tell (sink_of old)).held (written first_session entries) in
       let Stays : K → Type 0 = λ sink. start.faults ≤ (tell sink).faults in
       record {
         serving = same.serving;
@@ -179,10 +179,10 @@ module _ {K : Type 0} (tell : K → SinkState) (start : SinkState) where
         unsent = refl;
         failures = subst (λ (n : ℕ). (tell (sink_of new)).failures ≡ counted n) whole.failures adds.failures_counted;
         rose = Rose-earlier start.faults (tell (sink_of old)).faults (tell (sink_of new)).faults whole.stays adds.rose;
-        bytes = written [] (journal_of old);
+        bytes = written first_session (journal_of old);
         part = take n (piece_after (journal_of old) (command_of line));
         gains =
-            Gains-append start.held (tell (sink_of old)).held (tell (sink_of new)).held (written [] (journal_of old))
+            Gains-append start.held (tell (sink_of old)).held (tell (sink_of new)).held (written first_session (journal_of old))
             (take n (piece_after (journal_of old) (command_of line))) whole.gains adds.gains;
         shows = whole.serving.showing.shows;
         proper = (n, adds.part, refl);
@@ -448,7 +448,7 @@ module _ {K : Type 0} (tell : K → SinkState) (start : SinkState) where
 pub at_first : {K : Type 0} (tell : K → SinkState) (core : Core K) (begun : Begun) → IsServing core → journal_of core ≡ [] → begun.bytes ≡ [] →
     begun.count ≡ 0 → IsAt tell (tell (sink_of core)) [] core begun
 at_first tell core begun serving empty none zero_of =
-    let At : List Entry → Type 0 = λ entries. Gains (tell (sink_of core)).held (tell (sink_of core)).held (written [] entries) in
+    let At : List Entry → Type 0 = λ entries. Gains (tell (sink_of core)).held (tell (sink_of core)).held (written first_session entries) in
     record {
       whole = record { serving = serving; gains = subst At (sym empty) (Gains-none (tell (sink_of core)).held); stays = omega arith; failures = refl };
       asked = ap commands empty;

@@ -8,7 +8,7 @@ use Rattle.plain_text.specs.InputLines.{ended_lines, lines_of}
 use Rattle.front_wire.specs.Front.{command_of}
 use Rattle.outside.specs.Sink.{Gains}
 use Rattle.xi_plain.specs.Journal.{closing_entry}
-use Rattle.core_session.specs.Session.{written}
+use Rattle.core_session.specs.Session.{first_session, written}
 use Rattle.core_session.specs.Core.{piece_after}
 use Rattle.core_session.specs.Rows.{opening, insertion, opening_bytes, first_bytes}
 use Rattle.core_session.proofs.ForCallers.{first_insertion}
@@ -66,7 +66,7 @@ two_before a b c d (x ∷ y ∷ z ∷ sent) last is =
 pub third_write_fails : ThirdWriteFails
 third_write_fails before after gained none some cut =
     let parts = two_before opening (insertion (97 ∷ [])) unsent_insertion closing_entry cut.sent cut.last cut.cut in
-    let bytes : cut.bytes ≡ opening_bytes ++ first_bytes = cut.shows.pieces ∙ ap (written []) parts.0 ∙ first_insertion in
+    let bytes : cut.bytes ≡ opening_bytes ++ first_bytes = cut.shows.pieces ∙ ap (written first_session) parts.0 ∙ first_insertion in
     let At : Option (List ℕ) → Option (List ℕ) → Type 0 = λ from to. Gains from to (cut.bytes ++ cut.part) in
     let all : gained ≡ cut.bytes ++ cut.part = subst (At (Some [])) some (subst (λ from. At from after.held) none cut.gains) in
     let Proper : List Entry → Entry → Type 0 = λ sent last. IsProperPart cut.part (piece_after sent last.command) in (

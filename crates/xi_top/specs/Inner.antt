@@ -8,7 +8,7 @@ use Rattle.outside.specs.Source.{SourceState, Gives}
 use Rattle.outside.specs.Sink.{SinkState, Gains}
 use Rattle.core_session.specs.declared.session.Core.{Core}
 use Rattle.xi_plain.specs.Journal.{closing_entry, commands, front_entries, IsLegal}
-use Rattle.core_session.specs.Session.{written}
+use Rattle.core_session.specs.Session.{first_session, written}
 use Rattle.core_session.specs.Core.{IsServing, HasRoom, AddsSentEntry, AddsUnsentEntry, ChangesNothing, journal_of, sink_of}
 use Rattle.xi_top.specs.declared.ending.Ending.{Ending}
 use Rattle.xi_top.specs.declared.ending.Ending.TheVariants.{NoMemory, SourceFault, SinkFault, TooMany, TooLong}
@@ -38,7 +38,7 @@ weight begun = 16_777_216 * begun.count + length begun.bytes
 -- all entries were sent, and the sink gained their pieces
 pub record IsWhole {K : Type 0} (tell : K → SinkState) (start : SinkState) (core : Core K) : Type 0 where
   pub serving : IsServing core
-  pub gains : Gains start.held (tell (sink_of core)).held (written [] (journal_of core))
+  pub gains : Gains start.held (tell (sink_of core)).held (written first_session (journal_of core))
   pub stays : start.faults ≤ (tell (sink_of core)).faults
   pub failures : (tell (sink_of core)).failures ≡ start.failures
 

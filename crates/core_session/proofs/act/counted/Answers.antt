@@ -1,12 +1,12 @@
 use Rattle.std.proofs.Common.{ℕ, sym, subst}
-use Rattle.doc_session.specs.Step.{HasCaller}
+use Rattle.doc_session.specs.Step.{MayCome}
 use Rattle.core_session.proofs.PrepareLemmas.{IsMade-after}
 use Rattle.core_session.proofs.act.counted.Goals as goal
 
-pub after-requires-clause-caller : goal.after-requires-clause-caller
-after-requires-clause-caller g c =
-    let At : ℕ → Type 0 = λ plugins. HasCaller plugins c.args.event in
-    subst At (sym c.requires.alone.0) c.requires.caller
+pub after-requires-clause-event : goal.after-requires-clause-event
+after-requires-clause-event g c =
+    let At : ℕ → Type 0 = λ plugins. MayCome plugins c.args.event in
+    subst At (sym c.requires.alone.0) c.requires.event
 
 pub returns : goal.returns
 returns g c =

@@ -8,7 +8,7 @@ use Rattle.core_session.proofs.session.Core.put.Goals as goal
 
 pub returns-clause-sent : goal.returns-clause-sent
 returns-clause-sent g c = λ _.
-    let parts = serves_push _ c.args.made.command _ _ c.requires.serving.sent c.requires.serving.showing c.requires.asks
+    let parts = serves_push _ c.args.made.command _ _ _ c.requires.serving.sent c.requires.serving.showing c.requires.asks
     c.requires.prepared.lines c.requires.prepared.reads_back c.requires.prepared.stands in
     let entry : c.front_entry.result ≡ front_entry c.args.made.command true =
     c.front_entry.ensures ∙ ap (front_entry c.args.made.command) (eq-eqb _ _ c.if-not-sent.false) in

@@ -19,5 +19,4 @@ returns-in_default c = record {
   accepted = c.command.ensures.accepted;
   refused = c.command.ensures.refused;
   sessions = c.command.ensures.sessions;
-  config = c.command.ensures.config;
 }

@@ -1,6 +1,5 @@
-use Rattle.std.proofs.Common.{◌≡◌, ◌<◌, None, ap, sym, ◌∙◌, subst, arith}
+use Rattle.std.proofs.Common.{◌≡◌, None, ap, sym, ◌∙◌, subst}
 use Rattle.std.specs.Prelude.{if◌then◌else◌, IfErr, IfOk, OnOk}
-use Rattle.xi_plain.specs.declared.config.Config.{Config}
 use Rattle.selection_core.specs.Mapped.{AreWithin}
 use Rattle.doc_session.specs.Asking.{asked_refusal, front_edit}
 use Rattle.doc_session.specs.Fault.{DocRefuses}
@@ -10,12 +9,9 @@ use Rattle.doc_session.proofs.IdleLemmas.{length-idle}
 use Rattle.doc_session.proofs.StepLemmas.{effect-made, idle-is}
 use Rattle.doc_session.proofs.doc.Doc.command.Goals as goal
 
-pub effect-requires-clause-tab : goal.effect-requires-clause-tab
-effect-requires-clause-tab c = subst (λ (k : Config). 0 < k.tab) (sym c.first_config.ensures) (omega arith)
-
 pub idle-requires-clause-regions : goal.idle-requires-clause-regions
 idle-requires-clause-regions c =
-    (effect-made _ c.args.self.now c.first_config.result c.args.act.now c.in_ok-units.units c.in_ok-units.sel.regions c.self.view_is c.first_config.ensures c.in_ok-units.ensures).regions
+    (effect-made _ c.args.self.now c.args.act.now c.in_ok-units.units c.in_ok-units.sel.regions c.self.view_is c.in_ok-units.ensures).regions
 
 pub idle-requires-clause-sound : goal.idle-requires-clause-sound
 idle-requires-clause-sound c = c.in_ok-units.ensures.sound
@@ -23,7 +19,7 @@ idle-requires-clause-sound c = c.in_ok-units.ensures.sound
 pub idle-requires-clause-inside : goal.idle-requires-clause-inside
 idle-requires-clause-inside c =
     let made =
-    effect-made _ c.args.self.now c.first_config.result c.args.act.now c.in_ok-units.units c.in_ok-units.sel.regions c.self.view_is c.first_config.ensures c.in_ok-units.ensures in
+    effect-made _ c.args.self.now c.args.act.now c.in_ok-units.units c.in_ok-units.sel.regions c.self.view_is c.in_ok-units.ensures in
     subst (λ n. AreWithin n c.in_ok-units.sel.regions)
     (length-idle c.args.self.now.view.text (effect_in c.args.self.now.view c.args.act.now) c.in_ok-units.units c.in_ok-units.sel.regions c.does_nothing.result made
     c.does_nothing.ensures c.if-does_nothing.true)
@@ -31,14 +27,14 @@ idle-requires-clause-inside c =
 
 pub typed-requires-clause-effect : goal.typed-requires-clause-effect
 typed-requires-clause-effect c =
-    effect-made _ c.args.self.now c.first_config.result c.args.act.now c.in_ok-units.units c.in_ok-units.sel.regions c.self.view_is c.first_config.ensures c.in_ok-units.ensures
+    effect-made _ c.args.self.now c.args.act.now c.in_ok-units.units c.in_ok-units.sel.regions c.self.view_is c.in_ok-units.ensures
 
 pub returns-then-does_nothing-clause-stepped : goal.returns-then-does_nothing-clause-stepped
 returns-then-does_nothing-clause-stepped c = λ plain stands.
     let act = c.args.act.now in
     let effect = effect_on plain act in
     let made =
-    effect-made _ c.args.self.now c.first_config.result act c.in_ok-units.units c.in_ok-units.sel.regions c.self.view_is c.first_config.ensures c.in_ok-units.ensures in
+    effect-made _ c.args.self.now act c.in_ok-units.units c.in_ok-units.sel.regions c.self.view_is c.in_ok-units.ensures in
     let idle = idle-is c.args.self.now plain act c.in_ok-units.units c.in_ok-units.sel.regions c.does_nothing.result stands made c.does_nothing.ensures in
     subst (λ b. IsStepped (if b then idle_step plain act effect else typed_step plain act effect) c.in_ok-idle.field-0) (sym (sym idle ∙ c.if-does_nothing.true))
     (c.in_ok-idle.ensures.stepped plain stands)
@@ -47,7 +43,7 @@ pub returns-then-does_nothing-clause-accepted : goal.returns-then-does_nothing-c
 returns-then-does_nothing-clause-accepted c = λ plain stands.
     let act = c.args.act.now in
     let made =
-    effect-made _ c.args.self.now c.first_config.result act c.in_ok-units.units c.in_ok-units.sel.regions c.self.view_is c.first_config.ensures c.in_ok-units.ensures in
+    effect-made _ c.args.self.now act c.in_ok-units.units c.in_ok-units.sel.regions c.self.view_is c.in_ok-units.ensures in
     let idle = idle-is c.args.self.now plain act c.in_ok-units.units c.in_ok-units.sel.regions c.does_nothing.result stands made c.does_nothing.ensures in
     ap (λ b. if b then None else asked_refusal plain (front_edit plain None (effect_on plain act).replacements)) (sym idle ∙ c.if-does_nothing.true)
 
@@ -56,7 +52,7 @@ returns-clause-stepped c = λ plain stands.
     let act = c.args.act.now in
     let effect = effect_on plain act in
     let made =
-    effect-made _ c.args.self.now c.first_config.result act c.in_ok-units.units c.in_ok-units.sel.regions c.self.view_is c.first_config.ensures c.in_ok-units.ensures in
+    effect-made _ c.args.self.now act c.in_ok-units.units c.in_ok-units.sel.regions c.self.view_is c.in_ok-units.ensures in
     let idle = idle-is c.args.self.now plain act c.in_ok-units.units c.in_ok-units.sel.regions c.does_nothing.result stands made c.does_nothing.ensures in
     subst (λ b. IfOk c.typed.result (IsStepped (if b then idle_step plain act effect else typed_step plain act effect))) (sym (sym idle ∙ c.if-does_nothing.false))
     (c.typed.ensures.stepped plain stands)
@@ -65,7 +61,7 @@ pub returns-clause-accepted : goal.returns-clause-accepted
 returns-clause-accepted c = λ plain stands.
     let act = c.args.act.now in
     let made =
-    effect-made _ c.args.self.now c.first_config.result act c.in_ok-units.units c.in_ok-units.sel.regions c.self.view_is c.first_config.ensures c.in_ok-units.ensures in
+    effect-made _ c.args.self.now act c.in_ok-units.units c.in_ok-units.sel.regions c.self.view_is c.in_ok-units.ensures in
     let idle = idle-is c.args.self.now plain act c.in_ok-units.units c.in_ok-units.sel.regions c.does_nothing.result stands made c.does_nothing.ensures in
     subst (λ b. OnOk c.typed.result ((if b then None else asked_refusal plain (front_edit plain None (effect_on plain act).replacements)) ≡ None))
     (sym (sym idle ∙ c.if-does_nothing.false)) (c.typed.ensures.accepted plain stands)
@@ -74,7 +70,7 @@ pub returns-clause-refused : goal.returns-clause-refused
 returns-clause-refused c = λ plain stands.
     let act = c.args.act.now in
     let made =
-    effect-made _ c.args.self.now c.first_config.result act c.in_ok-units.units c.in_ok-units.sel.regions c.self.view_is c.first_config.ensures c.in_ok-units.ensures in
+    effect-made _ c.args.self.now act c.in_ok-units.units c.in_ok-units.sel.regions c.self.view_is c.in_ok-units.ensures in
     let idle = idle-is c.args.self.now plain act c.in_ok-units.units c.in_ok-units.sel.regions c.does_nothing.result stands made c.does_nothing.ensures in
     subst (λ b. IfErr c.typed.result (DocRefuses (if b then None else asked_refusal plain (front_edit plain None (effect_on plain act).replacements))))
     (sym (sym idle ∙ c.if-does_nothing.false)) (c.typed.ensures.refused plain stands)

@@ -8,7 +8,7 @@ use Rattle.doc_session.specs.declared.typing.Typing.{Typing}
 use Rattle.doc_session.specs.Document.{pieces_of, text_of}
 use Rattle.doc_session.specs.InMemory.{Doc}
 use Rattle.doc_session.specs.Inner.{IsLeftOf, IsStepped}
-use Rattle.doc_session.specs.Step.{effect_on, first_config, scroll_if, selected_document, still_step}
+use Rattle.doc_session.specs.Step.{effect_on, scroll_if, selected_document, still_step}
 use Rattle.doc_session.specs.Typing.{kind_of, run_on}
 use Rattle.doc_session.proofs.GroupLemmas.{IsLeftOf-run}
 use Rattle.doc_session.specs.Stands.{AreRegionsOf}
@@ -29,6 +29,12 @@ with_view-requires-clause-typing c =
 pub with_view-requires-clause-text : goal.with_view-requires-clause-text
 with_view-requires-clause-text c = ap (λ (v : View). v.text) c.in_ok-view.ensures ∙ ap (λ (d : Doc). d.view.text) c.self.view_is
 
+pub told-requires : goal.told-requires
+told-requires c = record {
+  text =
+      ap (λ (d : Doc). d.view.text) c.in_ok-next.ensures ∙ ap (λ (v : View). v.text) c.in_ok-view.ensures ∙ ap (λ (d : Doc). d.view.text) c.self.view_is;
+}
+
 pub returns-clause-stepped : goal.returns-clause-stepped
 returns-clause-stepped c = λ plain stands.
     let now = c.args.self.now in
@@ -43,7 +49,7 @@ returns-clause-stepped c = λ plain stands.
     (c.in_ok-view.ensures ∙ ap (λ (d : Doc). record d.view { regions = c.args.sel.regions }) c.self.view_is)
     (c.run_on.ensures ∙ ap₂ run_on (ap (λ (d : Doc). d.typing) c.self.view_is) c.kind_of.ensures) in
     let are : AreRegionsOf (text_of plain) effect.regions = record {
-      some = effect-some first_config (text_of plain) (pieces_of plain) plain.regions stands.regions_are.some act;
+      some = effect-some plain.config (text_of plain) (pieces_of plain) plain.regions stands.regions_are.some act;
       sound = subst IsSelection regions_is c.requires.sound;
       inside =
           subst (AreWithin (length (text_of plain))) regions_is

@@ -13,6 +13,9 @@ with_view-requires-clause-typing c =
     subst (λ (d : Doc). IsLeftOf d.typing c.run_on.result) c.self.view_is
     (subst (IsLeftOf doc.typing) (sym c.run_on.ensures) (IsLeftOf-run doc.typing None))
 
+pub told-requires : goal.told-requires
+told-requires c = record { text = ap (λ (d : Doc). d.view.text) c.in_ok-next.ensures ∙ c.requires.text }
+
 pub returns-clause-stepped : goal.returns-clause-stepped
 returns-clause-stepped c = λ plain later stands untold.
     let now = c.args.self.now in

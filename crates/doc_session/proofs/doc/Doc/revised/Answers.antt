@@ -27,7 +27,6 @@ returns c =
       groups = left.stack;
       typing = left.typing;
       saved = c.self.inside.saved;
-      config = c.self.inside.config;
       sessions = s;
       view = c.in_ok-view.view;
     } in

@@ -1,9 +1,18 @@
 use Rattle.std.proofs.Common.{ap, sym, ◌∙◌, subst}
 use Rattle.doc_view.specs.declared.told.Pristine.{Pristine}
+use Rattle.doc_view.specs.Told.{IsTextLeft}
 use Rattle.doc_view.specs.View.{View}
+use Rattle.doc_session.specs.InMemory.{Doc}
 use Rattle.doc_session.specs.Whole.{IsWhole}
 use Rattle.doc_session.proofs.SettleLemmas.{text-settled}
 use Rattle.doc_session.proofs.doc.Doc.updated.Goals as goal
+
+pub settled-requires : goal.settled-requires
+settled-requires c = record {
+  text =
+      subst (λ (v : View). IsTextLeft c.args.text v c.next.inside.view) (sym (ap (λ (d : Doc). d.view) c.self.view_is))
+      (subst (IsTextLeft c.args.text c.args.self.now.view) (sym (ap (λ (d : Doc). d.view) c.next.view_is)) c.requires.text);
+}
 
 pub invariant_of-next : goal.invariant_of-next
 invariant_of-next c =

@@ -38,7 +38,6 @@ returns-clause-stands c = λ plain stands floor.
       groups = stack;
       typing = doc.typing;
       saved = doc.saved;
-      config = doc.config;
       sessions = s;
       view = v;
     } in

@@ -9,5 +9,5 @@ with_match-requires c =
     let now = c.args.self.now in
     let regions = c.deref.result.now.regions in
     subst (λ o. IfSome o (IsInside (length now.text)))
-    (sym (c.next_match-found.ensures ∙ ap (λ matches. next_match matches c.args.wrap_around regions) (c.as_slice.ensures ∙ c.in_ok-matches.ensures)))
+    (sym (c.next_match-found.ensures ∙ ap (λ matches. next_match matches c.args.wrap_around regions) c.matches.ensures))
     (next_match-inside now.text now.query c.args.wrap_around regions)

@@ -1,0 +1,178 @@
+-- What a layout reads of regions are their ends: those of one text with the same ends, results and pieces are the same.
+use Rattle.std.proofs.Common.{◌≡◌, ℕ, ◌+◌, ◌<◌, Bool, true, false, List, [], ◌∷◌, ◌++◌, length, map, Some, None, refl, ap, ap₂, sym, subst, ◌∙◌}
+use Rattle.std.specs.Prelude.{if◌then◌else◌, not, nat_lt, nat_le, ◌==◌, ◌&&◌, ◌||◌}
+use Rattle.std.specs.Bool.{beq}
+use Rattle.std.specs.List.{range_with_len}
+use Rattle.std.specs.Str.{bytes_eq}
+use Rattle.std.proofs.lemmas.Bool.{and_parts, eqb-true}
+use Rattle.std.proofs.lemmas.Slice.Eq.{bytes_eq-Decides}
+use Rattle.plain_text.specs.declared.run.Run.{Run}
+use Rattle.plain_text.specs.declared.selection.Region.{Region}
+use Rattle.plain_edits.specs.declared.style.Span.{Span}
+use Rattle.plain_edits.specs.Styles.{Layer}
+use Rattle.plain_screen.specs.declared.piece.Piece.{Piece}
+use Rattle.plain_screen.specs.declared.screen.Line.{Line}
+use Rattle.plain_screen.specs.SameLayout.{is_same_layout}
+use Rattle.plain_screen.proofs.callers.SameLemmas.{is_same_layout-Decides}
+use Rattle.xi_plain.specs.declared.config.Config.{Config}
+use Rattle.line_break.specs.Pieces.{wrapped_pieces}
+use Rattle.plain_view.specs.Viewed.{Viewed}
+use Rattle.find_core.specs.Matches.{matches_of}
+use Rattle.selection_core.specs.Mapped.{AreWithin}
+use Rattle.selection_core.specs.Selection.{IsSelection, greater_end, lesser_end}
+use Rattle.span_styles.specs.Spans.{spans_from}
+use Rattle.span_styles.specs.Triples.{triples_of}
+use Rattle.line_render.specs.Rendered.{carets_of, cursor_of, cut_spans, is_last_piece, is_selected, own_gaps, rendered, selected_layer, text_of_piece}
+use Rattle.edit_ops.specs.Regions.{without_goal}
+use Rattle.doc_layout.specs.Found.{found_spans}
+use Rattle.doc_layout.specs.Layout.{layout}
+use Rattle.doc_view.specs.declared.search.Search.{Search}
+use Rattle.doc_view.specs.Inner.{IsViewKept}
+use Rattle.doc_view.specs.Search.{is_for_nothing, results}
+use Rattle.doc_view.specs.Told.{are_same_ends, is_laid_out_alike, is_same_search}
+use Rattle.doc_view.specs.View.{View, layout_in, pieces_in}
+use Rattle.doc_view.proofs.MovedLemmas.{AreWithin-plain, IsSelection-plain}
+use Rattle.doc_view.proofs.SearchLemmas.{results-none}
+
+-- ---- regions without their goals
+
+carets_of-plain : (regions : List Region) → carets_of (map without_goal regions) ≡ carets_of regions
+carets_of-plain [] = refl
+carets_of-plain (region ∷ regions) = ap (λ carets. region.caret ∷ carets) (carets_of-plain regions)
+
+is_selected-plain : (regions : List Region) (index : ℕ) → is_selected (map without_goal regions) index ≡ is_selected regions index
+is_selected-plain [] index = refl
+is_selected-plain (region ∷ regions) index =
+    ap (λ b. (nat_le (lesser_end region) index && nat_lt index (greater_end region)) || b) (is_selected-plain regions index)
+
+map-same : {X Y : Type 0} (f g : X → Y) → ((x : X) → f x ≡ g x) → (xs : List X) → map f xs ≡ map g xs
+map-same f g same [] = refl
+map-same f g same (x ∷ xs) = ap₂ (λ y ys. y ∷ ys) (same x) (map-same f g same xs)
+
+selected_layer-plain : (regions : List Region) (start len : ℕ) → selected_layer (map without_goal regions) start len ≡ selected_layer regions start len
+selected_layer-plain regions start len =
+    map-same (λ gap. if is_selected (map without_goal regions) (start + gap) then Some 0 else None)
+    (λ gap. if is_selected regions (start + gap) then Some 0 else None)
+    (λ gap. ap (λ b. if b then Some 0 else None) (is_selected-plain regions (start + gap))) (range_with_len 0 len)
+
+-- the line of a piece, by its carets and its selected characters
+abbrev line_by : List ℕ → Piece → List Span → List ℕ → Layer → Line
+line_by text piece spans carets layer =
+    record {
+      text = text_of_piece text piece;
+      ln = piece.ln;
+      cursor =
+          cursor_of carets piece.start (own_gaps (is_last_piece text piece) (length (text_of_piece text piece))) (text_of_piece text piece);
+      styles = triples_of (text_of_piece text piece) (spans_from 0 layer ++ cut_spans piece.start piece.end spans);
+    }
+
+rendered-plain : (text : List ℕ) (regions : List Region) (spans : List Span) (piece : Piece) →
+    rendered text piece (map without_goal regions) spans ≡ rendered text piece regions spans
+rendered-plain text regions spans piece =
+    ap₂ (line_by text piece spans) (carets_of-plain regions) (selected_layer-plain regions piece.start (length (text_of_piece text piece)))
+
+pub layout-plain : (text : List ℕ) (pieces : List Piece) (regions : List Region) (found : List Run) →
+    layout text pieces (map without_goal regions) found ≡ layout text pieces regions found
+layout-plain text pieces regions found =
+    let spans = found_spans found (length text) in
+    map-same (λ piece. rendered text piece (map without_goal regions) spans) (λ piece. rendered text piece regions spans)
+    (rendered-plain text regions spans) pieces
+
+-- ---- regions with the same ends
+
+ends-plain : (regions others : List Region) → are_same_ends regions others ≡ true → map without_goal regions ≡ map without_goal others
+ends-plain [] [] same = refl
+ends-plain [] (other ∷ others) same = absurd cc
+ends-plain (region ∷ regions) [] same = absurd cc
+ends-plain (region ∷ regions) (other ∷ others) same =
+    let parts = and_parts (region.anchor == other.anchor && region.caret == other.caret) (are_same_ends regions others) same in
+    let ends = and_parts (region.anchor == other.anchor) (region.caret == other.caret) parts.0 in
+    ap₂ (λ r rs. r ∷ rs) (ap₂ bare (eqb-true region.anchor other.anchor ends.0) (eqb-true region.caret other.caret ends.1)) (ends-plain regions others parts.1)
+  where
+    bare : ℕ → ℕ → Region
+    bare anchor caret = record { anchor = anchor; caret = caret; goal = None }
+
+pub layout-same : (text : List ℕ) (pieces : List Piece) (regions others : List Region) (found : List Run) → are_same_ends regions others ≡ true →
+    layout text pieces regions found ≡ layout text pieces others found
+layout-same text pieces regions others found same =
+    sym (layout-plain text pieces regions found) ∙ ap (λ rs. layout text pieces rs found) (ends-plain regions others same) ∙
+    layout-plain text pieces others found
+
+-- ---- searches that are the same
+
+pub results-same : (text : List ℕ) (query other : Search) → is_same_search query other ≡ true → results text query ≡ results text other
+results-same text query other same =
+    let parts = and_parts (bytes_eq query.chars other.chars) (is_for_nothing query || beq query.case_counts other.case_counts) same in
+    let chars = (bytes_eq-Decides query.chars other.chars).0 parts.0 in
+    by (is_for_nothing query) refl chars query.case_counts other.case_counts parts.1
+  where
+    by : (b : Bool) → is_for_nothing query ≡ b → query.chars ≡ other.chars → (count counts : Bool) → (b || beq count counts) ≡ true →
+        matches_of text query.chars (not count) ≡ matches_of text other.chars (not counts)
+    by true none chars count counts either =
+        results-none text (record { chars = query.chars; case_counts = count }) none ∙
+        sym (results-none text (record { chars = other.chars; case_counts = counts }) (ap (λ cs. length cs == 0) (sym chars) ∙ none))
+    by false some chars true true either = ap (λ cs. matches_of text cs false) chars
+    by false some chars false false either = ap (λ cs. matches_of text cs true) chars
+    by false some chars true false either = absurd cc
+    by false some chars false true either = absurd cc
+
+-- ---- one text that is laid out alike
+
+pub is_same_layout-alike : (before after : View) → after.text ≡ before.text → is_laid_out_alike before after ≡ true →
+    is_same_layout (layout_in before) (layout_in after) ≡ true
+is_same_layout-alike before after text alike =
+    let tabs = and_parts (before.config.tab == after.config.tab) _ alike in
+    let widths = and_parts (before.config.width == after.config.width) _ tabs.1 in
+    let rest = and_parts (is_same_search before.query after.query) (are_same_ends before.regions after.regions) widths.1 in
+    let pieces =
+    ap₂ (λ width tab. wrapped_pieces width tab before.text) (eqb-true before.config.width after.config.width widths.0)
+    (eqb-true before.config.tab after.config.tab tabs.0) in
+    (is_same_layout-Decides (layout_in before) (layout_in after)).1
+    (layout-same before.text (pieces_in before) before.regions after.regions (results before.text before.query) rest.1 ∙
+    ap₂ (λ cut found. layout before.text cut after.regions found) pieces (results-same before.text before.query after.query rest.0) ∙
+    ap (λ t. layout t (wrapped_pieces after.config.width after.config.tab t) after.regions (results t after.query)) (sym text))
+
+-- ---- what a view keeps
+
+module _ (config : Config) (viewed : Viewed) (regions : List Region) (query : Search) (found : List Run) (lines : List Line)
+    (is : IsViewKept config viewed regions query found lines) where
+  pub IsViewKept-same : (others : List Region) → IsSelection others → AreWithin (length viewed.text) others → are_same_ends regions others ≡ true →
+      IsViewKept config viewed others query found lines
+  IsViewKept-same others sound inside same = record {
+    text = is.text;
+    found_are = is.found_are;
+    sound = sound;
+    inside = inside;
+    lines_are = is.lines_are ∙ layout-same viewed.text viewed.pieces regions others found same;
+  }
+
+  pub IsViewKept-plain : IsViewKept config viewed (map without_goal regions) query found lines
+  IsViewKept-plain = record {
+    text = is.text;
+    found_are = is.found_are;
+    sound = IsSelection-plain regions is.sound;
+    inside = AreWithin-plain (length viewed.text) regions is.inside;
+    lines_are = is.lines_are ∙ sym (layout-plain viewed.text viewed.pieces regions found);
+  }
+
+  pub IsViewKept-search : (other : Search) → results viewed.text other ≡ results viewed.text query → IsViewKept config viewed regions other found lines
+  IsViewKept-search other same = record {
+    text = is.text;
+    found_are = is.found_are ∙ sym same;
+    sound = is.sound;
+    inside = is.inside;
+    lines_are = is.lines_are;
+  }
+
+  pub IsViewKept-config : (other : Config) → other.tab ≡ config.tab → other.width ≡ config.width → IsViewKept other viewed regions query found lines
+  IsViewKept-config other tab width = record {
+    text = record {
+      characters = is.text.characters;
+      tab = subst (λ n. 0 < n) (sym tab) is.text.tab;
+      pieces = is.text.pieces ∙ ap₂ (λ w t. wrapped_pieces w t viewed.text) (sym width) (sym tab);
+    };
+    found_are = is.found_are;
+    sound = is.sound;
+    inside = is.inside;
+    lines_are = is.lines_are;
+  }

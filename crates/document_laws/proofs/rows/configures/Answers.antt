@@ -1,0 +1,8 @@
+use Rattle.std.proofs.Common.{refl}
+use Rattle.unicode_segmentation.proofs.Computing.{unicode_segmentation}
+use Rattle.unicode_width.proofs.Computing.{unicode_width}
+use Rattle.document_laws.proofs.rows.configures.Goals as goal
+
+pub returns : goal.returns
+unfolding unicode_segmentation unicode_width
+returns c = record { pieces = refl; places = refl; still = refl; ended = refl; head = refl; tabs = refl }
