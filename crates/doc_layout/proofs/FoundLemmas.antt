@@ -1,8 +1,7 @@
 -- What a search found, as spans: results that touch are one run, and these runs are all that is found.
-use Rattle.std.proofs.Common.{◌≡◌, ◌≢◌, ℕ, zero, suc, Bool, true, false, ◌+◌, ◌-◌, ◌<◌, ◌≤◌, List, [], ◌∷◌, length, get_or, drop, Option, Some, None, refl, ap, sym, ◌∙◌, arith}
+use Rattle.std.proofs.Common.{◌≡◌, ℕ, zero, suc, Bool, true, false, ◌+◌, ◌-◌, ◌<◌, ◌≤◌, List, [], ◌∷◌, length, get_or, Option, Some, None, refl, ap, sym, ◌∙◌, arith}
 use Rattle.std.specs.Prelude.{◌&&◌, ◌||◌, ◌==◌, if◌then◌else◌}
 use Rattle.std.specs.List.Sorted.{IsNonDecreasingBy}
-use Rattle.std.proofs.lemmas.Bool.{eq-eqb, ne_eqb}
 use Rattle.plain_text.specs.declared.run.Run.{Run}
 use Rattle.plain_edits.specs.declared.style.Span.{Span}
 use Rattle.plain_screen.specs.Plan.{is_within}
@@ -12,58 +11,7 @@ use Rattle.doc_layout.specs.Found.{is_found, found_spans, RiseApart}
 use Rattle.doc_layout.specs.Inner.{joined_spans}
 use Rattle.doc_layout.proofs.AskedLemmas.{in-run, before-run, past-run}
 
--- ---- one result before another
-
-module _ (before run : Run) where
-  first : (joins : Bool) (end : ℕ) (spans : List Span) → (run.start == before.end) ≡ joins →
-      onto_run 1 before (record { start = run.start; end = end; style = 1 } ∷ spans) ≡
-      (if joins then record { start = before.start; end = end; style = 1 } ∷ spans else styled_span 1 before ∷ record { start = run.start; end = end; style = 1 } ∷ spans)
-  first joins end spans is =
-      ap (λ b. if b && true then record { start = before.start; end = end; style = 1 } ∷ spans
-      else styled_span 1 before ∷ record { start = run.start; end = end; style = 1 } ∷ spans) is ∙ same joins
-    where
-      same : (b : Bool) → (if b && true then record { start = before.start; end = end; style = 1 } ∷ spans
-          else styled_span 1 before ∷ record { start = run.start; end = end; style = 1 } ∷ spans) ≡
-          (if b then record { start = before.start; end = end; style = 1 } ∷ spans else styled_span 1 before ∷ record { start = run.start; end = end; style = 1 } ∷ spans)
-      same true = refl
-      same false = refl
-
-  -- where the second begins at the end of the first, they are one run
-  pub onto_run-touching : (spans : List Span) → before.end ≡ run.start →
-      onto_run 1 before (onto_run 1 run spans) ≡ onto_run 1 (record { start = before.start; end = run.end }) spans
-  onto_run-touching [] touch = first true run.end [] (eq-eqb run.start before.end (sym touch))
-  onto_run-touching (next ∷ spans) touch = by (next.start == run.end && next.style == 1)
-    where
-      by : (b : Bool) →
-          onto_run 1 before (if b then record { start = run.start; end = next.end; style = 1 } ∷ spans else styled_span 1 run ∷ next ∷ spans) ≡
-          (if b then record { start = before.start; end = next.end; style = 1 } ∷ spans
-          else record { start = before.start; end = run.end; style = 1 } ∷ next ∷ spans)
-      by true = first true next.end spans (eq-eqb run.start before.end (sym touch))
-      by false = first true run.end (next ∷ spans) (eq-eqb run.start before.end (sym touch))
-
-  -- where it does not, the first is a run of its own
-  pub onto_run-apart : (spans : List Span) → before.end ≢ run.start → onto_run 1 before (onto_run 1 run spans) ≡ styled_span 1 before ∷ onto_run 1 run spans
-  onto_run-apart [] apart = first false run.end [] (ne_eqb run.start before.end (λ same. apart (sym same)))
-  onto_run-apart (next ∷ spans) apart = by (next.start == run.end && next.style == 1)
-    where
-      by : (b : Bool) →
-          onto_run 1 before (if b then record { start = run.start; end = next.end; style = 1 } ∷ spans else styled_span 1 run ∷ next ∷ spans) ≡
-          styled_span 1 before ∷ (if b then record { start = run.start; end = next.end; style = 1 } ∷ spans else styled_span 1 run ∷ next ∷ spans)
-      by true = first false next.end spans (ne_eqb run.start before.end (λ same. apart (sym same)))
-      by false = first false run.end (next ∷ spans) (ne_eqb run.start before.end (λ same. apart (sym same)))
-
--- the results from an index on
-pub joined_spans-step : (index : ℕ) (results : List Run) (d : Run) → index < length results →
-    joined_spans (drop index results) ≡ onto_run 1 (get_or results index d) (joined_spans (drop (index + 1) results))
-joined_spans-step index results d inside =
-    from_suc index results inside ∙ ap (λ n. onto_run 1 (get_or results index d) (joined_spans (drop n results))) (let next : suc index ≡ index + 1 = omega arith in next)
-  where
-    from_suc : (i : ℕ) (runs : List Run) → i < length runs → joined_spans (drop i runs) ≡ onto_run 1 (get_or runs i d) (joined_spans (drop (suc i) runs))
-    from_suc i [] inside = absurd (omega arith)
-    from_suc zero (run ∷ runs) inside = refl
-    from_suc (suc i) (run ∷ runs) inside = from_suc i runs (omega arith)
-
--- ---- they are what is found
+-- ---- the runs of what is found
 
 abbrev style_in : List Run → ℕ → Option ℕ
 style_in results index = if is_found results index then Some 1 else None
