@@ -1,4 +1,5 @@
 mod OpenLemmas
 mod Refusals
 mod Sets
+mod Since
 mod TakenLemmas

@@ -1,5 +1,5 @@
 -- What bodies are compared by, beside the plain history.
-use Rattle.std.specs.Prelude.{◌≡◌, ℕ, ◌-◌, ◌≤◌, Bool, ◌+◌, ◌==◌, not, List, [], ◌∷◌, ◌++◌, length, map, take, Option, Some, None}
+use Rattle.std.specs.Prelude.{◌≡◌, ℕ, ◌≤◌, Bool, ◌+◌, ◌==◌, not, List, [], ◌∷◌, ◌++◌, length, map, take, Option, Some, None}
 use Rattle.std.specs.List.{filter, fold, range_with_len}
 use Rattle.plain_text.specs.Numbers.{has, with_number}
 use Rattle.plain_edits.specs.declared.delta.UnitDelta.{UnitDelta}
@@ -16,7 +16,7 @@ use Rattle.rev_rebase.specs.declared.stale.Rebased.{Rebased}
 use Rattle.rev_engine.specs.declared.edit.Edit.{Edit}
 use Rattle.rev_engine.specs.Asked.{IsFrozenAt, MayAskUndo}
 use Rattle.rev_engine.specs.State.{State}
-use Rattle.rev_engine.specs.Engine.{StandsFor}
+use Rattle.rev_engine.specs.Engine.{IsSince, StandsFor}
 use Rattle.history_cases.specs.declared.step.UndoRefusal.{UndoRefusal}
 use Rattle.history_cases.specs.declared.step.UndoRefusal.TheVariants.{NoEdit, Frozen}
 use Rattle.history_cases.specs.declared.by_rev_list.Marks.{Marks}
@@ -90,14 +90,28 @@ AgreesOnGroup plain history rev = has history.collected (group_of plain.revision
 abbrev pub AgreeOnGroups : History → History → Type 0
 AgreeOnGroups plain history = (rev : ℕ) → rev ≤ head plain → AgreesOnGroup plain history rev
 
--- the history has the floor, the revisions and the collected groups of the plain one, shows the same at each revision from the floor on, and
--- keeps as many characters
+-- the edit that drops, keeps and adds what the delta does
+abbrev pub edit_by : UnitDelta → PlainEdit
+edit_by units = record { base = 0; kept = unit_keeps units; added = unit_adds units; group = 0; priority = 0; author = 0 }
+
+-- the delta leads from the text that the plain history shows at a revision to its head text
+pub record LeadsToHead (plain : History) (rev : ℕ) (units : UnitDelta) : Type 0 where
+  pub base : units.base ≡ length (text_at plain rev)
+  pub leads : merged (text_at plain rev) (edit_by units ∷ []) ≡ text_at plain (head plain)
+
+-- the history shows at a revision what the plain one does, and its edit since then leads from this to the head text of the plain one
+pub record ShowsAt (plain history : History) (rev : ℕ) : Type 0 where
+  pub text : text_at history rev ≡ text_at plain rev
+  pub since : (units : UnitDelta) → IsSince history rev units → LeadsToHead plain rev units
+
+-- the history has the floor, the revisions and the collected groups of the plain one, shows the same at each revision from the floor on, with
+-- the edit since then, and keeps as many characters
 pub record Matches (plain history : History) : Type 0 where
   pub first : history.floor ≡ plain.floor
   pub last : head history ≡ head plain
   pub groups : AgreeOnGroups plain history
   pub as_many : kept history ≡ kept plain
-  pub texts : (rev : ℕ) → plain.floor ≤ rev → rev ≤ head plain → text_at history rev ≡ text_at plain rev
+  pub texts : (rev : ℕ) → plain.floor ≤ rev → rev ≤ head plain → ShowsAt plain history rev
 
 -- the engine answers an edit as the plain history did: it takes it and then is as that is, or stays as it was and refuses it for the same
 -- cause
@@ -109,12 +123,3 @@ Answers old new plain e (Some fault) = (new ≡ old) × EachIs old (λ history. 
 abbrev pub RefusesUndo : State → List ℕ → UndoRefusal → Type 0
 RefusesUndo engine groups NoEdit = EachIs engine (λ history. MayAskUndo history groups → ⊥)
 RefusesUndo engine groups (Frozen group) = EachIs engine (λ history. IsFrozenAt history groups group)
-
--- the edit that drops, keeps and adds what the delta does
-abbrev pub edit_by : UnitDelta → PlainEdit
-edit_by units = record { base = 0; kept = unit_keeps units; added = unit_adds units; group = 0; priority = 0; author = 0 }
-
--- the delta leads from the text before the last revision of the plain history to that after it
-pub record IsLastChange (plain : History) (units : UnitDelta) : Type 0 where
-  pub base : units.base ≡ length (text_at plain (head plain - 1))
-  pub leads : merged (text_at plain (head plain - 1)) (edit_by units ∷ []) ≡ text_at plain (head plain)

@@ -3,10 +3,10 @@
 ghost use Rattle.std.specs.Prelude.{◌≡◌, ◌≤◌, [], true, IfOk, IfSome, OnOk};
 ghost use Rattle.std.specs.List.{fold};
 ghost use Rattle.plain_text.specs.Numbers.{has, with_number};
-ghost use Rattle.plain_edits.specs.History.{loaded, text_at};
+ghost use Rattle.plain_edits.specs.History.{loaded};
 ghost use Rattle.rev_engine.specs.Engine.{StandsFor};
 ghost use Rattle.history_cases.specs.declared.step.UndoRefusal.TheVariants.{NoEdit, Frozen};
-ghost use Rattle.history_cases.specs.Inner.{AgreeOnGroups, AgreesOnGroup, Answers, EachIs, IsLastChange, Matches, RefusesUndo};
+ghost use Rattle.history_cases.specs.Inner.{AgreeOnGroups, AgreesOnGroup, Answers, EachIs, LeadsToHead, Matches, RefusesUndo, ShowsAt};
 
 use crate::by_rev_list::set_of;
 use crate::case_run::MOST;
@@ -169,7 +169,7 @@ fn compare(
         rev == plain.head(),
         "the engine gives the change to revision {rev}"
     );
-    compare_change(alloc, plain, units)?;
+    compare_change(alloc, plain, rev.saturating_sub(1), units)?;
     compare_state(alloc, plain, engine)
 }
 
@@ -212,24 +212,30 @@ fn compare_group(plain: &PlainHistory, engine: &Engine, rev: u64) -> anyhow::Res
     Ok(())
 }
 
-/// Whether the engine shows the text of the plain history at the revision.
+/// Whether the engine shows the text of the plain history at the revision, and tells an edit since then that leads to the head text.
 fn compare_at(alloc: Global, plain: &PlainHistory, engine: &Engine, rev: u64) -> anyhow::Result<()>
-    ensures { OnOk result (EachIs engine.now (λ history. text_at history rev ≡ text_at plain.now rev)) }
+    ensures { OnOk result (EachIs engine.now (λ history. ShowsAt plain.now history rev)) }
 {
     let is = engine.text_at(alloc, rev)?;
     let shown = plain.text_at(alloc, rev)?;
     if is.as_str() != shown.as_str() {
         bail!("the engine shows {is:?} at revision {rev}");
     }
+    let units = engine.since(alloc, rev)?;
+    compare_change(alloc, plain, rev, units)?;
     Ok(())
 }
 
-/// Whether the delta leads from the text before the last revision to that after it.
-fn compare_change(alloc: Global, plain: &PlainHistory, units: UnitDelta) -> anyhow::Result<()>
-    ensures { OnOk result (IsLastChange plain.now units) }
+/// Whether the delta leads from the text of the revision to the head text.
+fn compare_change(
+    alloc: Global,
+    plain: &PlainHistory,
+    rev: u64,
+    units: UnitDelta,
+) -> anyhow::Result<()>
+    ensures { OnOk result (LeadsToHead plain.now rev units) }
 {
-    let rev = plain.head();
-    let before = plain.text_at(alloc, rev.saturating_sub(1))?;
+    let before = plain.text_at(alloc, rev)?;
     let UnitDelta { base, kept, added } = units;
     let edit = UnitEdit {
         base: 0,
@@ -240,9 +246,9 @@ fn compare_change(alloc: Global, plain: &PlainHistory, units: UnitDelta) -> anyh
         author: 0,
     };
     let is = merged(alloc, &before, &[edit])?;
-    let shown = plain.text_at(alloc, rev)?;
+    let shown = plain.text_at(alloc, plain.head())?;
     if base != before.char_count() || is.as_str() != shown.as_str() {
-        bail!("the change of the engine leads to {is:?}");
+        bail!("the edit of the engine since revision {rev} leads to {is:?}");
     }
     Ok(())
 }
