@@ -251,7 +251,7 @@ fn names(alloc: Global, line: &str, part: &str, new: &str, member: &str) -> bool
 }
 
 #[test]
-fn the_first_wrong_member_of_an_edit_is_named(rt: HostRuntime) {
+fn the_view_or_the_revision_of_an_edit_is_named(rt: HostRuntime) {
     let alloc = rt.alloc();
     assert!(rt; names(alloc, EDIT, "\"v\"", "7", "view_id"));
     assert!(rt;
@@ -263,11 +263,21 @@ fn the_first_wrong_member_of_an_edit_is_named(rt: HostRuntime) {
             "rev"
         )
     );
+}
+
+#[test]
+fn the_delta_of_an_edit_is_named(rt: HostRuntime) {
+    let alloc = rt.alloc();
     assert!(rt; names(alloc, EDIT, "base_len\":9", "base_len\":-9", "delta"));
     assert!(rt; names(alloc, EDIT, "\"els\":[", "\"els\":null,\"e\":[", "delta"));
     assert!(rt; names(alloc, EDIT, "[3,3]", "[3,3,3]", "delta"));
     assert!(rt; names(alloc, EDIT, "[3,3]", "[3,3],\"insert\":null", "delta"));
     assert!(rt; names(alloc, EDIT, "{\"copy\":[3,3]}", "{}", "delta"));
+}
+
+#[test]
+fn the_first_wrong_member_of_an_edit_is_named(rt: HostRuntime) {
+    let alloc = rt.alloc();
     assert!(rt; names(alloc, EDIT, "4294967295", "4294967296", "priority"));
     assert!(rt; names(alloc, EDIT, "true", "null", "after_cursor"));
     assert!(rt; names(alloc, EDIT, "author", "by", "author"));
@@ -284,7 +294,7 @@ fn the_first_wrong_member_of_an_edit_is_named(rt: HostRuntime) {
 }
 
 #[test]
-fn the_first_wrong_member_of_another_line_is_named(rt: HostRuntime) {
+fn the_first_wrong_member_of_get_data_is_named(rt: HostRuntime) {
     let alloc = rt.alloc();
     assert!(rt; names(alloc, GET_DATA, "5807", "5808", "rev"));
     assert!(rt;
@@ -297,9 +307,19 @@ fn the_first_wrong_member_of_another_line_is_named(rt: HostRuntime) {
         )
     );
     assert!(rt; names(alloc, GET_DATA, "\"start\":3", "\"max_size\":-1", "start"));
+}
+
+#[test]
+fn the_range_of_spans_is_named(rt: HostRuntime) {
+    let alloc = rt.alloc();
     assert!(rt; names(alloc, UPDATE_SPANS, "\"start\":7", "\"start\":7.0", "start"));
     assert!(rt; names(alloc, UPDATE_SPANS, "\"len\":5", "\"len\":\"5\"", "len"));
     assert!(rt; names(alloc, UPDATE_SPANS, "\"len\":5", "\"len\":4", "spans"));
+}
+
+#[test]
+fn a_wrong_span_is_named(rt: HostRuntime) {
+    let alloc = rt.alloc();
     assert!(rt;
         names(
             alloc,
@@ -312,6 +332,11 @@ fn the_first_wrong_member_of_another_line_is_named(rt: HostRuntime) {
     assert!(rt; names(alloc, UPDATE_SPANS, "1000", "1001", "spans"));
     assert!(rt; names(alloc, UPDATE_SPANS, "4294967295", "4294967296", "spans"));
     assert!(rt; names(alloc, UPDATE_SPANS, "false", "0", "spans"));
+}
+
+#[test]
+fn the_first_wrong_member_of_another_line_is_named(rt: HostRuntime) {
+    let alloc = rt.alloc();
     assert!(rt;
         names(
             alloc,
