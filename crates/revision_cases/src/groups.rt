@@ -16,7 +16,7 @@ fn copies(alloc: Global, stack: &mut Stack) -> bool {
 }
 
 // Whether so many groups are opened, one after the other.
-fn opens(stack: &mut Stack, count: u64) -> bool {
+pub(crate) fn opens(stack: &mut Stack, count: u64) -> bool {
     for _ in 0..count {
         if stack.given() >= 1000 || stack.open_group().is_err() {
             return false;

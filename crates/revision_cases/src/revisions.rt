@@ -1,127 +1,56 @@
 //! The list of revisions.
 
-use rev_list::{RevEdit, RevFault, RevList, RevStep};
+use crate::made::{fails, holds};
+use crate::undos::{has_runs, push, pushed, shows};
+use rev_list::{RevFault, RevList, RevStep};
 use std::alloc::{AllocError, Global};
-use subset_runs::{Subset, SubsetFault};
 
 type Ranges<'a> = &'a [(u64, u64)];
 
-// Pushes the edit that inserts and deletes the positions in the ranges, of `len` positions after it; none where it may not come.
-fn push(
-    alloc: Global,
-    revs: &mut RevList,
-    base: u64,
-    len: u64,
-    inserted: Ranges<'_>,
-    deleted: Ranges<'_>,
-) -> Result<Option<u64>, SubsetFault> {
-    let inserted = Subset::of_ranges(alloc, len, inserted)?;
-    let deleted = Subset::of_ranges(alloc, len, deleted)?;
-    if revs.union_len().checked_add(inserted.count()) != Some(inserted.len())
-        || deleted.len() != inserted.len()
-    {
-        return Ok(None);
-    }
-    if base < revs.floor() || revs.head() < base || revs.head() > 1000 || revs.is_collected(1) {
-        return Ok(None);
-    }
-    let edit = RevEdit {
-        base,
-        priority: 7,
-        group: 1,
-        author: 0,
-        inserted,
-        deleted,
-    };
-    match revs.push_edit(alloc, edit) {
-        Ok(rev) => Ok(Some(rev)),
-        Err(_) => Err(SubsetFault::NoMemory),
-    }
-}
-
-// Whether these are the runs of what is dead at the revision.
-fn are_dead(alloc: Global, revs: &RevList, rev: u64, runs: Ranges<'_>) -> bool {
-    match revs.dead_at(alloc, rev) {
-        Ok(dead) => dead.runs() == runs,
-        Err(_) => false,
-    }
-}
-
 // Whether these are the runs of what was dead then in the union of that time.
 fn were_dead(alloc: Global, revs: &RevList, rev: u64, runs: Ranges<'_>) -> bool {
-    match revs.dead_then(alloc, rev) {
-        Ok(dead) => dead.runs() == runs,
-        Err(_) => false,
-    }
+    has_runs(revs.dead_then(alloc, rev), runs)
 }
 
 // Whether the one edit of two characters is there, and each revision has its dead.
 fn is_the_row(alloc: Global, revs: &mut RevList) -> bool {
-    match push(alloc, revs, 0, 3, &[(1, 2)], &[(2, 3)]) {
-        Ok(rev) => {
-            rev == Some(1)
-                && are_dead(alloc, revs, 0, &[(1, 2)])
-                && are_dead(alloc, revs, 1, &[(2, 3)])
-        }
-        Err(_) => false,
-    }
-}
-
-fn has_the_row(alloc: Global) -> bool {
-    match RevList::start(alloc, 2) {
-        Ok(mut revs) => is_the_row(alloc, &mut revs),
-        Err(_) => false,
-    }
+    pushed(alloc, revs, 0, 1, 3, &[(1, 2)], &[(2, 3)]) == Some(1)
+        && shows(alloc, revs, 0, &[(1, 2)])
+        && shows(alloc, revs, 1, &[(2, 3)])
 }
 
 #[test]
 fn row_of_rev_list(rt: HostRuntime) {
-    assert!(rt; has_the_row(rt.alloc()));
-}
-
-// Whether the edit came.
-fn came(made: Result<Option<u64>, SubsetFault>) -> bool {
-    match made {
-        Ok(rev) => rev.is_some(),
-        Err(_) => false,
-    }
+    let alloc = rt.alloc();
+    assert!(rt; holds(alloc, RevList::start(alloc, 2), is_the_row));
 }
 
 // Three edits of a text of three characters, of which the last only deletes.
 fn three_edits(alloc: Global, revs: &mut RevList) -> bool {
-    came(push(alloc, revs, 0, 4, &[(1, 2)], &[(3, 4)]))
-        && came(push(alloc, revs, 1, 6, &[(0, 1), (5, 6)], &[(1, 2)]))
-        && came(push(alloc, revs, 0, 6, &[], &[(1, 3)]))
+    push(alloc, revs, 0, 1, 4, &[(1, 2)], &[(3, 4)])
+        && push(alloc, revs, 1, 1, 6, &[(0, 1), (5, 6)], &[(1, 2)])
+        && push(alloc, revs, 0, 1, 6, &[], &[(1, 3)])
 }
 
 // Whether a copy of the list has these dead at each revision, and then.
-fn has_its_dead(alloc: Global, copy: &RevList) -> bool {
-    are_dead(alloc, copy, 0, &[(0, 1), (2, 3), (5, 6)])
-        && are_dead(alloc, copy, 1, &[(0, 1), (4, 6)])
-        && are_dead(alloc, copy, 2, &[(1, 2), (4, 5)])
-        && are_dead(alloc, copy, 3, &[(1, 3), (4, 5)])
+fn has_its_dead(alloc: Global, copy: &mut RevList) -> bool {
+    shows(alloc, copy, 0, &[(0, 1), (2, 3), (5, 6)])
+        && shows(alloc, copy, 1, &[(0, 1), (4, 6)])
+        && shows(alloc, copy, 2, &[(1, 2), (4, 5)])
+        && shows(alloc, copy, 3, &[(1, 3), (4, 5)])
         && were_dead(alloc, copy, 0, &[])
         && were_dead(alloc, copy, 1, &[(3, 4)])
-        && copy.dead_at(alloc, 4).err() == Some(RevFault::Unknown(3))
+        && fails(copy.dead_at(alloc, 4), RevFault::Unknown(3))
 }
 
-fn copy_has_its_dead(alloc: Global, revs: &RevList) -> bool {
-    match revs.copy(alloc) {
-        Ok(copy) => has_its_dead(alloc, &copy),
-        Err(_) => false,
-    }
-}
-
-fn each_has_its_dead(alloc: Global) -> bool {
-    match RevList::start(alloc, 3) {
-        Ok(mut revs) => three_edits(alloc, &mut revs) && copy_has_its_dead(alloc, &revs),
-        Err(_) => false,
-    }
+fn each_has_its_dead(alloc: Global, revs: &mut RevList) -> bool {
+    three_edits(alloc, revs) && holds(alloc, revs.copy(alloc), has_its_dead)
 }
 
 #[test]
 fn each_revision_has_its_dead(rt: HostRuntime) {
-    assert!(rt; each_has_its_dead(rt.alloc()));
+    let alloc = rt.alloc();
+    assert!(rt; holds(alloc, RevList::start(alloc, 3), each_has_its_dead));
 }
 
 // The bases of the edits after a revision.
@@ -153,23 +82,18 @@ fn has_base(revs: &RevList, rev: u64, base: u64) -> bool {
     }
 }
 
-fn come_in_order(alloc: Global, revs: &RevList) -> bool {
-    are_bases(alloc, revs, 0, &[0, 1, 0])
+fn come_in_order(alloc: Global, revs: &mut RevList) -> bool {
+    three_edits(alloc, revs)
+        && are_bases(alloc, revs, 0, &[0, 1, 0])
         && are_bases(alloc, revs, 1, &[1, 0])
         && are_bases(alloc, revs, 3, &[])
         && has_base(revs, 2, 1)
 }
 
-fn edits_come_in_order(alloc: Global) -> bool {
-    match RevList::start(alloc, 3) {
-        Ok(mut revs) => three_edits(alloc, &mut revs) && come_in_order(alloc, &revs),
-        Err(_) => false,
-    }
-}
-
 #[test]
 fn revisions_after_a_revision_come_in_order(rt: HostRuntime) {
-    assert!(rt; edits_come_in_order(rt.alloc()));
+    let alloc = rt.alloc();
+    assert!(rt; holds(alloc, RevList::start(alloc, 3), come_in_order));
 }
 
 // Whether the fault is printed so.

@@ -1,11 +1,8 @@
 //! Copies of stacks of undo groups.
 
+use crate::groups::opens;
 use std::alloc::Global;
 use undo_groups::Stack;
-
-fn opens(stack: &mut Stack) -> bool {
-    stack.given() < 1000 && stack.open_group().is_ok()
-}
 
 // Whether an undo takes this group.
 fn undoes(stack: &mut Stack, group: u64) -> bool {
@@ -29,12 +26,12 @@ fn forgets(stack: &mut Stack, group: u64) -> bool {
 
 // Whether three groups are opened, and the last one is undone.
 fn begins(stack: &mut Stack) -> bool {
-    opens(stack) && opens(stack) && opens(stack) && undoes(stack, 3)
+    opens(stack, 3) && undoes(stack, 3)
 }
 
 // Whether a fourth group cuts the third off, which is forgotten, and two undoes go back to the first.
 fn goes_another_way(stack: &mut Stack) -> bool {
-    opens(stack) && forgets(stack, 3) && undoes(stack, 4) && undoes(stack, 2)
+    opens(stack, 1) && forgets(stack, 3) && undoes(stack, 4) && undoes(stack, 2)
 }
 
 // Whether so many groups were given out, and of the second and the third one these are undone.
