@@ -55,24 +55,35 @@ fn replaced(alloc: Global, rope: &Rope, from: u64, to: u64, text: &Text) -> Resu
     rope.replaced(alloc, from, to, text)
 }
 
-// Whether the text with `added` in the place of what stands between two gaps is `left`, and the rope that was is as it was.
-fn becomes(
+// Whether the text was made, and is this.
+fn reads(made: Result<Text, NoMemory>, text: &str) -> bool {
+    match made {
+        Ok(made) => made.as_str() == text,
+        Err(_) => false,
+    }
+}
+
+// The text with `added` in the place of what stands between two gaps.
+fn text_after(
     alloc: Global,
     rope: &Rope,
     from: u64,
     to: u64,
     added: &str,
-    left: &str,
-) -> Result<bool, NoMemory> {
-    let before = whole(alloc, rope)?;
+) -> Result<Text, NoMemory> {
     let added = Text::from_str(alloc, added)?;
     let made = replaced(alloc, rope, from, to, &added)?;
-    let made = whole(alloc, &made)?;
-    let after = whole(alloc, rope)?;
-    Ok(made.as_str() == left && before == after)
+    whole(alloc, &made)
 }
 
-// Whether `part` stands between two gaps of the text, and with `added` in its place `left` is left, of the rope and of a copy.
+fn copy_has(alloc: Global, rope: &Rope, gaps: (u64, u64), part_of: &str) -> bool {
+    match rope.copy(alloc) {
+        Ok(copy) => reads(part(alloc, &copy, gaps.0, gaps.1), part_of),
+        Err(_) => false,
+    }
+}
+
+// Whether `part` stands between two gaps of a copy of the text, with `added` in its place `left` is left, and the rope is as it was.
 fn parts(
     alloc: Global,
     text: &str,
@@ -80,21 +91,25 @@ fn parts(
     part_of: &str,
     added: &str,
     left: &str,
-) -> Result<bool, NoMemory> {
-    let rope = rope_of(alloc, text)?;
-    let copy = rope.copy(alloc)?;
-    let found = part(alloc, &copy, gaps.0, gaps.1)?;
-    Ok(found.as_str() == part_of && becomes(alloc, &rope, gaps.0, gaps.1, added, left)?)
+) -> bool {
+    match rope_of(alloc, text) {
+        Ok(rope) => {
+            copy_has(alloc, &rope, gaps, part_of)
+                && reads(text_after(alloc, &rope, gaps.0, gaps.1, added), left)
+                && reads(whole(alloc, &rope), text)
+        }
+        Err(_) => false,
+    }
 }
 
 #[test]
 fn slices_and_replacements(rt: HostRuntime) {
     let alloc = rt.alloc();
-    assert!(rt; parts(alloc, "aé\n𝄞", (1, 3), "é\n", "", "a𝄞").unwrap_or(false));
-    assert!(rt; parts(alloc, "abc", (1, 2), "b", "X", "aXc").unwrap_or(false));
-    assert!(rt; parts(alloc, "", (0, 0), "", "é", "é").unwrap_or(false));
-    assert!(rt; parts(alloc, "𝄞é", (0, 2), "𝄞é", "", "").unwrap_or(false));
-    assert!(rt; parts(alloc, "ab", (2, 2), "", "\n", "ab\n").unwrap_or(false));
+    assert!(rt; parts(alloc, "aé\n𝄞", (1, 3), "é\n", "", "a𝄞"));
+    assert!(rt; parts(alloc, "abc", (1, 2), "b", "X", "aXc"));
+    assert!(rt; parts(alloc, "", (0, 0), "", "é", "é"));
+    assert!(rt; parts(alloc, "𝄞é", (0, 2), "𝄞é", "", ""));
+    assert!(rt; parts(alloc, "ab", (2, 2), "", "\n", "ab\n"));
 }
 
 // How many leaves, and their texts joined.
@@ -108,46 +123,59 @@ fn leaves(alloc: Global, rope: &Rope) -> Result<(u64, Text), NoMemory> {
     Ok((count, text))
 }
 
-// Whether the rope of so many letters and a last character has this height and so many leaves, which join to its text.
-fn fills(
-    alloc: Global,
-    letters: u64,
-    last: &str,
-    height: u32,
-    count: u64,
-) -> Result<bool, NoMemory> {
+// So many letters and a last character.
+fn letters_of(alloc: Global, letters: u64, last: &str) -> Result<Text, NoMemory> {
     let mut text = text_of(alloc, "x", letters)?;
     text.push_str(last)?;
-    let rope = Rope::of_text(alloc, &text)?;
-    let (leaves, joined) = leaves(alloc, &rope)?;
-    let (chars, bytes) = (text.char_count(), text.byte_len());
-    Ok(
-        rope.node().height() == height
-            && leaves == count
-            && rope.len() == chars
-            && rope.byte_len() == bytes
-            && joined.as_str() == text.as_str(),
-    )
+    Ok(text)
+}
+
+// Whether the rope has so many leaves, which join to the text.
+fn has_leaves(alloc: Global, rope: &Rope, count: u64, text: &str) -> bool {
+    match leaves(alloc, rope) {
+        Ok((found, joined)) => found == count && joined.as_str() == text,
+        Err(_) => false,
+    }
+}
+
+// Whether the rope of a text has this height and so many leaves, and counts as the text does.
+fn is_filled(alloc: Global, text: &Text, height: u32, count: u64) -> bool {
+    match Rope::of_text(alloc, text) {
+        Ok(rope) => {
+            rope.node().height() == height
+                && rope.len() == text.char_count()
+                && rope.byte_len() == text.byte_len()
+                && has_leaves(alloc, &rope, count, text.as_str())
+        }
+        Err(_) => false,
+    }
+}
+
+fn fills(alloc: Global, letters: u64, last: &str, height: u32, count: u64) -> bool {
+    match letters_of(alloc, letters, last) {
+        Ok(text) => is_filled(alloc, &text, height, count),
+        Err(_) => false,
+    }
 }
 
 #[test]
 fn leaves_are_as_full_as_characters_allow(rt: HostRuntime) {
     let alloc = rt.alloc();
-    assert!(rt; fills(alloc, 0, "", 0, 0).unwrap_or(false));
-    assert!(rt; fills(alloc, 1024, "", 0, 1).unwrap_or(false));
-    assert!(rt; fills(alloc, 1025, "", 1, 2).unwrap_or(false));
-    assert!(rt; fills(alloc, 8193, "", 2, 9).unwrap_or(false));
+    assert!(rt; fills(alloc, 0, "", 0, 0));
+    assert!(rt; fills(alloc, 1024, "", 0, 1));
+    assert!(rt; fills(alloc, 1025, "", 1, 2));
+    assert!(rt; fills(alloc, 8193, "", 2, 9));
 }
 
 #[test]
 fn a_character_is_not_cut_at_the_end_of_a_leaf(rt: HostRuntime) {
     let alloc = rt.alloc();
-    assert!(rt; fills(alloc, 1022, "é", 0, 1).unwrap_or(false));
-    assert!(rt; fills(alloc, 1023, "é", 1, 2).unwrap_or(false));
-    assert!(rt; fills(alloc, 1021, "→", 0, 1).unwrap_or(false));
-    assert!(rt; fills(alloc, 1022, "→", 1, 2).unwrap_or(false));
-    assert!(rt; fills(alloc, 1020, "𝄞", 0, 1).unwrap_or(false));
-    assert!(rt; fills(alloc, 1021, "𝄞", 1, 2).unwrap_or(false));
+    assert!(rt; fills(alloc, 1022, "é", 0, 1));
+    assert!(rt; fills(alloc, 1023, "é", 1, 2));
+    assert!(rt; fills(alloc, 1021, "→", 0, 1));
+    assert!(rt; fills(alloc, 1022, "→", 1, 2));
+    assert!(rt; fills(alloc, 1020, "𝄞", 0, 1));
+    assert!(rt; fills(alloc, 1021, "𝄞", 1, 2));
 }
 
 // The text of the rope, cut at a gap and joined again; nothing where there is no such gap.
@@ -163,36 +191,41 @@ fn rejoined(alloc: Global, rope: &Rope, gap: u64) -> Result<Text, NoMemory> {
     whole(alloc, &again)
 }
 
-// Whether the rope of a text is cut there after this, and joined again is the text.
-fn is_cut(alloc: Global, text: &str, gap: u64, front: &str) -> Result<bool, NoMemory> {
-    let rope = rope_of(alloc, text)?;
-    let part = cut(alloc, &rope, gap)?;
-    let again = rejoined(alloc, &rope, gap)?;
-    Ok(part.as_str() == front && again.as_str() == text)
+const LEAF: &str = "aé→𝄞\nb";
+
+// Whether the rope of the text is cut there after this, and joined again is the text.
+fn is_cut(alloc: Global, gap: u64, front: &str) -> bool {
+    match rope_of(alloc, LEAF) {
+        Ok(rope) => {
+            reads(cut(alloc, &rope, gap), front) && reads(rejoined(alloc, &rope, gap), LEAF)
+        }
+        Err(_) => false,
+    }
 }
 
 #[test]
 fn a_leaf_is_cut_at_each_gap(rt: HostRuntime) {
     let alloc = rt.alloc();
-    assert!(rt; is_cut(alloc, "aé→𝄞\nb", 0, "").unwrap_or(false));
-    assert!(rt; is_cut(alloc, "aé→𝄞\nb", 1, "a").unwrap_or(false));
-    assert!(rt; is_cut(alloc, "aé→𝄞\nb", 2, "aé").unwrap_or(false));
-    assert!(rt; is_cut(alloc, "aé→𝄞\nb", 3, "aé→").unwrap_or(false));
-    assert!(rt; is_cut(alloc, "aé→𝄞\nb", 4, "aé→𝄞").unwrap_or(false));
-    assert!(rt; is_cut(alloc, "aé→𝄞\nb", 5, "aé→𝄞\n").unwrap_or(false));
-    assert!(rt; is_cut(alloc, "aé→𝄞\nb", 6, "aé→𝄞\nb").unwrap_or(false));
+    assert!(rt; is_cut(alloc, 0, ""));
+    assert!(rt; is_cut(alloc, 1, "a"));
+    assert!(rt; is_cut(alloc, 2, "aé"));
+    assert!(rt; is_cut(alloc, 3, "aé→"));
+    assert!(rt; is_cut(alloc, 4, "aé→𝄞"));
+    assert!(rt; is_cut(alloc, 5, "aé→𝄞\n"));
+    assert!(rt; is_cut(alloc, 6, "aé→𝄞\nb"));
 }
 
-// The rope after a delta, and the plain text after it; `None` where it does not fit.
-fn edited(alloc: Global, rope: &Rope, delta: &Delta) -> Result<Option<(Rope, Text)>, NoMemory> {
+// The rope after a delta, and the plain text after it; none where it does not fit.
+fn edited(alloc: Global, rope: &Rope, delta: &Delta) -> Result<(Rope, Text), NoMemory> {
     let text = whole(alloc, rope)?;
     match fits(&text, delta) {
-        Err(_) => Ok(None),
+        Err(_) => Err(NoMemory),
         Ok(()) => {
             let units = to_units(alloc, &text, delta)?;
             let plain = apply(alloc, &text, &units)?;
             let _bytes = plain.byte_len();
-            Ok(Some((rope.edited(alloc, &units)?, plain)))
+            let made = rope.edited(alloc, &units)?;
+            Ok((made, plain))
         }
     }
 }
@@ -208,7 +241,7 @@ fn delta_of(
     let mut els = Els::new(alloc);
     for (i, c) in (0u64..).zip(text.chars()) {
         if i == before {
-            els.push(insert(alloc, added)?)?;
+            push_insert(alloc, &mut els, added)?;
         }
         if kept.contains(c) {
             els.push(El::Copy {
@@ -221,38 +254,40 @@ fn delta_of(
     Ok(Delta { els, base_len })
 }
 
-fn insert(alloc: Global, text: &str) -> Result<El, NoMemory> {
-    Ok(El::Insert {
-        text: Text::from_str(alloc, text)?,
-    })
+fn push_insert(alloc: Global, els: &mut Els, text: &str) -> Result<(), NoMemory> {
+    let text = Text::from_str(alloc, text)?;
+    els.push(El::Insert { text })
 }
 
-// Whether the delta makes this of the text, in a rope and in a plain text.
-fn makes(
+// What the delta makes of the text, in a rope and in a plain text.
+fn made_of(
     alloc: Global,
     text: &str,
     kept: &str,
     added: (u64, &str),
-    left: &str,
-) -> Result<bool, NoMemory> {
+) -> Result<(Rope, Text), NoMemory> {
     let rope = rope_of(alloc, text)?;
     let delta = delta_of(alloc, text, kept, added.0, added.1)?;
-    let Some((made, plain)) = edited(alloc, &rope, &delta)? else {
-        return Ok(false);
-    };
-    let made = whole(alloc, &made)?;
-    Ok(plain.as_str() == left && made.as_str() == left)
+    edited(alloc, &rope, &delta)
+}
+
+// Whether the delta makes this of the text, in both.
+fn makes(alloc: Global, text: &str, kept: &str, added: (u64, &str), left: &str) -> bool {
+    match made_of(alloc, text, kept, added) {
+        Ok((made, plain)) => plain.as_str() == left && reads(whole(alloc, &made), left),
+        Err(_) => false,
+    }
 }
 
 #[test]
 fn edits_keep_drop_and_add(rt: HostRuntime) {
     let alloc = rt.alloc();
-    assert!(rt; makes(alloc, "abc", "ac", (1, "X"), "aXc").unwrap_or(false));
-    assert!(rt; makes(alloc, "abcdef", "", (9, ""), "").unwrap_or(false));
-    assert!(rt; makes(alloc, "abcdef", "abcdef", (9, ""), "abcdef").unwrap_or(false));
-    assert!(rt; makes(alloc, "abcdef", "ace", (9, ""), "ace").unwrap_or(false));
-    assert!(rt; makes(alloc, "abcdef", "abcdef", (2, "é"), "abécdef").unwrap_or(false));
-    assert!(rt; makes(alloc, "abcdef", "", (0, "𝄞"), "𝄞").unwrap_or(false));
+    assert!(rt; makes(alloc, "abc", "ac", (1, "X"), "aXc"));
+    assert!(rt; makes(alloc, "abcdef", "", (9, ""), ""));
+    assert!(rt; makes(alloc, "abcdef", "abcdef", (9, ""), "abcdef"));
+    assert!(rt; makes(alloc, "abcdef", "ace", (9, ""), "ace"));
+    assert!(rt; makes(alloc, "abcdef", "abcdef", (2, "é"), "abécdef"));
+    assert!(rt; makes(alloc, "abcdef", "", (0, "𝄞"), "𝄞"));
 }
 
 // A delta over a text that keeps most characters, one copy each, and adds some texts.
@@ -264,9 +299,8 @@ fn drawn_delta(alloc: Global, words: &mut Lcg64Xsh32, text: &Text) -> Result<Del
         let end = at.wrapping_add(c.len_utf8() as u64);
         if words.next_u32() % 80 == 0 {
             let times = u64::from(words.next_u32() % 20);
-            els.push(El::Insert {
-                text: text_of(alloc, "aé→𝄞\n", times)?,
-            })?;
+            let text = text_of(alloc, "aé→𝄞\n", times)?;
+            els.push(El::Insert { text })?;
         }
         if words.next_u32() % 40 <= keeps {
             els.push(El::Copy { a: at, b: end })?;
@@ -279,35 +313,31 @@ fn drawn_delta(alloc: Global, words: &mut Lcg64Xsh32, text: &Text) -> Result<Del
     })
 }
 
-// The rope after an edit that is drawn; `None` where it is not what the edit makes of the plain text.
-fn drawn(alloc: Global, words: &mut Lcg64Xsh32, rope: &Rope) -> Result<Option<Rope>, NoMemory> {
+// The rope after an edit that is drawn; none where it is not what the edit makes of the plain text.
+fn drawn(alloc: Global, words: &mut Lcg64Xsh32, rope: &Rope) -> Result<Rope, NoMemory> {
     let text = whole(alloc, rope)?;
     let delta = drawn_delta(alloc, words, &text)?;
-    let Some((made, plain)) = edited(alloc, rope, &delta)? else {
-        return Ok(None);
-    };
+    let (made, plain) = edited(alloc, rope, &delta)?;
     let (_, joined) = leaves(alloc, &made)?;
-    if joined.as_str() != plain.as_str() {
-        return Ok(None);
+    if joined.as_str() == plain.as_str() {
+        Ok(made)
+    } else {
+        Err(NoMemory)
     }
-    Ok(Some(made))
 }
 
-// Whether so many edits from a seed make of a rope what they make of a plain text.
-fn edits_agree(alloc: Global, seed: u64, count: u64) -> Result<bool, NoMemory> {
+// A rope after so many edits from a seed, each of which makes of it what it makes of a plain text.
+fn drawn_all(alloc: Global, seed: u64, count: u64) -> Result<Rope, NoMemory> {
     let mut words = Lcg64Xsh32::seed_from_u64(seed);
     let text = text_of(alloc, "aé→𝄞\n", 120)?;
     let mut rope = Rope::of_text(alloc, &text)?;
     for _ in 0..count {
-        let Some(made) = drawn(alloc, &mut words, &rope)? else {
-            return Ok(false);
-        };
-        rope = made;
+        rope = drawn(alloc, &mut words, &rope)?;
     }
-    Ok(true)
+    Ok(rope)
 }
 
 #[test]
 fn edits_are_those_of_a_plain_text(rt: HostRuntime) {
-    assert!(rt; edits_agree(rt.alloc(), 11, 8).unwrap_or(false));
+    assert!(rt; drawn_all(rt.alloc(), 11, 8).is_ok());
 }

@@ -63,19 +63,31 @@ impl Beside {
         Ok(())
     }
 
-    // A step that is drawn, and whether both are the same after it, also where the tree is cut and joined again, and copied.
-    fn step(&mut self, alloc: Global, words: &mut Lcg64Xsh32) -> Result<bool, AllocError> {
+    // Replaces what is drawn, and tells where.
+    fn change(&mut self, alloc: Global, words: &mut Lcg64Xsh32) -> Result<u64, AllocError> {
         let first = u64::from(words.next_u32());
         let from = first % self.tree.len().max(1);
         let to = from.wrapping_add(u64::from(words.next_u32() % 40));
         let to = to.min(self.tree.len());
         let count = u64::from(words.next_u32() % 16).wrapping_mul(u64::from(words.next_u32() % 8));
         self.replace(alloc, from, to, first, count)?;
-        let again = rejoined(alloc, &self.tree, from)?;
-        let copy = self.tree.copy(alloc)?;
-        let same = shows(&copy, &self.list);
-        self.tree = again;
+        Ok(from)
+    }
+
+    // A step that is drawn, and whether both are the same after it, also where the tree is cut and joined again, and copied.
+    fn step(&mut self, alloc: Global, words: &mut Lcg64Xsh32) -> Result<bool, AllocError> {
+        let from = self.change(alloc, words)?;
+        let same = shows_copy(alloc, &self.tree, &self.list);
+        self.tree = rejoined(alloc, &self.tree, from)?;
         Ok(same && shows(&self.tree, &self.list))
+    }
+}
+
+// Whether a copy of the tree shows this list.
+fn shows_copy(alloc: Global, tree: &Numbers, list: &[u64]) -> bool {
+    match tree.copy(alloc) {
+        Ok(copy) => shows(&copy, list),
+        Err(_) => false,
     }
 }
 
@@ -97,48 +109,50 @@ fn steps_are_those_of_a_list(rt: HostRuntime) {
 }
 
 // Whether the tree has the numbers from none up to 300, in every way.
-fn is_whole(alloc: Global, tree: &Numbers) -> Result<bool, AllocError> {
-    let list = list_of(alloc, 0, 300)?;
-    Ok(shows(tree, &list))
+fn is_whole(alloc: Global, tree: &Numbers) -> bool {
+    match list_of(alloc, 0, 300) {
+        Ok(list) => shows(tree, &list),
+        Err(_) => false,
+    }
 }
 
-fn grown_by_pushes(alloc: Global) -> Result<bool, AllocError> {
-    let tree = tree_of(alloc, 0, 300)?;
-    is_whole(alloc, &tree)
+// Whether a tree was made, and has them.
+fn grows(alloc: Global, made: Result<Numbers, AllocError>) -> bool {
+    match made {
+        Ok(tree) => is_whole(alloc, &tree),
+        Err(_) => false,
+    }
 }
 
-fn grown_at_the_front(alloc: Global) -> Result<bool, AllocError> {
+fn at_the_front(alloc: Global) -> Result<Numbers, AllocError> {
     let mut tree = Tree::new(alloc);
     for i in 0..300u64 {
         let leaf = leaf_of(alloc, 299u64.wrapping_sub(i))?;
         tree = joined(alloc, &leaf, &tree)?;
     }
-    is_whole(alloc, &tree)
+    Ok(tree)
 }
 
-fn grown_of_two_halves(alloc: Global) -> Result<bool, AllocError> {
-    let front = tree_of(alloc, 0, 150)?;
-    let back = tree_of(alloc, 150, 150)?;
-    let tree = joined(alloc, &front, &back)?;
-    is_whole(alloc, &tree)
+// The tree of the numbers from one up to another, and from a third up to a fourth.
+fn of_two(alloc: Global, first: (u64, u64), second: (u64, u64)) -> Result<Numbers, AllocError> {
+    let front = tree_of(alloc, first.0, first.1.wrapping_sub(first.0))?;
+    let back = tree_of(alloc, second.0, second.1.wrapping_sub(second.0))?;
+    joined(alloc, &front, &back)
 }
 
-fn grown_from_the_middle(alloc: Global) -> Result<bool, AllocError> {
-    let front = tree_of(alloc, 0, 10)?;
-    let back = tree_of(alloc, 290, 10)?;
-    let ends = joined(alloc, &front, &back)?;
+fn from_the_middle(alloc: Global) -> Result<Numbers, AllocError> {
+    let ends = of_two(alloc, (0, 10), (290, 300))?;
     let middle = tree_of(alloc, 10, 280)?;
-    let tree = edited(alloc, &ends, 10, 10, &middle)?;
-    is_whole(alloc, &tree)
+    edited(alloc, &ends, 10, 10, &middle)
 }
 
 #[test]
 fn trees_grown_by_different_ways_hold_the_same(rt: HostRuntime) {
     let alloc = rt.alloc();
-    assert!(rt; grown_by_pushes(alloc).unwrap_or(false));
-    assert!(rt; grown_at_the_front(alloc).unwrap_or(false));
-    assert!(rt; grown_of_two_halves(alloc).unwrap_or(false));
-    assert!(rt; grown_from_the_middle(alloc).unwrap_or(false));
+    assert!(rt; grows(alloc, tree_of(alloc, 0, 300)));
+    assert!(rt; grows(alloc, at_the_front(alloc)));
+    assert!(rt; grows(alloc, of_two(alloc, (0, 150), (150, 300))));
+    assert!(rt; grows(alloc, from_the_middle(alloc)));
 }
 
 // A tree of height 4 at least: 96,000 numbers, joined of parts.
@@ -150,33 +164,45 @@ fn high(alloc: Global) -> Result<Numbers, AllocError> {
     Ok(tree)
 }
 
-// Whether the tree has so many numbers, with these at the ends.
-fn is_joined(tree: &Numbers, len: u64, first: u64, last: u64) -> bool {
-    tree.height() >= 4
-        && tree.len() == len
-        && number_at(tree, 0) == Some(first)
-        && number_at(tree, len.wrapping_sub(1)) == Some(last)
+// Whether a high tree was made of so many numbers, with these at the ends.
+fn is_joined(made: Result<Numbers, AllocError>, len: u64, first: u64, last: u64) -> bool {
+    match made {
+        Ok(tree) => {
+            tree.height() >= 4
+                && tree.len() == len
+                && number_at(&tree, 0) == Some(first)
+                && number_at(&tree, len.wrapping_sub(1)) == Some(last)
+        }
+        Err(_) => false,
+    }
 }
 
-fn joins_a_leaf(alloc: Global) -> Result<bool, AllocError> {
-    let high = high(alloc)?;
-    let leaf = leaf_of(alloc, 7)?;
-    let after = joined(alloc, &high, &leaf)?;
-    let before = joined(alloc, &leaf, &high)?;
-    Ok(is_joined(&after, 96_001, 0, 7) && is_joined(&before, 96_001, 7, 2_999))
+// Whether a leaf is joined at both ends.
+fn takes_a_leaf(alloc: Global, high: &Numbers) -> bool {
+    match leaf_of(alloc, 7) {
+        Ok(leaf) => {
+            is_joined(joined(alloc, high, &leaf), 96_001, 0, 7)
+                && is_joined(joined(alloc, &leaf, high), 96_001, 7, 2_999)
+        }
+        Err(_) => false,
+    }
 }
 
-fn joins_none(alloc: Global) -> Result<bool, AllocError> {
-    let high = high(alloc)?;
+// Whether none is joined at both ends.
+fn takes_none(alloc: Global, high: &Numbers) -> bool {
     let none = Tree::new(alloc);
-    let after = joined(alloc, &high, &none)?;
-    let before = joined(alloc, &none, &high)?;
-    Ok(is_joined(&after, 96_000, 0, 2_999) && is_joined(&before, 96_000, 0, 2_999))
+    is_joined(joined(alloc, high, &none), 96_000, 0, 2_999)
+        && is_joined(joined(alloc, &none, high), 96_000, 0, 2_999)
+}
+
+fn a_high_tree_takes_both(alloc: Global) -> bool {
+    match high(alloc) {
+        Ok(high) => takes_a_leaf(alloc, &high) && takes_none(alloc, &high),
+        Err(_) => false,
+    }
 }
 
 #[test]
 fn a_high_tree_is_joined_with_a_leaf_and_with_none(rt: HostRuntime) {
-    let alloc = rt.alloc();
-    assert!(rt; joins_a_leaf(alloc).unwrap_or(false));
-    assert!(rt; joins_none(alloc).unwrap_or(false));
+    assert!(rt; a_high_tree_takes_both(rt.alloc()));
 }
