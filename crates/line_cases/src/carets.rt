@@ -12,7 +12,6 @@ use plain_screen::Piece;
 use plain_text::{List, NoMemory, Region, Regions, Sel, Text};
 use plain_view::PlainView;
 use std::alloc::Global;
-use std::test::Fail;
 use xi_plain::Motion;
 
 fn caret(gap: u64, goal: Option<u128>) -> Region {
@@ -63,7 +62,7 @@ fn goes(
 }
 
 #[test]
-fn a_region_becomes_a_caret_and_a_cluster_is_left_whole(rt: HostRuntime) -> Result<(), Fail> {
+fn a_region_becomes_a_caret_and_a_cluster_is_left_whole(rt: HostRuntime) {
     let alloc = rt.alloc();
     let back = Region {
         anchor: 11,
@@ -84,7 +83,6 @@ fn a_region_becomes_a_caret_and_a_cluster_is_left_whole(rt: HostRuntime) -> Resu
             None
         )
     );
-    Ok(())
 }
 
 // The selection of two regions, within a text of this length.
@@ -125,12 +123,11 @@ fn both_go(alloc: Global, motion: Motion, first: Region, second: Option<Region>)
 }
 
 #[test]
-fn carets_that_cross_are_sorted_and_those_that_meet_are_one(rt: HostRuntime) -> Result<(), Fail> {
+fn carets_that_cross_are_sorted_and_those_that_meet_are_one(rt: HostRuntime) {
     let alloc = rt.alloc();
     let (left, right) = (caret(1, Some(1)), caret(8, Some(8)));
     assert!(rt; both_go(alloc, Motion::Up, left, Some(right)));
     assert!(rt; both_go(alloc, Motion::Down, caret(17, None), None));
-    Ok(())
 }
 
 // A line in two pieces.
@@ -170,11 +167,10 @@ fn wrapped_goes(alloc: Global, from: u64, motion: Motion, gap: u64, goal: Option
 }
 
 #[test]
-fn a_gap_between_pieces_stands_in_the_second(rt: HostRuntime) -> Result<(), Fail> {
+fn a_gap_between_pieces_stands_in_the_second(rt: HostRuntime) {
     let alloc = rt.alloc();
     assert!(rt; wrapped_goes(alloc, 1, Motion::LineEnd, 5, None));
     assert!(rt; wrapped_goes(alloc, 5, Motion::Right, 6, None));
     assert!(rt; wrapped_goes(alloc, 6, Motion::LineStart, 6, None));
     assert!(rt; wrapped_goes(alloc, 6, Motion::Down, 8, Some(0)));
-    Ok(())
 }

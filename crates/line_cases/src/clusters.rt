@@ -1,9 +1,7 @@
 //! Clusters of logical lines.
 
 use cluster_core::{Class, Placed, Walk, class_of, clusters, columns, columns_between, next, prev};
-use plain_text::NoMemory;
 use std::alloc::Global;
-use std::test::Fail;
 
 const ACCENT: &str = "ae\u{301}b";
 
@@ -20,23 +18,29 @@ const CONJUNCT: &str = "\u{915}\u{94D}\u{937}\u{915}";
 const CR_LF: &str = "a\r\nb";
 
 // Whether the clusters of the line end there.
-fn end_at(alloc: Global, line: &str, ends: &[u64]) -> Result<bool, NoMemory> {
-    let found = clusters(alloc, line)?;
-    Ok(found.as_slice() == ends)
+fn end_at(alloc: Global, line: &str, ends: &[u64]) -> bool {
+    match clusters(alloc, line) {
+        Ok(found) => found.as_slice() == ends,
+        Err(_) => false,
+    }
 }
 
 #[test]
-fn clusters_end_after_marks_families_flags_and_syllables(rt: HostRuntime) -> Result<(), Fail> {
+fn clusters_end_after_marks_families_flags_and_syllables(rt: HostRuntime) {
     let alloc = rt.alloc();
-    assert!(rt; end_at(alloc, ACCENT, &[1, 4, 5]).unwrap_or(false));
-    assert!(rt; end_at(alloc, FAMILY, &[18, 19]).unwrap_or(false));
-    assert!(rt; end_at(alloc, FLAGS, &[8, 16]).unwrap_or(false));
-    assert!(rt; end_at(alloc, HANGUL, &[9, 12]).unwrap_or(false));
-    assert!(rt; end_at(alloc, CR_LF, &[1, 3, 4]).unwrap_or(false));
-    assert!(rt; end_at(alloc, SPACING_MARK, &[6]).unwrap_or(false));
-    assert!(rt; end_at(alloc, CONJUNCT, &[9, 12]).unwrap_or(false));
-    assert!(rt; end_at(alloc, "", &[]).unwrap_or(false));
-    Ok(())
+    assert!(rt; end_at(alloc, ACCENT, &[1, 4, 5]));
+    assert!(rt; end_at(alloc, FAMILY, &[18, 19]));
+    assert!(rt; end_at(alloc, FLAGS, &[8, 16]));
+    assert!(rt; end_at(alloc, HANGUL, &[9, 12]));
+}
+
+#[test]
+fn clusters_of_line_ends_spacing_marks_and_conjuncts(rt: HostRuntime) {
+    let alloc = rt.alloc();
+    assert!(rt; end_at(alloc, CR_LF, &[1, 3, 4]));
+    assert!(rt; end_at(alloc, SPACING_MARK, &[6]));
+    assert!(rt; end_at(alloc, CONJUNCT, &[9, 12]));
+    assert!(rt; end_at(alloc, "", &[]));
 }
 
 // Whether a line takes so many columns.
@@ -45,15 +49,23 @@ fn takes(line: &str, tab: u32, count: u128) -> bool {
 }
 
 #[test]
-fn columns_of_tabs_controls_and_wide_characters(rt: HostRuntime) {
+fn columns_of_tabs_beside_narrow_and_wide_characters(rt: HostRuntime) {
     assert!(rt; takes("a\tb", 4, 5));
     assert!(rt; takes("abcd\t", 4, 8));
     assert!(rt; takes("abc\td", 16, 17));
     assert!(rt; takes("\u{4E2D}\tb", 4, 5));
+}
+
+#[test]
+fn columns_of_controls_marks_and_families(rt: HostRuntime) {
     assert!(rt; takes("\u{0}\u{1B}\u{7F}\u{85}", 4, 4));
     assert!(rt; takes(CR_LF, 4, 3));
     assert!(rt; takes(ACCENT, 4, 3));
     assert!(rt; takes(FAMILY, 4, 3));
+}
+
+#[test]
+fn columns_of_flags_syllables_and_tabs_of_no_width(rt: HostRuntime) {
     assert!(rt; takes(FLAGS, 4, 4));
     assert!(rt; takes(HANGUL, 4, 4));
     assert!(rt; takes("a\tb", 0, 2));
@@ -71,33 +83,37 @@ fn columns_between_two_gaps(rt: HostRuntime) {
     assert!(rt; takes_between("e\u{301}", 0, 1, 1));
     assert!(rt; takes_between("e\u{301}", 1, 2, 0));
     assert!(rt; takes_between("e\u{301}\tx", 1, 4, 5));
+}
+
+#[test]
+fn columns_between_two_gaps_of_wide_characters(rt: HostRuntime) {
     assert!(rt; takes_between(FLAGS, 1, 4, 3));
     assert!(rt; takes_between(HANGUL, 3, 4, 2));
     assert!(rt; takes_between("abc", 2, 1, 0));
     assert!(rt; takes_between("abc", 1, 9, 2));
 }
 
+// Whether this cluster was found, which ends there.
+fn stands(found: Option<Placed<'_>>, cluster: &str, end: u64, column: u128) -> bool {
+    match found {
+        Some(found) => found.cluster == cluster && found.end == end && found.column == column,
+        None => false,
+    }
+}
+
 #[test]
 fn a_walk_counts_anew_where_a_piece_begins(rt: HostRuntime) {
     let mut walk = Walk::new("ab\te\u{301}c", 4);
-    assert_eq!(rt; walk.next(), Some(placed("a", 1, 1)));
-    assert_eq!(rt; walk.next(), Some(placed("b", 2, 2)));
+    assert!(rt; stands(walk.next(), "a", 1, 1));
+    assert!(rt; stands(walk.next(), "b", 2, 2));
     let mut again = walk.copy();
     walk.begin_piece();
     let mut last = None;
     for item in walk {
         last = Some(item);
     }
-    assert_eq!(rt; again.next(), Some(placed("\t", 3, 4)));
-    assert_eq!(rt; last, Some(placed("c", 6, 6)));
-}
-
-fn placed(cluster: &str, end: u64, column: u128) -> Placed<'_> {
-    Placed {
-        cluster,
-        end,
-        column,
-    }
+    assert!(rt; stands(again.next(), "\t", 3, 4));
+    assert!(rt; stands(last, "c", 6, 6));
 }
 
 // Whether these are the boundaries on both sides of an offset.
@@ -112,10 +128,18 @@ fn boundaries_on_both_sides(rt: HostRuntime) {
     assert!(rt; stand(ACCENT, 3, Some(4), Some(1)));
     assert!(rt; stand(ACCENT, 5, None, Some(4)));
     assert!(rt; stand(ACCENT, 9, None, Some(5)));
+}
+
+#[test]
+fn boundaries_in_families_flags_and_syllables(rt: HostRuntime) {
     assert!(rt; stand(FAMILY, 7, Some(18), Some(0)));
     assert!(rt; stand(FLAGS, 8, Some(16), Some(0)));
     assert!(rt; stand(FLAGS, 9, Some(16), Some(8)));
     assert!(rt; stand(HANGUL, 12, None, Some(9)));
+}
+
+#[test]
+fn boundaries_in_conjuncts_line_ends_and_nothing(rt: HostRuntime) {
     assert!(rt; stand(CONJUNCT, 6, Some(9), Some(0)));
     assert!(rt; stand(CR_LF, 2, Some(3), Some(1)));
     assert!(rt; stand("", 0, None, None));

@@ -65,6 +65,12 @@ fn a_short_line_keeps_the_goal(rt: HostRuntime) {
     assert!(rt; goes(alloc, LINES, 4, None, Motion::Down, (8, goal)));
     assert!(rt; goes(alloc, LINES, 8, goal, Motion::Down, (13, goal)));
     assert!(rt; goes(alloc, LINES, 13, goal, Motion::Down, (15, goal)));
+}
+
+#[test]
+fn a_short_line_keeps_the_goal_going_up(rt: HostRuntime) {
+    let alloc = rt.alloc();
+    let goal = Some(4);
     assert!(rt; goes(alloc, LINES, 15, goal, Motion::Up, (8, goal)));
     assert!(rt; goes(alloc, LINES, 8, goal, Motion::Up, (4, goal)));
     assert!(rt; goes(alloc, LINES, 4, goal, Motion::Up, (0, goal)));
@@ -78,9 +84,19 @@ fn words_are_found_across_classes_and_lines(rt: HostRuntime) {
     assert!(rt; goes(alloc, WORDS, 0, None, Motion::WordRight, (3, None)));
     assert!(rt; goes(alloc, WORDS, 3, None, Motion::WordRight, (8, None)));
     assert!(rt; goes(alloc, WORDS, 8, None, Motion::WordRight, (9, None)));
+}
+
+#[test]
+fn words_are_found_up_to_the_end_of_the_text(rt: HostRuntime) {
+    let alloc = rt.alloc();
     assert!(rt; goes(alloc, WORDS, 9, None, Motion::WordRight, (12, None)));
     assert!(rt; goes(alloc, WORDS, 12, None, Motion::WordRight, (19, None)));
     assert!(rt; goes(alloc, WORDS, 19, None, Motion::WordRight, (19, None)));
+}
+
+#[test]
+fn words_are_found_going_back(rt: HostRuntime) {
+    let alloc = rt.alloc();
     assert!(rt; goes(alloc, WORDS, 19, None, Motion::WordLeft, (16, None)));
     assert!(rt; goes(alloc, WORDS, 16, None, Motion::WordLeft, (9, None)));
     assert!(rt; goes(alloc, WORDS, 9, None, Motion::WordLeft, (8, None)));
@@ -96,6 +112,11 @@ fn clusters_and_line_ends(rt: HostRuntime) {
     assert!(rt; goes(alloc, CR_LF, 5, None, Motion::Down, (9, Some(5))));
     assert!(rt; goes(alloc, CR_LF, 7, None, Motion::Left, (5, None)));
     assert!(rt; goes(alloc, CR_LF, 8, None, Motion::LineStart, (7, None)));
+}
+
+#[test]
+fn text_ends_and_clusters(rt: HostRuntime) {
+    let alloc = rt.alloc();
     assert!(rt; goes(alloc, CR_LF, 8, None, Motion::TextStart, (0, None)));
     assert!(rt; goes(alloc, CR_LF, 0, None, Motion::TextEnd, (9, None)));
     assert!(rt;

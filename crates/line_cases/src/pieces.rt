@@ -6,7 +6,6 @@ use plain_screen::{Piece, TextView};
 use plain_text::{NoMemory, Text, TryClone};
 use std::alloc::Global;
 use std::cmp::Ordering;
-use std::test::Fail;
 
 /// A text of no characters, which is one empty piece.
 struct NoText;
@@ -40,40 +39,80 @@ fn last_line<T: TextView>(view: &T) -> Option<Piece> {
     view.line(view.lines().saturating_sub(1))
 }
 
-#[test]
-fn a_view_is_read_by_its_lines(rt: HostRuntime) -> Result<(), Fail> {
-    let alloc = rt.alloc();
-    let Some(piece) = last_line(&NoText) else {
-        return Err(Fail::new("no line"))
+fn is_copied(alloc: Global, piece: Option<Piece>) -> bool {
+    let Some(piece) = piece else {
+        return false;
     };
-    let same = piece.copy(alloc)?;
-    assert_eq!(rt; same, piece);
-    assert_eq!(rt;
-        format!(in alloc; "{piece:?}")?.as_str(),
-        "Piece { start: 0, end: 0, ln: Some(1) }"
+    match piece.copy(alloc) {
+        Ok(same) => same == piece,
+        Err(_) => false,
+    }
+}
+
+// Whether there is a piece, which is printed so.
+fn prints(alloc: Global, piece: Option<Piece>, text: &str) -> bool {
+    let Some(piece) = piece else {
+        return false;
+    };
+    match format!(in alloc; "{piece:?}") {
+        Ok(printed) => printed.as_str() == text,
+        Err(_) => false,
+    }
+}
+
+fn is_empty(text: Result<Text, NoMemory>) -> bool {
+    match text {
+        Ok(text) => text.is_empty(),
+        Err(_) => false,
+    }
+}
+
+#[test]
+fn a_view_is_read_by_its_lines(rt: HostRuntime) {
+    let alloc = rt.alloc();
+    assert!(rt; is_copied(alloc, last_line(&NoText)));
+    assert!(rt;
+        prints(
+            alloc,
+            last_line(&NoText),
+            "Piece { start: 0, end: 0, ln: Some(1) }"
+        )
     );
-    assert_eq!(rt; NoText.line(1), None);
-    assert_eq!(rt; NoText.text(alloc, 0, 0)?, Text::new(alloc));
-    Ok(())
+    assert!(rt; NoText.line(1).is_none());
+    assert!(rt; is_empty(NoText.text(alloc, 0, 0)));
+}
+
+fn stand_so(alloc: Global, first: &Text, second: &Text) -> bool {
+    match second.copy(alloc) {
+        Ok(same) => first < second && second > first && second.cmp(&same) == Ordering::Equal,
+        Err(_) => false,
+    }
 }
 
 // Whether the one text stands before the other.
-fn is_before(alloc: Global, first: &str, second: &str) -> Result<bool, NoMemory> {
-    let first = Text::from_str(alloc, first)?;
-    let second = Text::from_str(alloc, second)?;
-    let same = second.copy(alloc)?;
-    Ok(first < second && second > first && second.cmp(&same) == Ordering::Equal)
+fn is_before(alloc: Global, first: &str, second: &str) -> bool {
+    let Ok(first) = Text::from_str(alloc, first) else {
+        return false;
+    };
+    match Text::from_str(alloc, second) {
+        Ok(second) => stand_so(alloc, &first, &second),
+        Err(_) => false,
+    }
 }
 
 #[test]
-fn texts_stand_in_the_order_of_their_bytes(rt: HostRuntime) -> Result<(), Fail> {
+fn texts_stand_in_the_order_of_their_bytes(rt: HostRuntime) {
     let alloc = rt.alloc();
-    assert!(rt; is_before(alloc, "", "\u{0}").unwrap_or(false));
-    assert!(rt; is_before(alloc, "a", "a\u{0}").unwrap_or(false));
-    assert!(rt; is_before(alloc, "ab", "b").unwrap_or(false));
-    assert!(rt; is_before(alloc, "\u{7F}", "\u{80}").unwrap_or(false));
-    assert!(rt; is_before(alloc, "\u{7FF}", "\u{800}").unwrap_or(false));
-    assert!(rt; is_before(alloc, "\u{4E2D}a", "\u{FFFF}").unwrap_or(false));
-    assert!(rt; is_before(alloc, "\u{FFFF}", "\u{10000}").unwrap_or(false));
-    Ok(())
+    assert!(rt; is_before(alloc, "", "\u{0}"));
+    assert!(rt; is_before(alloc, "a", "a\u{0}"));
+    assert!(rt; is_before(alloc, "ab", "b"));
+}
+
+#[test]
+fn texts_stand_in_the_order_of_their_characters(rt: HostRuntime) {
+    let alloc = rt.alloc();
+    assert!(rt; is_before(alloc, "\u{7F}", "\u{80}"));
+    assert!(rt; is_before(alloc, "\u{7FF}", "\u{800}"));
+    assert!(rt; is_before(alloc, "\u{4E2D}a", "\u{FFFF}"));
+    assert!(rt; is_before(alloc, "\u{FFFF}", "\u{10000}"));
 }

@@ -123,22 +123,22 @@ fn triples_count_bytes(rt: HostRuntime) {
 }
 
 // Whether a gap of a line is at this byte.
-fn is_at(alloc: Global, line: &str, gap: u64, byte: u64) -> Result<bool, NoMemory> {
-    let line = Text::from_str(alloc, line)?;
-    let places = places_in(alloc, &line)?;
-    if gap <= line.char_count() {
-        Ok(place_at(&line, &places, gap) == byte)
-    } else {
-        Ok(false)
+fn is_at(alloc: Global, line: &str, gap: u64, byte: u64) -> bool {
+    let Ok(line) = Text::from_str(alloc, line) else {
+        return false;
+    };
+    match places_in(alloc, &line) {
+        Ok(places) => gap <= line.char_count() && place_at(&line, &places, gap) == byte,
+        Err(_) => false,
     }
 }
 
 #[test]
 fn gaps_are_at_bytes(rt: HostRuntime) {
     let alloc = rt.alloc();
-    assert!(rt; is_at(alloc, "aé中b", 0, 0).unwrap_or(false));
-    assert!(rt; is_at(alloc, "aé中b", 3, 6).unwrap_or(false));
-    assert!(rt; is_at(alloc, "aé中b", 4, 7).unwrap_or(false));
+    assert!(rt; is_at(alloc, "aé中b", 0, 0));
+    assert!(rt; is_at(alloc, "aé中b", 3, 6));
+    assert!(rt; is_at(alloc, "aé中b", 4, 7));
 }
 
 const WHOLE: &[(u64, u64)] = &[(0, 3)];
@@ -168,7 +168,7 @@ fn starts_count_from_the_end_of_the_span_before(rt: HostRuntime) {
 }
 
 #[test]
-fn feeds_are_selected_and_carets_stand_in_the_last_line_that_starts_by_them(rt: HostRuntime) {
+fn feeds_are_selected(rt: HostRuntime) {
     let alloc = rt.alloc();
     let (one, two) = (piece(0, 2, Some(1)), piece(2, 3, Some(2)));
     assert!(rt;
@@ -187,6 +187,12 @@ fn feeds_are_selected_and_carets_stand_in_the_last_line_that_starts_by_them(rt: 
             &[triple(0, 1, 0)]
         )
     );
+}
+
+#[test]
+fn a_caret_stands_in_the_last_line_that_starts_by_it(rt: HostRuntime) {
+    let alloc = rt.alloc();
+    let (one, two) = (piece(0, 2, Some(1)), piece(2, 3, Some(2)));
     assert!(rt;
         has(
             line_of(alloc, "a\nb", one, &[(2, 2)], &[]),
@@ -203,7 +209,12 @@ fn feeds_are_selected_and_carets_stand_in_the_last_line_that_starts_by_them(rt: 
             &[]
         )
     );
-    let empty = piece(2, 2, Some(2));
+}
+
+#[test]
+fn a_caret_at_the_end_stands_in_the_line_that_starts_there(rt: HostRuntime) {
+    let alloc = rt.alloc();
+    let (one, empty) = (piece(0, 2, Some(1)), piece(2, 2, Some(2)));
     assert!(rt;
         has(
             line_of(alloc, "a\n", one, &[(2, 2)], &[]),

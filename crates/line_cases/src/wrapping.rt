@@ -29,38 +29,55 @@ fn wrapped(alloc: Global, line: &str, width: u32, tab: u32) -> Result<Offsets, N
 }
 
 // Whether the pieces of the line end there, with tabs of four columns.
-fn end_at(alloc: Global, line: &str, width: u32, ends: &[u64]) -> Result<bool, NoMemory> {
-    let found = wrapped(alloc, line, width, 4)?;
-    Ok(found.as_slice() == ends)
+fn end_at(alloc: Global, line: &str, width: u32, ends: &[u64]) -> bool {
+    match wrapped(alloc, line, width, 4) {
+        Ok(found) => found.as_slice() == ends,
+        Err(_) => false,
+    }
 }
 
 #[test]
 fn pieces_end_at_the_greatest_break_that_fits(rt: HostRuntime) {
     let alloc = rt.alloc();
-    assert!(rt; end_at(alloc, "aa bb-cc ddddddd", 5, &[3, 9, 14, 16]).unwrap_or(false));
-    assert!(rt; end_at(alloc, "aa bb-cc ddddddd", 0, &[16]).unwrap_or(false));
-    assert!(rt; end_at(alloc, "a-b--c", 3, &[2, 5, 6]).unwrap_or(false));
-    assert!(rt; end_at(alloc, "--a", 1, &[1, 2, 3]).unwrap_or(false));
-    assert!(rt; end_at(alloc, "abcdef ghi", 3, &[3, 7, 10]).unwrap_or(false));
-    assert!(rt; end_at(alloc, "\u{4E2D}\u{4E2D}", 1, &[1, 2]).unwrap_or(false));
-    assert!(rt; end_at(alloc, "a\u{301}b\u{301}c", 2, &[4, 5]).unwrap_or(false));
-    assert!(rt; end_at(alloc, "-\u{301}ab", 1, &[2, 3, 4]).unwrap_or(false));
-    assert!(rt; end_at(alloc, "a\u{200B}b", 1, &[2, 3]).unwrap_or(false));
-    assert!(rt; end_at(alloc, "\u{600} b", 1, &[2, 3]).unwrap_or(false));
-    assert!(rt; end_at(alloc, "", 5, &[0]).unwrap_or(false));
-    assert!(rt; end_at(alloc, "", 0, &[0]).unwrap_or(false));
+    assert!(rt; end_at(alloc, "aa bb-cc ddddddd", 5, &[3, 9, 14, 16]));
+    assert!(rt; end_at(alloc, "aa bb-cc ddddddd", 0, &[16]));
+    assert!(rt; end_at(alloc, "a-b--c", 3, &[2, 5, 6]));
+    assert!(rt; end_at(alloc, "--a", 1, &[1, 2, 3]));
+}
+
+#[test]
+fn words_that_do_not_fit_are_cut_between_clusters(rt: HostRuntime) {
+    let alloc = rt.alloc();
+    assert!(rt; end_at(alloc, "abcdef ghi", 3, &[3, 7, 10]));
+    assert!(rt; end_at(alloc, "\u{4E2D}\u{4E2D}", 1, &[1, 2]));
+    assert!(rt; end_at(alloc, "a\u{301}b\u{301}c", 2, &[4, 5]));
+    assert!(rt; end_at(alloc, "-\u{301}ab", 1, &[2, 3, 4]));
+}
+
+#[test]
+fn pieces_of_format_characters_and_of_nothing(rt: HostRuntime) {
+    let alloc = rt.alloc();
+    assert!(rt; end_at(alloc, "a\u{200B}b", 1, &[2, 3]));
+    assert!(rt; end_at(alloc, "\u{600} b", 1, &[2, 3]));
+    assert!(rt; end_at(alloc, "", 5, &[0]));
+    assert!(rt; end_at(alloc, "", 0, &[0]));
 }
 
 #[test]
 fn blanks_and_ends_of_lines_stay_with_their_piece(rt: HostRuntime) {
     let alloc = rt.alloc();
-    assert!(rt; end_at(alloc, "abcde\n", 5, &[6]).unwrap_or(false));
-    assert!(rt; end_at(alloc, "abcde \n", 5, &[7]).unwrap_or(false));
-    assert!(rt; end_at(alloc, "abcde\r\n", 5, &[5, 7]).unwrap_or(false));
-    assert!(rt; end_at(alloc, "aa     bb", 3, &[7, 9]).unwrap_or(false));
-    assert!(rt; end_at(alloc, "   ", 1, &[3]).unwrap_or(false));
-    assert!(rt; end_at(alloc, "\t\tx", 5, &[2, 3]).unwrap_or(false));
-    assert!(rt; end_at(alloc, "ab\tc", 4, &[3, 4]).unwrap_or(false));
-    assert!(rt; end_at(alloc, "xab\tc", 5, &[5]).unwrap_or(false));
-    assert!(rt; end_at(alloc, "\n", 5, &[1]).unwrap_or(false));
+    assert!(rt; end_at(alloc, "abcde\n", 5, &[6]));
+    assert!(rt; end_at(alloc, "abcde \n", 5, &[7]));
+    assert!(rt; end_at(alloc, "abcde\r\n", 5, &[5, 7]));
+    assert!(rt; end_at(alloc, "aa     bb", 3, &[7, 9]));
+}
+
+#[test]
+fn blanks_tabs_and_a_feed_alone(rt: HostRuntime) {
+    let alloc = rt.alloc();
+    assert!(rt; end_at(alloc, "   ", 1, &[3]));
+    assert!(rt; end_at(alloc, "\t\tx", 5, &[2, 3]));
+    assert!(rt; end_at(alloc, "ab\tc", 4, &[3, 4]));
+    assert!(rt; end_at(alloc, "xab\tc", 5, &[5]));
+    assert!(rt; end_at(alloc, "\n", 5, &[1]));
 }
