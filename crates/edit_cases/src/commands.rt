@@ -368,10 +368,20 @@ fn clicks_find_points_words_and_lines(rt: HostRuntime) {
     assert!(rt; clicks(alloc, "ab\r\ncd", 1, 2, 2, &[(4, 6)]));
     assert!(rt; clicks(alloc, "ab\r\ncd", 0, 1, 3, &[(0, 4)]));
     assert!(rt; clicks(alloc, "ab\r\ncd", 2, 0, 1, &[(6, 6)]));
+}
+
+#[test]
+fn clicks_find_wide_characters_and_words(rt: HostRuntime) {
+    let alloc = rt.alloc();
     assert!(rt; clicks(alloc, "中a", 0, 2, 1, &[(0, 0)]));
     assert!(rt; clicks(alloc, "中a", 0, 3, 1, &[(1, 1)]));
     assert!(rt; clicks(alloc, "a\n\nb", 1, 0, 2, &[(1, 3)]));
     assert!(rt; clicks(alloc, "a  bc", 0, 2, 2, &[(1, 3)]));
+}
+
+#[test]
+fn clicks_in_an_empty_text(rt: HostRuntime) {
+    let alloc = rt.alloc();
     assert!(rt; clicks(alloc, "", 0, 0, 2, &[(0, 0)]));
     assert!(rt; clicks(alloc, "", 3, 7, 3, &[(0, 0)]));
 }
@@ -394,6 +404,11 @@ fn gestures_move_regions(rt: HostRuntime) {
     assert!(rt; gestures(alloc, &[(4, 1), (5, 5)], 0, Touch::Range, &[(5, 0)]));
     assert!(rt; gestures(alloc, &[(1, 1), (5, 5)], 3, Touch::Range, &[(1, 1), (5, 3)]));
     assert!(rt; gestures(alloc, &[(1, 1)], 8, Touch::Toggle, &[(1, 1), (8, 8)]));
+}
+
+#[test]
+fn gestures_take_regions_away(rt: HostRuntime) {
+    let alloc = rt.alloc();
     assert!(rt;
         gestures(
             alloc,
@@ -422,13 +437,18 @@ fn starts_at(alloc: Global, line: u64, gap: u64) -> bool {
 }
 
 #[test]
-fn numbered_lines_and_the_whole_text(rt: HostRuntime) {
+fn numbered_lines_start_at_gaps(rt: HostRuntime) {
     let alloc = rt.alloc();
     assert!(rt; starts_at(alloc, 0, 0));
     assert!(rt; starts_at(alloc, 1, 4));
     assert!(rt; starts_at(alloc, 2, 7));
     assert!(rt; starts_at(alloc, 3, 8));
     assert!(rt; starts_at(alloc, 4, 9));
+}
+
+#[test]
+fn the_whole_text_and_a_caret(rt: HostRuntime) {
+    let alloc = rt.alloc();
     assert!(rt; leaves(alloc, LINES, &[(3, 5)], EditAct::SelectAll, &[(0, 9)]));
     assert!(rt;
         leaves(

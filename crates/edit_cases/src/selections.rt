@@ -66,12 +66,22 @@ fn a_region_joins_those_that_it_meets(rt: HostRuntime) {
     assert!(rt; come_to(alloc, &[(4, 6), (1, 2)], &[(1, 2), (4, 6)]));
     assert!(rt; come_to(alloc, &[(1, 2), (7, 7), (4, 5)], &[(1, 2), (4, 5), (7, 7)]));
     assert!(rt; come_to(alloc, &[(1, 2), (5, 4)], &[(1, 2), (5, 4)]));
+}
+
+#[test]
+fn regions_that_touch_are_one_where_one_is_a_caret(rt: HostRuntime) {
+    let alloc = rt.alloc();
     // Two that touch stay apart where none is a caret.
     assert!(rt; come_to(alloc, &[(3, 5), (3, 1)], &[(3, 1), (3, 5)]));
     assert!(rt; come_to(alloc, &[(1, 3), (3, 5)], &[(1, 3), (3, 5)]));
     assert!(rt; come_to(alloc, &[(1, 3), (3, 3)], &[(1, 3)]));
     assert!(rt; come_to(alloc, &[(5, 3), (3, 3)], &[(3, 5)]));
     assert!(rt; come_to(alloc, &[(2, 2), (2, 2)], &[(2, 2)]));
+}
+
+#[test]
+fn regions_that_overlap_are_one(rt: HostRuntime) {
+    let alloc = rt.alloc();
     // Those that overlap are one, forward where one of them is.
     assert!(rt; come_to(alloc, &[(1, 4), (6, 3)], &[(1, 6)]));
     assert!(rt; come_to(alloc, &[(4, 1), (6, 3)], &[(6, 1)]));
