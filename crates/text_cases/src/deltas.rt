@@ -292,6 +292,11 @@ fn misfits_come_in_their_order(rt: HostRuntime) {
     assert!(rt; is_misfit(alloc, "aé", 4, &[Copy(0, 9)], (1, 4)));
     assert!(rt; is_misfit(alloc, "aé", 3, &[Copy(0, 1), Copy(0, 3)], (2, 0)));
     assert!(rt; is_misfit(alloc, "aé", 3, &[Copy(2, 1)], (2, 2)));
+}
+
+#[test]
+fn offsets_past_the_end_are_misfits(rt: HostRuntime) {
+    let alloc = rt.alloc();
     assert!(rt; is_misfit(alloc, "aé", 3, &[Copy(0, 4)], (3, 4)));
     assert!(rt; is_misfit(alloc, "aé", 3, &[Copy(2, 4)], (3, 4)));
     assert!(rt;
@@ -311,6 +316,11 @@ fn offsets_inside_a_character_are_misfits(rt: HostRuntime) {
     assert!(rt; is_misfit(alloc, "aé", 3, &[Copy(0, 2)], (4, 2)));
     assert!(rt; is_misfit(alloc, "€", 3, &[Copy(1, 2)], (4, 1)));
     assert!(rt; is_misfit(alloc, "€", 3, &[Copy(0, 2)], (4, 2)));
+}
+
+#[test]
+fn offsets_inside_a_wide_character_are_misfits(rt: HostRuntime) {
+    let alloc = rt.alloc();
     assert!(rt; is_misfit(alloc, "a𝄞", 5, &[Copy(1, 2)], (4, 2)));
     assert!(rt; is_misfit(alloc, "a𝄞", 5, &[Copy(3, 5)], (4, 3)));
     assert!(rt; is_misfit(alloc, "a𝄞", 5, &[Copy(4, 4)], (4, 4)));
@@ -449,6 +459,11 @@ fn ties_go_by_after(rt: HostRuntime) {
     assert!(rt; go(alloc, (2, 0, 1), (2, 0, 1), true, &[(1, 2)]));
     assert!(rt; go(alloc, (2, 0, 1), (2, 0, 1), false, &[(0, 1)]));
     assert!(rt; go(alloc, (4, 1, 3), (3, 0, 1), true, &[(2, 4)]));
+}
+
+#[test]
+fn insertions_are_carried_together(rt: HostRuntime) {
+    let alloc = rt.alloc();
     assert!(rt; go(alloc, (4, 1, 3), (3, 1, 2), false, &[(1, 3)]));
     assert!(rt; go(alloc, (4, 1, 3), (3, 1, 2), true, &[(2, 4)]));
     assert!(rt; go(alloc, (2, 2, 2), (3, 2, 3), true, &[]));

@@ -30,6 +30,11 @@ fn matches_come_from_the_left_and_do_not_overlap(rt: HostRuntime) {
     assert!(rt; are_found(alloc, "aaa", "aa", false, &[run(0, 2)]));
     assert!(rt; are_found(alloc, "xab", "abc", false, &[]));
     assert!(rt; are_found(alloc, "aéé", "é", false, &[run(1, 2), run(2, 3)]));
+}
+
+#[test]
+fn matches_of_line_ends_marks_and_nothing(rt: HostRuntime) {
+    let alloc = rt.alloc();
     assert!(rt; are_found(alloc, "a\nb\n", "\n", false, &[run(1, 2), run(3, 4)]));
     assert!(rt; are_found(alloc, "ae\u{301}e", "\u{301}", false, &[run(2, 3)]));
     assert!(rt; are_found(alloc, "", "a", false, &[]));

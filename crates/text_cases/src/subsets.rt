@@ -19,6 +19,11 @@ fn the_first_range_at_fault_is_named(rt: HostRuntime) {
     assert!(rt; is_refused(alloc, &[(2, 1)], 0));
     assert!(rt; is_refused(alloc, &[(0, 6)], 0));
     assert!(rt; is_refused(alloc, &[(1, 3), (2, 4)], 1));
+}
+
+#[test]
+fn a_later_range_at_fault_is_named(rt: HostRuntime) {
+    let alloc = rt.alloc();
     assert!(rt; is_refused(alloc, &[(1, 3), (3, 4), (4, 6)], 2));
     assert!(rt; is_refused(alloc, &[(0, 1), (0, 0), (9, 8)], 1));
     assert!(rt; is_refused(alloc, &[(0, 0), (5, 5), (5, 5), (4, 5)], 3));
