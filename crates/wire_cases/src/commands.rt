@@ -61,6 +61,11 @@ fn lines_ask(rt: HostRuntime) {
     assert!(rt; asks(alloc, OPENING, Ok(Act::NewView { path: None })));
     assert!(rt; asks(alloc, NULL_PATH, Ok(Act::NewView { path: None })));
     assert!(rt; asks(alloc, "{\"method\":\"undo\"}", no_method(alloc, "undo")));
+}
+
+#[test]
+fn lines_that_ask_nothing(rt: HostRuntime) {
+    let alloc = rt.alloc();
     assert!(rt; asks(alloc, "{\"method\":\"debug_\"}", Ok(Act::Nothing)));
     assert!(rt; asks(alloc, "{nope\n", Ok(Act::Bad(Fault::Parse))));
     assert!(rt; asks(alloc, "[]\n", Ok(Act::Bad(Fault::Invalid))));
@@ -139,6 +144,11 @@ fn edits_are_read_by_the_table(rt: HostRuntime) {
             FIND
         )
     );
+}
+
+#[test]
+fn other_edits_are_read_by_the_table(rt: HostRuntime) {
+    let alloc = rt.alloc();
     assert!(rt;
         edits(
             alloc,
@@ -171,6 +181,11 @@ fn first_bad_member_is_named(rt: HostRuntime) {
     assert!(rt; names(alloc, "scroll", "[5,2]", "1"));
     assert!(rt; names(alloc, "scroll", "{\"0\":1,\"1\":2}", "0"));
     assert!(rt; names(alloc, "drag", "[0,1099511627777,null]", "1"));
+}
+
+#[test]
+fn first_bad_named_member_is_named(rt: HostRuntime) {
+    let alloc = rt.alloc();
     assert!(rt;
         names(
             alloc,

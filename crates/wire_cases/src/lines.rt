@@ -34,20 +34,40 @@ fn comes_to(alloc: Global, line: &[u8], expected: &str) -> bool {
 }
 
 #[test]
-fn a_line_is_refused(rt: HostRuntime) {
+fn a_line_that_is_no_json_is_refused(rt: HostRuntime) {
     let alloc = rt.alloc();
     assert!(rt; comes_to(alloc, b"{nope", "Parse"));
     assert!(rt; comes_to(alloc, b"", "Parse"));
     assert!(rt; comes_to(alloc, b"{\"method\":\"a\"}{\"method\":\"b\"}", "Parse"));
+}
+
+#[test]
+fn characters_that_json_does_not_take_are_refused(rt: HostRuntime) {
+    let alloc = rt.alloc();
     assert!(rt; comes_to(alloc, b"\xef\xbb\xbf{\"method\":\"a\"}", "Parse"));
     assert!(rt; comes_to(alloc, b"{\"method\":\"\xff\"}", "Parse"));
     assert!(rt; comes_to(alloc, b"{\"method\":\"\\ud800\"}", "Parse"));
     assert!(rt; comes_to(alloc, b"{\"method\":\"a\x01\"}", "Parse"));
+}
+
+#[test]
+fn a_number_that_is_none_is_refused(rt: HostRuntime) {
+    let alloc = rt.alloc();
     assert!(rt; comes_to(alloc, b"{\"id\":1e400,\"method\":\"a\"}", "Parse"));
     assert!(rt; comes_to(alloc, b"{\"id\":01,\"method\":\"a\"}", "Parse"));
+}
+
+#[test]
+fn a_line_that_is_no_request_is_refused(rt: HostRuntime) {
+    let alloc = rt.alloc();
     assert!(rt; comes_to(alloc, b"[]", "Invalid"));
     assert!(rt; comes_to(alloc, b"{\"id\":1}", "Invalid"));
     assert!(rt; comes_to(alloc, b"{\"method\":7}", "Invalid"));
+}
+
+#[test]
+fn an_id_that_is_none_is_refused(rt: HostRuntime) {
+    let alloc = rt.alloc();
     assert!(rt; comes_to(alloc, b"{\"id\":1.5,\"method\":\"a\"}", "Invalid"));
     assert!(rt; comes_to(alloc, b"{\"id\":null,\"method\":\"a\"}", "Invalid"));
     assert!(rt; comes_to(alloc, b"{\"id\":-0,\"method\":\"a\"}", "Invalid"));

@@ -36,6 +36,10 @@ fn text_that_is_no_table_is_refused_at_its_first_fault(rt: HostRuntime) {
     assert!(rt; is_refused("a b", Some(BadCase(1))));
     assert!(rt; is_refused("a a ", Some(BadCase(1))));
     assert!(rt; is_refused("a  b ", Some(BadCase(1))));
+}
+
+#[test]
+fn text_that_begins_with_no_name_is_refused(rt: HostRuntime) {
     assert!(rt; is_refused("", Some(BadCase(0))));
     assert!(rt; is_refused(" a ", None));
     assert!(rt; is_refused("a \u{e9} ", None));
