@@ -11,7 +11,7 @@ use Rattle.xi_plain.specs.declared.entry.Entry.{Entry}
 use Rattle.doc_session.specs.declared.event.Event.TheVariants.{Config as Configured, Front, Other}
 use Rattle.doc_session.specs.Step.{EventStep, event_step, refusal_at}
 use Rattle.doc_session.proofs.ForCallers.{config-event_step}
-use Rattle.core_session.specs.Session.{OpenView, Session, first_document, first_session, changed, config_after, config_step, edit_came, edit_outcome, named_view, open_outcome, other_step, outcome, own_step, session_after, spent_total, step, stepped, undone_outcome, view_of}
+use Rattle.core_session.specs.Session.{OpenView, Session, first_document, first_session, config_with, config_after, config_step, edit_came, edit_outcome, named_view, open_outcome, other_step, outcome, own_step, session_after, spent_total, step, stepped, undone_outcome, view_of}
 use Rattle.core_session.specs.Laws.{AllAreConfigured}
 
 -- these views are laid out and edited so
@@ -89,7 +89,7 @@ configured_outcome session (Save name path) all = configured_undone session.conf
 configured_outcome session Closing all = all
 configured_outcome session (NewView path) all = configured_open session.config session.views path all
 configured_outcome session (Configure changes) all =
-    let next = changed session.config changes in
+    let next = config_with session.config changes in
     configured_steps session.config next (config_step next) session.views (λ view at. config-event_step view.document (Configured next)) all
 configured_outcome session act all = configured_others session.config session.views all
 

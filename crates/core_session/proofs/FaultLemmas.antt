@@ -2,33 +2,36 @@
 use Rattle.std.proofs.Common.{◌≡◌, ◌≢◌, Option, refl, subst}
 use Rattle.std.proofs.Math.Logic.{∥∥₁_elim}
 use Rattle.xi_plain.specs.declared.command.EditAct.{EditAct}
-use Rattle.plain_edits.specs.Edits.{Refusal}
-use Rattle.plain_edits.specs.declared.fault.EditFault.TheVariants as Edit
 use Rattle.doc_session.specs.InMemory.{Doc}
 use Rattle.doc_session.specs.declared.event.Event.TheVariants.{Front}
 use Rattle.doc_session.specs.declared.fault.DocFault.{DocFault}
-use Rattle.doc_session.specs.declared.fault.DocFault.TheVariants.{Unknown, Collected, Misfit, Spent, NoMemory}
+use Rattle.doc_session.specs.declared.fault.DocFault.TheVariants.{Unknown, Collected, Misfit, Spent, BadParams, NoMemory}
 use Rattle.doc_session.specs.Document.{Document}
 use Rattle.doc_session.specs.Fault.{DocRefuses}
 use Rattle.doc_session.specs.Laws.{IsSpentIfAny}
+use Rattle.doc_session.specs.Refusal.{DocRefusal}
 use Rattle.doc_session.specs.Stands.{DocStandsFor}
 use Rattle.doc_session.specs.Step.{refusal_at}
 use Rattle.doc_session.proofs.ForCallers.{command_fits}
 use Rattle.core_session.specs.Inner.{IsSpentOrLack}
 
 -- no refusal is one for characters spent but that one
-spent_fault : (refusal : Option Refusal) (fault : DocFault) → IsSpentIfAny refusal → DocRefuses refusal fault → IsSpentOrLack fault
+spent_fault : (refusal : Option DocRefusal) (fault : DocFault) → IsSpentIfAny refusal → DocRefuses refusal fault → IsSpentOrLack fault
 spent_fault refusal (Unknown head) alone refuses = subst IsSpentIfAny (refuses other) alone
   where
-    other : Edit.Unknown head ≢ Edit.NoMemory
+    other : Unknown head ≢ NoMemory
     other is = cc
 spent_fault refusal (Collected floor) alone refuses = subst IsSpentIfAny (refuses other) alone
   where
-    other : Edit.Collected floor ≢ Edit.NoMemory
+    other : Collected floor ≢ NoMemory
     other is = cc
 spent_fault refusal (Misfit first) alone refuses = subst IsSpentIfAny (refuses other) alone
   where
-    other : Edit.Misfit first ≢ Edit.NoMemory
+    other : Misfit first ≢ NoMemory
+    other is = cc
+spent_fault refusal (BadParams member) alone refuses = subst IsSpentIfAny (refuses other) alone
+  where
+    other : BadParams member ≢ NoMemory
     other is = cc
 spent_fault refusal (Spent total) alone refuses = tt
 spent_fault refusal NoMemory alone refuses = tt
@@ -37,6 +40,7 @@ prop : (fault : DocFault) (p q : IsSpentOrLack fault) → p ≡ q
 prop (Unknown head) p q = absurd p
 prop (Collected floor) p q = absurd p
 prop (Misfit first) p q = absurd p
+prop (BadParams member) p q = absurd p
 prop (Spent total) p q = refl
 prop NoMemory p q = refl
 

@@ -17,7 +17,7 @@ use Rattle.doc_session.specs.Step.{AreEffectsOf, event_step, refusal_at}
 use Rattle.core_session.specs.declared.act.ActEffects.{ActEffects}
 use Rattle.core_session.specs.Answer.{Reply, answers}
 use Rattle.core_session.specs.Session.{Session, config_after, view_id, outcome, update_notes, scroll_notes, updates_for, scroll_for}
-use Rattle.core_session.specs.Inner.{IsMade, IsOutcome, IsPrepared, AreLinesOf, UpdatesReadBack, reply_of}
+use Rattle.core_session.specs.Inner.{IsDone, IsMade, IsOutcome, IsPrepared, AreLinesOf, UpdatesReadBack, reply_of}
 
 -- an event of a document in which no plugin has a session
 pub IsMade-after : (old : Doc) (event : Event) (result : Result (Doc × Effects) DocFault) → length old.sessions ≡ 0 →
@@ -35,14 +35,13 @@ IsMade-after old event (Ok made) none stands effects accepted refused kept = rec
   refused = refused;
 }
 
--- a command, by what its act came to, by the lines of that, and by the configuration after it
-pub IsPrepared-by : (before : Option Doc) (session : Session) (command : Command) (effects : ActEffects) (piece : List ℕ) (config : Config) →
-    IsOutcome before (outcome session command.act) effects → config ≡ config_after session.config command.act → 0 < config.tab →
-    UpdatesReadBack (updates_for view_id effects.update) →
+-- a command, by what its act came to and by the lines of that
+pub IsDone-by : (before : Option Doc) (session : Session) (command : Command) (effects : ActEffects) (piece : List ℕ) →
+    IsOutcome before (outcome session command.act) effects → UpdatesReadBack (updates_for view_id effects.update) →
     AreLinesOf (answers command.id (reply_of effects.reply) ++
     (update_notes (updates_for view_id effects.update) ++ scroll_notes (scroll_for view_id (option_map position_view effects.scroll)))) (encode_utf8_all piece) →
-    IsPrepared before session (record { command = command; piece = piece; next = effects.next; config = config })
-IsPrepared-by before session command effects piece config is next tab reads lines =
+    IsDone before session command piece effects.next
+IsDone-by before session command effects piece is reads lines =
     let At : Reply → List ViewUpdate → Option Scroll → Type 0 =
     λ reply updates scroll. AreLinesOf (answers command.id reply ++ (update_notes updates ++ scroll_notes scroll)) (encode_utf8_all piece) in
     let done = outcome session command.act in
@@ -53,5 +52,15 @@ IsPrepared-by before session command effects piece config is next tab reads line
     record {
       lines = subst (λ scroll. At done.reply done.updates scroll) is.scroll by_updates;
       reads_back = subst UpdatesReadBack is.updates reads;
-      stands = record { views = is.stands; config = next; tab = tab };
+      stands = is.stands;
     }
+
+-- the same with the configuration after it
+pub IsPrepared-by : (before : Option Doc) (session : Session) (command : Command) (piece : List ℕ) (next : Option Doc) (config : Config) →
+    IsDone before session command piece next → config ≡ config_after session.config command.act → 0 < config.tab →
+    IsPrepared before session (record { command = command; piece = piece; next = next; config = config })
+IsPrepared-by before session command piece next config done is tab = record {
+  lines = done.lines;
+  reads_back = done.reads_back;
+  stands = record { views = done.stands; config = is; tab = tab };
+}

@@ -22,10 +22,11 @@ use Rattle.doc_session.specs.Document.{Document, layout_of, no_request}
 use Rattle.doc_session.specs.ScreenOf.{IsScreenOf, IsUpToDate}
 use Rattle.doc_session.specs.Collecting.{collected_document, collection_after, with_collection}
 use Rattle.doc_session.specs.Effects.{ops_of, settled, update_after, update_of, updated, wants_update}
-use Rattle.doc_session.specs.Step.{EventStep, event_step, act_step, configured_document, going_on, refusal_at, request_of}
+use Rattle.doc_session.specs.Refusal.{edit_refused}
+use Rattle.doc_session.specs.Step.{EventStep, event_step, act_step, command_refusal, configured_document, effect_on, going_on, refusal_at, request_of}
 use Rattle.doc_session.proofs.ForCallers.{by_front, IsScreenOf-shown, request_of-refused}
 use Rattle.core_session.specs.Answer.{Reply, spent}
-use Rattle.core_session.specs.Session.{OpenView, Session, first_session, view_of, named_view, views_of, Outcome, outcome, changed, config_step, taking, leaving, keeping, open_outcome, opening_outcome, first_view, other_step, own_step, edit_came, edit_outcome, undone_outcome, spent_total, step, session_after}
+use Rattle.core_session.specs.Session.{OpenView, Session, first_session, view_of, named_view, views_of, Outcome, outcome, config_with, config_step, taking, leaving, keeping, open_outcome, opening_outcome, first_view, other_step, own_step, edit_came, edit_outcome, undone_outcome, spent_total, step, session_after}
 use Rattle.core_session.specs.Shows.{SendsWithin, requested}
 use Rattle.core_session.proofs.PlanLemmas.{sends-plan_from}
 use Rattle.core_session.proofs.ScreenLemmas.{IsUpToDate-kept}
@@ -170,8 +171,8 @@ none_both act name none id = by (bytes_eq (encode_utf8_all name) id)
     by false = refl
 
 -- an edit whose characters would be spent requests nothing
-spent_none : (document : Document) (act : EditAct) (refusal : Option Refusal) (total : ℕ) → refusal_at document (Front act) ≡ refusal →
-    spent_total refusal ≡ Some total → request_of act ≡ no_request
+spent_none : (document : Document) (act : EditAct) (refusal : Option Refusal) (total : ℕ) → command_refusal document (effect_on document act) ≡ refusal →
+    spent_total (edit_refused refusal) ≡ Some total → request_of act ≡ no_request
 spent_none document act (Some refusal) total is all = request_of-refused document act refusal is
 spent_none document act None total is all = absurd cc
 
@@ -208,7 +209,7 @@ module _ (P : (List ℕ → Run) → List OpenView → Outcome → Type 0)
       P (requested (Edit name act)) views (edit_came views own total (event_step own.document (Front act)))
   came views name own (Some total) act first found is =
       still (requested (Edit name act)) views spent first
-      (nothing_requested (requested (Edit name act)) views (none_both act name (spent_none own.document act (refusal_at own.document (Front act)) total refl is)))
+      (nothing_requested (requested (Edit name act)) views (none_both act name (spent_none own.document act (command_refusal own.document (effect_on own.document act)) total refl is)))
   came views name own None act first found is =
       let At : Run → Type 0 = λ request. KeepsStep request own.document (event_step own.document (Front act)) in
       steps (requested (Edit name act)) views _ _ (own_step own (event_step own.document (Front act))) first
@@ -243,7 +244,7 @@ module _ (P : (List ℕ → Run) → List OpenView → Outcome → Type 0)
   by_outcome session Closing first = leaves (requested Closing) session.views (none Closing session.views (λ id. refl))
   by_outcome session (NewView path) first = opened session.config session.views path first
   by_outcome session (Configure changes) first =
-      let next = changed session.config changes in
+      let next = config_with session.config changes in
       steps (requested (Configure changes)) session.views _ _ (config_step next) first
       (keep_each (requested (Configure changes)) (config_step next) session.views (λ view. keeps_config next view.document)
       (none (Configure changes) session.views (λ id. refl)))

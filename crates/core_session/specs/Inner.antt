@@ -1,6 +1,7 @@
 -- What private functions say: what an act and a command come to in memory.
 use Rattle.std.specs.Prelude.{◌≡◌, ℕ, ◌^◌, ◌-◌, ◌<◌, List, length, Option, Some, None, Result, IfOk, IfErr, ⊤, option_map}
 use Rattle.std.specs.List.{AllByRecursion}
+use Rattle.std.specs.Option.{option_or}
 use Rattle.std.specs.Str.{encode_utf8_all}
 use Rattle.serde_json.specs.Data.{Data, null}
 use Rattle.plain_edits.specs.History.{head}
@@ -11,9 +12,10 @@ use Rattle.doc_session.specs.InMemory.{Doc}
 use Rattle.doc_session.specs.Document.{Document}
 use Rattle.doc_session.specs.Stands.{DocStandsFor}
 use Rattle.core_session.specs.declared.session.Prepared.{Prepared}
+use Rattle.xi_plain.specs.declared.command.Command.{Command}
 use Rattle.core_session.specs.Session.{Session, view_id, outcome, messages, lines_written, step, updates_for, scroll_for, Outcome}
 use Rattle.doc_session.specs.Fault.{DocRefuses}
-use Rattle.doc_session.specs.Step.{AreEffectsOf, event_step, refusal_at}
+use Rattle.doc_session.specs.Step.{AreEffectsOf, EventStep, event_step, refusal_at}
 use Rattle.doc_session.specs.declared.event.Effects.{Effects}
 use Rattle.doc_session.specs.declared.event.Event.{Event}
 use Rattle.json_rpc.specs.Response.{text_data}
@@ -50,8 +52,7 @@ UpdatesReadBack updates = AllByRecursion ReadsBack updates
 
 -- the document that is in place then: the next one, where there is one
 abbrev pub document_then : Option Doc → Option Doc → Option Doc
-document_then None before = before
-document_then (Some next) before = Some next
+document_then next before = option_or next before
 
 -- what an event of the front end alone makes of a document: the one that its step gives and what is told of it, or the event is refused
 pub record IsMade (old : Doc) (event : Event) (result : Result (Doc × Effects) DocFault) : Type 0 where
@@ -60,7 +61,13 @@ pub record IsMade (old : Doc) (event : Event) (result : Result (Doc × Effects) 
   pub accepted : (plain : Document) → DocStandsFor old plain → IfOk result (λ _. refusal_at plain event ≡ None)
   pub refused : (plain : Document) → DocStandsFor old plain → IfErr result (DocRefuses (refusal_at plain event))
 
--- what a command comes to, before it is an entry: its piece, its document and the configuration
+-- what a command comes to: the lines of its piece, whose updates read back, and the document of the views after it
+pub record IsDone (before : Option Doc) (session : Session) (command : Command) (piece : List ℕ) (next : Option Doc) : Type 0 where
+  pub lines : AreLinesOf (messages session command) (encode_utf8_all piece)
+  pub reads_back : UpdatesReadBack (outcome session command.act).updates
+  pub stands : Stands (document_then next before) (outcome session command.act).views
+
+-- the same before it is an entry, and the configuration after it
 pub record IsPrepared (before : Option Doc) (session : Session) (made : Prepared) : Type 0 where
   pub lines : AreLinesOf (messages session made.command) (encode_utf8_all made.piece)
   pub reads_back : UpdatesReadBack (outcome session made.command.act).updates
@@ -83,10 +90,23 @@ pub record IsOutcome (before : Option Doc) (outcome : Outcome) (effects : ActEff
   pub scroll : scroll_for view_id (option_map position_view effects.scroll) ≡ outcome.scroll
   pub stands : Stands (document_then effects.next before) outcome.views
 
+-- there is a document in memory, it stands for this one, and no plugin has a session in it
+abbrev pub Serves : Option Doc → Document → Type 0
+Serves None plain = ⊥
+Serves (Some doc) plain = ServesDocument doc plain
+
+-- what came of an event that was taken, with this answer: the document of its step, and what this tells the front end
+pub record IsTaken (step : EventStep) (answer : ReplyInMemory) (effects : ActEffects) : Type 0 where
+  pub reply : effects.reply ≡ answer
+  pub next : Serves effects.next step.document
+  pub update : effects.update ≡ step.update
+  pub scroll : option_map position_view effects.scroll ≡ step.scroll
+
 -- a fault of the front end's own edit: its characters are spent, or memory is wanting
 abbrev pub IsSpentOrLack : DocFault → Type 0
 IsSpentOrLack (Fault.Unknown head) = ⊥
 IsSpentOrLack (Fault.Collected floor) = ⊥
 IsSpentOrLack (Fault.Misfit first) = ⊥
 IsSpentOrLack (Fault.Spent total) = ⊤
+IsSpentOrLack (Fault.BadParams member) = ⊥
 IsSpentOrLack Fault.NoMemory = ⊤

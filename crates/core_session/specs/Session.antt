@@ -14,7 +14,7 @@ use Rattle.xi_plain.specs.declared.config.Changes.{Changes}
 use Rattle.xi_plain.specs.declared.config.Config.{Config}
 use Rattle.xi_plain.specs.declared.entry.Entry.{Entry}
 use Rattle.plain_screen.specs.declared.screen.Update.{Update}
-use Rattle.plain_edits.specs.Edits.{Refusal, spent as spent_by}
+use Rattle.plain_edits.specs.Edits.{spent as spent_by}
 use Rattle.doc_session.specs.Layout.{Position}
 use Rattle.json_rpc.specs.Line.{line_of}
 use Rattle.json_rpc.specs.Response.{text_data}
@@ -23,6 +23,7 @@ use Rattle.view_update.specs.Notes.{scroll_data}
 use Rattle.view_update.specs.Reading.{ViewUpdate, Scroll}
 use Rattle.doc_session.specs.declared.event.Event.TheVariants.{Config as Configured, Front, Other}
 use Rattle.doc_session.specs.Document.{Document, loaded_document}
+use Rattle.doc_session.specs.Refusal.{DocRefusal, of_edit}
 use Rattle.doc_session.specs.Step.{EventStep, event_step, refusal_at}
 use Rattle.core_session.specs.Answer.{Reply, accepted, refused, result_of, spent, not_built, silent, answers}
 
@@ -123,8 +124,8 @@ abbrev pub first_session : Session
 first_session = record { config = first_config; views = [] }
 
 -- the configuration after a change: a member of which nothing is said stays
-abbrev pub changed : Config → Changes → Config
-changed config changes = record {
+abbrev pub config_with : Config → Changes → Config
+config_with config changes = record {
   tab = unwrap_or changes.tab config.tab;
   width = unwrap_or changes.width config.width;
   spaces = unwrap_or changes.spaces config.spaces;
@@ -132,7 +133,7 @@ changed config changes = record {
 
 -- that of a session after an act
 abbrev pub config_after : Config → Act → Config
-config_after config (Configure changes) = changed config changes
+config_after config (Configure changes) = config_with config changes
 config_after config act = config
 
 -- the document of the first view, on an empty text, without plugins
@@ -156,8 +157,8 @@ abbrev pub config_outcome : List OpenView → Config → Outcome
 config_outcome views config = taking (accepted null) None (config_step config) views
 
 -- the characters that would be spent in all, where an edit is refused for that
-abbrev pub spent_total : Option Refusal → Option ℕ
-spent_total (Some (spent_by total)) = Some total
+abbrev pub spent_total : Option DocRefusal → Option ℕ
+spent_total (Some (of_edit (spent_by total))) = Some total
 spent_total refusal = None
 
 -- an edit of the front end in a view, where its characters would be spent or not: it is the view's own step, and answered as that says,
@@ -190,7 +191,7 @@ open_outcome config views path = keeping views not_built
 abbrev pub outcome : Session → Act → Outcome
 outcome session (Bad fault) = refusing session.views fault
 outcome session Nothing = keeping session.views (accepted null)
-outcome session (Configure changes) = config_outcome session.views (changed session.config changes)
+outcome session (Configure changes) = config_outcome session.views (config_with session.config changes)
 outcome session (NewView path) = open_outcome session.config session.views path
 outcome session (CloseView name) = undone_outcome session.views (named_view session.views name)
 outcome session (Save name path) = undone_outcome session.views (named_view session.views name)

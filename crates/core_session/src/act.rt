@@ -1,12 +1,13 @@
 ghost use Rattle.std.specs.Prelude.{◌≡◌, ◌<◌, List, [], ◌∷◌, Option, Some, None, IfOk};
 ghost use Rattle.std.specs.Str.{encode_utf8_all, bytes_eq};
-ghost use Rattle.plain_edits.specs.Edits.{Refusal};
 ghost use Rattle.xi_plain.specs.declared.command.Act.{Act};
+ghost use Rattle.doc_session.specs.Document.{Document};
 ghost use Rattle.doc_session.specs.Fault.{DocRefuses};
-ghost use Rattle.doc_session.specs.InMemory.{Doc};
-ghost use Rattle.doc_session.specs.Step.{EventStep, MayCome};
+ghost use Rattle.doc_session.specs.Refusal.{DocRefusal};
+ghost use Rattle.doc_session.specs.Stands.{DocStandsFor};
+ghost use Rattle.doc_session.specs.Step.{EventStep, MayCome, event_step};
 ghost use Rattle.core_session.specs.Core.{ServesView, Stands};
-ghost use Rattle.core_session.specs.Inner.{IsMade, IsOutcome, IsSpentOrLack, MayBeAsked, TakesEvents, reply_of};
+ghost use Rattle.core_session.specs.Inner.{IsMade, IsOutcome, IsSpentOrLack, IsTaken, MayBeAsked, TakesEvents, reply_of};
 ghost use Rattle.core_session.specs.Answer.{accepted, result_of};
 ghost use Rattle.core_session.specs.Session.{OpenView, Session, config_after, config_outcome, view_id, named_view, outcome, edit_came, edit_outcome, undone_outcome, open_outcome, front_outcome, keeping, refusing, refusing_view, spent_total};
 
@@ -89,21 +90,8 @@ fn configure(alloc: Global, document: &Option<Doc>, config: Config) -> Result<Ac
         → IfOk result (IsOutcome document.now (config_outcome views config)) }
 {
     match document {
-        Some(doc) => configure_document(alloc, doc, config),
+        Some(doc) => step(alloc, doc, Event::Config(config), Reply::Accepted),
         None => Ok(changed_nothing(Reply::Accepted)),
-    }
-}
-
-/// The same, where there is a document.
-fn configure_document(alloc: Global, doc: &Doc, config: Config) -> Result<ActEffects, NoMemory>
-    requires asked { MayBeAsked (Some doc.now) }
-    requires tab { 0 < config.tab }
-    ensures { (view : OpenView) → ServesView doc.now view
-        → IfOk result (IsOutcome (Some doc.now) (config_outcome (view ∷ []) config)) }
-{
-    match after_alone(alloc, doc, Event::Config(config)) {
-        Ok((next, effects)) => Ok(taken(Reply::Accepted, next, effects)),
-        Err(_) => Err(NoMemory),
     }
 }
 
@@ -114,18 +102,18 @@ fn others(alloc: Global, document: &Option<Doc>, reply: Reply) -> Result<ActEffe
         → IfOk result (IsOutcome document.now (keeping views (reply_of reply))) }
 {
     match document {
-        Some(doc) => other(alloc, doc, reply),
+        Some(doc) => step(alloc, doc, Event::Other, reply),
         None => Ok(changed_nothing(reply)),
     }
 }
 
-/// The same, where there is a document.
-fn other(alloc: Global, doc: &Doc, reply: Reply) -> Result<ActEffects, NoMemory>
-    requires { MayBeAsked (Some doc.now) }
-    ensures { (view : OpenView) → ServesView doc.now view
-        → IfOk result (IsOutcome (Some doc.now) (keeping (view ∷ []) (reply_of reply))) }
+/// The step of a document at an event that it never refuses, answered so.
+fn step(alloc: Global, doc: &Doc, event: Event, reply: Reply) -> Result<ActEffects, NoMemory>
+    requires alone { TakesEvents doc.now }
+    requires event { MayCome 0 event }
+    ensures { (plain : Document) → DocStandsFor doc.now plain → IfOk result (IsTaken (event_step plain event) reply) }
 {
-    match after_alone(alloc, doc, Event::Other) {
+    match after_alone(alloc, doc, event) {
         Ok((next, effects)) => Ok(taken(reply, next, effects)),
         Err(_) => Err(NoMemory),
     }
@@ -167,7 +155,7 @@ fn undone(alloc: Global, document: &Option<Doc>, name: &Text) -> Result<ActEffec
         → IfOk result (IsOutcome document.now (undone_outcome views (named_view views name.now))) }
 {
     match document {
-        Some(doc) if is_first_view(name) => other(alloc, doc, Reply::NotBuilt),
+        Some(_) if is_first_view(name) => others(alloc, document, Reply::NotBuilt),
         _ => refused_view(alloc, document),
     }
 }
@@ -187,10 +175,9 @@ fn open(
         return others(alloc, document, Reply::NotBuilt);
     }
     let doc = Doc::of_text(alloc, Text::new(alloc), 0, TEXT_LIMIT, config)?;
-    match after_alone(alloc, &doc, Event::Other) {
-        Ok((next, effects)) => Ok(taken(Reply::Opened, next, effects)),
-        Err(_) => Err(NoMemory),
-    }
+    let opened = step(alloc, &doc, Event::Other, Reply::Opened);
+    drop(doc);
+    opened
 }
 
 fn edit(
@@ -227,18 +214,21 @@ fn edit_document(alloc: Global, doc: &Doc, act: &EditAct) -> Result<ActEffects, 
     }
 }
 
-/// What the fault of an edit comes to. The front end's edits are against the head, and their deltas fit.
+/// What the fault of an edit comes to. The front end's edits are against the head, and their deltas fit; it gives no styles.
 fn not_edited(alloc: Global, doc: &Doc, fault: DocFault) -> Result<ActEffects, NoMemory>
     requires fault { IsSpentOrLack fault }
     requires asked { MayBeAsked (Some doc.now) }
-    ensures { (view : OpenView) (refusal : Option Refusal) (step : EventStep)
+    ensures { (view : OpenView) (refusal : Option DocRefusal) (step : EventStep)
         → ServesView doc.now view → DocRefuses refusal fault
         → IfOk result (IsOutcome (Some doc.now) (edit_came (view ∷ []) view (spent_total refusal) step)) }
 {
     match fault {
-        DocFault::Spent(_) => other(alloc, doc, Reply::Spent),
+        DocFault::Spent(_) => step(alloc, doc, Event::Other, Reply::Spent),
         DocFault::NoMemory => Err(NoMemory),
-        DocFault::Unknown(_) | DocFault::Collected(_) | DocFault::Misfit(_) => unreachable!(),
+        DocFault::Unknown(_)
+        | DocFault::Collected(_)
+        | DocFault::Misfit(_)
+        | DocFault::BadParams(_) => unreachable!(),
     }
 }
 
@@ -246,11 +236,12 @@ fn taken(reply: Reply, next: Doc, effects: Effects) -> ActEffects
     ensures { result ≡ record { reply = reply; next = Some next; update = effects.update; scroll = effects.scroll } }
 {
     let Effects {
-        body: _,
+        body,
         update,
         scroll,
-        notice: _,
+        notice,
     } = effects;
+    drop((body, notice));
     ActEffects {
         reply,
         next: Some(next),
@@ -270,8 +261,9 @@ fn edited(next: Doc, effects: Effects) -> ActEffects
         body,
         update,
         scroll,
-        notice: _,
+        notice,
     } = effects;
+    drop(notice);
     ActEffects {
         reply: answer_of(body),
         next: Some(next),

@@ -1,6 +1,6 @@
 ghost use Rattle.std.specs.Prelude.{◌≡◌, ◌<◌};
 ghost use Rattle.front_wire.specs.Fair.{AreFairChanges, IsFairAct};
-ghost use Rattle.core_session.specs.Session.{changed, config_after};
+ghost use Rattle.core_session.specs.Session.{config_with, config_after};
 
 use xi_plain::{Act, Changes, Config};
 
@@ -19,15 +19,15 @@ pub fn config_after(config: Config, act: &Act) -> Config
     ensures tab { 0 < result.tab }
 {
     match act {
-        Act::Configure(changes) => changed(config, *changes),
+        Act::Configure(changes) => config_with(config, *changes),
         _ => config,
     }
 }
 
-fn changed(config: Config, changes: Changes) -> Config
+fn config_with(config: Config, changes: Changes) -> Config
     requires tab { 0 < config.tab }
     requires fair { AreFairChanges changes }
-    ensures is { result ≡ changed config changes }
+    ensures is { result ≡ config_with config changes }
     ensures tab { 0 < result.tab }
 {
     Config {

@@ -8,6 +8,7 @@
 mod act;
 mod config;
 pub mod laws;
+mod made;
 mod piece;
 mod prepare;
 pub mod rows;

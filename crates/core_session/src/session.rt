@@ -4,10 +4,10 @@ ghost use Rattle.outside.specs.Sink.{sink_state};
 ghost use Rattle.xi_plain.specs.declared.command.Command.{Command};
 ghost use Rattle.xi_plain.specs.declared.entry.ShelfNote.TheVariants.{NoCall};
 ghost use Rattle.xi_plain.specs.Journal.{closing_entry};
-ghost use Rattle.core_session.specs.Inner.{document_then};
 ghost use Rattle.front_wire.specs.Front.{command_of};
 
 use crate::config::FIRST_CONFIG;
+use crate::made::put;
 use crate::prepare::prepare;
 use crate::write::write_piece;
 use doc_session::Doc;
@@ -28,7 +28,6 @@ pub enum Entered {
 }
 
 /// What a line comes to, before it is an entry.
-#[derive(Drop)]
 pub struct Prepared {
     pub command: Command,
     pub piece: Text,
@@ -82,13 +81,13 @@ impl<K: Sink> Core<K> {
             → (result ≡ Entered.Taken) ⊎ (result ≡ Entered.NoMemory) }
         ensures dropped { result ≢ Entered.Taken → HasSessionAfter self.new (journal_of self.old) }
     {
-        let Ok(made) = prepare(alloc, &self.document, self.config, line) else {
-            return Entered::NoMemory;
-        };
         if self.journal.reserve(2).is_err() {
             return Entered::NoMemory;
         }
-        self.put(made)
+        match prepare(alloc, &self.document, self.config, line) {
+            Ok(made) => self.put(made),
+            Err(_) => Entered::NoMemory,
+        }
     }
 
     /// Writes the piece, makes the entry, and puts document and configuration in their places last. A broken write drops them.
@@ -115,9 +114,10 @@ impl<K: Sink> Core<K> {
         let sent = taken == bytes.len();
         self.journal.push_reserved(front_entry(command, sent));
         if !sent {
+            drop(next);
             return Entered::SinkFault;
         }
-        put_document(&mut self.document, next);
+        put(&mut self.document, next);
         self.config = config;
         Entered::Taken
     }
@@ -138,19 +138,12 @@ impl<K: Sink> Core<K> {
     {
         let Core {
             journal,
-            document: _,
+            document,
             config: _,
             sink,
         } = self;
+        drop(document);
         (journal, sink)
-    }
-}
-
-fn put_document(document: &mut Option<Doc>, next: Option<Doc>)
-    ensures { document.new ≡ document_then next document.old }
-{
-    if next.is_some() {
-        *document = next;
     }
 }
 

@@ -8,6 +8,7 @@ use Rattle.plain_text.specs.declared.selection.Region.{Region}
 use Rattle.plain_text.specs.Numbers.{has}
 use Rattle.plain_text.specs.Text.{place_of}
 use Rattle.plain_text.proofs.callers.PlaceLemmas.{place_of-rises_strictly}
+use Rattle.plain_edits.specs.Styles.{Layer}
 use Rattle.plain_screen.specs.declared.piece.Piece.{Piece}
 use Rattle.plain_screen.specs.declared.screen.Line.{Line}
 use Rattle.plain_screen.specs.View.{ArePieces, layout_line_of}
@@ -18,21 +19,21 @@ use Rattle.doc_layout.specs.Layout.{layout, layout_line}
 
 -- ---- the text
 
-texts-layout : (text : List ℕ) (regions : List Region) (results : List Run) (pieces : List Piece) →
-    map (λ (line : Line). line.text) (layout text pieces regions results) ≡ map (text_of_piece text) pieces
-texts-layout text regions results [] = refl
-texts-layout text regions results (piece ∷ pieces) = ap (λ ts. text_of_piece text piece ∷ ts) (texts-layout text regions results pieces)
+texts-layout : (text : List ℕ) (regions : List Region) (results : List Run) (layers : List Layer) (pieces : List Piece) →
+    map (λ (line : Line). line.text) (layout text pieces regions results layers) ≡ map (text_of_piece text) pieces
+texts-layout text regions results layers [] = refl
+texts-layout text regions results layers (piece ∷ pieces) = ap (λ ts. text_of_piece text piece ∷ ts) (texts-layout text regions results layers pieces)
 
-text-layout : (text : List ℕ) (pieces : List Piece) (regions : List Region) (results : List Run) → ArePieces text pieces →
-    concat (map (λ (line : Line). line.text) (layout text pieces regions results)) ≡ text
-text-layout text pieces regions results are = ap concat (texts-layout text regions results pieces) ∙ pieces-text text pieces are
+text-layout : (text : List ℕ) (pieces : List Piece) (regions : List Region) (results : List Run) (layers : List Layer) → ArePieces text pieces →
+    concat (map (λ (line : Line). line.text) (layout text pieces regions results layers)) ≡ text
+text-layout text pieces regions results layers are = ap concat (texts-layout text regions results layers pieces) ∙ pieces-text text pieces are
 
 -- ---- the pieces
 
-numbers-layout : (text : List ℕ) (regions : List Region) (results : List Run) (pieces : List Piece) →
-    map (λ (line : Line). line.ln) (layout text pieces regions results) ≡ map (λ (piece : Piece). piece.ln) pieces
-numbers-layout text regions results [] = refl
-numbers-layout text regions results (piece ∷ pieces) = ap (λ ns. piece.ln ∷ ns) (numbers-layout text regions results pieces)
+numbers-layout : (text : List ℕ) (regions : List Region) (results : List Run) (layers : List Layer) (pieces : List Piece) →
+    map (λ (line : Line). line.ln) (layout text pieces regions results layers) ≡ map (λ (piece : Piece). piece.ln) pieces
+numbers-layout text regions results layers [] = refl
+numbers-layout text regions results layers (piece ∷ pieces) = ap (λ ns. piece.ln ∷ ns) (numbers-layout text regions results layers pieces)
 
 -- ---- the carets of a line
 
@@ -108,19 +109,19 @@ slice-map f [] index = refl
 slice-map f (x ∷ xs) zero = refl
 slice-map f (x ∷ xs) (suc index) = slice-map f xs index
 
-lines-same : (text : List ℕ) (pieces : List Piece) (regions others : List Region) (results founds : List Run) (index : ℕ) (piece : Piece) →
-    layout text pieces regions results ≡ layout text pieces others founds → slice_get pieces index ≡ Some piece →
-    layout_line text regions results piece ≡ layout_line text others founds piece
-lines-same text pieces regions others results founds index piece same is =
-    let one : Piece → Line = layout_line text regions results in
-    let other : Piece → Line = layout_line text others founds in
+lines-same : (text : List ℕ) (pieces : List Piece) (regions others : List Region) (results founds : List Run) (layers styles : List Layer) (index : ℕ) (piece : Piece) →
+    layout text pieces regions results layers ≡ layout text pieces others founds styles → slice_get pieces index ≡ Some piece →
+    layout_line text regions results layers piece ≡ layout_line text others founds styles piece
+lines-same text pieces regions others results founds layers styles index piece same is =
+    let one : Piece → Line = layout_line text regions results layers in
+    let other : Piece → Line = layout_line text others founds styles in
     let at : option_map one (slice_get pieces index) ≡ option_map other (slice_get pieces index) =
     sym (slice-map one pieces index) ∙ ap (λ ls. slice_get ls index) same ∙ slice-map other pieces index in
     ap (λ o. unwrap_or o (one piece)) (sym (ap (option_map one) is) ∙ at ∙ ap (option_map other) is)
 
-carets-told : (text : List ℕ) (pieces : List Piece) (regions others : List Region) (results founds : List Run) (gap : ℕ) → ArePieces text pieces →
-    layout text pieces regions results ≡ layout text pieces others founds → gap ≤ length text → has (carets_of regions) gap ≡ has (carets_of others) gap
-carets-told text pieces regions others results founds gap are same inside =
+carets-told : (text : List ℕ) (pieces : List Piece) (regions others : List Region) (results founds : List Run) (layers styles : List Layer) (gap : ℕ) → ArePieces text pieces →
+    layout text pieces regions results layers ≡ layout text pieces others founds styles → gap ≤ length text → has (carets_of regions) gap ≡ has (carets_of others) gap
+carets-told text pieces regions others results founds layers styles gap are same inside =
     let index = layout_line_of pieces gap in
     let there = slice-inside pieces index (IsLayoutLineOf-layout_line_of text pieces gap are).inside in
     let piece = there.0 in
@@ -129,29 +130,29 @@ carets-told text pieces regions others results founds gap are same inside =
     let own = (own-layout_line_of text pieces index piece gap are there.1 inside).1 refl in
     let fits = own_gaps-le (is_last_piece text piece) (length line) in
     sym (own-told (carets_of regions) piece.start gaps gap line own.0 own.1 fits) ∙
-    ap (λ (l : Line). has l.cursor (place_of line (gap - piece.start))) (lines-same text pieces regions others results founds index piece same there.1) ∙
+    ap (λ (l : Line). has l.cursor (place_of line (gap - piece.start))) (lines-same text pieces regions others results founds layers styles index piece same there.1) ∙
     own-told (carets_of others) piece.start gaps gap line own.0 own.1 fits
 
-pub layouts-tell : (text other : List ℕ) (pieces parts : List Piece) (regions others : List Region) (results founds : List Run) →
-    ArePieces text pieces → ArePieces other parts → layout text pieces regions results ≡ layout other parts others founds →
+pub layouts-tell : (text other : List ℕ) (pieces parts : List Piece) (regions others : List Region) (results founds : List Run) (layers styles : List Layer) →
+    ArePieces text pieces → ArePieces other parts → layout text pieces regions results layers ≡ layout other parts others founds styles →
     (text ≡ other) × (pieces ≡ parts) × ((gap : ℕ) → gap ≤ length text → has (carets_of regions) gap ≡ has (carets_of others) gap)
-layouts-tell text other pieces parts regions others results founds are cut same =
-    (texts, cuts, λ gap inside. carets-told text pieces regions others results founds gap are one inside)
+layouts-tell text other pieces parts regions others results founds layers styles are cut same =
+    (texts, cuts, λ gap inside. carets-told text pieces regions others results founds layers styles gap are one inside)
   where
     texts : text ≡ other
     texts =
-        sym (text-layout text pieces regions results are) ∙
+        sym (text-layout text pieces regions results layers are) ∙
         ap (λ lines. concat (map (λ (line : Line). line.text) lines)) same ∙
-        text-layout other parts others founds cut
+        text-layout other parts others founds styles cut
 
-    again : layout text pieces regions results ≡ layout text parts others founds
-    again = same ∙ ap (λ t. layout t parts others founds) (sym texts)
+    again : layout text pieces regions results layers ≡ layout text parts others founds styles
+    again = same ∙ ap (λ t. layout t parts others founds styles) (sym texts)
 
     cuts : pieces ≡ parts
     cuts =
         pieces-told text pieces parts are (subst (λ t. ArePieces t parts) (sym texts) cut)
-        (sym (texts-layout text regions results pieces) ∙ ap (map (λ (line : Line). line.text)) again ∙ texts-layout text others founds parts)
-        (sym (numbers-layout text regions results pieces) ∙ ap (map (λ (line : Line). line.ln)) again ∙ numbers-layout text others founds parts)
+        (sym (texts-layout text regions results layers pieces) ∙ ap (map (λ (line : Line). line.text)) again ∙ texts-layout text others founds styles parts)
+        (sym (numbers-layout text regions results layers pieces) ∙ ap (map (λ (line : Line). line.ln)) again ∙ numbers-layout text others founds styles parts)
 
-    one : layout text pieces regions results ≡ layout text pieces others founds
-    one = again ∙ ap (λ ps. layout text ps others founds) (sym cuts)
+    one : layout text pieces regions results layers ≡ layout text pieces others founds styles
+    one = again ∙ ap (λ ps. layout text ps others founds styles) (sym cuts)

@@ -1,5 +1,5 @@
-//! What front ends and plugins are told of a text: the layout of its pieces with the carets of regions, the update that sends the lines
-//! that they ask for, and a change of a rope, as the notices have it.
+//! What front ends and plugins are told of a text: the layout of its pieces with the carets of regions and the styles of its characters, the
+//! update that sends the lines that they ask for, and a change of a rope, as the notices have it.
 //!
 //! To a contract a rope is its characters; `specs/Layout.antt` has the layout of a text, and `specs/Told.antt` what a front end is told.
 #![tactic(auto)]

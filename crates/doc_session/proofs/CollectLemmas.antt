@@ -307,6 +307,7 @@ IsUncollected-collected doc made plain engine stack found stands is limit engine
           (Agree-collected plain.history.revisions plain.history.collected plain.groups plain.typing stands.agree found.groups gone stack groups_is sound);
       regions = stands.regions;
       regions_are = stands.regions_are;
+      layers = stands.layers;
       saved = stands.saved;
       saved_before = stands.saved_before;
       window = stands.window;
@@ -397,6 +398,7 @@ DocStandsFor-whole doc plain stands none = record {
   agree = stands.agree;
   regions = stands.regions;
   regions_are = stands.regions_are;
+  layers = stands.layers;
   saved = stands.saved;
   saved_before = stands.saved_before;
   window = stands.window;
@@ -435,6 +437,7 @@ IsUncollected-sessions doc plain sessions others stands same are = record {
   agree = stands.agree;
   regions = stands.regions;
   regions_are = stands.regions_are;
+  layers = stands.layers;
   saved = stands.saved;
   saved_before = stands.saved_before;
   window = stands.window;

@@ -3,12 +3,12 @@ use Rattle.std.proofs.Common.{◌≡◌, Bool, true, false, None, refl, ◌∙�
 use Rattle.std.specs.Prelude.{if◌then◌else◌}
 use Rattle.plain_text.specs.declared.run.Run.{Run}
 use Rattle.doc_session.specs.declared.event.Event.{Event}
-use Rattle.doc_session.specs.declared.event.Event.TheVariants.{Ack, Config as Configure, Edit, Ended, Front, Other}
-use Rattle.doc_session.specs.Asking.{plugin_edit}
+use Rattle.doc_session.specs.declared.event.Event.TheVariants.{Ack, Config as Configure, Edit, Ended, Front, Other, Spans}
+use Rattle.doc_session.specs.Asking.{asked_spans, plugin_edit}
 use Rattle.doc_session.specs.Document.{Document, no_request}
 use Rattle.doc_session.specs.Effects.{settled, updated, wants_update}
 use Rattle.doc_session.specs.Grouping.{named_group}
-use Rattle.doc_session.specs.Step.{config_after, configured_document, event_step, given_document, going_on, request_of, taken_step}
+use Rattle.doc_session.specs.Step.{config_after, configured_document, event_step, given_document, going_on, request_of, styled_document, taken_step}
 use Rattle.doc_session.proofs.ActLemmas.{by_front}
 use Rattle.doc_session.proofs.CollectLemmas.{part-collected}
 
@@ -28,6 +28,8 @@ config-taken plain (Front act) =
 config-taken plain (Edit caller edit named) =
     let joined = named_group plain.history named in
     config-settled no_request plain (given_document plain (plugin_edit plain caller edit joined) joined edit.after_cursor)
+config-taken plain (Spans caller rev start len spans) =
+    config-settled no_request plain (styled_document plain caller (asked_spans rev start len spans))
 config-taken plain (Ack caller rev) = refl
 config-taken plain (Ended caller) = refl
 config-taken plain (Configure config) = config-settled no_request plain (configured_document plain config)

@@ -14,19 +14,20 @@ use Rattle.doc_session.specs.declared.event.Event.TheVariants.{Front}
 use Rattle.doc_session.specs.Asking.{asked_refusal, front_edit}
 use Rattle.doc_session.specs.Document.{Document, text_of}
 use Rattle.doc_session.specs.Laws.{IsSpentIfAny}
+use Rattle.doc_session.specs.Refusal.{edit_refused}
 use Rattle.doc_session.specs.Stands.{DocStandsFor}
 use Rattle.doc_session.specs.Step.{command_refusal, effect_on, is_idle, refusal_at}
 use Rattle.delta_core.proofs.ForCallers.{Fits-elements}
 
-spent_alone : (limit total : ℕ) → IsSpentIfAny (misfit_or_spent None limit total)
+spent_alone : (limit total : ℕ) → IsSpentIfAny (edit_refused (misfit_or_spent None limit total))
 spent_alone limit total = by (nat_lt limit total)
   where
-    by : (past : Bool) → IsSpentIfAny (if past then Some (spent total) else None)
+    by : (past : Bool) → IsSpentIfAny (edit_refused (if past then Some (spent total) else None))
     by true = tt
     by false = tt
 
 edit_fits : (doc : Doc) (plain : Document) (replacements : List Replacement) → DocStandsFor doc plain →
-    IsSpentIfAny (asked_refusal plain (front_edit plain None replacements))
+    IsSpentIfAny (edit_refused (asked_refusal plain (front_edit plain None replacements)))
 edit_fits doc plain replacements stands =
     let h = plain.history in
     let delta = (front_edit plain None replacements).delta in
@@ -36,12 +37,12 @@ edit_fits doc plain replacements stands =
     let same : asked_refusal plain (front_edit plain None replacements) ≡ misfit_or_spent None plain.limit total =
     refusal-kept h plain.limit (head h) delta low high ∙
     ap (λ found. misfit_or_spent found plain.limit total) (Fits-elements (kept_by replacements) (added_by replacements) (text_of plain)) in
-    subst IsSpentIfAny (sym same) (spent_alone plain.limit total)
+    subst (λ refusal. IsSpentIfAny (edit_refused refusal)) (sym same) (spent_alone plain.limit total)
 
-effect_fits : (doc : Doc) (plain : Document) (effect : Effect) → DocStandsFor doc plain → IsSpentIfAny (command_refusal plain effect)
+effect_fits : (doc : Doc) (plain : Document) (effect : Effect) → DocStandsFor doc plain → IsSpentIfAny (edit_refused (command_refusal plain effect))
 effect_fits doc plain effect stands = by (is_idle plain effect)
   where
-    by : (idle : Bool) → IsSpentIfAny (if idle then None else asked_refusal plain (front_edit plain None effect.replacements))
+    by : (idle : Bool) → IsSpentIfAny (edit_refused (if idle then None else asked_refusal plain (front_edit plain None effect.replacements)))
     by true = tt
     by false = edit_fits doc plain effect.replacements stands
 

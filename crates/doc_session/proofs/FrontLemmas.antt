@@ -2,6 +2,7 @@
 use Rattle.std.proofs.Common.{◌≡◌, ℕ, false, List, length, refl, ap, sym, ◌∙◌, subst, arith}
 use Rattle.std.proofs.Math.Logic.{∥∥₁_elim, ∥∥₁_map}
 use Rattle.std.proofs.Math.Nat.{ℕ_set}
+use Rattle.std.specs.Arc.{arc_value}
 use Rattle.plain_text.specs.Numbers.{has}
 use Rattle.plain_edits.specs.Undo.{undone_now}
 use Rattle.plain_edits.proofs.callers.EditLemmas.{text_at-edited_at_head}
@@ -88,12 +89,12 @@ pub length-front : (engine : State) (edit : UnitEdit) (replacements : List Repla
     has (undone_now engine.revisions) edit.group ≡ false → IsEditOf (length (head_shown engine)) replacements edit.units →
     edit.priority ≡ front_priority → edit.author ≡ 0 →
     ((h : History) (asked : AskedEdit) → StandsFor engine h → IsSaidBy h edit asked → IsAfterEdit h asked taken) →
-    length (head_shown taken.engine) ≡ length (text_with replacements (head_shown engine))
+    length (head_shown (arc_value taken.engine)) ≡ length (text_with replacements (head_shown engine))
 length-front engine edit replacements taken shown whole is_shown is priority author each =
     ∥∥₁_elim whole (ℕ_set _ _) (λ (s : (h : History) × IsStateOf h engine shown).
     let h = s.0 in
     let asked : AskedEdit = replacing_edit edit.group h replacements in
     let here = subst (λ t. IsEditOf (length t) replacements edit.units) (head_shown-stands engine h s.1.stands) is in
     let made = each h asked s.1.stands (IsSaidBy-front h edit replacements here priority author) in
-    ap length (head_shown-stands taken.engine (after h asked) made.stands ∙ text_at-front h engine edit replacements s.1.stands is_shown here) ∙
+    ap length (head_shown-stands (arc_value taken.engine) (after h asked) made.stands ∙ text_at-front h engine edit replacements s.1.stands is_shown here) ∙
     ap (λ t. length (text_with replacements t)) (sym (head_shown-stands engine h s.1.stands)))

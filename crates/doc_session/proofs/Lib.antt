@@ -9,11 +9,13 @@ pub mod ForgetLemmas
 pub mod LoadLemmas
 pub mod FrontLemmas
 pub mod UntoldLemmas
+pub mod LayerLemmas
 pub mod IdleLemmas
 pub mod SomeLemmas
 pub mod PieceLemmas
 pub mod SettleLemmas
 pub mod StepLemmas
+pub mod FaultLemmas
 pub mod FitLemmas
 pub mod ScreenLemmas
 pub mod ShowLemmas

@@ -13,7 +13,7 @@ pub text_at-loaded : (text : List ℕ) → text_at (loaded text) 0 ≡ text
 text_at-loaded [] = refl
 text_at-loaded (c ∷ text) = ap (λ cs. c ∷ cs) (text_at-loaded text)
 
-text_of-loaded : (text : List ℕ) → text_at (loaded text) (head (loaded text)) ≡ text
+pub text_of-loaded : (text : List ℕ) → text_at (loaded text) (head (loaded text)) ≡ text
 text_of-loaded text = text_at-loaded text
 
 pub IsStateOf-loaded : (text : List ℕ) (engine : State) (limit : ℕ) → StandsFor engine (loaded text) → engine.limit ≡ limit →

@@ -9,6 +9,7 @@ use Rattle.std.specs.Coded.{Coded-set, Unit-prop, coded_list, coded_ℕ, le_prop
 use Rattle.std.proofs.lemmas.Bool.{cases_lt, lt-ltb}
 use Rattle.std.proofs.lemmas.List.{length-map, length_push}
 use Rattle.std.proofs.lemmas.List.Sums.{sum_by-cons}
+use Rattle.std.specs.Arc.{arc_value}
 use Rattle.xi_plain.specs.declared.config.Notice.{Notice}
 use Rattle.plain_edits.specs.declared.delta.Delta.{Delta}
 use Rattle.plain_edits.specs.declared.delta.Misfit.{Misfit}
@@ -205,7 +206,7 @@ IsChangeOf-said engine copied now edit change same some leaves each =
     }
 
 pub IsTakenFrom-noticed : (engine now : State) (before : List ℕ) (change : Change) (author : ℕ) (taken : Taken) → IsNoticed before now change author taken →
-    IsChangeOf (head_shown engine) (head_shown now) change.units → length (head_shown taken.engine) < 2 ^ 64 → now.limit ≡ engine.limit →
+    IsChangeOf (head_shown engine) (head_shown now) change.units → length (head_shown (arc_value taken.engine)) < 2 ^ 64 → now.limit ≡ engine.limit →
     IsTakenFrom engine taken
 IsTakenFrom-noticed engine now before change author taken noticed changes counted limit =
     let By : Change → Type 0 = λ c. IsChangeOf (head_shown engine) (head_shown now) c.units in
@@ -228,6 +229,7 @@ IsAfter-noticed h engine step now change author taken was one_more same_floor st
     record {
       one_more = one_more;
       same_floor = same_floor;
+      text_before = text_at-step h step (sound-given engine h was);
       stands = subst At (sym noticed.engine_is) stands;
       within = subst Few (sym noticed.engine_is) within;
       changes = subst (IsChange h next) (sym noticed.change_is) changes;
@@ -245,7 +247,7 @@ AreWithin-more few many (region ∷ regions) less are = (omega (arith, are.0, le
 module _ (engine : State) (groups : Groups) (typing : Option Typing) (shown : List ℕ) (step : History → Step) (author : ℕ) (taken : Taken)
     (whole : IsWhole engine groups typing shown)
     (each : (h : History) → IsStateOf h engine shown → IsAfter h (after_step h (step h)) author taken) where
-  pub new_gap-taken : (right : Bool) (gap : ℕ) → new_gap taken.change.units right gap ≤ length (head_shown taken.engine)
+  pub new_gap-taken : (right : Bool) (gap : ℕ) → new_gap taken.change.units right gap ≤ length (head_shown (arc_value taken.engine))
   new_gap-taken right gap =
       ∥∥₁_elim whole le_prop (λ (s : (h : History) × IsWholeOf h engine groups typing shown).
       let h = s.0 in
@@ -253,17 +255,17 @@ module _ (engine : State) (groups : Groups) (typing : Option Typing) (shown : Li
       omega (
         arith,
         new_gap-le h (sound-given engine h s.1.state.stands) (step h) taken.change is.changes right gap,
-        ap length (head_shown-stands taken.engine (after_step h (step h)) is.stands),
+        ap length (head_shown-stands (arc_value taken.engine) (after_step h (step h)) is.stands),
       ))
 
   -- regions that were moved lie in the text after it
-  pub within-taken : (regions : List Region) → AreWithin (length_after taken.change.units) regions → AreWithin (length (head_shown taken.engine)) regions
+  pub within-taken : (regions : List Region) → AreWithin (length_after taken.change.units) regions → AreWithin (length (head_shown (arc_value taken.engine))) regions
   within-taken regions are = AreWithin-more _ _ regions (new_gap-taken false taken.change.units.base) are
 
-  pub whole-taken : (left : Left) → taken.engine.limit ≡ engine.limit →
+  pub whole-taken : (left : Left) → (arc_value taken.engine).limit ≡ engine.limit →
       ((h : History) → Agree h.revisions h.collected groups typing →
       Agree (after_step h (step h)).revisions (after_step h (step h)).collected left.stack left.typing) →
-      IsWhole taken.engine left.stack left.typing (head_shown taken.engine)
+      IsWhole (arc_value taken.engine) left.stack left.typing (head_shown (arc_value taken.engine))
   whole-taken left same agree =
       ∥∥₁_map whole (λ (s : (h : History) × IsWholeOf h engine groups typing shown).
       let h = s.0 in
@@ -273,7 +275,7 @@ module _ (engine : State) (groups : Groups) (typing : Option Typing) (shown : Li
         record {
           state = record {
             stands = is.stands;
-            shown_is = head_shown-stands taken.engine (after_step h (step h)) is.stands;
+            shown_is = head_shown-stands (arc_value taken.engine) (after_step h (step h)) is.stands;
             within = is.within;
             bound = omega (arith, was.bound, same);
           };

@@ -58,7 +58,7 @@ pub are_valid-none : (window request : Run) (document : Document) → are_valid 
 are_valid-none window request document = by (pieces_of document) (pieces-some document.config.width document.config.tab (text_of document))
   where
     by : (pieces : List Piece) → 0 < length pieces →
-        are_valid window request 0 (layout (text_of document) pieces document.regions (results_of document)) [] ≡ false
+        are_valid window request 0 (layout (text_of document) pieces document.regions (results_of document) document.layers) [] ≡ false
     by [] some = absurd (omega (arith, some))
     by (piece ∷ pieces) some = refl
 
@@ -86,7 +86,14 @@ none_wanted true true false is = absurd cc
 none_wanted true false false is = absurd cc
 none_wanted false p w is = absurd cc
 
--- the text of a view is as it was, whether its front end was told or not
+-- text and styles of a view are as they were, whether its front end was told or not
+pub layers-settled : (before after : View) (request : Run) (pristine : Pristine) → (settled_view before after request pristine).layers ≡ after.layers
+layers-settled before after request pristine = by (is_lacking before after request pristine)
+  where
+    by : (b : Bool) → (if b then record after { shown = Some (asked_in after request) } else after).layers ≡ after.layers
+    by true = refl
+    by false = refl
+
 pub text-settled : (before after : View) (request : Run) (pristine : Pristine) → (settled_view before after request pristine).text ≡ after.text
 text-settled before after request pristine = by (is_lacking before after request pristine)
   where
@@ -96,10 +103,11 @@ text-settled before after request pristine = by (is_lacking before after request
 
 -- what a view keeps is of the plain document
 module _ (view : View) (plain : Document) (text : view.text ≡ text_of plain) (regions : view.regions ≡ plain.regions) (config : plain.config ≡ view.config) where
-  view-lines : plain.query ≡ view.query → layout_in view ≡ layout_of plain
-  view-lines query =
-      ap₂ (λ (k : Config) (q : Search). layout view.text (wrapped_pieces k.width k.tab view.text) view.regions (results view.text q)) (sym config) (sym query) ∙
-      ap₂ (λ t rs. layout t (wrapped_pieces plain.config.width plain.config.tab t) rs (results t plain.query)) text regions
+  view-lines : plain.query ≡ view.query → plain.layers ≡ view.layers → layout_in view ≡ layout_of plain
+  view-lines query layers =
+      ap₂ (λ (k : Config) (q : Search). layout view.text (wrapped_pieces k.width k.tab view.text) view.regions (results view.text q) view.layers) (sym config) (sym query) ∙
+      ap₂ (λ t rs. layout t (wrapped_pieces plain.config.width plain.config.tab t) rs (results t plain.query) view.layers) text regions ∙
+      ap (layout (text_of plain) (pieces_of plain) plain.regions (results_of plain)) (sym layers)
 
   view-point : point_in view ≡ caret_point plain
   view-point =
@@ -148,10 +156,10 @@ module _ (doc made : Doc) (request : Run) (plain next : Document) (stands : DocS
   pristine-untold = ap₂ (λ now saved. now == saved) (head-stands made.engine next.history untold.parts.stands) untold.saved
 
   lines-before : layout_in doc.view ≡ layout_of plain
-  lines-before = view-lines doc.view plain stands.parts.shown_is stands.regions stands.config stands.query
+  lines-before = view-lines doc.view plain stands.parts.shown_is stands.regions stands.config stands.query stands.layers
 
   lines-after : layout_in made.view ≡ layout_of next
-  lines-after = view-lines made.view next untold.parts.shown_is untold.regions untold.config untold.query
+  lines-after = view-lines made.view next untold.parts.shown_is untold.regions untold.config untold.query untold.layers
 
   -- what it asks for
   asked-is : asked_in made.view request ≡ record { window = next.window; request = request }
@@ -203,6 +211,7 @@ module _ (doc made : Doc) (request : Run) (plain next : Document) (stands : DocS
         agree = untold.agree;
         regions = untold.regions;
         regions_are = untold.regions_are;
+        layers = untold.layers;
         saved = untold.saved;
         saved_before = untold.saved_before;
         window = untold.window;
@@ -220,6 +229,7 @@ module _ (doc made : Doc) (request : Run) (plain next : Document) (stands : DocS
         agree = untold.agree;
         regions = untold.regions;
         regions_are = untold.regions_are;
+        layers = untold.layers;
         saved = untold.saved;
         saved_before = untold.saved_before;
         window = untold.window;

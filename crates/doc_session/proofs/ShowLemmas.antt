@@ -4,15 +4,15 @@ use Rattle.plain_text.specs.declared.run.Run.{Run}
 use Rattle.plain_edits.specs.Collection.{Collection}
 use Rattle.doc_session.specs.InMemory.{Doc}
 use Rattle.doc_session.specs.declared.event.Event.{Event}
-use Rattle.doc_session.specs.declared.event.Event.TheVariants.{Ack, Config as Configure, Edit, Ended, Front, Other}
+use Rattle.doc_session.specs.declared.event.Event.TheVariants.{Ack, Config as Configure, Edit, Ended, Front, Other, Spans}
 use Rattle.doc_session.specs.Collecting.{acknowledged_document, collected_document, collection_after, ended_document, with_collection}
 use Rattle.doc_session.specs.Document.{Document, no_request}
-use Rattle.doc_session.specs.Asking.{plugin_edit}
+use Rattle.doc_session.specs.Asking.{asked_spans, plugin_edit}
 use Rattle.doc_session.specs.Grouping.{named_group}
 use Rattle.doc_session.specs.Effects.{settled}
 use Rattle.doc_session.specs.ScreenOf.{IsShownAfter, IsUpToDate}
 use Rattle.doc_session.specs.Stands.{DocStandsFor}
-use Rattle.doc_session.specs.Step.{act_step, configured_document, given_document, going_on, request_of}
+use Rattle.doc_session.specs.Step.{act_step, configured_document, given_document, going_on, request_of, styled_document}
 use Rattle.doc_session.proofs.ActLemmas.{by_front}
 use Rattle.doc_session.proofs.ScreenLemmas.{IsUpToDate-settled}
 
@@ -38,6 +38,9 @@ module _ (doc : Doc) (plain : Document) (stands : DocStandsFor doc plain) where
   shown-step (Edit caller edit named) = λ before.
       let joined = named_group plain.history named in
       let next = given_document plain (plugin_edit plain caller edit joined) joined edit.after_cursor in
+      shown-collected no_request (settled no_request plain next) (shown-next no_request next refl)
+  shown-step (Spans caller rev start len spans) = λ before.
+      let next = styled_document plain caller (asked_spans rev start len spans) in
       shown-collected no_request (settled no_request plain next) (shown-next no_request next refl)
   shown-step (Ack caller rev) = λ before. shown-collected no_request (acknowledged_document plain caller rev) (before refl)
   shown-step (Ended caller) = λ before. shown-collected no_request (ended_document plain caller) (before refl)

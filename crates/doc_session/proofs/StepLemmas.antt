@@ -15,6 +15,7 @@ use Rattle.rev_engine.specs.declared.edit.UnitEdit.{UnitEdit}
 use Rattle.rev_engine.specs.Engine.{IsSaidBy, StandsFor, asked_by}
 use Rattle.rev_engine.specs.Given.{AskedEdit}
 use Rattle.undo_groups.specs.Groups.{Groups}
+use Rattle.stale_spans.specs.Asked.{moved_layers}
 use Rattle.doc_view.specs.Idle.{do_nothing}
 use Rattle.doc_view.specs.declared.moved.Goals.{Goals}
 use Rattle.doc_view.specs.Moved.{AreMoved, with_goals}
@@ -43,12 +44,21 @@ regions-moved doc plain step author taken right goals moved stands is are =
     ap (λ rs. regions_by plain (after_step plain.history step) right (with_goals goals rs)) stands.regions
 
 -- the document that a revision leaves, by what it leaves beside the engine
+abbrev pub left_document : Document → History → Groups → Option Typing → List Region → Document
+left_document plain history groups typing regions = record plain {
+  history = history;
+  groups = groups;
+  typing = typing;
+  regions = regions;
+  layers = moved_layers plain.history history plain.layers;
+}
+
 pub next_document-is : (plain : Document) (history : History) (left : Left) (groups : Groups) (typing : Option Typing) (regions : List Region) →
     left.stack ≡ groups → left.typing ≡ typing → left.sel.regions ≡ regions →
-    next_document plain history left ≡ record plain { history = history; groups = groups; typing = typing; regions = regions }
+    next_document plain history left ≡ left_document plain history groups typing regions
 next_document-is plain history left groups typing regions stack_is typing_is regions_is =
-    ap (λ (g : Groups). record plain { history = history; groups = g; typing = left.typing; regions = left.sel.regions }) stack_is ∙
-    ap₂ (λ (t : Option Typing) (rs : List Region). record plain { history = history; groups = groups; typing = t; regions = rs }) typing_is regions_is
+    ap (λ g. left_document plain history g left.typing left.sel.regions) stack_is ∙
+    ap₂ (λ t rs. left_document plain history groups t rs) typing_is regions_is
 
 -- ---- commands
 

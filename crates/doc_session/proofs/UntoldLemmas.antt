@@ -1,10 +1,13 @@
 -- What an event leaves of a document in memory, before its front end was told.
 use Rattle.std.proofs.Common.{◌≡◌, ◌≢◌, ℕ, Bool, List, [], length, map, Option, None, refl, ap, sym, ◌∙◌, subst, arith}
+use Rattle.std.specs.Arc.{arc_value}
 use Rattle.plain_text.specs.declared.run.Run.{Run}
 use Rattle.plain_text.specs.declared.selection.Region.{Region}
 use Rattle.xi_plain.specs.declared.config.Config.{Config}
 use Rattle.plain_edits.specs.History.{History}
+use Rattle.plain_edits.specs.Styles.{Layer}
 use Rattle.rev_engine.specs.State.{State}
+use Rattle.stale_spans.specs.Asked.{moved_layers}
 use Rattle.edit_ops.specs.Regions.{without_goal}
 use Rattle.doc_view.specs.declared.search.Search.{Search}
 use Rattle.doc_view.specs.Search.{next_found, next_match, previous_found, previous_match, results}
@@ -44,6 +47,7 @@ IsUntold-still doc made plain kind regions others stands is same are =
       agree = Agree-still plain.history.revisions plain.history.collected plain.groups plain.typing stands.agree kind;
       regions = same;
       regions_are = are;
+      layers = stands.layers;
       saved = stands.saved;
       saved_before = stands.saved_before;
       window = stands.window;
@@ -68,6 +72,7 @@ IsUntold-looking doc plain regions others window lines query sought stands same 
   agree = Agree-still plain.history.revisions plain.history.collected plain.groups plain.typing stands.agree None;
   regions = same;
   regions_are = are;
+  layers = stands.layers;
   saved = stands.saved;
   saved_before = stands.saved_before;
   window = lines_are;
@@ -90,6 +95,7 @@ IsUntold-configured doc plain config stands = record {
   agree = Agree-still plain.history.revisions plain.history.collected plain.groups plain.typing stands.agree None;
   regions = stands.regions;
   regions_are = stands.regions_are;
+  layers = stands.layers;
   saved = stands.saved;
   saved_before = stands.saved_before;
   window = stands.window;
@@ -124,24 +130,25 @@ AreRegionsOf-previous text query wrap_around regions are = record {
 }
 
 -- a revision, and what it leaves beside the engine
-abbrev pub revised_doc : Doc → State → Left → Doc
-revised_doc doc engine left = record doc {
+abbrev pub revised_doc : Doc → State → Left → List Layer → Doc
+revised_doc doc engine left layers = record doc {
   engine = engine;
   groups = left.stack;
   typing = left.typing;
-  view = record doc.view { text = head_shown engine; regions = left.sel.regions };
+  view = record doc.view { text = head_shown engine; regions = left.sel.regions; layers = layers };
 }
 
-pub IsUntold-revised : (doc made : Doc) (plain : Document) (history : History) (author : ℕ) (taken : Taken) (left : Left) → DocStandsFor doc plain →
+pub IsUntold-revised : (doc made : Doc) (plain : Document) (history : History) (author : ℕ) (taken : Taken) (left : Left) (layers : List Layer) → DocStandsFor doc plain →
     IsAfter plain.history history author taken → Agree history.revisions history.collected left.stack left.typing →
-    taken.engine.limit ≡ doc.engine.limit → made ≡ revised_doc doc taken.engine left → left.sel.regions ≢ [] → IsSelection left.sel.regions →
-    AreWithin (length (head_shown taken.engine)) left.sel.regions → IsUntold made plain (next_document plain history left)
-IsUntold-revised doc made plain history author taken left stands after agree limit is some sound inside =
+    (arc_value taken.engine).limit ≡ doc.engine.limit → made ≡ revised_doc doc (arc_value taken.engine) left layers → left.sel.regions ≢ [] → IsSelection left.sel.regions →
+    AreWithin (length (head_shown (arc_value taken.engine))) left.sel.regions → layers ≡ moved_layers plain.history history plain.layers →
+    IsUntold made plain (next_document plain history left)
+IsUntold-revised doc made plain history author taken left layers stands after agree limit is some sound inside layers_are =
     let At : Doc → Type 0 = λ d. IsUntold d plain (next_document plain history left) in
     subst At (sym is) (record {
       parts = record {
         stands = after.stands;
-        shown_is = head_shown-stands taken.engine history after.stands;
+        shown_is = head_shown-stands (arc_value taken.engine) history after.stands;
         within = after.within;
         bound = omega (arith, stands.parts.bound, limit);
       };
@@ -155,8 +162,9 @@ IsUntold-revised doc made plain history author taken left stands after agree lim
       regions_are = record {
         some = some;
         sound = sound;
-        inside = subst (λ t. AreWithin (length t) left.sel.regions) (head_shown-stands taken.engine history after.stands) inside;
+        inside = subst (λ t. AreWithin (length t) left.sel.regions) (head_shown-stands (arc_value taken.engine) history after.stands) inside;
       };
+      layers = sym layers_are;
       saved = stands.saved;
       saved_before = omega (arith, stands.saved_before, after.one_more);
       window = stands.window;

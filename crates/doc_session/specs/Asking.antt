@@ -1,12 +1,17 @@
--- The edits that a document is asked for, and why one is refused; and why an acknowledgement is.
-use Rattle.std.specs.Prelude.{ℕ, if◌then◌else◌, nat_lt, List, Option, Some, None}
+-- The edits and the styles that a document is asked for, and why one is refused; and why an acknowledgement is.
+use Rattle.std.specs.Prelude.{ℕ, if◌then◌else◌, nat_lt, List, Option, Some, None, option_map}
+use Rattle.std.specs.Option.{option_or}
 use Rattle.plain_edits.specs.History.{History, head, text_at}
 use Rattle.plain_edits.specs.Edits.{Refusal, collected, edit_refusal, unknown}
+use Rattle.plain_edits.specs.declared.style.Span.{Span}
 use Rattle.edit_ops.specs.declared.replacement.Replacement.{Replacement}
 use Rattle.edit_ops.specs.Replacements.{added_by, kept_by}
 use Rattle.rev_engine.specs.declared.edit.Edit.{Edit}
 use Rattle.rev_engine.specs.Given.{AskedEdit}
+use Rattle.stale_spans.specs.declared.asked.AskedSpans.{AskedSpans}
+use Rattle.stale_spans.specs.Places.{misplaced}
 use Rattle.doc_session.specs.Document.{Document}
+use Rattle.doc_session.specs.Refusal.{DocRefusal, edit_refused, of_range}
 use Rattle.delta_core.specs.Elements.{delta_by}
 use Rattle.doc_session.specs.Grouping.{group_by}
 
@@ -48,3 +53,13 @@ abbrev pub acknowledgement_refusal : History → ℕ → Option Refusal
 acknowledgement_refusal history rev =
     if nat_lt (head history) rev then Some (unknown (head history)) else (
     if nat_lt rev history.floor then Some (collected history.floor) else None)
+
+-- styles of a plugin: in a range of the text of a revision, whose bytes count from its start
+abbrev pub asked_spans : ℕ → ℕ → ℕ → List Span → AskedSpans
+asked_spans rev start len spans = record { rev = rev; start = start; len = len; spans = spans }
+
+-- why they are refused, if they are: an acknowledgement of their revision would be, or else the first that is no place of its text
+abbrev pub range_refusal : History → AskedSpans → Option DocRefusal
+range_refusal history asked =
+    option_or (edit_refused (acknowledgement_refusal history asked.rev))
+    (option_map of_range (misplaced (text_at history asked.rev) asked.start asked.len asked.spans))

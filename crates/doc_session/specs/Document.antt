@@ -1,13 +1,15 @@
 -- THE PLAIN DOCUMENT: what a document with one view is, by the history of its text.
-use Rattle.std.specs.Prelude.{ℕ, Bool, ◌==◌, List, [], ◌∷◌, replicate, Option, Some, None}
+use Rattle.std.specs.Prelude.{ℕ, Bool, ◌==◌, List, [], ◌∷◌, length, replicate, Option, Some, None}
 use Rattle.plain_text.specs.declared.run.Run.{Run}
 use Rattle.plain_text.specs.declared.selection.Region.{Region}
 use Rattle.xi_plain.specs.declared.config.Config.{Config}
 use Rattle.plain_screen.specs.declared.piece.Piece.{Piece}
 use Rattle.plain_screen.specs.declared.screen.Line.{Line}
 use Rattle.plain_edits.specs.History.{History, head, loaded, text_at}
+use Rattle.plain_edits.specs.Styles.{Layer}
 use Rattle.line_break.specs.Pieces.{wrapped_pieces}
 use Rattle.selection_core.specs.Selection.{caret_of, last_caret}
+use Rattle.span_styles.specs.Layers.{new_layers}
 use Rattle.doc_session.specs.Layout.{layout, Position, position_of}
 pub use Rattle.doc_layout.specs.Told.{no_request}
 use Rattle.plain_screen.specs.Screen.{Screen}
@@ -18,8 +20,8 @@ use Rattle.doc_session.specs.declared.typing.Typing.{Typing}
 
 -- a document: its history, the most characters that may be inserted after loading, for each plugin, in order, the revision that its
 -- session has acknowledged, or nothing where that has ended, its undo groups and its run of typing, if there is one, the regions of its
--- view on the head text, the lines that this shows, what it looks for, how its text is laid out and edited, the revision that was loaded or
--- last saved, and the screen that its front end has
+-- view on the head text, for each plugin, in order, the styles that it gave the characters of this text, the lines that the view shows, what
+-- it looks for, how its text is laid out and edited, the revision that was loaded or last saved, and the screen that its front end has
 pub record Document : Type 0 where
   pub history : History
   pub limit : ℕ
@@ -27,14 +29,15 @@ pub record Document : Type 0 where
   pub groups : Groups
   pub typing : Option Typing
   pub regions : List Region
+  pub layers : List Layer
   pub window : Run
   pub query : Search
   pub config : Config
   pub saved : ℕ
   pub screen : Screen
 
--- the head text, its pieces by wrapping for the width and the tab width, what is found in it, its layout with all regions and results, the
--- place of the last region's caret, and whether the text is the one that was loaded or last saved
+-- the head text, its pieces by wrapping for the width and the tab width, what is found in it, its layout with all regions, results and
+-- styles, the place of the last region's caret, and whether the text is the one that was loaded or last saved
 abbrev pub text_of : Document → List ℕ
 text_of document = text_at document.history (head document.history)
 
@@ -45,7 +48,7 @@ abbrev pub results_of : Document → List Run
 results_of document = results (text_of document) document.query
 
 abbrev pub layout_of : Document → List Line
-layout_of document = layout (text_of document) (pieces_of document) document.regions (results_of document)
+layout_of document = layout (text_of document) (pieces_of document) document.regions (results_of document) document.layers
 
 abbrev pub caret_point : Document → Position
 caret_point document = position_of (text_of document) (pieces_of document) (last_caret document.regions)
@@ -57,8 +60,8 @@ is_pristine document = head document.history == document.saved
 abbrev pub first_window : Run
 first_window = record { start = 0; end = 10 }
 
--- a document on a text that was just loaded, with so many plugins: each session is open and has acknowledged revision 0; one caret at the
--- start; its front end was told nothing, and its screen is empty
+-- a document on a text that was just loaded, with so many plugins: each session is open and has acknowledged revision 0, and no character has
+-- a style; one caret at the start; its front end was told nothing, and its screen is empty
 abbrev pub loaded_document : List ℕ → ℕ → ℕ → Config → Document
 loaded_document text plugins limit config = record {
   history = loaded text;
@@ -67,6 +70,7 @@ loaded_document text plugins limit config = record {
   groups = no_groups;
   typing = None;
   regions = caret_of 0 ∷ [];
+  layers = new_layers plugins (length text);
   window = first_window;
   query = no_search;
   config = config;

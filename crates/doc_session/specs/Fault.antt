@@ -1,20 +1,54 @@
 -- What a fault of a document says in the words of the definitions.
-use Rattle.std.specs.Prelude.{Option}
-use Rattle.plain_edits.specs.Edits.{Refusal}
+use Rattle.std.specs.Prelude.{◌≡◌, ◌≢◌, ℕ, List, ◌++◌, codes, Option, Some, None}
+use Rattle.plain_edits.specs.Edits.{collected, misfit, spent, unknown}
+use Rattle.plain_edits.specs.EditFault.{edit_fault_text}
 use Rattle.plain_edits.specs.declared.fault.EditFault.{EditFault}
-use Rattle.plain_edits.specs.declared.fault.EditFault.TheVariants as Edit
-use Rattle.plain_edits.specs.EditFault.{Refuses}
+use Rattle.plain_edits.specs.declared.fault.EditFault.TheVariants as Edits
+use Rattle.stale_spans.specs.declared.fault.Misplaced.{Misplaced}
+use Rattle.stale_spans.specs.declared.fault.Misplaced.TheVariants.{Start, Len, Spans}
+use Rattle.stale_spans.specs.declared.fault.SpansFault.{SpansFault}
+use Rattle.stale_spans.specs.declared.fault.SpansFault.TheVariants as Ranges
 use Rattle.doc_session.specs.declared.fault.DocFault.{DocFault}
-use Rattle.doc_session.specs.declared.fault.DocFault.TheVariants.{Unknown, Collected, Misfit, Spent, NoMemory}
+use Rattle.doc_session.specs.declared.fault.DocFault.TheVariants.{BadParams, Collected, Misfit, NoMemory, Spent, Unknown}
+use Rattle.doc_session.specs.Refusal.{DocRefusal, of_edit, of_range}
 
--- the fault of an edit that it is
-abbrev pub edit_fault : DocFault → EditFault
-edit_fault (Unknown head) = Edit.Unknown head
-edit_fault (Collected floor) = Edit.Collected floor
-edit_fault (Misfit first) = Edit.Misfit first
-edit_fault (Spent total) = Edit.Spent total
-edit_fault NoMemory = Edit.NoMemory
+-- the refusal that a fault is; want of memory is none
+abbrev pub refusal_of : DocFault → Option DocRefusal
+refusal_of (Unknown head) = Some (of_edit (unknown head))
+refusal_of (Collected floor) = Some (of_edit (collected floor))
+refusal_of (Misfit first) = Some (of_edit (misfit first))
+refusal_of (Spent total) = Some (of_edit (spent total))
+refusal_of (BadParams member) = Some (of_range member)
+refusal_of NoMemory = None
 
 -- the fault is this refusal, or want of memory
-abbrev pub DocRefuses : Option Refusal → DocFault → Type 0
-DocRefuses refusal fault = Refuses refusal (edit_fault fault)
+abbrev pub DocRefuses : Option DocRefusal → DocFault → Type 0
+DocRefuses refusal fault = fault ≢ NoMemory → refusal ≡ refusal_of fault
+
+-- the fault of an edit, and that of spans, as a document says it
+abbrev pub of_edit_fault : EditFault → DocFault
+of_edit_fault (Edits.Unknown head) = Unknown head
+of_edit_fault (Edits.Collected floor) = Collected floor
+of_edit_fault (Edits.Misfit first) = Misfit first
+of_edit_fault (Edits.Spent total) = Spent total
+of_edit_fault Edits.NoMemory = NoMemory
+
+abbrev pub of_spans_fault : SpansFault → DocFault
+of_spans_fault (Ranges.Unknown head) = Unknown head
+of_spans_fault (Ranges.Collected floor) = Collected floor
+of_spans_fault (Ranges.Misplaced member) = BadParams member
+of_spans_fault Ranges.NoMemory = NoMemory
+
+-- the name of what is no place, and what is printed of a fault
+abbrev pub member_name : Misplaced → List ℕ
+member_name Start = codes "start"
+member_name Len = codes "len"
+member_name Spans = codes "spans"
+
+abbrev pub fault_text : DocFault → List ℕ
+fault_text (Unknown head) = edit_fault_text (Edits.Unknown head)
+fault_text (Collected floor) = edit_fault_text (Edits.Collected floor)
+fault_text (Misfit first) = edit_fault_text (Edits.Misfit first)
+fault_text (Spent total) = edit_fault_text (Edits.Spent total)
+fault_text (BadParams member) = codes "no place of the text: " ++ member_name member
+fault_text NoMemory = edit_fault_text Edits.NoMemory

@@ -1,9 +1,10 @@
 -- What private functions say: the steps of an event.
 use Rattle.std.specs.Prelude.{◌≡◌, ℕ, ◌+◌, ◌^◌, ◌<◌, ◌≤◌, Bool, true, false, if◌then◌else◌, ◌==◌, List, [], length, Option, Some, None, ⊤}
+use Rattle.std.specs.Arc.{arc_value}
 use Rattle.std.specs.List.{AllByRecursion}
 use Rattle.plain_text.specs.Text.{byte_len}
 use Rattle.plain_text.specs.Numbers.{has, turned}
-use Rattle.plain_edits.specs.History.{History, head, inserted_count}
+use Rattle.plain_edits.specs.History.{History, head, inserted_count, text_at}
 use Rattle.plain_edits.specs.Undo.{undone_now}
 use Rattle.xi_plain.specs.declared.command.EditAct.{EditAct}
 use Rattle.delta_core.specs.Wire.{wire_of}
@@ -11,11 +12,13 @@ use Rattle.edit_ops.specs.Commands.{Effect, effect_of}
 use Rattle.edit_ops.specs.Replacements.{IsEditOf}
 use Rattle.rev_engine.specs.declared.edit.Change.{Change}
 use Rattle.rev_engine.specs.declared.edit.UnitEdit.{UnitEdit}
-use Rattle.rev_engine.specs.State.{State, shown_at}
+use Rattle.rev_engine.specs.State.{State}
 use Rattle.rev_engine.specs.Engine.{IsChange, IsSaidBy, StandsFor}
 use Rattle.rev_engine.specs.Asked.{IsCollectionTaken}
 use Rattle.rev_engine.specs.Given.{AskedEdit, after}
 use Rattle.undo_groups.specs.Groups.{Groups, IsStack, is_known}
+use Rattle.stale_spans.specs.Asked.{moved_layers}
+pub use Rattle.stale_spans.specs.Asked.{StandsForSome, head_shown}
 use Rattle.doc_layout.specs.Changed.{IsChangeOf}
 use Rattle.doc_layout.specs.Told.{screen_of}
 use Rattle.doc_view.specs.declared.told.Pristine.{Pristine}
@@ -37,14 +40,6 @@ use Rattle.doc_session.specs.Whole.{IsStateOf}
 
 -- ---- edits
 
--- what the head of the engine shows
-abbrev pub head_shown : State → List ℕ
-head_shown engine = shown_at engine.union engine.revisions (head engine.revisions)
-
--- the engine stands for some history
-abbrev pub StandsForSome : State → Type 0
-StandsForSome engine = ∥ ((history : History) × StandsFor engine history) ∥₁
-
 -- the engine stands for the history, and the edit in characters says this edit of its head text
 pub record SaysSome (engine : State) (edit : UnitEdit) (history : History) (asked : AskedEdit) : Type 0 where
   pub stands : StandsFor engine history
@@ -56,7 +51,7 @@ IsSaidOfSome engine edit = ∥ ((history : History) × (asked : AskedEdit) × Sa
 
 -- a change of this text was noticed: its delta is that of the notices
 pub record IsNoticed (text : List ℕ) (engine : State) (change : Change) (author : ℕ) (taken : Taken) : Type 0 where
-  pub engine_is : taken.engine ≡ engine
+  pub engine_is : arc_value taken.engine ≡ engine
   pub change_is : taken.change ≡ change
   pub view : taken.notice.view ≡ []
   pub author_is : taken.notice.author ≡ author
@@ -66,16 +61,17 @@ pub record IsNoticed (text : List ℕ) (engine : State) (change : Change) (autho
 
 -- what every edit makes of an engine, whatever the history: a change of the head text, and 64 bits count the characters after it
 pub record IsTakenFrom (engine : State) (taken : Taken) : Type 0 where
-  pub changes : IsChangeOf (head_shown engine) (head_shown taken.engine) taken.change.units
-  pub counted : length (head_shown taken.engine) < 2 ^ 64
-  pub limit : taken.engine.limit ≡ engine.limit
+  pub changes : IsChangeOf (head_shown engine) (head_shown (arc_value taken.engine)) taken.change.units
+  pub counted : length (head_shown (arc_value taken.engine)) < 2 ^ 64
+  pub limit : (arc_value taken.engine).limit ≡ engine.limit
 
--- what a revision makes is that of the history after it: the engine, the change, and the notice of it
+-- what a revision makes is that of the history after it, in which the text before it stays: the engine, the change, and the notice of it
 pub record IsAfter (history next : History) (author : ℕ) (taken : Taken) : Type 0 where
   pub one_more : head next ≡ head history + 1
   pub same_floor : next.floor ≡ history.floor
-  pub stands : StandsFor taken.engine next
-  pub within : inserted_count next ≤ taken.engine.limit
+  pub text_before : text_at next (head history) ≡ text_at history (head history)
+  pub stands : StandsFor (arc_value taken.engine) next
+  pub within : inserted_count next ≤ (arc_value taken.engine).limit
   pub changes : IsChange history next taken.change
   pub notice : taken.notice ≡ notice_of history next author
 
@@ -115,10 +111,15 @@ abbrev pub IsLeftOf : Option Typing → Option Typing → Type 0
 IsLeftOf typing None = ⊤
 IsLeftOf typing (Some run) = typing ≡ Some run
 
--- the document with this history, and its groups, run and regions as they were left
+-- the document with this history, and its groups, run and regions as they were left; styles stay with their characters
 abbrev pub next_document : Document → History → Left → Document
-next_document document history left =
-    record document { history = history; groups = left.stack; typing = left.typing; regions = left.sel.regions }
+next_document document history left = record document {
+  history = history;
+  groups = left.stack;
+  typing = left.typing;
+  regions = left.sel.regions;
+  layers = moved_layers document.history history document.layers;
+}
 
 -- ---- the next document in memory
 
@@ -152,6 +153,7 @@ pub record IsUntold (doc : Doc) (before plain : Document) : Type 0 where
   pub agree : Agree plain.history.revisions plain.history.collected plain.groups plain.typing
   pub regions : doc.view.regions ≡ plain.regions
   pub regions_are : AreRegionsOf (text_of plain) plain.regions
+  pub layers : plain.layers ≡ doc.view.layers
   pub saved : doc.saved ≡ plain.saved
   pub saved_before : plain.saved ≤ head plain.history
   pub window : plain.window ≡ doc.view.window
@@ -176,6 +178,7 @@ pub record IsUncollected (doc : Doc) (plain : Document) : Type 0 where
   pub agree : Agree plain.history.revisions plain.history.collected plain.groups plain.typing
   pub regions : doc.view.regions ≡ plain.regions
   pub regions_are : AreRegionsOf (text_of plain) plain.regions
+  pub layers : plain.layers ≡ doc.view.layers
   pub saved : doc.saved ≡ plain.saved
   pub saved_before : plain.saved ≤ head plain.history
   pub window : plain.window ≡ doc.view.window

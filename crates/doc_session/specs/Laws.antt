@@ -4,7 +4,7 @@ use Rattle.plain_text.specs.declared.run.Run.{Run}
 use Rattle.xi_plain.specs.declared.command.EditAct.{EditAct}
 use Rattle.plain_edits.specs.History.{History, text_at}
 use Rattle.plain_edits.specs.Delta.{Fits, keeps, adds, applied}
-use Rattle.plain_edits.specs.Edits.{Refusal, unknown, collected, misfit, spent}
+use Rattle.plain_edits.specs.Edits.{unknown, collected, misfit, spent}
 use Rattle.plain_screen.specs.Screen.{screen_after}
 use Rattle.plain_screen.specs.Plan.{shown_lines}
 use Rattle.edit_ops.specs.Replacements.{text_with}
@@ -13,6 +13,7 @@ use Rattle.doc_session.specs.Collecting.{HasNoneLeft}
 use Rattle.doc_session.specs.Document.{Document, layout_of, text_of}
 use Rattle.doc_session.specs.Effects.{ops_of, updated, change_delta}
 use Rattle.doc_session.specs.InMemory.{Doc}
+use Rattle.doc_session.specs.Refusal.{DocRefusal, of_edit, of_range}
 use Rattle.doc_session.specs.ScreenOf.{IsScreenOf}
 use Rattle.doc_session.specs.Stands.{DocStandsFor}
 use Rattle.doc_session.specs.Step.{effect_on, refusal_at}
@@ -42,12 +43,13 @@ CommandsPut = (plain : Document) (act : EditAct) (joined : Option ℕ) →
     Fits text delta × (applied (keeps text delta) (adds text delta) text ≡ text_with replacements text)
 
 -- the refusal, if there is one, is that the characters are spent
-abbrev pub IsSpentIfAny : Option Refusal → Type 0
+abbrev pub IsSpentIfAny : Option DocRefusal → Type 0
 IsSpentIfAny None = ⊤
-IsSpentIfAny (Some (unknown head)) = ⊥
-IsSpentIfAny (Some (collected floor)) = ⊥
-IsSpentIfAny (Some (misfit first)) = ⊥
-IsSpentIfAny (Some (spent total)) = ⊤
+IsSpentIfAny (Some (of_edit (unknown head))) = ⊥
+IsSpentIfAny (Some (of_edit (collected floor))) = ⊥
+IsSpentIfAny (Some (of_edit (misfit first))) = ⊥
+IsSpentIfAny (Some (of_edit (spent total))) = ⊤
+IsSpentIfAny (Some (of_range member)) = ⊥
 
 -- a command of the front end is refused only where its characters are spent: it is against the head, and its delta fits
 abbrev pub CommandsFit : Type 0

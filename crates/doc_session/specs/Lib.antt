@@ -3,6 +3,7 @@ pub mod Typing
 pub mod Grouping
 pub mod Document
 pub mod Collecting
+pub mod Refusal
 pub mod Asking
 pub mod SameLayout
 pub mod Effects

@@ -18,8 +18,8 @@ pub record AreRegionsOf (text : List ℕ) (regions : List Region) : Type 0 where
   pub inside : AreWithin (length text) regions
 
 -- the document in memory stands for the plain one: they have the same history, limit, sessions, which have acknowledged kept revisions,
--- undo groups, which agree with the history and of which none waits for a session where none is open, run of typing, regions on the head
--- text, saved revision, window, search and configuration, and the front end's screen is as the last update left it, or empty where there was none
+-- undo groups, which agree with the history and of which none waits for a session where none is open, run of typing, regions and styles on
+-- the head text, saved revision, window, search and configuration, and the front end's screen is as the last update left it, or empty where there was none
 pub record DocStandsFor (doc : Doc) (plain : Document) : Type 0 where
   pub parts : IsStateOf plain.history doc.engine doc.view.text
   pub limit : doc.engine.limit ≡ plain.limit
@@ -31,6 +31,7 @@ pub record DocStandsFor (doc : Doc) (plain : Document) : Type 0 where
   pub agree : Agree plain.history.revisions plain.history.collected plain.groups plain.typing
   pub regions : doc.view.regions ≡ plain.regions
   pub regions_are : AreRegionsOf (text_of plain) plain.regions
+  pub layers : plain.layers ≡ doc.view.layers
   pub saved : doc.saved ≡ plain.saved
   pub saved_before : plain.saved ≤ head plain.history
   pub window : plain.window ≡ doc.view.window

@@ -1,5 +1,5 @@
 -- THE STEP: what an event comes to in a plain document.
-use Rattle.std.specs.Prelude.{◌≡◌, ℕ, ◌+◌, ◌<◌, ◌≤◌, Bool, true, false, if◌then◌else◌, List, length, map, Option, Some, None, option_map, ⊤}
+use Rattle.std.specs.Prelude.{◌≡◌, ℕ, ◌+◌, ◌-◌, ◌<◌, ◌≤◌, Bool, true, false, if◌then◌else◌, List, length, map, Option, Some, None, option_map, ⊤}
 use Rattle.plain_text.specs.declared.run.Run.{Run}
 use Rattle.plain_text.specs.declared.selection.Region.{Region}
 use Rattle.xi_plain.specs.declared.config.Config.{Config}
@@ -23,13 +23,17 @@ use Rattle.doc_session.specs.declared.event.Body.{Body}
 use Rattle.doc_session.specs.declared.event.Body.TheVariants.{Null, Copied, Edited}
 use Rattle.doc_session.specs.declared.event.Effects.{Effects}
 use Rattle.doc_session.specs.declared.event.Event.{Event}
-use Rattle.doc_session.specs.declared.event.Event.TheVariants.{Ack, Config as Configure, Edit, Ended, Front, Other}
+use Rattle.doc_session.specs.declared.event.Event.TheVariants.{Ack, Config as Configure, Edit, Ended, Front, Other, Spans}
 use Rattle.doc_session.specs.declared.typing.Kind.{Kind}
 use Rattle.doc_session.specs.Document.{Document, no_request, pieces_of, text_of}
 use Rattle.doc_session.specs.Typing.{kind_of, run_on, run_with}
 use Rattle.doc_session.specs.Grouping.{named_group, run_group, groups_by}
-use Rattle.doc_session.specs.Asking.{acknowledgement_refusal, front_edit, plugin_edit, asked_refusal}
+use Rattle.stale_spans.specs.declared.asked.AskedSpans.{AskedSpans}
+use Rattle.stale_spans.specs.Asked.{layers_with_spans, moved_layers}
+use Rattle.stale_spans.specs.Places.{StandIn}
+use Rattle.doc_session.specs.Asking.{acknowledgement_refusal, asked_spans, front_edit, plugin_edit, asked_refusal, range_refusal}
 use Rattle.doc_session.specs.Collecting.{acknowledged_document, collected_document, ended_document}
+use Rattle.doc_session.specs.Refusal.{DocRefusal, edit_refused}
 use Rattle.doc_session.specs.Effects.{update_after, settled, scroll_after, notice_of}
 use Rattle.doc_session.specs.PositionView.{position_view}
 
@@ -69,13 +73,14 @@ going_on document kind = record document { typing = run_on document.typing kind 
 abbrev pub other_step : Document → EventStep
 other_step document = still_step document (going_on document None) Null None
 
--- the document after an edit of this kind which joined a group or opened the next, with these regions
+-- the document after an edit of this kind which joined a group or opened the next, with these regions; styles stay with their characters
 abbrev pub edited_document : Document → AskedEdit → Option ℕ → Option Kind → List Region → Document
 edited_document document asked joined kind regions = record document {
   history = after document.history asked;
   groups = groups_by document.groups joined;
   typing = run_with kind asked.group;
   regions = regions;
+  layers = moved_layers document.history (after document.history asked) document.layers;
 }
 
 -- ---- commands of the front end
@@ -135,13 +140,14 @@ command_step document act effect = if is_idle document effect then idle_step doc
 abbrev pub regions_by : Document → History → Bool → List Region → List Region
 regions_by document next after_cursor regions = merged_regions (moved_regions document.history next after_cursor regions)
 
--- an undo or a redo left the groups so; the regions move by the caret rule, and their goals go
+-- an undo or a redo left the groups so; the regions move by the caret rule, and their goals go; styles stay with their characters
 abbrev pub undone_document : Document → Groups → Document
 undone_document document groups = record document {
   history = undid document.history groups.undone;
   groups = groups;
   typing = None;
   regions = regions_by document (undid document.history groups.undone) false (map without_goal document.regions);
+  layers = moved_layers document.history (undid document.history groups.undone) document.layers;
 }
 
 -- an undo or a redo takes this group, where there is one, and leaves the groups so; at its end it makes no revision
@@ -211,6 +217,17 @@ plugin_step document caller edit named =
     given_step document (plugin_edit document caller edit (named_group document.history named))
     (named_group document.history named) edit.after_cursor
 
+-- ---- styles of plugins
+
+-- a plugin said styles of the text of a revision, which come to those of its characters that the head shows; nothing else changes
+abbrev pub styled_document : Document → ℕ → AskedSpans → Document
+styled_document document caller asked =
+    record document { layers = layers_with_spans document.history asked (caller - 1) document.layers }
+
+-- THE STEP OF SPANS: no revision is made, the run of typing goes on, since the front end said nothing, and nothing is scrolled
+abbrev pub spans_step : Document → ℕ → AskedSpans → EventStep
+spans_step document caller asked = still_step document (styled_document document caller asked) Null None
+
 -- ---- configuration
 
 -- the text is laid out and edited so from now on; regions, with their goals, and revisions stay, and nothing is scrolled
@@ -237,6 +254,7 @@ silent_step next = record { document = next; body = Null; update = None; scroll 
 abbrev pub taken_step : Document → Event → EventStep
 taken_step document (Front act) = act_step document act
 taken_step document (Edit caller edit named) = plugin_step document caller edit named
+taken_step document (Spans caller rev start len spans) = spans_step document caller (asked_spans rev start len spans)
 taken_step document (Ack caller rev) = silent_step (acknowledged_document document caller rev)
 taken_step document (Ended caller) = silent_step (ended_document document caller)
 taken_step document (Configure config) = config_step document config
@@ -264,19 +282,21 @@ command_refusal document effect =
     if is_idle document effect then None else asked_refusal document (front_edit document None effect.replacements)
 
 -- THE REFUSAL of an event. (In which group an edit goes is no cause.)
-abbrev pub refusal_at : Document → Event → Option Refusal
-refusal_at document (Front act) = command_refusal document (effect_on document act)
-refusal_at document (Edit caller edit named) = asked_refusal document (plugin_edit document caller edit None)
-refusal_at document (Ack caller rev) = acknowledgement_refusal document.history rev
+abbrev pub refusal_at : Document → Event → Option DocRefusal
+refusal_at document (Front act) = edit_refused (command_refusal document (effect_on document act))
+refusal_at document (Edit caller edit named) = edit_refused (asked_refusal document (plugin_edit document caller edit None))
+refusal_at document (Spans caller rev start len spans) = range_refusal document.history (asked_spans rev start len spans)
+refusal_at document (Ack caller rev) = edit_refused (acknowledgement_refusal document.history rev)
 refusal_at document (Ended caller) = None
 refusal_at document (Configure config) = None
 refusal_at document Other = None
 
--- THE EVENTS that may come to a document with so many plugins: what a plugin does is done by one of these, and a configuration has a tab
--- width
+-- THE EVENTS that may come to a document with so many plugins: what a plugin does is done by one of these, each of its spans stands in
+-- their range, and a configuration has a tab width
 abbrev pub MayCome : ℕ → Event → Type 0
 MayCome plugins (Front act) = ⊤
 MayCome plugins (Edit caller edit named) = (1 ≤ caller) × (caller ≤ plugins)
+MayCome plugins (Spans caller rev start len spans) = (1 ≤ caller) × (caller ≤ plugins) × StandIn len spans
 MayCome plugins (Ack caller rev) = (1 ≤ caller) × (caller ≤ plugins)
 MayCome plugins (Ended caller) = (1 ≤ caller) × (caller ≤ plugins)
 MayCome plugins (Configure config) = 0 < config.tab

@@ -1,16 +1,78 @@
-// What a collection reads of the undo groups, and makes of them.
-ghost use Rattle.std.specs.Prelude.{◌≡◌, true, IfOk};
+// What a collection reads of a document, and makes of it.
+ghost use Rattle.std.specs.Prelude.{◌≡◌, ◌≤◌, true, Some, IfOk, IfSome};
+ghost use Rattle.std.specs.Arc.{arc_value};
 ghost use Rattle.std.specs.List.{fold, AllByRecursion};
 ghost use Rattle.plain_text.specs.Numbers.{has};
+ghost use Rattle.plain_edits.specs.Collection.{collected_at};
+ghost use Rattle.plain_edits.specs.History.{History, head};
+ghost use Rattle.rev_collect.specs.Choice.{collection_said};
+ghost use Rattle.rev_engine.specs.Asked.{IsCollectionTaken};
+ghost use Rattle.rev_engine.specs.Engine.{StandsFor};
 ghost use Rattle.undo_groups.specs.Groups.{IsStack, forgotten};
+ghost use Rattle.doc_session.specs.Collecting.{collected_document, collection_after, least_acknowledged, with_collection};
+ghost use Rattle.doc_session.specs.Document.{Document};
+ghost use Rattle.doc_session.specs.Inner.{IsUncollected, MayCollectIn};
+ghost use Rattle.doc_session.specs.Stands.{DocStandsFor};
 
+use crate::doc::Doc;
 use plain_text::NoMemory;
+use rev_engine::Engine;
 use std::alloc::Global;
 use std::collections::BTreeSet;
+use std::sync::Arc;
 use undo_groups::Stack;
 
-/// The groups that no undo reaches any more, in O(r log r) with r of them.
-pub(crate) fn retired_groups(alloc: Global, stack: &Stack) -> Result<BTreeSet<u64>, NoMemory>
+/// The document in which what may be collected is collected: the same, where that is nothing.
+pub(crate) fn after_collection(alloc: Global, doc: Doc) -> Result<Doc, NoMemory>
+    ensures stands { (plain : Document) → IsUncollected doc plain → IfOk result (λ made. DocStandsFor made (collected_document plain)) }
+    ensures sessions { IfOk result (λ made. made.sessions ≡ doc.sessions) }
+{
+    match doc.collectable(alloc)? {
+        Some((floor, groups)) => doc.without(alloc, floor, &groups),
+        None => Ok(doc),
+    }
+}
+
+impl Doc {
+    // What is collected now, if anything: the groups of a floor. That is nothing where no group is retired, and where a session lags.
+    fn collectable(&self, alloc: Global) -> Result<Option<(u64, BTreeSet<u64>)>, NoMemory>
+        ensures found { (plain : Document) → IsUncollected self.now plain
+            → IfOk result (λ found. collection_said found ≡ collection_after plain) }
+        ensures may { IfOk result (λ found. IfSome found (λ some. MayCollectIn self.now some.0 some.1.keys)) }
+    {
+        let engine = &*self.engine;
+        let head = engine.head();
+        let _floor = engine.floor();
+        if !self.stack.has_retired() || self.sessions.least(head) < head {
+            return Ok(None);
+        }
+        let retired = retired_groups(alloc, &self.stack)?;
+        engine.collectable(alloc, head, &retired)
+    }
+
+    // The document after a collection, which the engine makes and the stack too.
+    fn without(&self, alloc: Global, floor: u64, groups: &BTreeSet<u64>) -> Result<Doc, NoMemory>
+        requires { MayCollectIn self.now floor groups.now.keys }
+        ensures stands { (plain : Document) → IsUncollected self.now plain
+            → floor ≤ least_acknowledged (head plain.history) plain.sessions → IfOk result (λ made.
+            IsUncollected made (with_collection plain (Some (record { floor = floor; groups = groups.now.keys })))) }
+        ensures sessions { IfOk result (λ made. made.sessions ≡ self.now.sessions) }
+    {
+        let engine = collecting(alloc, &self.engine, floor, groups)?;
+        let stack = forgetting(alloc, &self.stack, groups)?;
+        Ok(Doc {
+            engine,
+            stack,
+            typing: self.typing,
+            saved: self.saved,
+            sessions: self.sessions.copy(alloc)?,
+            view: self.view.copy()?,
+        })
+    }
+}
+
+// The groups that no undo reaches any more, in O(r log r) with r of them.
+fn retired_groups(alloc: Global, stack: &Stack) -> Result<BTreeSet<u64>, NoMemory>
     ensures { IfOk result (λ groups. groups.keys ≡ stack.now.retired) }
 {
     let _given = stack.given();
@@ -23,12 +85,25 @@ pub(crate) fn retired_groups(alloc: Global, stack: &Stack) -> Result<BTreeSet<u6
     Ok(groups)
 }
 
-/// The stack after it forgot these groups, which it has retired.
-pub(crate) fn forgetting(
+// A copy of the engine, which these groups are collected from at the floor.
+fn collecting(
     alloc: Global,
-    stack: &Stack,
+    engine: &Engine,
+    floor: u64,
     groups: &BTreeSet<u64>,
-) -> Result<Stack, NoMemory>
+) -> Result<Arc<Engine, Global>, NoMemory>
+    requires { IsCollectionTaken engine.now.revisions floor groups.now.keys }
+    ensures stands { (history : History) → StandsFor engine.now history
+        → IfOk result (λ made. StandsFor (arc_value made) (collected_at history floor groups.now.keys)) }
+    ensures limit { IfOk result (λ made. (arc_value made).limit ≡ engine.now.limit) }
+{
+    let mut made = engine.copy(alloc)?;
+    made.collect(alloc, floor, groups)?;
+    Ok(Arc::new(alloc, made)?)
+}
+
+// The stack after it forgot these groups, which it has retired.
+fn forgetting(alloc: Global, stack: &Stack, groups: &BTreeSet<u64>) -> Result<Stack, NoMemory>
     requires { AllByRecursion (λ group. has stack.now.retired group ≡ true) groups.now.keys }
     ensures forgotten { IfOk result (λ made. made ≡ fold forgotten stack.now groups.now.keys) }
     ensures sound { IfOk result (λ made. IsStack made) }

@@ -1,35 +1,36 @@
-ghost use Rattle.std.specs.Prelude.{◌≡◌, ◌≢◌, ◌+◌, ◌-◌, ◌^◌, ◌<◌, ◌≤◌, ℕ, [], true, length, if◌then◌else◌, Some, None, IfOk, IfErr, IfSome, OnOk, OnErr, option_map};
+ghost use Rattle.std.specs.Prelude.{◌≡◌, ◌≢◌, ◌+◌, ◌-◌, ◌^◌, ◌<◌, ◌≤◌, ℕ, [], true, length, if◌then◌else◌, Some, None, IfOk, IfErr, OnOk, OnErr, option_map};
+ghost use Rattle.std.specs.Arc.{arc_value};
 ghost use Rattle.plain_edits.specs.Collection.{kept};
-ghost use Rattle.rev_collect.specs.Choice.{collection_said};
 ghost use Rattle.plain_edits.specs.History.{History, head};
 ghost use Rattle.edit_ops.specs.Commands.{IsDoneOnText, IsEffect};
 ghost use Rattle.rev_engine.specs.Engine.{IsSaidBy, StandsFor};
 ghost use Rattle.rev_engine.specs.Given.{AskedEdit, MayAsk};
 ghost use Rattle.selection_core.specs.Mapped.{AreWithin};
 ghost use Rattle.selection_core.specs.Selection.{IsSelection};
+ghost use Rattle.span_styles.specs.Layers.{AreOver};
 ghost use Rattle.doc_session.specs.Asking.{acknowledgement_refusal, front_edit, front_priority, plugin_edit, asked_refusal};
-ghost use Rattle.doc_session.specs.Collecting.{acknowledged_document, collected_document, collection_after, ended_document, least_acknowledged, with_collection};
-ghost use Rattle.doc_session.specs.Document.{Document, layout_of, loaded_document, no_request, text_of};
+ghost use Rattle.doc_session.specs.Collecting.{acknowledged_document, ended_document};
+ghost use Rattle.doc_session.specs.Document.{Document, layout_of, loaded_document, text_of};
 ghost use Rattle.doc_session.specs.Fault.{DocRefuses};
+ghost use Rattle.doc_session.specs.Refusal.{edit_refused};
 ghost use Rattle.undo_groups.specs.Groups.{next_redo, next_undo, redone_one, undone_one};
 ghost use Rattle.doc_session.specs.Agree.{Agree};
 ghost use Rattle.doc_layout.specs.Told.{scroll_between};
-ghost use Rattle.doc_session.specs.Inner.{IsAfter, IsAfterEdit, IsFrontEdit, IsLeftOf, IsMoved, IsStepped, IsTakenFrom, IsTurned, IsUncollected, IsUntold, MayCollectIn, effect_in, head_shown, is_pristine_in, looking_doc, next_document, pristine_to};
+ghost use Rattle.doc_session.specs.Inner.{IsAfter, IsAfterEdit, IsFrontEdit, IsLeftOf, IsMoved, IsStepped, IsTakenFrom, IsTurned, IsUncollected, IsUntold, effect_in, head_shown, is_pristine_in, next_document, pristine_to};
 ghost use Rattle.doc_session.specs.PositionView.{position_view};
-ghost use Rattle.doc_session.specs.declared.event.Body.TheVariants.{Null};
 ghost use Rattle.doc_session.specs.ScreenOf.{IsShownAfter};
 ghost use Rattle.doc_session.specs.Stands.{DocStandsFor};
-ghost use Rattle.doc_session.specs.Step.{AreEffectsOf, MayCome, act_step, answer_to, at_next_match, at_previous_match, command_refusal, command_step, config_step, effect_on, event_step, history_step, idle_step, look_step, looking_document, other_step, plugin_step, refusal_at, revision_step, scroll_if, scrolled_document, seeking_document, silent_step, step_to, taken_step, typed_step};
+ghost use Rattle.doc_session.specs.Step.{AreEffectsOf, MayCome, act_step, answer_to, command_refusal, command_step, effect_on, event_step, history_step, idle_step, plugin_step, refusal_at, revision_step, scroll_if, silent_step, step_to, taken_step, typed_step};
 ghost use Rattle.doc_session.specs.Whole.{IsWhole};
 ghost use Rattle.doc_view.specs.Told.{IsTextLeft, settled_view, told};
 ghost use Rattle.doc_view.specs.View.{point_in};
 
-use crate::collecting::{forgetting, retired_groups};
+use crate::collecting::after_collection;
 use crate::commands::{copies, scrolls};
 use crate::event::{Body, Effects, Event};
 use crate::fault::DocFault;
 use crate::left::{Left, joined_or_opened, left_by, named_or_opened};
-use crate::said::Said;
+use crate::said::{NO_REQUEST, Said};
 use crate::sessions::Sessions;
 use crate::taken::{Taken, taken_by, taken_head, taken_turn};
 use crate::typing::{Typing, kind_of, run_group, run_on, run_with};
@@ -39,9 +40,11 @@ use plain_edits::UnitDelta;
 use plain_screen::Update;
 use plain_text::{NoMemory, Run, Sel, Steps, Text};
 use rev_engine::{Edit, Engine, UnitEdit};
+use span_styles::Layers;
+use stale_spans::AskedSpans;
 use std::alloc::Global;
-use std::collections::BTreeSet;
 use std::marker::Model;
+use std::sync::Arc;
 use std::sync::ledger::Ledger;
 use undo_groups::Stack;
 use xi_plain::{Config, EditAct};
@@ -52,34 +55,32 @@ const FRONT_PRIORITY: u32 = 65_536;
 /// The lines that a view shows when it is opened.
 const FIRST_WINDOW: Run = Run { start: 0, end: 10 };
 
-/// What an event requests that requests no lines.
-const NO_REQUEST: Run = Run { start: 0, end: 0 };
-
 /// A document with one view.
 #[derive(Drop)]
 pub struct Doc {
-    /// The text with all its revisions.
-    engine: Engine,
-    stack: Stack,
+    /// The text with all its revisions, which copies share.
+    pub(crate) engine: Arc<Engine, Global>,
+    pub(crate) stack: Stack,
     /// The run that the next command of the front end may join.
-    typing: Option<Typing>,
+    pub(crate) typing: Option<Typing>,
     /// The revision that was loaded or last saved.
-    saved: u64,
+    pub(crate) saved: u64,
     /// What the sessions of the plugins have acknowledged.
-    sessions: Sessions,
+    pub(crate) sessions: Sessions,
     /// The view on the head text.
-    view: ViewState,
+    pub(crate) view: ViewState,
 }
 
 impl Model for Doc {
+    ghost use Rattle.std.specs.Arc.{arc_value};
     ghost use Rattle.doc_session.specs.InMemory.{Doc};
 
     ghost Value = { Doc };
 
-    ghost use Rattle.doc_session.specs.Whole.{IsWhole};
+    ghost use Rattle.doc_session.specs.Whole.{IsKept};
 
     ghost view = { λ d. record {
-      engine = d.engine;
+      engine = arc_value d.engine;
       groups = d.stack;
       typing = d.typing;
       saved = d.saved;
@@ -87,7 +88,14 @@ impl Model for Doc {
       view = d.view;
     } };
 
-    ghost invariant = { λ d. IsWhole d.engine d.stack d.typing d.view.text };
+    ghost invariant = { λ d. IsKept (record {
+      engine = arc_value d.engine;
+      groups = d.stack;
+      typing = d.typing;
+      saved = d.saved;
+      sessions = d.sessions;
+      view = d.view;
+    }) };
 }
 
 impl Doc {
@@ -105,7 +113,7 @@ impl Doc {
         ensures stands { IfOk result (λ made. DocStandsFor made (loaded_document text plugins limit config)) }
     {
         let sessions = Sessions::open(alloc, plugins)?;
-        let engine = Engine::of_text(alloc, text, limit)?;
+        let engine = Arc::new(alloc, Engine::of_text(alloc, text, limit)?)?;
         let shown = whole_text(alloc, engine.head_rope())?;
         let stack = Stack::new(alloc);
         let _given = stack.given();
@@ -115,7 +123,7 @@ impl Doc {
             typing: None,
             saved: 0,
             sessions,
-            view: ViewState::of_text(alloc, shown, FIRST_WINDOW, config)?,
+            view: ViewState::of_text(alloc, shown, plugins, FIRST_WINDOW, config)?,
         })
     }
 
@@ -194,6 +202,21 @@ impl Doc {
                 edit,
                 named,
             } => self.edit(alloc, caller, edit, named),
+            Event::Spans {
+                caller,
+                rev,
+                start,
+                len,
+                spans,
+            } => {
+                let asked = AskedSpans {
+                    rev,
+                    start,
+                    len,
+                    spans,
+                };
+                self.styled(alloc, caller, &asked)
+            }
             Event::Ack { caller, rev } => self.acknowledged(alloc, caller, rev),
             Event::Ended { caller } => Ok(self.ended(alloc, caller)?),
             Event::Config(config) => Ok(self.configured(alloc, config)?),
@@ -209,7 +232,7 @@ impl Doc {
         ensures accepted { (plain : Document) → DocStandsFor self.now plain
             → OnOk result (command_refusal plain (effect_on plain act) ≡ None) }
         ensures refused { (plain : Document) → DocStandsFor self.now plain
-            → IfErr result (DocRefuses (command_refusal plain (effect_on plain act))) }
+            → IfErr result (DocRefuses (edit_refused (command_refusal plain (effect_on plain act)))) }
         ensures sessions { IfOk result (λ made. made.0.sessions ≡ self.now.sessions) }
     {
         match act {
@@ -241,7 +264,7 @@ impl Doc {
         ensures accepted { (plain : Document) → DocStandsFor self.now plain
             → OnOk result (command_refusal plain (effect_on plain act.now) ≡ None) }
         ensures refused { (plain : Document) → DocStandsFor self.now plain
-            → IfErr result (DocRefuses (command_refusal plain (effect_on plain act.now))) }
+            → IfErr result (DocRefuses (edit_refused (command_refusal plain (effect_on plain act.now)))) }
         ensures sessions { IfOk result (λ made. made.0.sessions ≡ self.now.sessions) }
     {
         let (units, sel) = self.view.effect(alloc, act)?;
@@ -288,7 +311,8 @@ impl Doc {
         ensures accepted { (plain : Document) → DocStandsFor self.now plain
             → OnOk result (asked_refusal plain (front_edit plain None (effect_on plain act.now).replacements) ≡ None) }
         ensures refused { (plain : Document) → DocStandsFor self.now plain
-            → IfErr result (DocRefuses (asked_refusal plain (front_edit plain None (effect_on plain act.now).replacements))) }
+            → IfErr result (DocRefuses (edit_refused
+            (asked_refusal plain (front_edit plain None (effect_on plain act.now).replacements)))) }
         ensures sessions { IfOk result (λ made. made.0.sessions ≡ self.now.sessions) }
     {
         let kind = kind_of(act);
@@ -312,7 +336,8 @@ impl Doc {
         ensures accepted { (plain : Document) → DocStandsFor self.now plain
             → OnOk result (asked_refusal plain (front_edit plain None (effect_on plain act.now).replacements) ≡ None) }
         ensures refused { (plain : Document) → DocStandsFor self.now plain
-            → IfErr result (DocRefuses (asked_refusal plain (front_edit plain None (effect_on plain act.now).replacements))) }
+            → IfErr result (DocRefuses (edit_refused
+            (asked_refusal plain (front_edit plain None (effect_on plain act.now).replacements)))) }
     {
         let _act = act;
         taken_head(alloc, &self.engine, edit)
@@ -396,104 +421,6 @@ impl Doc {
         self.settled(alloc, taken, left, Body::Null, true)
     }
 
-    // The front end shows these lines.
-    fn scroll(&self, alloc: Global, window: Run) -> Result<(Doc, Effects), NoMemory>
-        ensures stepped { (plain : Document) → DocStandsFor self.now plain
-            → IfOk result (IsStepped (look_step no_request plain (scrolled_document plain window))) }
-        ensures sessions { IfOk result (λ made. made.0.sessions ≡ self.now.sessions) }
-    {
-        self.looking(alloc, self.view.scrolled(alloc, window)?, NO_REQUEST, true)
-    }
-
-    // The front end requests these lines.
-    fn request(&self, alloc: Global, request: Run) -> Result<(Doc, Effects), NoMemory>
-        ensures stepped { (plain : Document) → DocStandsFor self.now plain
-            → IfOk result (IsStepped (look_step request plain (looking_document plain))) }
-        ensures sessions { IfOk result (λ made. made.0.sessions ≡ self.now.sessions) }
-    {
-        self.looking(alloc, self.view.without_goals(alloc)?, request, true)
-    }
-
-    // The front end looks for these characters, and says whether case counts, or nothing of it.
-    fn find(
-        &self,
-        alloc: Global,
-        chars: Text,
-        case_counts: Option<bool>,
-    ) -> Result<(Doc, Effects), NoMemory>
-        ensures stepped { (plain : Document) → DocStandsFor self.now plain
-            → IfOk result (IsStepped (look_step no_request plain (seeking_document plain chars case_counts))) }
-        ensures sessions { IfOk result (λ made. made.0.sessions ≡ self.now.sessions) }
-    {
-        self.looking(
-            alloc,
-            self.view.seeking(alloc, chars, case_counts)?,
-            NO_REQUEST,
-            true,
-        )
-    }
-
-    // The next match is selected, if there is one.
-    fn find_next(
-        &self,
-        alloc: Global,
-        wrap_around: Option<bool>,
-    ) -> Result<(Doc, Effects), NoMemory>
-        ensures stepped { (plain : Document) → DocStandsFor self.now plain
-            → IfOk result (IsStepped (look_step no_request plain (at_next_match plain wrap_around))) }
-        ensures sessions { IfOk result (λ made. made.0.sessions ≡ self.now.sessions) }
-    {
-        self.looking(
-            alloc,
-            self.view.at_next(alloc, wrap_around)?,
-            NO_REQUEST,
-            true,
-        )
-    }
-
-    // The previous match is selected, if there is one.
-    fn find_previous(
-        &self,
-        alloc: Global,
-        wrap_around: Option<bool>,
-    ) -> Result<(Doc, Effects), NoMemory>
-        ensures stepped { (plain : Document) → DocStandsFor self.now plain
-            → IfOk result (IsStepped (look_step no_request plain (at_previous_match plain wrap_around))) }
-        ensures sessions { IfOk result (λ made. made.0.sessions ≡ self.now.sessions) }
-    {
-        self.looking(
-            alloc,
-            self.view.at_previous(alloc, wrap_around)?,
-            NO_REQUEST,
-            true,
-        )
-    }
-
-    // The same document with another view of its text, at a line that requests these lines and makes no revision. Whether it scrolls to the
-    // last caret is said.
-    fn looking(
-        &self,
-        alloc: Global,
-        view: ViewState,
-        request: Run,
-        scrolls: bool,
-    ) -> Result<(Doc, Effects), NoMemory>
-        requires text { view.text ≡ self.now.view.text }
-        ensures stepped { (plain later : Document) → DocStandsFor self.now plain → IsUntold (looking_doc self.now view) plain later
-            → IfOk result (IsStepped (step_to request plain later Null (scroll_if scrolls plain later) None)) }
-        ensures sessions { IfOk result (λ made. made.0.sessions ≡ self.now.sessions) }
-    {
-        let next = self.with_view(alloc, view, run_on(self.typing, None))?;
-        let said = Said {
-            text: TextLeft::Same,
-            request,
-            body: Body::Null,
-            scrolls,
-            notice: None,
-        };
-        self.told(alloc, next, said)
-    }
-
     // A plugin edits the text, in the group that it names or in the next.
     fn edit(
         &self,
@@ -509,12 +436,12 @@ impl Doc {
         ensures accepted { (plain : Document) → DocStandsFor self.now plain
             → OnOk result (asked_refusal plain (plugin_edit plain caller edit None) ≡ None) }
         ensures refused { (plain : Document) → DocStandsFor self.now plain
-            → IfErr result (DocRefuses (asked_refusal plain (plugin_edit plain caller edit None))) }
+            → IfErr result (DocRefuses (edit_refused (asked_refusal plain (plugin_edit plain caller edit None)))) }
         ensures sessions { IfOk result (λ made. made.0.sessions ≡ self.now.sessions) }
     {
         let made = named_or_opened(alloc, &self.stack, named)?;
         let group = made.group;
-        let rev = self.engine.head() + 1;
+        let rev = self.head() + 1;
         let after_cursor = edit.after_cursor;
         let edit = given(edit, caller, group);
         let taken = taken_by(alloc, &self.engine, &edit)?;
@@ -534,22 +461,23 @@ impl Doc {
         body: Body,
         scrolls: bool,
     ) -> Result<(Doc, Effects), NoMemory>
-        requires whole { IsWhole taken.engine left.stack left.typing (head_shown taken.engine) }
+        requires whole { IsWhole (arc_value taken.engine) left.stack left.typing (head_shown (arc_value taken.engine)) }
         requires made { IsTakenFrom self.now.engine taken }
         requires sound { IsSelection left.sel.regions }
-        requires inside { AreWithin (length (head_shown taken.engine)) left.sel.regions }
+        requires inside { AreWithin (length (head_shown (arc_value taken.engine))) left.sel.regions }
         ensures stepped { (plain : Document) (history : History) (author : ℕ) → DocStandsFor self.now plain
             → IsAfter plain.history history author taken → Agree history.revisions history.collected left.stack left.typing
             → left.sel.regions ≢ [] → IfOk result (IsStepped (revision_step plain (next_document plain history left) author body
             (scroll_if scrolls plain (next_document plain history left)))) }
         ensures sessions { IfOk result (λ made. made.0.sessions ≡ self.now.sessions) }
     {
+        let layers = self.moved_layers(alloc, &taken)?;
         let Taken {
             engine,
             change: _,
             notice,
         } = taken;
-        let next = self.revised(alloc, engine, left)?;
+        let next = self.revised(alloc, engine, left, layers)?;
         let said = Said {
             text: TextLeft::Edited,
             request: NO_REQUEST,
@@ -560,22 +488,30 @@ impl Doc {
         self.told(alloc, next, said)
     }
 
-    // The document with another engine, and with groups, run and regions that were left so.
-    fn revised(&self, alloc: Global, engine: Engine, left: Left) -> Result<Doc, NoMemory>
-        requires whole { IsWhole engine left.stack left.typing (head_shown engine) }
+    // The document with another engine, with groups, run and regions that were left so, and with these layers of styles.
+    fn revised(
+        &self,
+        alloc: Global,
+        engine: Arc<Engine, Global>,
+        left: Left,
+        layers: Layers,
+    ) -> Result<Doc, NoMemory>
+        requires whole { IsWhole (arc_value engine) left.stack left.typing (head_shown (arc_value engine)) }
         requires sound { IsSelection left.sel.regions }
-        requires inside { AreWithin (length (head_shown engine)) left.sel.regions }
+        requires inside { AreWithin (length (head_shown (arc_value engine))) left.sel.regions }
+        requires over { AreOver (length (head_shown (arc_value engine))) layers }
+        requires as_many { length layers ≡ length self.now.sessions }
         ensures { IfOk result (λ made. made ≡ record self.now {
-          engine = engine;
+          engine = arc_value engine;
           groups = left.stack;
           typing = left.typing;
-          view = record self.now.view { text = head_shown engine; regions = left.sel.regions };
+          view = record self.now.view { text = head_shown (arc_value engine); regions = left.sel.regions; layers = layers };
         }) }
     {
         let sessions = self.sessions.copy(alloc)?;
         let Left { stack, typing, sel } = left;
         let shown = whole_text(alloc, engine.head_rope())?;
-        let view = self.view.with_text(alloc, shown, sel)?;
+        let view = self.view.with_text(alloc, shown, sel, layers)?;
         Ok(Doc {
             engine,
             stack,
@@ -586,26 +522,13 @@ impl Doc {
         })
     }
 
-    // The text is laid out and edited so from now on.
-    fn configured(&self, alloc: Global, config: Config) -> Result<(Doc, Effects), NoMemory>
-        requires tab { 0 < config.tab }
-        ensures stepped { (plain : Document) → DocStandsFor self.now plain → IfOk result (IsStepped (config_step plain config)) }
-        ensures sessions { IfOk result (λ made. made.0.sessions ≡ self.now.sessions) }
-    {
-        let view = self.view.with_config(alloc, config)?;
-        self.looking(alloc, view, NO_REQUEST, false)
-    }
-
-    // A line that is no command of this document; the front end is told what it lacks.
-    fn other(&self, alloc: Global) -> Result<(Doc, Effects), NoMemory>
-        ensures stepped { (plain : Document) → DocStandsFor self.now plain → IfOk result (IsStepped (other_step plain)) }
-        ensures sessions { IfOk result (λ made. made.0.sessions ≡ self.now.sessions) }
-    {
-        self.looking(alloc, self.view.copy()?, NO_REQUEST, false)
-    }
-
     // The document is `next` after an event; the front end is told what it lacks.
-    fn told(&self, alloc: Global, next: Doc, said: Said) -> Result<(Doc, Effects), NoMemory>
+    pub(crate) fn told(
+        &self,
+        alloc: Global,
+        next: Doc,
+        said: Said,
+    ) -> Result<(Doc, Effects), NoMemory>
         requires text { IsTextLeft said.text self.now.view next.view }
         ensures stepped { (plain later : Document) → DocStandsFor self.now plain → IsUntold next plain later
             → IfOk result (IsStepped (step_to said.request plain later said.body (scroll_if said.scrolls plain later) said.notice)) }
@@ -671,7 +594,7 @@ impl Doc {
     fn is_pristine(&self) -> bool
         ensures { result ≡ is_pristine_in self.now }
     {
-        self.engine.head() == self.saved
+        self.head() == self.saved
     }
 
     // Where the last caret stands then, where that is asked and it is another place on the layout than before.
@@ -693,7 +616,7 @@ impl Doc {
         ensures accepted { (plain : Document) → DocStandsFor self.now plain
             → OnOk result (acknowledgement_refusal plain.history rev ≡ None) }
         ensures refused { (plain : Document) → DocStandsFor self.now plain
-            → IfErr result (DocRefuses (acknowledgement_refusal plain.history rev)) }
+            → IfErr result (DocRefuses (edit_refused (acknowledgement_refusal plain.history rev))) }
         ensures plugins { IfOk result (λ made. length made.0.sessions ≡ length self.now.sessions) }
     {
         self.acknowledgeable(rev)?;
@@ -706,13 +629,14 @@ impl Doc {
         ensures accepted { (plain : Document) → DocStandsFor self.now plain
             → OnOk result (acknowledgement_refusal plain.history rev ≡ None) }
         ensures refused { (plain : Document) → DocStandsFor self.now plain
-            → IfErr result (DocRefuses (acknowledgement_refusal plain.history rev)) }
+            → IfErr result (DocRefuses (edit_refused (acknowledgement_refusal plain.history rev))) }
     {
-        let head = self.engine.head();
+        let engine = &*self.engine;
+        let head = engine.head();
         if head < rev {
             return Err(DocFault::Unknown(head));
         }
-        let floor = self.engine.floor();
+        let floor = engine.floor();
         if rev < floor {
             return Err(DocFault::Collected(floor));
         }
@@ -732,12 +656,13 @@ impl Doc {
 
     // The document with other sessions; nobody is told.
     fn silent(&self, alloc: Global, sessions: Sessions) -> Result<(Doc, Effects), NoMemory>
+        requires { length sessions ≡ length self.now.sessions }
         ensures stepped { (later : Document) → IsUncollected (record self.now { sessions = sessions }) later
             → IfOk result (IsStepped (silent_step later)) }
         ensures sessions { IfOk result (λ made. made.0.sessions ≡ sessions) }
     {
         let next = Doc {
-            engine: self.engine.copy(alloc)?,
+            engine: Arc::try_clone(&self.engine)?,
             stack: self.stack.copy(alloc)?,
             typing: self.typing,
             saved: self.saved,
@@ -753,44 +678,8 @@ impl Doc {
         Ok((next, effects))
     }
 
-    // What is collected now, if anything: the groups of a floor. That is nothing where no group is retired, and where a session lags.
-    fn collectable(&self, alloc: Global) -> Result<Option<(u64, BTreeSet<u64>)>, NoMemory>
-        ensures found { (plain : Document) → IsUncollected self.now plain
-            → IfOk result (λ found. collection_said found ≡ collection_after plain) }
-        ensures may { IfOk result (λ found. IfSome found (λ some. MayCollectIn self.now some.0 some.1.keys)) }
-    {
-        let head = self.engine.head();
-        let _floor = self.engine.floor();
-        if !self.stack.has_retired() || self.sessions.least(head) < head {
-            return Ok(None);
-        }
-        let retired = retired_groups(alloc, &self.stack)?;
-        self.engine.collectable(alloc, head, &retired)
-    }
-
-    // The document after a collection, which the engine makes and the stack too.
-    fn without(&self, alloc: Global, floor: u64, groups: &BTreeSet<u64>) -> Result<Doc, NoMemory>
-        requires { MayCollectIn self.now floor groups.now.keys }
-        ensures stands { (plain : Document) → IsUncollected self.now plain
-            → floor ≤ least_acknowledged (head plain.history) plain.sessions → IfOk result (λ made.
-            IsUncollected made (with_collection plain (Some (record { floor = floor; groups = groups.now.keys })))) }
-        ensures sessions { IfOk result (λ made. made.sessions ≡ self.now.sessions) }
-    {
-        let mut engine = self.engine.copy(alloc)?;
-        engine.collect(alloc, floor, groups)?;
-        let stack = forgetting(alloc, &self.stack, groups)?;
-        Ok(Doc {
-            engine,
-            stack,
-            typing: self.typing,
-            saved: self.saved,
-            sessions: self.sessions.copy(alloc)?,
-            view: self.view.copy()?,
-        })
-    }
-
-    // The same document with another view of its text, and the run or none.
-    fn with_view(
+    // The same document with another view of its text, with layers of its plugins, and the run or none.
+    pub(crate) fn with_view(
         &self,
         alloc: Global,
         view: ViewState,
@@ -798,10 +687,12 @@ impl Doc {
     ) -> Result<Doc, NoMemory>
         requires typing { IsLeftOf self.now.typing typing }
         requires text { view.text ≡ self.now.view.text }
+        requires over { AreOver (length self.now.view.text) view.layers }
+        requires as_many { length view.layers ≡ length self.now.sessions }
         ensures { IfOk result (λ made. made ≡ record self.now { view = view; typing = typing }) }
     {
         Ok(Doc {
-            engine: self.engine.copy(alloc)?,
+            engine: Arc::try_clone(&self.engine)?,
             stack: self.stack.copy(alloc)?,
             typing,
             saved: self.saved,
@@ -844,17 +735,6 @@ impl Doc {
         ensures { IfOk result (λ made. made ≡ self.now) }
     {
         self.with_view(alloc, self.view.copy()?, self.typing)
-    }
-}
-
-// The document in which what may be collected is collected: the same, where that is nothing.
-fn after_collection(alloc: Global, doc: Doc) -> Result<Doc, NoMemory>
-    ensures stands { (plain : Document) → IsUncollected doc plain → IfOk result (λ made. DocStandsFor made (collected_document plain)) }
-    ensures sessions { IfOk result (λ made. made.sessions ≡ doc.sessions) }
-{
-    match doc.collectable(alloc)? {
-        Some((floor, groups)) => doc.without(alloc, floor, &groups),
-        None => Ok(doc),
     }
 }
 

@@ -1,3 +1,4 @@
+use plain_edits::Spans;
 use plain_screen::Update;
 use plain_text::Text;
 use rev_engine::Edit;
@@ -14,6 +15,18 @@ pub enum Event {
         caller: u32,
         edit: Edit,
         named: Option<u64>,
+    },
+    /// The plugin with this number, from 1, says styles of a range of the text of this revision. Of the characters of the range those that
+    /// the head shows lose what this plugin said of them, and get what the spans say; all others keep their styles, and so do all that
+    /// other plugins said. The text is no other, and the run of typing goes on.
+    Spans {
+        caller: u32,
+        rev: u64,
+        /// Where the range starts, in bytes of that text, and how many bytes it has.
+        start: u64,
+        len: u64,
+        /// In bytes from the start of the range, each with the id of its style, from 2 on. Of two over one character the later one wins.
+        spans: Spans,
     },
     /// The plugin with this number, from 1, has the text of this revision, and needs no older one any more. Where its session has
     /// ended, or has acknowledged that much, this changes nothing.

@@ -12,12 +12,15 @@ mod event;
 mod fault;
 pub mod laws;
 mod left;
+mod looking;
 mod said;
 mod sessions;
+mod styles;
 mod taken;
 mod typing;
 
 pub use doc::Doc;
 pub use event::{Body, Effects, Event};
 pub use fault::DocFault;
+pub use stale_spans::Misplaced;
 pub use typing::{Kind, Typing};

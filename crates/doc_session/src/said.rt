@@ -3,6 +3,9 @@ use doc_view::TextLeft;
 use plain_text::Run;
 use xi_plain::Notice;
 
+/// What an event requests that requests no lines.
+pub(crate) const NO_REQUEST: Run = Run { start: 0, end: 0 };
+
 /// What is said of an event beside its update: what it left of the text, which lines it requests, what it is answered, whether the front
 /// end scrolls to the last caret where that stands elsewhere then, and what the plugins are told.
 #[derive(Drop)]

@@ -1,5 +1,6 @@
 // What an edit makes, on a copy of the engine.
 ghost use Rattle.std.specs.Prelude.{◌≡◌, ◌^◌, ◌<◌, ◌≤◌, [], ◌∷◌, None, IfOk, IfErr, OnOk, length};
+ghost use Rattle.std.specs.Arc.{arc_value};
 ghost use Rattle.plain_edits.specs.Edits.{edit_refusal, undid};
 ghost use Rattle.plain_edits.specs.History.{History, inserted_count};
 ghost use Rattle.plain_edits.specs.UnitDelta.{IsCanonical};
@@ -9,6 +10,7 @@ ghost use Rattle.rev_undo.specs.Under.{AgreesOnCollected};
 ghost use Rattle.rev_engine.specs.Engine.{IsChange, IsSaidBy, StandsFor, asked_by};
 ghost use Rattle.rev_engine.specs.Given.{AskedEdit, MayAsk};
 ghost use Rattle.doc_session.specs.Fault.{DocRefuses};
+ghost use Rattle.doc_session.specs.Refusal.{edit_refused};
 ghost use Rattle.doc_layout.specs.Changed.{IsChangeOf};
 ghost use Rattle.doc_session.specs.Inner.{IsAfter, IsAfterEdit, IsNoticed, IsSaidOfSome, IsTakenFrom, StandsForSome, head_shown};
 
@@ -18,26 +20,31 @@ use plain_text::{NoMemory, Text};
 use rev_engine::{Change, Edit, Engine, UndoFault, UnitEdit};
 use rope_tree::Rope;
 use std::alloc::Global;
+use std::sync::Arc;
 use xi_plain::Notice;
 
 /// What an edit makes: the engine with it, the change of the head text, and what the plugins are told.
 #[derive(Drop)]
 pub(crate) struct Taken {
-    pub(crate) engine: Engine,
+    pub(crate) engine: Arc<Engine, Global>,
     pub(crate) change: Change,
     pub(crate) notice: Notice,
 }
 
 /// Takes an edit.
-pub(crate) fn taken_by(alloc: Global, engine: &Engine, edit: &Edit) -> Result<Taken, DocFault>
-    requires may { MayAsk engine.now.revisions edit.now.group }
-    requires some { StandsForSome engine.now }
-    ensures taken { (history : History) → StandsFor engine.now history → IfOk result (IsAfterEdit history (asked_by edit.now)) }
-    ensures made { IfOk result (IsTakenFrom engine.now) }
-    ensures accepted { (history : History) → StandsFor engine.now history
-        → OnOk result (edit_refusal history engine.now.limit edit.now.rev edit.now.delta ≡ None) }
-    ensures refused { (history : History) → StandsFor engine.now history
-        → IfErr result (DocRefuses (edit_refusal history engine.now.limit edit.now.rev edit.now.delta)) }
+pub(crate) fn taken_by(
+    alloc: Global,
+    engine: &Arc<Engine, Global>,
+    edit: &Edit,
+) -> Result<Taken, DocFault>
+    requires may { MayAsk (arc_value engine.now).revisions edit.now.group }
+    requires some { StandsForSome (arc_value engine.now) }
+    ensures taken { (history : History) → StandsFor (arc_value engine.now) history → IfOk result (IsAfterEdit history (asked_by edit.now)) }
+    ensures made { IfOk result (IsTakenFrom (arc_value engine.now)) }
+    ensures accepted { (history : History) → StandsFor (arc_value engine.now) history
+        → OnOk result (edit_refusal history (arc_value engine.now).limit edit.now.rev edit.now.delta ≡ None) }
+    ensures refused { (history : History) → StandsFor (arc_value engine.now) history
+        → IfErr result (DocRefuses (edit_refused (edit_refusal history (arc_value engine.now).limit edit.now.rev edit.now.delta))) }
 {
     let mut next = engine.copy(alloc)?;
     let change = next.edit(alloc, edit)?;
@@ -45,18 +52,22 @@ pub(crate) fn taken_by(alloc: Global, engine: &Engine, edit: &Edit) -> Result<Ta
 }
 
 /// Takes an edit of the head text, in characters.
-pub(crate) fn taken_head(alloc: Global, engine: &Engine, edit: UnitEdit) -> Result<Taken, DocFault>
-    requires may { MayAsk engine.now.revisions edit.group }
+pub(crate) fn taken_head(
+    alloc: Global,
+    engine: &Arc<Engine, Global>,
+    edit: UnitEdit,
+) -> Result<Taken, DocFault>
+    requires may { MayAsk (arc_value engine.now).revisions edit.group }
     requires canonical { IsCanonical edit.units }
-    requires base { edit.units.base ≡ length (head_shown engine.now) }
-    requires some { IsSaidOfSome engine.now edit }
-    ensures taken { (history : History) (asked : AskedEdit) → StandsFor engine.now history → IsSaidBy history edit asked
+    requires base { edit.units.base ≡ length (head_shown (arc_value engine.now)) }
+    requires some { IsSaidOfSome (arc_value engine.now) edit }
+    ensures taken { (history : History) (asked : AskedEdit) → StandsFor (arc_value engine.now) history → IsSaidBy history edit asked
         → IfOk result (IsAfterEdit history asked) }
-    ensures made { IfOk result (IsTakenFrom engine.now) }
-    ensures accepted { (history : History) (asked : AskedEdit) → StandsFor engine.now history → IsSaidBy history edit asked
-        → OnOk result (edit_refusal history engine.now.limit asked.base asked.delta ≡ None) }
-    ensures refused { (history : History) (asked : AskedEdit) → StandsFor engine.now history → IsSaidBy history edit asked
-        → IfErr result (DocRefuses (edit_refusal history engine.now.limit asked.base asked.delta)) }
+    ensures made { IfOk result (IsTakenFrom (arc_value engine.now)) }
+    ensures accepted { (history : History) (asked : AskedEdit) → StandsFor (arc_value engine.now) history → IsSaidBy history edit asked
+        → OnOk result (edit_refusal history (arc_value engine.now).limit asked.base asked.delta ≡ None) }
+    ensures refused { (history : History) (asked : AskedEdit) → StandsFor (arc_value engine.now) history → IsSaidBy history edit asked
+        → IfErr result (DocRefuses (edit_refused (edit_refusal history (arc_value engine.now).limit asked.base asked.delta))) }
 {
     let author = edit.author;
     let mut next = engine.copy(alloc)?;
@@ -65,13 +76,17 @@ pub(crate) fn taken_head(alloc: Global, engine: &Engine, edit: UnitEdit) -> Resu
 }
 
 /// Undoes a group, or gives it back where it is undone. No group may be collected at which that would differ from the head.
-pub(crate) fn taken_turn(alloc: Global, engine: &Engine, group: u64) -> Result<Taken, NoMemory>
-    requires may { MayAskUndo engine.now.revisions (undone_by engine.now.revisions (group ∷ [])) }
-    requires agrees { AgreesOnCollected engine.now.revisions (undone_by engine.now.revisions (group ∷ [])) }
-    requires some { StandsForSome engine.now }
-    ensures taken { (history : History) → StandsFor engine.now history → inserted_count history ≤ engine.now.limit
+pub(crate) fn taken_turn(
+    alloc: Global,
+    engine: &Arc<Engine, Global>,
+    group: u64,
+) -> Result<Taken, NoMemory>
+    requires may { MayAskUndo (arc_value engine.now).revisions (undone_by (arc_value engine.now).revisions (group ∷ [])) }
+    requires agrees { AgreesOnCollected (arc_value engine.now).revisions (undone_by (arc_value engine.now).revisions (group ∷ [])) }
+    requires some { StandsForSome (arc_value engine.now) }
+    ensures taken { (history : History) → StandsFor (arc_value engine.now) history → inserted_count history ≤ (arc_value engine.now).limit
         → IfOk result (IsAfter history (undid history (undone_by history (group ∷ []))) 0) }
-    ensures made { IfOk result (IsTakenFrom engine.now) }
+    ensures made { IfOk result (IsTakenFrom (arc_value engine.now)) }
 {
     let mut next = engine.copy(alloc)?;
     let change = turn(alloc, &mut next, group)?;
@@ -104,8 +119,9 @@ fn noticed(
 ) -> Result<Taken, NoMemory>
     requires { IsChangeOf before.now (head_shown engine) change.units }
     ensures noticed { IfOk result (IsNoticed before.now engine change author) }
-    ensures counted { IfOk result (λ made. length (head_shown made.engine) < 2 ^ 64) }
+    ensures counted { IfOk result (λ made. length (head_shown (arc_value made.engine)) < 2 ^ 64) }
 {
+    let engine = Arc::new(alloc, engine)?;
     let delta = to_wire(alloc, before, &change.units)?;
     let notice = Notice {
         view: Text::new(alloc),

@@ -1,4 +1,4 @@
--- What a layout reads of regions are their ends: those of one text with the same ends, results and pieces are the same.
+-- What a layout reads of regions are their ends: those of one text with the same ends, results, pieces and styles are the same.
 use Rattle.std.proofs.Common.{◌≡◌, ℕ, ◌+◌, ◌<◌, Bool, true, false, List, [], ◌∷◌, ◌++◌, length, map, Some, None, refl, ap, ap₂, sym, subst, ◌∙◌}
 use Rattle.std.specs.Prelude.{if◌then◌else◌, not, nat_lt, nat_le, ◌==◌, ◌&&◌, ◌||◌}
 use Rattle.std.specs.Bool.{beq}
@@ -25,7 +25,7 @@ use Rattle.span_styles.specs.Triples.{triples_of}
 use Rattle.line_render.specs.Rendered.{carets_of, cursor_of, cut_spans, is_last_piece, is_selected, own_gaps, rendered, selected_layer, text_of_piece}
 use Rattle.edit_ops.specs.Regions.{without_goal}
 use Rattle.doc_layout.specs.Found.{found_spans}
-use Rattle.doc_layout.specs.Layout.{layout}
+use Rattle.doc_layout.specs.Layout.{layout, styled_spans}
 use Rattle.doc_view.specs.declared.search.Search.{Search}
 use Rattle.doc_view.specs.Inner.{IsViewKept}
 use Rattle.doc_view.specs.Search.{is_for_nothing, results}
@@ -71,12 +71,12 @@ rendered-plain : (text : List ℕ) (regions : List Region) (spans : List Span) (
 rendered-plain text regions spans piece =
     ap₂ (line_by text piece spans) (carets_of-plain regions) (selected_layer-plain regions piece.start (length (text_of_piece text piece)))
 
-pub layout-plain : (text : List ℕ) (pieces : List Piece) (regions : List Region) (found : List Run) →
-    layout text pieces (map without_goal regions) found ≡ layout text pieces regions found
-layout-plain text pieces regions found =
-    let spans = found_spans found (length text) in
-    map-same (λ piece. rendered text piece (map without_goal regions) spans) (λ piece. rendered text piece regions spans)
-    (rendered-plain text regions spans) pieces
+pub layout-plain : (text : List ℕ) (pieces : List Piece) (regions : List Region) (found : List Run) (layers : List Layer) →
+    layout text pieces (map without_goal regions) found layers ≡ layout text pieces regions found layers
+layout-plain text pieces regions found layers =
+    let spans : Piece → List Span = λ piece. found_spans found (length text) ++ styled_spans layers piece in
+    map-same (λ piece. rendered text piece (map without_goal regions) (spans piece)) (λ piece. rendered text piece regions (spans piece))
+    (λ piece. rendered-plain text regions (spans piece) piece) pieces
 
 -- ---- regions with the same ends
 
@@ -92,11 +92,11 @@ ends-plain (region ∷ regions) (other ∷ others) same =
     bare : ℕ → ℕ → Region
     bare anchor caret = record { anchor = anchor; caret = caret; goal = None }
 
-pub layout-same : (text : List ℕ) (pieces : List Piece) (regions others : List Region) (found : List Run) → are_same_ends regions others ≡ true →
-    layout text pieces regions found ≡ layout text pieces others found
-layout-same text pieces regions others found same =
-    sym (layout-plain text pieces regions found) ∙ ap (λ rs. layout text pieces rs found) (ends-plain regions others same) ∙
-    layout-plain text pieces others found
+pub layout-same : (text : List ℕ) (pieces : List Piece) (regions others : List Region) (found : List Run) (layers : List Layer) →
+    are_same_ends regions others ≡ true → layout text pieces regions found layers ≡ layout text pieces others found layers
+layout-same text pieces regions others found layers same =
+    sym (layout-plain text pieces regions found layers) ∙ ap (λ rs. layout text pieces rs found layers) (ends-plain regions others same) ∙
+    layout-plain text pieces others found layers
 
 -- ---- searches that are the same
 
@@ -116,11 +116,11 @@ results-same text query other same =
     by false some chars true false either = absurd cc
     by false some chars false true either = absurd cc
 
--- ---- one text that is laid out alike
+-- ---- one text with its styles that is laid out alike
 
-pub is_same_layout-alike : (before after : View) → after.text ≡ before.text → is_laid_out_alike before after ≡ true →
+pub is_same_layout-alike : (before after : View) → after.text ≡ before.text → after.layers ≡ before.layers → is_laid_out_alike before after ≡ true →
     is_same_layout (layout_in before) (layout_in after) ≡ true
-is_same_layout-alike before after text alike =
+is_same_layout-alike before after text layers alike =
     let tabs = and_parts (before.config.tab == after.config.tab) _ alike in
     let widths = and_parts (before.config.width == after.config.width) _ tabs.1 in
     let rest = and_parts (is_same_search before.query after.query) (are_same_ends before.regions after.regions) widths.1 in
@@ -128,34 +128,34 @@ is_same_layout-alike before after text alike =
     ap₂ (λ width tab. wrapped_pieces width tab before.text) (eqb-true before.config.width after.config.width widths.0)
     (eqb-true before.config.tab after.config.tab tabs.0) in
     (is_same_layout-Decides (layout_in before) (layout_in after)).1
-    (layout-same before.text (pieces_in before) before.regions after.regions (results before.text before.query) rest.1 ∙
-    ap₂ (λ cut found. layout before.text cut after.regions found) pieces (results-same before.text before.query after.query rest.0) ∙
-    ap (λ t. layout t (wrapped_pieces after.config.width after.config.tab t) after.regions (results t after.query)) (sym text))
+    (layout-same before.text (pieces_in before) before.regions after.regions (results before.text before.query) before.layers rest.1 ∙
+    ap₂ (λ cut found. layout before.text cut after.regions found before.layers) pieces (results-same before.text before.query after.query rest.0) ∙
+    ap₂ (λ t ls. layout t (wrapped_pieces after.config.width after.config.tab t) after.regions (results t after.query) ls) (sym text) (sym layers))
 
 -- ---- what a view keeps
 
-module _ (config : Config) (viewed : Viewed) (regions : List Region) (query : Search) (found : List Run) (lines : List Line)
-    (is : IsViewKept config viewed regions query found lines) where
+module _ (config : Config) (viewed : Viewed) (regions : List Region) (layers : List Layer) (query : Search) (found : List Run) (lines : List Line)
+    (is : IsViewKept config viewed regions layers query found lines) where
   pub IsViewKept-same : (others : List Region) → IsSelection others → AreWithin (length viewed.text) others → are_same_ends regions others ≡ true →
-      IsViewKept config viewed others query found lines
+      IsViewKept config viewed others layers query found lines
   IsViewKept-same others sound inside same = record {
     text = is.text;
     found_are = is.found_are;
     sound = sound;
     inside = inside;
-    lines_are = is.lines_are ∙ layout-same viewed.text viewed.pieces regions others found same;
+    lines_are = is.lines_are ∙ layout-same viewed.text viewed.pieces regions others found layers same;
   }
 
-  pub IsViewKept-plain : IsViewKept config viewed (map without_goal regions) query found lines
+  pub IsViewKept-plain : IsViewKept config viewed (map without_goal regions) layers query found lines
   IsViewKept-plain = record {
     text = is.text;
     found_are = is.found_are;
     sound = IsSelection-plain regions is.sound;
     inside = AreWithin-plain (length viewed.text) regions is.inside;
-    lines_are = is.lines_are ∙ sym (layout-plain viewed.text viewed.pieces regions found);
+    lines_are = is.lines_are ∙ sym (layout-plain viewed.text viewed.pieces regions found layers);
   }
 
-  pub IsViewKept-search : (other : Search) → results viewed.text other ≡ results viewed.text query → IsViewKept config viewed regions other found lines
+  pub IsViewKept-search : (other : Search) → results viewed.text other ≡ results viewed.text query → IsViewKept config viewed regions layers other found lines
   IsViewKept-search other same = record {
     text = is.text;
     found_are = is.found_are ∙ sym same;
@@ -164,7 +164,7 @@ module _ (config : Config) (viewed : Viewed) (regions : List Region) (query : Se
     lines_are = is.lines_are;
   }
 
-  pub IsViewKept-config : (other : Config) → other.tab ≡ config.tab → other.width ≡ config.width → IsViewKept other viewed regions query found lines
+  pub IsViewKept-config : (other : Config) → other.tab ≡ config.tab → other.width ≡ config.width → IsViewKept other viewed regions layers query found lines
   IsViewKept-config other tab width = record {
     text = record {
       characters = is.text.characters;

@@ -3,6 +3,7 @@ use Rattle.std.specs.Prelude.{◌≡◌, ℕ, ◌<◌, Bool, true, ◌&&◌, ◌
 use Rattle.std.specs.Str.{all_scalars}
 use Rattle.plain_text.specs.declared.run.Run.{Run}
 use Rattle.plain_text.specs.declared.selection.Region.{Region}
+use Rattle.plain_edits.specs.Styles.{Layer}
 use Rattle.xi_plain.specs.declared.config.Config.{Config}
 use Rattle.plain_screen.specs.declared.screen.Line.{Line}
 use Rattle.line_break.specs.Pieces.{wrapped_pieces}
@@ -19,13 +20,15 @@ pub record IsTextKept (config : Config) (viewed : Viewed) : Type 0 where
   pub tab : 0 < config.tab
   pub pieces : viewed.pieces ≡ wrapped_pieces config.width config.tab viewed.text
 
--- so it is, what was found is all that is looked for, the regions are a selection in the text, and the lines are its layout with both
-pub record IsViewKept (config : Config) (viewed : Viewed) (regions : List Region) (query : Search) (found : List Run) (lines : List Line) : Type 0 where
+-- so it is, what was found is all that is looked for, the regions are a selection in the text, and the lines are its layout with both and with
+-- the layers of its styles
+pub record IsViewKept (config : Config) (viewed : Viewed) (regions : List Region) (layers : List Layer) (query : Search) (found : List Run)
+    (lines : List Line) : Type 0 where
   pub text : IsTextKept config viewed
   pub found_are : found ≡ results viewed.text query
   pub sound : IsSelection regions
   pub inside : AreWithin (length viewed.text) regions
-  pub lines_are : lines ≡ layout viewed.text viewed.pieces regions found
+  pub lines_are : lines ≡ layout viewed.text viewed.pieces regions found layers
 
 -- ---- edits that do nothing
 

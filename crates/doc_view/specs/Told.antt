@@ -34,9 +34,9 @@ abbrev pub is_lacking : View → View → Run → Pristine → Bool
 is_lacking before after request pristine =
     not (has_asked after request) || (differ pristine.before pristine.after || not (is_same_layout (layout_in before) (layout_in after)))
 
--- the text is left so: where it is said to be the same it is
+-- the text and its styles are left so: where they are said to be the same they are
 abbrev pub IsTextLeft : TextLeft → View → View → Type 0
-IsTextLeft Same before after = after.text ≡ before.text
+IsTextLeft Same before after = (after.text ≡ before.text) × (after.layers ≡ before.layers)
 IsTextLeft Edited before after = ⊤
 
 -- what it is told
@@ -62,7 +62,7 @@ are_same_ends regions others = pointwise has_same_ends regions others
 abbrev pub is_same_search : Search → Search → Bool
 is_same_search query other = bytes_eq query.chars other.chars && (is_for_nothing query || beq query.case_counts other.case_counts)
 
--- WHETHER ONE TEXT IS LAID OUT ALIKE in two views: with one tab width, one width, the same search and the same ends of regions
+-- WHETHER ONE TEXT WITH ITS STYLES IS LAID OUT ALIKE in two views: with one tab width, one width, the same search and the same ends of regions
 abbrev pub is_laid_out_alike : View → View → Bool
 is_laid_out_alike before after =
     before.config.tab == after.config.tab && (before.config.width == after.config.width &&

@@ -2,6 +2,7 @@
 use Rattle.std.specs.Prelude.{ℕ, List, Option}
 use Rattle.plain_text.specs.declared.run.Run.{Run}
 use Rattle.plain_text.specs.declared.selection.Region.{Region}
+use Rattle.plain_edits.specs.Styles.{Layer}
 use Rattle.xi_plain.specs.declared.config.Config.{Config}
 use Rattle.plain_screen.specs.declared.piece.Piece.{Piece}
 use Rattle.plain_screen.specs.declared.screen.Line.{Line}
@@ -12,12 +13,13 @@ use Rattle.doc_layout.specs.Layout.{layout, Position, position_of}
 use Rattle.doc_view.specs.declared.search.Search.{Search}
 use Rattle.doc_view.specs.Search.{results}
 
--- the text, how it is laid out and edited, the regions on it, the lines that are shown, what is looked for, and the lines that were asked
--- for at the last update, if there was one: these its front end has
+-- the text, how it is laid out and edited, the regions on it, for each plugin in order the styles that it gave the characters of the text, the
+-- lines that are shown, what is looked for, and the lines that were asked for at the last update, if there was one: these its front end has
 pub record View : Type 0 where
   pub text : List ℕ
   pub config : Config
   pub regions : List Region
+  pub layers : List Layer
   pub window : Run
   pub query : Search
   pub shown : Option Asked
@@ -27,7 +29,7 @@ abbrev pub pieces_in : View → List Piece
 pieces_in view = wrapped_pieces view.config.width view.config.tab view.text
 
 abbrev pub layout_in : View → List Line
-layout_in view = layout view.text (pieces_in view) view.regions (results view.text view.query)
+layout_in view = layout view.text (pieces_in view) view.regions (results view.text view.query) view.layers
 
 abbrev pub point_in : View → Position
 point_in view = position_of view.text (pieces_in view) (last_caret view.regions)

@@ -5,7 +5,7 @@ pub struct Pristine {
     pub after: bool,
 }
 
-/// What an event left of the text of a view: the same text, or maybe another.
+/// What an event left of the text of a view and of its styles: the same, or maybe another.
 #[derive(Clone, Copy, PartialEq, Eq)]
 pub enum TextLeft {
     Same,

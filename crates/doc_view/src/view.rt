@@ -5,6 +5,7 @@ ghost use Rattle.edit_ops.specs.Commands.{IsDoneOnText, IsEffect, copied_text, e
 ghost use Rattle.edit_ops.specs.Regions.{without_goal};
 ghost use Rattle.selection_core.specs.Mapped.{AreWithin, length_after};
 ghost use Rattle.selection_core.specs.Selection.{IsSelection, caret_of, last_caret};
+ghost use Rattle.span_styles.specs.Layers.{new_layers};
 ghost use Rattle.plain_screen.specs.SameLayout.{is_same_layout};
 ghost use Rattle.doc_layout.specs.PositionView.{position_view};
 ghost use Rattle.doc_view.specs.Inner.{IsTextKept};
@@ -25,12 +26,13 @@ use plain_screen::{Lines, TextView, Update};
 use plain_text::{NoMemory, Region, Regions, Run, Runs, Sel, Text};
 use plain_view::PlainView;
 use selection_core::Selection;
+use span_styles::Layers;
 use std::alloc::Global;
 use std::marker::Model;
 use std::sync::Arc;
 use xi_plain::{Config, EditAct};
 
-/// What a document keeps for a view on its head text. Copies share text, regions, results, layout and search.
+/// What a document keeps for a view on its head text. Copies share text, regions, styles, results, layout and search.
 #[derive(Drop)]
 pub struct ViewState {
     /// How the text is cut into pieces, and edited.
@@ -38,10 +40,12 @@ pub struct ViewState {
     /// The text in its pieces.
     text: Arc<PlainView, Global>,
     sel: Arc<Sel, Global>,
+    /// The styles that each plugin gave the characters of the text.
+    layers: Arc<Layers, Global>,
     query: Arc<Search, Global>,
     /// All that the search finds in the text.
     found: Arc<Runs, Global>,
-    /// The layout of the text, with the regions and what was found.
+    /// The layout of the text, with the regions, what was found and the styles.
     lines: Arc<Lines, Global>,
     /// The lines of it that are shown.
     window: Run,
@@ -60,21 +64,24 @@ impl Model for ViewState {
       text = (arc_value v.text).text;
       config = v.config;
       regions = (arc_value v.sel).regions;
+      layers = arc_value v.layers;
       window = v.window;
       query = arc_value v.query;
       shown = v.shown;
     } };
 
     ghost invariant = { λ v.
-        IsViewKept v.config (arc_value v.text) (arc_value v.sel).regions (arc_value v.query) (arc_value v.found) (arc_value v.lines) };
+        IsViewKept v.config (arc_value v.text) (arc_value v.sel).regions (arc_value v.layers) (arc_value v.query) (arc_value v.found)
+        (arc_value v.lines) };
 }
 
 impl ViewState {
-    /// The view of a text that its front end was told nothing of: one caret, at the start, and no search. This walks the text, and lays it
-    /// out.
+    /// The view of a text that its front end was told nothing of: one caret, at the start, no style from any of so many plugins, and no
+    /// search. This walks the text, and lays it out.
     pub fn of_text(
         alloc: Global,
         text: Text,
+        plugins: u32,
         window: Run,
         config: Config,
     ) -> Result<ViewState, NoMemory>
@@ -83,19 +90,22 @@ impl ViewState {
           text = text;
           config = config;
           regions = caret_of 0 ∷ [];
+          layers = new_layers plugins (length text);
           window = window;
           query = no_search;
           shown = None;
         }) }
     {
+        let layers = Layers::new(alloc, plugins, text.char_count())?;
         let kept = kept_text(alloc, text, config)?;
         let sel = Sel::caret_at(alloc, 0)?;
         let found = Runs::new(alloc);
-        let lines = layout_of(alloc, &*kept, &sel, found.as_slice())?;
+        let lines = layout_of(alloc, &*kept, &sel, found.as_slice(), &layers)?;
         Ok(ViewState {
             config,
             text: kept,
             sel: Arc::new(alloc, sel)?,
+            layers: Arc::new(alloc, layers)?,
             query: Arc::new(alloc, Search::none(alloc))?,
             found: Arc::new(alloc, found)?,
             lines: Arc::new(alloc, lines)?,
@@ -104,18 +114,38 @@ impl ViewState {
         })
     }
 
-    /// The view of another text with other regions. This walks the text for its pieces and for what is looked for, and lays it out.
-    pub fn with_text(&self, alloc: Global, text: Text, sel: Sel) -> Result<ViewState, NoMemory>
+    /// The view of another text with other regions and styles. This walks the text for its pieces and for what is looked for, and lays it
+    /// out.
+    pub fn with_text(
+        &self,
+        alloc: Global,
+        text: Text,
+        sel: Sel,
+        layers: Layers,
+    ) -> Result<ViewState, NoMemory>
         requires sound { IsSelection sel.regions }
         requires inside { AreWithin (length text) sel.regions }
-        ensures { IfOk result (λ made. made ≡ record self.now { text = text; regions = sel.regions }) }
+        ensures { IfOk result (λ made. made ≡ record self.now { text = text; regions = sel.regions; layers = layers }) }
     {
         let found = self.query.results(alloc, &text)?;
         let text = kept_text(alloc, text, self.config)?;
         let query = Arc::try_clone(&self.query)?;
         let found = Arc::new(alloc, found)?;
         let sel = Arc::new(alloc, sel)?;
-        self.laid_out(alloc, self.config, text, query, found, sel)
+        let layers = Arc::new(alloc, layers)?;
+        self.laid_out(alloc, self.config, text, query, found, sel, layers)
+    }
+
+    /// The view of the same text with other styles. This lays the text out.
+    pub fn with_layers(&self, alloc: Global, layers: Layers) -> Result<ViewState, NoMemory>
+        ensures { IfOk result (λ made. made ≡ record self.now { layers = layers }) }
+    {
+        let text = Arc::try_clone(&self.text)?;
+        let query = Arc::try_clone(&self.query)?;
+        let found = Arc::try_clone(&self.found)?;
+        let sel = Arc::try_clone(&self.sel)?;
+        let styled = Arc::new(alloc, layers)?;
+        self.laid_out(alloc, self.config, text, query, found, sel, styled)
     }
 
     /// The view of the same text with other regions. This lays the text out, but where no end of a region moves: then it costs the regions.
@@ -131,7 +161,8 @@ impl ViewState {
         let query = Arc::try_clone(&self.query)?;
         let found = Arc::try_clone(&self.found)?;
         let sel = Arc::new(alloc, sel)?;
-        self.laid_out(alloc, self.config, text, query, found, sel)
+        let layers = Arc::try_clone(&self.layers)?;
+        self.laid_out(alloc, self.config, text, query, found, sel, layers)
     }
 
     // The same, where no end of a region moves: the layout is shared.
@@ -159,7 +190,8 @@ impl ViewState {
         let query = Arc::try_clone(&self.query)?;
         let found = Arc::try_clone(&self.found)?;
         let sel = Arc::try_clone(&self.sel)?;
-        self.laid_out(alloc, config, text, query, found, sel)
+        let layers = Arc::try_clone(&self.layers)?;
+        self.laid_out(alloc, config, text, query, found, sel, layers)
     }
 
     // The same view for a configuration that lays it out alike.
@@ -221,7 +253,8 @@ impl ViewState {
         let text = Arc::try_clone(&self.text)?;
         let found = Arc::new(alloc, found)?;
         let sel = Arc::new(alloc, without_goals(alloc, &self.sel)?)?;
-        self.laid_out(alloc, self.config, text, query, found, sel)
+        let layers = Arc::try_clone(&self.layers)?;
+        self.laid_out(alloc, self.config, text, query, found, sel, layers)
     }
 
     // All that a search finds in the text, which is not read where it looks for nothing.
@@ -302,6 +335,7 @@ impl ViewState {
             config: self.config,
             text: Arc::try_clone(&self.text)?,
             sel: Arc::try_clone(&self.sel)?,
+            layers: Arc::try_clone(&self.layers)?,
             query: Arc::try_clone(&self.query)?,
             found: Arc::try_clone(&self.found)?,
             lines: Arc::try_clone(&self.lines)?,
@@ -315,6 +349,13 @@ impl ViewState {
         ensures { result ≡ length (layout_in self.now) }
     {
         self.lines.len() as u64
+    }
+
+    /// The styles that each plugin gave the characters of the text.
+    pub fn layers(&self) -> &Layers
+        ensures { result.now ≡ self.now.layers }
+    {
+        &self.layers
     }
 
     /// The place of the last region's caret: a line, from 0, and an offset in it in bytes.
@@ -363,8 +404,8 @@ impl ViewState {
     }
 
     /// What the front end is told where the document has the view `next` after an event that requests these lines; and that view, settled.
-    /// This copies the lines that are told; and it compares the two layouts, but where the text is the same and no end of a region, search,
-    /// width or tab width is another: then it costs the regions and the characters that are looked for.
+    /// This copies the lines that are told; and it compares the two layouts, but where text and styles are the same and no end of a region,
+    /// search, width or tab width is another: then it costs the regions and the characters that are looked for.
     pub fn settled(
         &self,
         alloc: Global,
@@ -406,9 +447,10 @@ impl ViewState {
         }
     }
 
-    // The same, of one text: no line is read where it is laid out alike.
+    // The same, of one text with its styles: no line is read where it is laid out alike.
     fn has_layout_on_text(&self, next: &ViewState) -> bool
         requires text { next.now.text ≡ self.now.text }
+        requires layers { next.now.layers ≡ self.now.layers }
         ensures { result ≡ is_same_layout (layout_in self.now) (layout_in next.now) }
     {
         if self.is_laid_out_as(next) {
@@ -470,7 +512,7 @@ impl ViewState {
         view
     }
 
-    // The same view of a text in its pieces for a configuration, with a search, all that it finds there, and regions.
+    // The same view of a text in its pieces for a configuration, with a search, all that it finds there, regions, and layers of styles.
     fn laid_out(
         &self,
         alloc: Global,
@@ -479,6 +521,7 @@ impl ViewState {
         query: Arc<Search, Global>,
         found: Arc<Runs, Global>,
         sel: Arc<Sel, Global>,
+        layers: Arc<Layers, Global>,
     ) -> Result<ViewState, NoMemory>
         requires kept { IsTextKept config (arc_value text) }
         requires found { arc_value found ≡ results (arc_value text).text (arc_value query) }
@@ -488,14 +531,16 @@ impl ViewState {
           text = (arc_value text).text;
           config = config;
           regions = (arc_value sel).regions;
+          layers = arc_value layers;
           query = arc_value query;
         }) }
     {
-        let lines = layout_of(alloc, &*text, &sel, found.as_slice())?;
+        let lines = layout_of(alloc, &*text, &sel, found.as_slice(), &layers)?;
         Ok(ViewState {
             config,
             text,
             sel,
+            layers,
             query,
             found,
             lines: Arc::new(alloc, lines)?,

@@ -2,11 +2,12 @@
 
 ghost use Rattle.std.specs.Prelude.{◌≡◌, ◌-◌, ◌^◌, ◌<◌, ◌≤◌, length, IfOk};
 ghost use Rattle.plain_edits.specs.History.{head};
+ghost use Rattle.stale_spans.specs.Places.{StandIn};
 ghost use Rattle.doc_session.specs.Step.{MayCome};
 
 use doc_session::{Doc, DocFault, Effects, Event};
-use plain_edits::{Delta, El, Els};
-use plain_screen::{Op, Update};
+use plain_edits::{Delta, El, Els, Span, Spans};
+use plain_screen::{Line, Op, Update};
 use plain_text::{NoMemory, Steps, Text};
 use rev_engine::Edit;
 use std::alloc::Global;
@@ -51,6 +52,8 @@ pub(crate) enum Ask {
     // A line of the front end that is none of the document's.
     End,
     Give(Given),
+    // The plugin styles a range of the text of a revision, its start and its length, up to this byte of it, or says nothing of it.
+    Style(Plugin, u64, (u64, u64), Option<u64>),
     // The first or the second plugin has the text of a revision, or its session ends.
     Ack(Plugin, u64),
     Ended(Plugin),
@@ -109,14 +112,11 @@ fn insertion(alloc: Global, text: &str) -> Result<El, NoMemory> {
 
 fn els_of(alloc: Global, given: Given) -> Result<Els, NoMemory> {
     let (from, to) = given.range;
-    let added = insertion(alloc, given.added)?;
     let mut els = Els::new(alloc);
     els.push(El::Copy { a: 0, b: from })?;
-    els.push(added)?;
-    els.push(El::Copy {
-        a: to,
-        b: given.len,
-    })?;
+    els.push(insertion(alloc, given.added)?)?;
+    let end = given.len;
+    els.push(El::Copy { a: to, b: end })?;
     Ok(els)
 }
 
@@ -138,6 +138,37 @@ fn giving(els: Els, given: Given) -> Event
         caller: 1,
         edit,
         named: given.named,
+    }
+}
+
+// A range of so many bytes up to this one, where that is in it.
+fn part_of(alloc: Global, end: Option<u64>, len: u64) -> Result<Spans, NoMemory>
+    ensures { IfOk result (StandIn len) }
+{
+    let mut spans = Spans::new(alloc);
+    match end {
+        Some(end) if end <= len => spans.push(Span {
+            start: 0,
+            end,
+            style: 2,
+        })?,
+        _ => {}
+    }
+    Ok(spans)
+}
+
+fn styling(caller: u32, rev: u64, range: (u64, u64), spans: Spans) -> Event
+    requires caller { (1 ≤ caller) × (caller ≤ 2) }
+    requires within { StandIn range.1 spans }
+    ensures { MayCome 2 result }
+{
+    let (start, len) = range;
+    Event::Spans {
+        caller,
+        rev,
+        start,
+        len,
+        spans,
     }
 }
 
@@ -228,6 +259,10 @@ fn event_of(alloc: Global, ask: Ask) -> Result<Event, NoMemory>
         Ask::Paste(chars) => Ok(pasting(Text::from_str(alloc, chars)?)),
         Ask::End => Ok(Event::Other),
         Ask::Give(given) => Ok(giving(els_of(alloc, given)?, given)),
+        Ask::Style(plugin, rev, range, end) => {
+            let spans = part_of(alloc, end, range.1)?;
+            Ok(styling(number(plugin), rev, range, spans))
+        }
         Ask::Ack(plugin, rev) => Ok(acknowledging(number(plugin), rev)),
         Ask::Ended(plugin) => Ok(ending(number(plugin))),
         Ask::Wrap(width, tabs) => Ok(wrapping(width, tabs)),
@@ -337,13 +372,17 @@ pub(crate) fn shows(alloc: Global, text: &str, asks: &[Ask], want: &str, head: u
     }
 }
 
-// Where the caret stands in the first line that an update sends.
-fn caret_in(update: &Option<Update>) -> Option<u64> {
-    let update = update.as_ref()?;
-    match update.ops.get(0)? {
-        Op::Ins { lines } => lines.get(0)?.cursor.get(0).copied(),
+// The line that an update sends at this place.
+pub(crate) fn sent(update: &Option<Update>, index: usize) -> Option<&Line> {
+    match update.as_ref()?.ops.get(0)? {
+        Op::Ins { lines } => lines.get(index),
         _ => None,
     }
+}
+
+// Where the caret stands in the first line that an update sends.
+fn caret_in(update: &Option<Update>) -> Option<u64> {
+    sent(update, 0)?.cursor.get(0).copied()
 }
 
 // Whether the caret then stands there, in the one line.

@@ -62,7 +62,7 @@ fn last_of_lines(
 }
 
 // Whether it is refused so.
-fn refuses(told: Result<Effects, DocFault>, fault: DocFault) -> bool {
+pub(crate) fn refuses(told: Result<Effects, DocFault>, fault: DocFault) -> bool {
     match told {
         Ok(_) => false,
         Err(found) => found == fault,
@@ -70,7 +70,7 @@ fn refuses(told: Result<Effects, DocFault>, fault: DocFault) -> bool {
 }
 
 // Whether the answer tells this revision and group.
-fn joins(told: Result<Effects, DocFault>, want: (u64, u64)) -> bool {
+pub(crate) fn joins(told: Result<Effects, DocFault>, want: (u64, u64)) -> bool {
     match told {
         Ok(effects) => match effects.body {
             Body::Edited { rev, group } => (rev, group) == want,

@@ -1,9 +1,9 @@
 //! Documents that are laid out and edited in another way from some event on.
 
-use crate::asks::{Ask, Tabs, last, shows};
+use crate::asks::{Ask, Tabs, last, sent, shows};
 use crate::steps::is_still;
 use doc_session::Effects;
-use plain_screen::{Op, Update};
+use plain_screen::Update;
 use std::alloc::Global;
 use xi_plain::Motion;
 
@@ -24,24 +24,17 @@ const DOWN: Ask = Ask::Move(Motion::Down);
 type Told = (&'static str, Option<u64>, usize);
 
 // Whether the update sends this line at this place.
-fn sends(update: &Update, index: usize, want: Told) -> bool {
-    match update.ops.get(0) {
-        Some(Op::Ins { lines }) => match lines.get(index) {
-            Some(line) => (line.text.as_str(), line.ln, line.styles.len()) == want,
-            None => false,
-        },
-        _ => false,
+fn sends(update: &Option<Update>, index: usize, want: Told) -> bool {
+    match sent(update, index) {
+        Some(line) => (line.text.as_str(), line.ln, line.styles.len()) == want,
+        None => false,
     }
 }
 
 // Whether it sends these two lines, and the front end is to scroll nowhere.
 fn tells(effects: &Effects, want: (Told, Told)) -> bool {
-    match &effects.update {
-        Some(update) => {
-            effects.scroll == None && sends(update, 0, want.0) && sends(update, 1, want.1)
-        }
-        None => false,
-    }
+    let update = &effects.update;
+    effects.scroll == None && sends(update, 0, want.0) && sends(update, 1, want.1)
 }
 
 fn lays_out(alloc: Global, text: &str, asks: &[Ask], ask: Ask, want: (Told, Told)) -> bool {

@@ -14,3 +14,5 @@ mod documents;
 mod regions;
 #[cfg(test)]
 mod steps;
+#[cfg(test)]
+mod styles;

@@ -6,7 +6,8 @@ use crate::asks::{
     Ask, Given, LINE_FEEDS, LINES, after, last, notes, put, put_into, shows, shows_now, stands,
     told,
 };
-use doc_session::{Body, Doc};
+use crate::collecting::joins as is_joined;
+use doc_session::{Body, Doc, DocFault, Effects};
 use std::alloc::Global;
 
 const A: Ask = Ask::Type("a");
@@ -39,13 +40,7 @@ fn cut(rev: u64, len: u64, from: u64, to: u64) -> Ask {
 
 // Whether the answer tells this revision and group.
 fn joins(alloc: Global, asks: &[Ask], ask: Ask, want: (u64, u64)) -> bool {
-    match last(alloc, "", asks, ask) {
-        Ok(effects) => match effects.body {
-            Body::Edited { rev, group } => (rev, group) == want,
-            _ => false,
-        },
-        Err(_) => false,
-    }
+    is_joined(last(alloc, "", asks, ask), want)
 }
 
 // Whether the front end's own revision is told so, with an update or without.
@@ -60,9 +55,13 @@ fn tells(alloc: Global, asks: &[Ask], ask: Ask, want: (u64, u64), sent: bool) ->
     }
 }
 
-// Whether nothing is told but the answer.
+// Whether nothing is told but the answer, of an empty text.
 pub(crate) fn is_still(alloc: Global, asks: &[Ask], ask: Ask) -> bool {
-    match last(alloc, "", asks, ask) {
+    says_nothing(last(alloc, "", asks, ask))
+}
+
+pub(crate) fn says_nothing(told: Result<Effects, DocFault>) -> bool {
+    match told {
         Ok(effects) => {
             effects.body == Body::Null
                 && effects.notice.is_none()

@@ -4,3 +4,4 @@ pub mod TypingLemmas
 pub mod OnceLemmas
 pub mod RedoLemmas
 pub mod UnseenLemmas
+pub mod StyleLemmas

@@ -17,12 +17,13 @@ use Rattle.undo_groups.specs.Groups.{Groups, groups_of, next_redo, next_undo, re
 use Rattle.doc_session.specs.declared.event.Body.{Body}
 use Rattle.doc_session.specs.declared.event.Body.TheVariants.{Null}
 use Rattle.doc_session.specs.declared.event.Event.{Event}
-use Rattle.doc_session.specs.declared.event.Event.TheVariants.{Ack, Config as Configure, Edit, Ended, Front, Other}
+use Rattle.doc_session.specs.declared.event.Event.TheVariants.{Ack, Config as Configure, Edit, Ended, Front, Other, Spans}
 use Rattle.doc_session.specs.Asking.{asked_refusal, front_edit}
 use Rattle.doc_session.specs.Collecting.{acknowledged_document, collected_document, collection_after, ended_document, least_acknowledged, with_collection}
 use Rattle.doc_session.specs.Document.{Document, no_request}
 use Rattle.doc_session.specs.Effects.{settled, update_after, updated, wants_update}
 use Rattle.doc_session.specs.Layout.{Position}
+use Rattle.doc_session.specs.Refusal.{edit_refused}
 use Rattle.doc_session.specs.Step.{EventStep, act_step, answer_to, at_next_match, at_previous_match, command_step, configured_document, edited_document, effect_on, event_step, going_on, history_step, idle_step, is_idle, looking_document, refusal_at, revision_step, scroll_if, scrolled_document, scrolls, seeking_document, selected_document, step_to, taken_step, typed_step, undone_document}
 use Rattle.doc_session.specs.Grouping.{run_group}
 use Rattle.doc_session.specs.Typing.{kind_of, run_on}
@@ -147,6 +148,7 @@ bare-collected d = by (collection_after d)
 along-taken : (d : Document) (event : Event) → IsOfFront event → GoAlong (taken_step d event) (taken_step (bare d) event)
 along-taken d (Front act) front = along-act d act
 along-taken d (Edit caller edit named) front = absurd front
+along-taken d (Spans caller rev start len spans) front = absurd front
 along-taken d (Ack caller rev) front = absurd front
 along-taken d (Ended caller) front = absurd front
 along-taken d (Configure config) front =
@@ -217,6 +219,7 @@ floor-collected d has = by (collection_after d) refl
 floor-taken : (d : Document) (event : Event) → IsOfFront event → HasFloor d → HasFloor (taken_step d event).document
 floor-taken d (Front act) front has = floor-act d act has
 floor-taken d (Edit caller edit named) front has = absurd front
+floor-taken d (Spans caller rev start len spans) front has = absurd front
 floor-taken d (Ack caller rev) front has = absurd front
 floor-taken d (Ended caller) front has = absurd front
 floor-taken d (Configure config) front has = floor-settled no_request d (configured_document d config) has
@@ -229,11 +232,12 @@ floor-event d event front has = floor-collected (taken_step d event).document (f
 
 refusal-bare : (d : Document) (event : Event) → IsOfFront event → HasFloor d → refusal_at d event ≡ refusal_at (bare d) event
 refusal-bare d (Edit caller edit named) front has = absurd front
+refusal-bare d (Spans caller rev start len spans) front has = absurd front
 refusal-bare d (Ack caller rev) front has = absurd front
 refusal-bare d (Ended caller) front has = absurd front
 refusal-bare d (Configure config) front has = refl
 refusal-bare d Other front has = refl
-refusal-bare d (Front act) front has = by (is_idle d effect)
+refusal-bare d (Front act) front has = ap edit_refused (by (is_idle d effect))
   where
     effect : Effect
     effect = effect_on d act
@@ -290,6 +294,7 @@ told_by_sessions d sessions has = record {
 pub acknowledgements_are_unseen : AcknowledgementsAreUnseen
 acknowledgements_are_unseen d (Front act) told has = absurd told
 acknowledgements_are_unseen d (Edit caller edit named) told has = absurd told
+acknowledgements_are_unseen d (Spans caller rev start len spans) told has = absurd told
 acknowledgements_are_unseen d (Ack caller rev) told has =
     (record { body = refl; update = refl; scroll = refl; notice = refl }, told_by_sessions d (acknowledged_document d caller rev).sessions has)
 acknowledgements_are_unseen d (Ended caller) told has =

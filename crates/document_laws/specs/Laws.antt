@@ -1,16 +1,19 @@
--- Laws of undo, redo and collection, over the steps of a plain document.
-use Rattle.std.specs.Prelude.{◌≡◌, ◌≢◌, ℕ, zero, suc, ◌+◌, ◌<◌, ◌≤◌, true, false, List, [], ◌∷◌, Some, None, ⊤}
+-- Laws of undo, redo, collection and styles, over the steps of a plain document.
+use Rattle.std.specs.Prelude.{◌≡◌, ◌≢◌, ℕ, zero, suc, ◌+◌, ◌<◌, ◌≤◌, true, false, List, [], ◌∷◌, length, Some, None, ⊤}
 use Rattle.std.specs.List.{concat}
 use Rattle.plain_text.specs.Numbers.{has, with_number}
 use Rattle.plain_edits.specs.History.{History, head}
 use Rattle.plain_edits.specs.Undo.{undone_now}
 use Rattle.xi_plain.specs.declared.command.EditAct.TheVariants.{Insert, Undo, Redo}
+use Rattle.xi_plain.specs.declared.config.Config.{Config}
+use Rattle.span_styles.specs.Layers.{AreOver}
+use Rattle.stale_spans.specs.Asked.{moved_layers}
 use Rattle.undo_groups.specs.Groups.{Groups, after_opening, next_redo, next_undo}
 use Rattle.doc_session.specs.declared.event.Event.{Event}
 use Rattle.doc_session.specs.declared.event.Body.TheVariants.{Null}
-use Rattle.doc_session.specs.declared.event.Event.TheVariants.{Ack, Config as Configure, Edit, Ended, Front, Other}
+use Rattle.doc_session.specs.declared.event.Event.TheVariants.{Ack, Config as Configure, Edit, Ended, Front, Other, Spans}
 use Rattle.doc_session.specs.declared.typing.Kind.TheVariants as Kinds
-use Rattle.doc_session.specs.Document.{Document, text_of}
+use Rattle.doc_session.specs.Document.{Document, loaded_document, text_of}
 use Rattle.doc_session.specs.InMemory.{Doc}
 use Rattle.doc_session.specs.Stands.{DocStandsFor}
 use Rattle.doc_session.specs.Step.{EventStep, event_step, refusal_at}
@@ -105,6 +108,7 @@ pub record TellTheSame (one other : EventStep) : Type 0 where
 abbrev pub IsOfFront : Event → Type 0
 IsOfFront (Front act) = ⊤
 IsOfFront (Edit caller edit named) = ⊥
+IsOfFront (Spans caller rev start len spans) = ⊥
 IsOfFront (Ack caller rev) = ⊥
 IsOfFront (Ended caller) = ⊥
 IsOfFront (Configure config) = ⊤
@@ -114,6 +118,7 @@ IsOfFront Other = ⊤
 abbrev pub IsOfSession : Event → Type 0
 IsOfSession (Front act) = ⊥
 IsOfSession (Edit caller edit named) = ⊥
+IsOfSession (Spans caller rev start len spans) = ⊥
 IsOfSession (Ack caller rev) = ⊤
 IsOfSession (Ended caller) = ⊤
 IsOfSession (Configure config) = ⊥
@@ -137,3 +142,27 @@ pub record SaysNothing (step : EventStep) : Type 0 where
 abbrev pub AcknowledgementsAreUnseen : Type 0
 AcknowledgementsAreUnseen = (document : Document) (event : Event) → IsOfSession event → document.history.floor ≤ head document.history →
     SaysNothing (event_step document event) × AreAlike document (after_event document event)
+
+-- ---- styles of plugins
+
+-- the layers of a document are over its text
+abbrev pub AreOverText : Document → Type 0
+AreOverText document = AreOver (length (text_of document)) document.layers
+
+-- an event in which no plugin says styles
+abbrev pub SaysNoStyles : Event → Type 0
+SaysNoStyles (Spans caller rev start len spans) = ⊥
+SaysNoStyles event = ⊤
+
+-- after an event the layers are over the text then, as many as before; and where no plugin said styles, they are what the style rule makes of
+-- them over the histories before and after it: what both head texts show keeps its styles, and what appears has none
+pub record StylesFollow (document : Document) (event : Event) : Type 0 where
+  pub over : AreOverText (after_event document event)
+  pub as_many : length (after_event document event).layers ≡ length document.layers
+  pub moved : SaysNoStyles event →
+      (after_event document event).layers ≡ moved_layers document.history (after_event document event).history document.layers
+
+-- STYLES FOLLOW THEIR CHARACTERS in every document whose layers are over its text, as they are when it is loaded
+pub record LayersFollow : Type 0 where
+  pub loaded : (text : List ℕ) (plugins limit : ℕ) (config : Config) → AreOverText (loaded_document text plugins limit config)
+  pub each : (document : Document) (event : Event) → AreOverText document → StylesFollow document event

@@ -1,17 +1,21 @@
 -- Worked rows: what the steps of undo and collection give in small cases.
-use Rattle.std.specs.Prelude.{◌≡◌, ℕ, true, false, List, [], ◌∷◌, ◌++◌, Option, Some, None, map}
+use Rattle.std.specs.Prelude.{◌≡◌, ℕ, pos, true, false, List, [], ◌∷◌, ◌++◌, Option, Some, None, map}
 use Rattle.std.specs.List.{fold}
 use Rattle.plain_edits.specs.declared.delta.El.TheVariants as Els
 use Rattle.plain_edits.specs.Collection.{kept}
 use Rattle.plain_edits.specs.Edits.{collected, unknown}
 use Rattle.plain_edits.specs.History.{head}
-use Rattle.xi_plain.specs.declared.command.EditAct.TheVariants.{Insert, InsertNewline, InsertTab, Undo, Redo}
+use Rattle.plain_edits.specs.Styles.{Layer}
+use Rattle.plain_edits.specs.declared.style.Span.{Span}
+use Rattle.stale_spans.specs.declared.fault.Misplaced.TheVariants as Members
+use Rattle.xi_plain.specs.declared.command.EditAct.TheVariants.{DeleteForward, Insert, InsertNewline, InsertTab, Undo, Redo}
 use Rattle.xi_plain.specs.declared.config.Config.{Config}
 use Rattle.plain_screen.specs.declared.screen.Line.{Line}
 use Rattle.doc_session.specs.declared.event.Body.TheVariants.{Edited}
 use Rattle.doc_session.specs.declared.event.Event.{Event}
-use Rattle.doc_session.specs.declared.event.Event.TheVariants.{Ack, Config as Configure, Edit, Ended, Front, Other}
+use Rattle.doc_session.specs.declared.event.Event.TheVariants.{Ack, Config as Configure, Edit, Ended, Front, Other, Spans}
 use Rattle.doc_session.specs.Document.{Document, layout_of, loaded_document, text_of}
+use Rattle.doc_session.specs.Refusal.{of_edit, of_range}
 use Rattle.doc_session.specs.Step.{event_step, refusal_at}
 use Rattle.document_laws.specs.Laws.{after_event}
 
@@ -104,11 +108,47 @@ pub record Collects : Type 0 where
   pub is_over : (after_events (cuts_off ++ ends ∷ [])).history.collected ≡ 1 ∷ []
   -- what it has acknowledged does not fall, and is refused above the head and below the floor
   pub stays : (after_events (cuts_off ++ acknowledges 2 ∷ acknowledges 1 ∷ [])).sessions ≡ Some 2 ∷ []
-  pub above : refusal_at (after_events cuts_off) (acknowledges 4) ≡ Some (unknown 3)
-  pub below : refusal_at (after_events (cuts_off ++ acknowledges 3 ∷ [])) (acknowledges 2) ≡ Some (collected 3)
+  pub above : refusal_at (after_events cuts_off) (acknowledges 4) ≡ Some (of_edit (unknown 3))
+  pub below : refusal_at (after_events (cuts_off ++ acknowledges 3 ∷ [])) (acknowledges 2) ≡ Some (of_edit (collected 3))
   pub again : refusal_at (after_events (cuts_off ++ acknowledges 3 ∷ [])) (acknowledges 3) ≡ None
   -- an old edit is refused then, and a run of typing goes on
-  pub too_old : refusal_at (after_events (cuts_off ++ acknowledges 3 ∷ [])) (puts 2 90 None) ≡ Some (collected 3)
+  pub too_old : refusal_at (after_events (cuts_off ++ acknowledges 3 ∷ [])) (puts 2 90 None) ≡ Some (of_edit (collected 3))
   pub run : text_after (cuts_off ++ acknowledges 3 ∷ types 99 ∷ Front Undo ∷ []) ≡ []
   -- a group that was collected is joined no more
   pub joins : (event_step (after_events (cuts_off ++ Front Undo ∷ acknowledges 4 ∷ [])) (puts 4 90 (Some 1))).body ≡ Edited 5 3
+
+-- a document of `abcd` with one plugin, after events, and the styles of its characters
+abbrev pub word_after : List Event → Document
+word_after events = fold after_event (loaded_document (97 ∷ 98 ∷ 99 ∷ 100 ∷ []) 1 100 usual) events
+
+abbrev pub styles_after : List Event → List Layer
+styles_after events = (word_after events).layers
+
+-- the plugin says style 2 of a part of a range of the text of a revision, or clears a range
+abbrev pub styles : ℕ → ℕ → ℕ → List Span → Event
+styles rev start len spans = Spans 1 rev start len spans
+
+abbrev pub part : ℕ → ℕ → List Span
+part start end = record { start = start; end = end; style = 2 } ∷ []
+
+-- what spans come to, and where they go then
+pub record StaleSpans : Type 0 where
+  -- `bc` of the loaded text, where the front end put `X` at the start since
+  pub before : styles_after (types 88 ∷ styles 0 1 2 (part 0 2) ∷ []) ≡ (None ∷ None ∷ Some 2 ∷ Some 2 ∷ None ∷ []) ∷ []
+  pub shown : map (λ (line : Line). line.styles) (layout_of (word_after (types 88 ∷ styles 0 1 2 (part 0 2) ∷ []))) ≡
+      (record { start = pos 2; len = 2; id = 2 } ∷ []) ∷ []
+  -- of the revision that put it
+  pub later : styles_after (types 88 ∷ types 89 ∷ styles 1 2 2 (part 0 2) ∷ []) ≡ (None ∷ None ∷ None ∷ Some 2 ∷ Some 2 ∷ None ∷ []) ∷ []
+  -- a character that was deleted since is passed over, and has no style when it comes back
+  pub gone : styles_after (Front DeleteForward ∷ styles 0 0 2 (part 0 2) ∷ Front Undo ∷ []) ≡ (None ∷ Some 2 ∷ None ∷ None ∷ []) ∷ []
+  -- nor has one that lost it by an undo
+  pub redone : styles_after (types 88 ∷ styles 1 0 1 (part 0 1) ∷ Front Undo ∷ Front Redo ∷ []) ≡ (None ∷ None ∷ None ∷ None ∷ None ∷ []) ∷ []
+  -- a range without spans is cleared
+  pub cleared : styles_after (styles 0 1 2 (part 0 2) ∷ styles 0 1 1 [] ∷ []) ≡ (None ∷ None ∷ Some 2 ∷ None ∷ []) ∷ []
+  -- no revision is made, and a run of typing goes on
+  pub run : text_of (word_after (types 88 ∷ styles 0 1 2 (part 0 2) ∷ types 89 ∷ Front Undo ∷ [])) ≡ 97 ∷ 98 ∷ 99 ∷ 100 ∷ []
+  -- a revision that there is not is refused before a start that is no place, and this before a length
+  pub above : refusal_at (word_after []) (styles 1 9 9 []) ≡ Some (of_edit (unknown 0))
+  pub start : refusal_at (word_after []) (styles 0 9 9 []) ≡ Some (of_range Members.Start)
+  pub len : refusal_at (word_after []) (styles 0 1 9 []) ≡ Some (of_range Members.Len)
+  pub taken : refusal_at (word_after []) (styles 0 1 2 (part 0 2)) ≡ None

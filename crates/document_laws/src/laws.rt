@@ -1,6 +1,6 @@
 //! Laws of the steps of a document. The functions do nothing: their clauses are the laws.
 
-ghost use Rattle.document_laws.specs.Laws.{AcknowledgementsAreUnseen, CollectionIsUnseen, NewGroupEndsRedo, RedoTakesUndoBack, StepsAreFew, UndoTakesNewest, UndoTakesRunBack};
+ghost use Rattle.document_laws.specs.Laws.{AcknowledgementsAreUnseen, CollectionIsUnseen, LayersFollow, NewGroupEndsRedo, RedoTakesUndoBack, StepsAreFew, UndoTakesNewest, UndoTakesRunBack};
 
 /// An undo takes a run of typing back whole: however many insertions it has, the text is the one before the first.
 pub fn undo_takes_run_back()
@@ -37,4 +37,9 @@ pub fn collection_is_unseen()
 /// So is what the sessions of plugins acknowledge, and their end.
 pub fn acknowledgements_are_unseen()
     ensures { AcknowledgementsAreUnseen }
+{}
+
+/// Styles of plugins stay with their characters: at every event, a collection and what a session tells too, and no style comes but by spans.
+pub fn layers_follow()
+    ensures { LayersFollow }
 {}

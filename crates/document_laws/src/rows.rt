@@ -1,6 +1,6 @@
 //! Worked rows, each the contract of a function: what the definitions give in small cases.
 
-ghost use Rattle.document_laws.specs.Rows.{Collects, Configures, JoinsUndone, Steps};
+ghost use Rattle.document_laws.specs.Rows.{Collects, Configures, JoinsUndone, StaleSpans, Steps};
 
 /// Insertions that follow each other are one step, and a new line is another.
 pub fn steps()
@@ -20,4 +20,9 @@ pub fn hidden_on_arrival()
 /// What is collected, and what waits for a session.
 pub fn collects()
     ensures { Collects }
+{}
+
+/// Spans against an old revision come to their characters, and no style comes back with a redo.
+pub fn stale_spans()
+    ensures { StaleSpans }
 {}

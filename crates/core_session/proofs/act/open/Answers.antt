@@ -1,15 +1,23 @@
 use Rattle.std.proofs.Common.{sym, ◌∙◌}
-use Rattle.core_session.specs.Session.{first_document}
+use Rattle.std.proofs.lemmas.Result.{IfOk-weaker}
+use Rattle.doc_session.specs.declared.event.Event.TheVariants.{Other}
+use Rattle.doc_session.specs.Step.{event_step}
+use Rattle.core_session.specs.declared.act.Reply.TheVariants.{Opened}
+use Rattle.core_session.specs.Inner.{IsOutcome, IsTaken}
+use Rattle.core_session.specs.Session.{first_document, open_outcome}
 use Rattle.core_session.proofs.OpenLemmas.{TakesEvents-loaded, stands-first, IsOutcome-opened}
 use Rattle.core_session.proofs.act.open.Goals as goal
 
-pub after_alone-requires-clause-alone : goal.after_alone-requires-clause-alone
-after_alone-requires-clause-alone c = TakesEvents-loaded c.in_ok-doc.doc _ c.args.config c.in_ok-doc.ensures.stands
+pub step-opened-requires-clause-alone : goal.step-opened-requires-clause-alone
+step-opened-requires-clause-alone c = TakesEvents-loaded c.in_ok-doc.doc _ c.args.config c.in_ok-doc.ensures.stands
 
-pub returns-in-Ok : goal.returns-in-Ok
-returns-in-Ok c = λ views stands.
+pub returns : goal.returns
+returns c = λ views stands.
     let config = c.args.config in
+    let document = c.args.document.now in
     let first = stands-first c.in_ok-doc.doc c.new.result config c.new.ensures c.in_ok-doc.ensures.stands in
-    IsOutcome-opened c.args.document.now config c.args.path.now views c.in-Ok.next c.in-Ok.effects c.taken.result
-    (sym c.is_some.ensures ∙ c.if-is_some.false) (sym c.is_some-else-is_some.ensures ∙ c.if-is_some-2.false) stands
-    (c.in-Ok.ensures.served (first_document config) first) (c.in-Ok.ensures.effects (first_document config) first) c.taken.ensures
+    IfOk-weaker c.step-opened.result (IsTaken (event_step (first_document config) Other) Opened)
+    (IsOutcome document (open_outcome config views c.args.path.now))
+    (λ came is. IsOutcome-opened document config c.args.path.now views came
+    (sym c.is_some.ensures ∙ c.if-is_some.false) (sym c.is_some-else-is_some.ensures ∙ c.if-is_some-2.false) stands is)
+    (c.step-opened.ensures (first_document config) first)

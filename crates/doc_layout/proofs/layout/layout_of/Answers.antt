@@ -1,8 +1,9 @@
-use Rattle.std.proofs.Common.{◌≡◌, List, length, map, sym, subst, ◌∙◌}
+use Rattle.std.proofs.Common.{◌≡◌, List, ◌++◌, length, map, sym, subst, ◌∙◌}
 use Rattle.std.specs.Prelude.{IfOk}
 use Rattle.std.specs.List.Sorted.{IsNonDecreasingBy}
 use Rattle.plain_edits.specs.declared.style.Span.{Span}
 use Rattle.line_render.specs.Rendered.{rendered}
+use Rattle.doc_layout.specs.Layout.{styled_spans}
 use Rattle.doc_layout.proofs.FoundLemmas.{joined-ends, joined-found, joined-starts}
 use Rattle.doc_layout.proofs.layout.layout_of.Goals as goal
 
@@ -19,5 +20,6 @@ lines_of-requires-clause-ends g c =
 pub returns : goal.returns
 returns g c =
     let text = g.T.TextView.text_of c.args.view.now in
-    subst (λ (spans : List Span). IfOk c.lines_of.result (λ lines. lines ≡ map (λ piece. rendered text piece c.args.sel.now.regions spans) (g.T.TextView.pieces_of c.args.view.now)))
+    subst (λ (spans : List Span). IfOk c.lines_of.result (λ lines. lines ≡
+    map (λ piece. rendered text piece c.args.sel.now.regions (spans ++ styled_spans c.args.layers.now piece)) (g.T.TextView.pieces_of c.args.view.now)))
     (c.as_slice.ensures ∙ c.in_ok-found.ensures ∙ joined-found (length text) c.args.results.now c.requires.results) c.lines_of.ensures

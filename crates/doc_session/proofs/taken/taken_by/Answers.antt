@@ -1,4 +1,5 @@
 use Rattle.std.proofs.Common.{◌≡◌, ◌≤◌, List, ℕ, None, refl, ap, sym, ◌∙◌, subst, arith}
+use Rattle.std.specs.Arc.{arc_value}
 use Rattle.plain_edits.specs.Edits.{edit_refusal}
 use Rattle.plain_edits.specs.History.{History, inserted_count}
 use Rattle.rev_engine.specs.Engine.{StandsFor, asked_by}
@@ -12,36 +13,36 @@ use Rattle.doc_session.proofs.taken.taken_by.Goals as goal
 
 pub edit-requires : goal.edit-requires
 edit-requires c =
-    subst (λ (h : History). MayAsk h c.args.edit.now.group) (sym (ap (λ (e : State). e.revisions) c.in_ok-next.ensures)) c.requires.may
+    subst (λ (h : History). MayAsk h c.args.edit.now.group) (sym (ap (λ (e : State). e.revisions) (c.in_ok-next.ensures ∙ c.deref.ensures))) c.requires.may
 
 pub noticed-requires : goal.noticed-requires
 noticed-requires c =
     let At : List ℕ → Type 0 = λ text. IsChangeOf text (head_shown c.edit.new.self) c.in_ok-change.change.units in
-    subst At (sym c.head_rope.ensures.shown)
-    (IsChangeOf-shown c.args.engine.now c.in_ok-next.next c.edit.new.self (λ h. after h (asked_by c.args.edit.now)) c.in_ok-change.change c.in_ok-next.ensures c.requires.some
+    subst At (sym (c.head_rope.ensures.shown ∙ ap head_shown c.deref-2.ensures))
+    (IsChangeOf-shown (arc_value c.args.engine.now) c.in_ok-next.next c.edit.new.self (λ h. after h (asked_by c.args.edit.now)) c.in_ok-change.change (c.in_ok-next.ensures ∙ c.deref.ensures) c.requires.some
     c.in_ok-change.ensures.stands c.in_ok-change.ensures.change)
 
 pub returns-clause-taken : goal.returns-clause-taken
 returns-clause-taken c = λ history stands.
     let asked = asked_by c.args.edit.now in
-    let was = subst (λ (e : State). StandsFor e history) (sym c.in_ok-next.ensures) stands in
+    let was = subst (λ (e : State). StandsFor e history) (sym (c.in_ok-next.ensures ∙ c.deref.ensures)) stands in
     let within : inserted_count (after history asked) ≤ c.edit.new.self.limit =
     omega (arith, spent-within history c.in_ok-next.next.limit asked (c.in_ok-change.ensures.accepted history was), c.in_ok-change.ensures.limit) in
     let Noticed : List ℕ → Type 0 = λ text. IsNoticed text c.edit.new.self c.in_ok-change.change c.args.edit.now.author c.in_ok-noticed.field-0 in
-    IsAfter-noticed history c.args.engine.now (edits (meant history asked)) c.edit.new.self c.in_ok-change.change c.args.edit.now.author c.in_ok-noticed.field-0 stands
+    IsAfter-noticed history (arc_value c.args.engine.now) (edits (meant history asked)) c.edit.new.self c.in_ok-change.change c.args.edit.now.author c.in_ok-noticed.field-0 stands
     (head-after history asked) refl (c.in_ok-change.ensures.stands history was) within (c.in_ok-change.ensures.change history was)
-    (subst Noticed c.head_rope.ensures.shown c.in_ok-noticed.ensures.noticed)
+    (subst Noticed (c.head_rope.ensures.shown ∙ ap head_shown c.deref-2.ensures) c.in_ok-noticed.ensures.noticed)
 
 pub returns-clause-made : goal.returns-clause-made
 returns-clause-made c =
     let changes =
-    IsChangeOf-shown c.args.engine.now c.in_ok-next.next c.edit.new.self (λ h. after h (asked_by c.args.edit.now)) c.in_ok-change.change c.in_ok-next.ensures c.requires.some
+    IsChangeOf-shown (arc_value c.args.engine.now) c.in_ok-next.next c.edit.new.self (λ h. after h (asked_by c.args.edit.now)) c.in_ok-change.change (c.in_ok-next.ensures ∙ c.deref.ensures) c.requires.some
     c.in_ok-change.ensures.stands c.in_ok-change.ensures.change in
-    IsTakenFrom-noticed c.args.engine.now c.edit.new.self c.head_rope.result.now c.in_ok-change.change c.args.edit.now.author c.in_ok-noticed.field-0
-    c.in_ok-noticed.ensures.noticed changes c.in_ok-noticed.ensures.counted (c.in_ok-change.ensures.limit ∙ ap (λ (e : State). e.limit) c.in_ok-next.ensures)
+    IsTakenFrom-noticed (arc_value c.args.engine.now) c.edit.new.self c.head_rope.result.now c.in_ok-change.change c.args.edit.now.author c.in_ok-noticed.field-0
+    c.in_ok-noticed.ensures.noticed changes c.in_ok-noticed.ensures.counted (c.in_ok-change.ensures.limit ∙ ap (λ (e : State). e.limit) (c.in_ok-next.ensures ∙ c.deref.ensures))
 
 pub returns-clause-accepted : goal.returns-clause-accepted
 returns-clause-accepted c = λ history stands.
-    let was = subst (λ (e : State). StandsFor e history) (sym c.in_ok-next.ensures) stands in
-    subst (λ (e : State). edit_refusal history e.limit c.args.edit.now.rev c.args.edit.now.delta ≡ None) c.in_ok-next.ensures
+    let was = subst (λ (e : State). StandsFor e history) (sym (c.in_ok-next.ensures ∙ c.deref.ensures)) stands in
+    subst (λ (e : State). edit_refusal history e.limit c.args.edit.now.rev c.args.edit.now.delta ≡ None) (c.in_ok-next.ensures ∙ c.deref.ensures)
     (c.in_ok-change.ensures.accepted history was)

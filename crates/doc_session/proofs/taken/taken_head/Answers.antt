@@ -1,4 +1,5 @@
 use Rattle.std.proofs.Common.{◌≤◌, List, ℕ, length, refl, ap, sym, ◌∙◌, subst, arith}
+use Rattle.std.specs.Arc.{arc_value}
 use Rattle.plain_edits.specs.History.{History, inserted_count}
 use Rattle.rev_engine.specs.Engine.{StandsFor}
 use Rattle.plain_edits.specs.HistorySteps.{edits}
@@ -11,34 +12,34 @@ use Rattle.doc_session.proofs.taken.taken_head.Goals as goal
 
 pub edit_head-requires-clause-may : goal.edit_head-requires-clause-may
 edit_head-requires-clause-may c =
-    subst (λ (h : History). MayAsk h c.args.edit.group) (sym (ap (λ (e : State). e.revisions) c.in_ok-next.ensures)) c.requires.may
+    subst (λ (h : History). MayAsk h c.args.edit.group) (sym (ap (λ (e : State). e.revisions) (c.in_ok-next.ensures ∙ c.deref.ensures))) c.requires.may
 
 pub edit_head-requires-clause-base : goal.edit_head-requires-clause-base
-edit_head-requires-clause-base c = c.requires.base ∙ ap (λ (e : State). length (head_shown e)) (sym c.in_ok-next.ensures)
+edit_head-requires-clause-base c = c.requires.base ∙ ap (λ (e : State). length (head_shown e)) (sym (c.in_ok-next.ensures ∙ c.deref.ensures))
 
 pub noticed-requires : goal.noticed-requires
 noticed-requires c =
     let At : List ℕ → Type 0 = λ text. IsChangeOf text (head_shown c.edit_head.new.self) c.in_ok-change.change.units in
-    subst At (sym c.head_rope.ensures.shown)
-    (IsChangeOf-said c.args.engine.now c.in_ok-next.next c.edit_head.new.self c.args.edit c.in_ok-change.change c.in_ok-next.ensures c.requires.some
+    subst At (sym (c.head_rope.ensures.shown ∙ ap head_shown c.deref-2.ensures))
+    (IsChangeOf-said (arc_value c.args.engine.now) c.in_ok-next.next c.edit_head.new.self c.args.edit c.in_ok-change.change (c.in_ok-next.ensures ∙ c.deref.ensures) c.requires.some
     c.in_ok-change.ensures.stands c.in_ok-change.ensures.change)
 
 pub returns-clause-taken : goal.returns-clause-taken
 returns-clause-taken c = λ history asked stands said.
-    let was = subst (λ (e : State). StandsFor e history) (sym c.in_ok-next.ensures) stands in
+    let was = subst (λ (e : State). StandsFor e history) (sym (c.in_ok-next.ensures ∙ c.deref.ensures)) stands in
     let within : inserted_count (after history asked) ≤ c.edit_head.new.self.limit =
     omega (arith, spent-within history c.in_ok-next.next.limit asked (c.in_ok-change.ensures.accepted history asked was said), c.in_ok-change.ensures.limit) in
     let Noticed : List ℕ → Type 0 = λ text. IsNoticed text c.edit_head.new.self c.in_ok-change.change asked.author c.in_ok-noticed.field-0 in
-    IsAfter-noticed history c.args.engine.now (edits (meant history asked)) c.edit_head.new.self c.in_ok-change.change asked.author c.in_ok-noticed.field-0 stands
+    IsAfter-noticed history (arc_value c.args.engine.now) (edits (meant history asked)) c.edit_head.new.self c.in_ok-change.change asked.author c.in_ok-noticed.field-0 stands
     (head-after history asked) refl (c.in_ok-change.ensures.stands history asked was said) within (c.in_ok-change.ensures.change history asked was said)
-    (subst Noticed c.head_rope.ensures.shown
+    (subst Noticed (c.head_rope.ensures.shown ∙ ap head_shown c.deref-2.ensures)
     (subst (λ author. IsNoticed c.head_rope.result.now c.edit_head.new.self c.in_ok-change.change author c.in_ok-noticed.field-0) (sym said.author)
     c.in_ok-noticed.ensures.noticed))
 
 pub returns-clause-made : goal.returns-clause-made
 returns-clause-made c =
     let changes =
-    IsChangeOf-said c.args.engine.now c.in_ok-next.next c.edit_head.new.self c.args.edit c.in_ok-change.change c.in_ok-next.ensures c.requires.some
+    IsChangeOf-said (arc_value c.args.engine.now) c.in_ok-next.next c.edit_head.new.self c.args.edit c.in_ok-change.change (c.in_ok-next.ensures ∙ c.deref.ensures) c.requires.some
     c.in_ok-change.ensures.stands c.in_ok-change.ensures.change in
-    IsTakenFrom-noticed c.args.engine.now c.edit_head.new.self c.head_rope.result.now c.in_ok-change.change c.args.edit.author c.in_ok-noticed.field-0
-    c.in_ok-noticed.ensures.noticed changes c.in_ok-noticed.ensures.counted (c.in_ok-change.ensures.limit ∙ ap (λ (e : State). e.limit) c.in_ok-next.ensures)
+    IsTakenFrom-noticed (arc_value c.args.engine.now) c.edit_head.new.self c.head_rope.result.now c.in_ok-change.change c.args.edit.author c.in_ok-noticed.field-0
+    c.in_ok-noticed.ensures.noticed changes c.in_ok-noticed.ensures.counted (c.in_ok-change.ensures.limit ∙ ap (λ (e : State). e.limit) (c.in_ok-next.ensures ∙ c.deref.ensures))

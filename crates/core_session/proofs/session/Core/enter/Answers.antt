@@ -33,7 +33,7 @@ put-requires-clause-serving g c = record {
   stands = rw c.reserve.ensures.items c.requires.stands;
 }
 
-pub returns-clause-dropped : goal.returns-clause-dropped
-returns-clause-dropped g c = λ untaken.
+pub returns-in-Ok-clause-dropped : goal.returns-in-Ok-clause-dropped
+returns-in-Ok-clause-dropped g c = λ untaken.
     let At : List Entry → Type 0 = λ entries. StandsForSession c.put.new.self.document c.put.new.self.config (session_of entries) in
     subst At c.reserve.ensures.items (c.put.ensures.dropped untaken)

@@ -20,7 +20,7 @@ returns-clause-sent g c = λ _.
     c.as_str.ensures.utf8 ∙ c.requires.prepared.lines.joined in
     let Gained : List ℕ → Type 0 = λ gained. Gains (g.K.Sink.held c.args.self.now.sink) (g.K.Sink.held c.write_piece-taken.new.sink) gained in
     record {
-      serving = record { room = omega (arith, c.push_reserved.ensures.len, c.push_reserved.ensures.capacity, c.requires.room); sent = rw items parts.0; showing = rw items parts.1; stands = rw (items, c.put_document.ensures) parts.2 };
+      serving = record { room = omega (arith, c.push_reserved.ensures.len, c.push_reserved.ensures.capacity, c.requires.room); sent = rw items parts.0; showing = rw items parts.1; stands = rw (items, c.put.ensures) parts.2 };
       entry = items;
       gains = subst Gained whole c.write_piece-taken.ensures.gains;
       faults_stay = c.write_piece-taken.ensures.faults_stay;

@@ -3,6 +3,7 @@ use Rattle.std.specs.Prelude.{if◌then◌else◌, IfErr, IfOk, OnOk}
 use Rattle.selection_core.specs.Mapped.{AreWithin}
 use Rattle.doc_session.specs.Asking.{asked_refusal, front_edit}
 use Rattle.doc_session.specs.Fault.{DocRefuses}
+use Rattle.doc_session.specs.Refusal.{edit_refused}
 use Rattle.doc_session.specs.Inner.{IsStepped, effect_in}
 use Rattle.doc_session.specs.Step.{effect_on, idle_step, typed_step}
 use Rattle.doc_session.proofs.IdleLemmas.{length-idle}
@@ -72,5 +73,5 @@ returns-clause-refused c = λ plain stands.
     let made =
     effect-made _ c.args.self.now act c.in_ok-units.units c.in_ok-units.sel.regions c.self.view_is c.in_ok-units.ensures in
     let idle = idle-is c.args.self.now plain act c.in_ok-units.units c.in_ok-units.sel.regions c.does_nothing.result stands made c.does_nothing.ensures in
-    subst (λ b. IfErr c.typed.result (DocRefuses (if b then None else asked_refusal plain (front_edit plain None (effect_on plain act).replacements))))
+    subst (λ b. IfErr c.typed.result (DocRefuses (edit_refused (if b then None else asked_refusal plain (front_edit plain None (effect_on plain act).replacements)))))
     (sym (sym idle ∙ c.if-does_nothing.false)) (c.typed.ensures.refused plain stands)

@@ -1,6 +1,7 @@
 use Rattle.std.proofs.Common.{◌≡◌, ◌≤◌, ◌+◌, false, length, None, refl, ap, ap₂, sym, ◌∙◌, subst, arith}
 use Rattle.std.specs.Prelude.{IfErr}
 use Rattle.std.proofs.lemmas.Result.{err_from_is_err_and}
+use Rattle.std.specs.Arc.{arc_value}
 use Rattle.plain_text.specs.Numbers.{has}
 use Rattle.plain_edits.specs.Edits.{edit_refusal}
 use Rattle.plain_edits.specs.History.{head}
@@ -16,6 +17,7 @@ use Rattle.doc_session.specs.declared.event.Body.TheVariants.{Edited}
 use Rattle.doc_session.specs.declared.left.Left.{Left}
 use Rattle.doc_session.specs.Asking.{asked_refusal, plugin_edit}
 use Rattle.doc_session.specs.Fault.{DocRefuses}
+use Rattle.doc_session.specs.Refusal.{edit_refused}
 use Rattle.doc_session.specs.Grouping.{group_by, groups_by, named_group}
 use Rattle.doc_session.specs.InMemory.{Doc}
 use Rattle.doc_session.specs.Inner.{IsStepped, IsTakenFrom, head_shown, known_group, next_document}
@@ -23,7 +25,7 @@ use Rattle.doc_session.specs.Step.{EventStep, regions_by, revision_step}
 use Rattle.doc_session.specs.Stands.{DocStandsFor}
 use Rattle.doc_session.proofs.AgreeLemmas.{JoinsKnown}
 use Rattle.doc_session.proofs.GroupLemmas.{Agree-named, JoinsKnown-named, counts-whole, few-whole, kept-whole, known_group-named}
-use Rattle.doc_session.proofs.HeadLemmas.{head-stands, shown-whole, some-whole, state-whole}
+use Rattle.doc_session.proofs.HeadLemmas.{shown-whole, some-whole, state-whole}
 use Rattle.doc_session.proofs.MoveLemmas.{new_gap-taken, whole-taken, within-taken}
 use Rattle.doc_session.proofs.SomeLemmas.{regions_by-some}
 use Rattle.doc_session.proofs.StepLemmas.{IsAfter-plain, asked-given, group-named, groups-named, next_document-is, regions-moved}
@@ -34,7 +36,7 @@ named_or_opened-requires c =
     let doc = c.self.inside in
     omega (
       arith,
-      few-whole doc.engine doc.stack doc.typing doc.view.text c.self.invariant,
+      few-whole (arc_value doc.engine) doc.stack doc.typing doc.view.text c.self.invariant.whole,
       ap (λ (d : Doc). head d.engine.revisions) c.self.view_is,
       c.requires.has_number,
     )
@@ -46,23 +48,23 @@ taken_by-requires-clause-may c =
     let known = JoinsKnown-named doc.stack c.args.named in
     let group_is : c.given-edit.result.group ≡ group_by doc.stack joined = ap (λ (e : Edit). e.group) c.given-edit.ensures ∙ c.in_ok-made.ensures.group in
     record {
-      group_counts = subst (λ g. 1 ≤ g) (sym group_is) (counts-whole doc.engine doc.stack doc.typing doc.view.text c.self.invariant joined known);
+      group_counts = subst (λ g. 1 ≤ g) (sym group_is) (counts-whole (arc_value doc.engine) doc.stack doc.typing doc.view.text c.self.invariant.whole joined known);
       group_kept =
-          subst (λ g. has doc.engine.revisions.collected g ≡ false) (sym group_is)
-          (kept-whole doc.engine doc.stack doc.typing doc.view.text c.self.invariant joined known);
+          subst (λ g. has (arc_value doc.engine).revisions.collected g ≡ false) (sym group_is)
+          (kept-whole (arc_value doc.engine) doc.stack doc.typing doc.view.text c.self.invariant.whole joined known);
       has_number = omega (arith, ap (λ (d : Doc). head d.engine.revisions) c.self.view_is, c.requires.has_number);
     }
 
 pub taken_by-requires-clause-some : goal.taken_by-requires-clause-some
 taken_by-requires-clause-some c =
     let doc = c.self.inside in
-    some-whole doc.engine doc.view.text (state-whole doc.engine doc.stack doc.typing doc.view.text c.self.invariant)
+    some-whole (arc_value doc.engine) doc.view.text (state-whole (arc_value doc.engine) doc.stack doc.typing doc.view.text c.self.invariant.whole)
 
 pub moved-requires-clause-base : goal.moved-requires-clause-base
 moved-requires-clause-base c =
     let doc = c.self.inside in
     c.in_ok-taken.ensures.made.changes.base ∙
-    ap length (sym (shown-whole doc.engine doc.view.text (state-whole doc.engine doc.stack doc.typing doc.view.text c.self.invariant)))
+    ap length (sym (shown-whole (arc_value doc.engine) doc.view.text (state-whole (arc_value doc.engine) doc.stack doc.typing doc.view.text c.self.invariant.whole)))
 
 pub moved-requires-clause-well_formed : goal.moved-requires-clause-well_formed
 moved-requires-clause-well_formed c = c.in_ok-taken.ensures.made.changes.well_formed
@@ -74,7 +76,7 @@ moved-requires-clause-bound c =
     let asked = asked_by c.given-edit.result in
     omega (
       arith,
-      new_gap-taken doc.engine doc.stack doc.typing doc.view.text (λ h. edits (meant h asked)) asked.author taken c.self.invariant
+      new_gap-taken (arc_value doc.engine) doc.stack doc.typing doc.view.text (λ h. edits (meant h asked)) asked.author taken c.self.invariant.whole
           (λ h state. c.in_ok-taken.ensures.taken h state.stands) false taken.change.units.base,
       c.in_ok-taken.ensures.made.counted,
     )
@@ -86,8 +88,8 @@ pub settled-requires-clause-inside : goal.settled-requires-clause-inside
 settled-requires-clause-inside c =
     let doc = c.self.inside in
     let asked = asked_by c.given-edit.result in
-    subst (λ (l : Left). AreWithin (length (head_shown c.in_ok-taken.taken.engine)) l.sel.regions) (sym c.left_by-left.ensures)
-    (within-taken doc.engine doc.stack doc.typing doc.view.text (λ h. edits (meant h asked)) asked.author c.in_ok-taken.taken c.self.invariant
+    subst (λ (l : Left). AreWithin (length (head_shown (arc_value c.in_ok-taken.taken.engine))) l.sel.regions) (sym c.left_by-left.ensures)
+    (within-taken (arc_value doc.engine) doc.stack doc.typing doc.view.text (λ h. edits (meant h asked)) asked.author c.in_ok-taken.taken c.self.invariant.whole
     (λ h state. c.in_ok-taken.ensures.taken h state.stands) c.in_ok-sel.sel.regions c.in_ok-sel.ensures.inside)
 
 pub settled-requires-clause-made : goal.settled-requires-clause-made
@@ -102,7 +104,7 @@ settled-requires-clause-whole c =
     let joined = known_group doc.stack c.args.named in
     let stack_is = ap (λ (l : Left). l.stack) c.left_by-left.ensures in
     let group_is : asked.group ≡ group_by doc.stack joined = ap (λ (e : Edit). e.group) c.given-edit.ensures ∙ c.in_ok-made.ensures.group in
-    whole-taken doc.engine doc.stack doc.typing doc.view.text (λ h. edits (meant h asked)) asked.author taken c.self.invariant
+    whole-taken (arc_value doc.engine) doc.stack doc.typing doc.view.text (λ h. edits (meant h asked)) asked.author taken c.self.invariant.whole
     (λ h state. c.in_ok-taken.ensures.taken h state.stands) left c.in_ok-taken.ensures.made.limit
     (λ h agree. Agree-named h doc.stack doc.typing joined asked.group asked.base asked.priority asked.author left agree
     (JoinsKnown-named doc.stack c.args.named) group_is (stack_is ∙ c.in_ok-made.ensures.stack) (ap (λ (l : Left). l.typing) c.left_by-left.ensures)
@@ -110,7 +112,7 @@ settled-requires-clause-whole c =
 
 pub returns-in_err-sel-clause-refused : goal.returns-in_err-sel-clause-refused
 returns-in_err-sel-clause-refused c = λ plain stands.
-    let refusal = asked_refusal plain (plugin_edit plain c.args.caller c.args.edit None) in
+    let refusal = edit_refused (asked_refusal plain (plugin_edit plain c.args.caller c.args.edit None)) in
     let lack = err_from_is_err_and c.from_residual-in_err-sel.result c.from_residual-in_err-sel.ensures.1 in
     subst (λ r. IfErr r (DocRefuses refusal)) (sym lack.1) (subst (DocRefuses refusal) (sym lack.2) (λ other. absurd (other refl)))
 
@@ -130,7 +132,7 @@ returns-clause-stepped c = λ plain stands.
     ap (λ (l : Left). l.stack) c.left_by-left.ensures ∙ c.in_ok-made.ensures.stack ∙ groups-named _ plain c.args.named was in
     let typing_is : left.typing ≡ None = ap (λ (l : Left). l.typing) c.left_by-left.ensures in
     let numbered : c.head-rev.result + 1 ≡ head plain.history + 1 =
-    ap (λ n. n + 1) (c.head-rev.ensures.revisions ∙ head-stands doc.engine plain.history was.parts.stands) in
+    ap (λ n. n + 1) (c.head-rev.ensures.head plain stands) in
     let given = asked-given plain caller c.in_ok-made.made.group joined edit c.given-edit.result c.given-edit.ensures group_is in
     let is = IsAfter-plain _ plain asked (asked_by c.given-edit.result) taken was given c.in_ok-taken.ensures.taken in
     let regions_is : left.sel.regions ≡ regions_by plain history edit.after_cursor plain.regions =
@@ -151,5 +153,5 @@ returns-clause-accepted c = λ plain stands.
     let doc = c.self.inside in
     let was = subst (λ d. DocStandsFor d plain) (sym c.self.view_is) stands in
     subst (λ limit. edit_refusal plain.history limit c.args.edit.rev c.args.edit.delta ≡ None) was.limit
-    (subst (λ (e : Edit). edit_refusal plain.history doc.engine.limit e.rev e.delta ≡ None) c.given-edit.ensures
+    (subst (λ (e : Edit). edit_refusal plain.history (arc_value doc.engine).limit e.rev e.delta ≡ None) c.given-edit.ensures
     (c.in_ok-taken.ensures.accepted plain.history was.parts.stands))

@@ -1,5 +1,6 @@
 use Rattle.std.proofs.Common.{◌≡◌, List, ℕ, None, length, ap, sym, ◌∙◌, subst}
 use Rattle.std.specs.Prelude.{IfErr, IfOk, OnOk}
+use Rattle.std.specs.Arc.{arc_value}
 use Rattle.plain_edits.specs.Edits.{edit_refusal}
 use Rattle.edit_ops.specs.Commands.{Effect}
 use Rattle.edit_ops.specs.Replacements.{IsEditOf}
@@ -7,6 +8,7 @@ use Rattle.rev_engine.specs.Engine.{StandsFor}
 use Rattle.rev_engine.specs.Given.{MayAsk}
 use Rattle.doc_session.specs.Asking.{replacing_edit}
 use Rattle.doc_session.specs.Fault.{DocRefuses}
+use Rattle.doc_session.specs.Refusal.{edit_refused}
 use Rattle.doc_session.specs.InMemory.{Doc}
 use Rattle.doc_session.specs.Inner.{IsTakenFrom, effect_in}
 use Rattle.doc_session.specs.Stands.{DocStandsFor}
@@ -26,16 +28,16 @@ pub taken_head-requires-clause-base : goal.taken_head-requires-clause-base
 taken_head-requires-clause-base c =
     let doc = c.self.inside in
     c.requires.edit.edit_is.of ∙ ap (λ (d : Doc). length d.view.text) (sym c.self.view_is) ∙
-    ap length (shown-whole doc.engine doc.view.text (state-whole doc.engine doc.stack doc.typing doc.view.text c.self.invariant))
+    ap length (shown-whole (arc_value doc.engine) doc.view.text (state-whole (arc_value doc.engine) doc.stack doc.typing doc.view.text c.self.invariant.whole))
 
 pub taken_head-requires-clause-some : goal.taken_head-requires-clause-some
 taken_head-requires-clause-some c =
     let doc = c.self.inside in
-    let state = state-whole doc.engine doc.stack doc.typing doc.view.text c.self.invariant in
+    let state = state-whole (arc_value doc.engine) doc.stack doc.typing doc.view.text c.self.invariant.whole in
     let replacements = (effect_in c.args.self.now.view c.args.act.now).replacements in
-    let shown_is = ap (λ (d : Doc). d.view.text) (sym c.self.view_is) ∙ shown-whole doc.engine doc.view.text state in
+    let shown_is = ap (λ (d : Doc). d.view.text) (sym c.self.view_is) ∙ shown-whole (arc_value doc.engine) doc.view.text state in
     let Over : List ℕ → Type 0 = λ t. IsEditOf (length t) replacements c.args.edit.units in
-    IsSaidOfSome-front doc.engine c.args.edit replacements (some-whole doc.engine doc.view.text state) (subst Over shown_is c.requires.edit.edit_is)
+    IsSaidOfSome-front (arc_value doc.engine) c.args.edit replacements (some-whole (arc_value doc.engine) doc.view.text state) (subst Over shown_is c.requires.edit.edit_is)
     c.requires.edit.priority_is c.requires.edit.author_is
 
 pub returns-clause-taken : goal.returns-clause-taken
@@ -68,5 +70,5 @@ returns-clause-refused c = λ plain stands.
     let said = IsSaidBy-front plain.history c.args.edit replacements
     (subst Over stands.parts.shown_is (subst With (effect-is c.args.self.now plain c.args.act.now stands) c.requires.edit.edit_is))
     c.requires.edit.priority_is c.requires.edit.author_is in
-    subst (λ limit. IfErr c.taken_head.result (DocRefuses (edit_refusal plain.history limit asked.base asked.delta))) was.limit
+    subst (λ limit. IfErr c.taken_head.result (DocRefuses (edit_refused (edit_refusal plain.history limit asked.base asked.delta)))) was.limit
     (c.taken_head.ensures.refused plain.history asked was.parts.stands said)

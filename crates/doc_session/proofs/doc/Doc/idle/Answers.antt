@@ -12,6 +12,7 @@ use Rattle.doc_session.specs.Step.{effect_on, scroll_if, selected_document, stil
 use Rattle.doc_session.specs.Typing.{kind_of, run_on}
 use Rattle.doc_session.proofs.GroupLemmas.{IsLeftOf-run}
 use Rattle.doc_session.specs.Stands.{AreRegionsOf}
+use Rattle.doc_session.proofs.LayerLemmas.{as_many-kept, over-kept}
 use Rattle.doc_session.proofs.SomeLemmas.{effect-some}
 use Rattle.doc_session.proofs.StepLemmas.{effect-is}
 use Rattle.doc_session.proofs.UntoldLemmas.{IsUntold-still}
@@ -29,10 +30,22 @@ with_view-requires-clause-typing c =
 pub with_view-requires-clause-text : goal.with_view-requires-clause-text
 with_view-requires-clause-text c = ap (λ (v : View). v.text) c.in_ok-view.ensures ∙ ap (λ (d : Doc). d.view.text) c.self.view_is
 
+pub with_view-requires-clause-over : goal.with_view-requires-clause-over
+with_view-requires-clause-over c =
+    over-kept _ c.args.self.now c.in_ok-view.view.layers c.self.invariant c.self.view_is
+    (ap (λ (v : View). v.layers) c.in_ok-view.ensures ∙ ap (λ (d : Doc). d.view.layers) c.self.view_is)
+
+pub with_view-requires-clause-as_many : goal.with_view-requires-clause-as_many
+with_view-requires-clause-as_many c =
+    ap (λ (v : View). length v.layers) c.in_ok-view.ensures ∙ ap (λ (d : Doc). length d.view.layers) c.self.view_is ∙
+    as_many-kept _ c.args.self.now c.self.invariant c.self.view_is
+
 pub told-requires : goal.told-requires
 told-requires c = record {
-  text =
-      ap (λ (d : Doc). d.view.text) c.in_ok-next.ensures ∙ ap (λ (v : View). v.text) c.in_ok-view.ensures ∙ ap (λ (d : Doc). d.view.text) c.self.view_is;
+  text = (
+    ap (λ (d : Doc). d.view.text) c.in_ok-next.ensures ∙ ap (λ (v : View). v.text) c.in_ok-view.ensures ∙ ap (λ (d : Doc). d.view.text) c.self.view_is,
+    ap (λ (d : Doc). d.view.layers) c.in_ok-next.ensures ∙ ap (λ (v : View). v.layers) c.in_ok-view.ensures ∙ ap (λ (d : Doc). d.view.layers) c.self.view_is,
+  );
 }
 
 pub returns-clause-stepped : goal.returns-clause-stepped

@@ -9,7 +9,10 @@ use Rattle.doc_session.proofs.UntoldLemmas.{AreRegionsOf-plain, IsUntold-looking
 use Rattle.doc_session.proofs.doc.Doc.request.Goals as goal
 
 pub looking-requires : goal.looking-requires
-looking-requires c = record { text = ap (λ (v : View). v.text) c.in_ok-without_goals.ensures ∙ ap (λ (d : Doc). d.view.text) c.self.view_is }
+looking-requires c = record {
+  text = ap (λ (v : View). v.text) c.in_ok-without_goals.ensures ∙ ap (λ (d : Doc). d.view.text) c.self.view_is;
+  layers = ap (λ (v : View). v.layers) c.in_ok-without_goals.ensures ∙ ap (λ (d : Doc). d.view.layers) c.self.view_is;
+}
 
 pub returns-clause-stepped : goal.returns-clause-stepped
 returns-clause-stepped c = λ plain stands.

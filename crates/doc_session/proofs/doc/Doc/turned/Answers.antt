@@ -4,6 +4,7 @@ use Rattle.plain_edits.specs.History.{head, undo}
 use Rattle.plain_edits.specs.HistorySteps.{undoes}
 use Rattle.rev_list.specs.Edit.{undone_by}
 use Rattle.std.specs.Prelude.{IfOk}
+use Rattle.std.specs.Arc.{arc_value}
 use Rattle.edit_ops.specs.Regions.{without_goal}
 use Rattle.undo_groups.specs.Groups.{Groups}
 use Rattle.doc_view.specs.declared.moved.Goals.TheVariants.{Cleared}
@@ -26,25 +27,25 @@ pub taken_turn-requires-clause-may : goal.taken_turn-requires-clause-may
 taken_turn-requires-clause-may c =
     let doc = c.self.inside in
     let turn = subst (λ (d : Doc). IsTurned d.groups c.args.stack c.args.group) (sym c.self.view_is) c.requires.turned in
-    MayAskUndo-whole doc.engine doc.stack doc.typing doc.view.text c.self.invariant c.args.stack c.args.group turn
+    MayAskUndo-whole (arc_value doc.engine) doc.stack doc.typing doc.view.text c.self.invariant.whole c.args.stack c.args.group turn
     (omega (arith, ap (λ (d : Doc). head d.engine.revisions) c.self.view_is, c.requires.has_number))
 
 pub taken_turn-requires-clause-agrees : goal.taken_turn-requires-clause-agrees
 taken_turn-requires-clause-agrees c =
     let doc = c.self.inside in
     let turn = subst (λ (d : Doc). IsTurned d.groups c.args.stack c.args.group) (sym c.self.view_is) c.requires.turned in
-    agrees-whole doc.engine doc.stack doc.typing doc.view.text c.self.invariant c.args.stack c.args.group turn
+    agrees-whole (arc_value doc.engine) doc.stack doc.typing doc.view.text c.self.invariant.whole c.args.stack c.args.group turn
 
 pub taken_turn-requires-clause-some : goal.taken_turn-requires-clause-some
 taken_turn-requires-clause-some c =
     let doc = c.self.inside in
-    some-whole doc.engine doc.view.text (state-whole doc.engine doc.stack doc.typing doc.view.text c.self.invariant)
+    some-whole (arc_value doc.engine) doc.view.text (state-whole (arc_value doc.engine) doc.stack doc.typing doc.view.text c.self.invariant.whole)
 
 pub moved-requires-clause-base : goal.moved-requires-clause-base
 moved-requires-clause-base c =
     let doc = c.self.inside in
     c.in_ok-taken.ensures.made.changes.base ∙
-    ap length (sym (shown-whole doc.engine doc.view.text (state-whole doc.engine doc.stack doc.typing doc.view.text c.self.invariant)))
+    ap length (sym (shown-whole (arc_value doc.engine) doc.view.text (state-whole (arc_value doc.engine) doc.stack doc.typing doc.view.text c.self.invariant.whole)))
 
 pub moved-requires-clause-well_formed : goal.moved-requires-clause-well_formed
 moved-requires-clause-well_formed c = c.in_ok-taken.ensures.made.changes.well_formed
@@ -55,7 +56,7 @@ moved-requires-clause-bound c =
     let taken = c.in_ok-taken.taken in
     omega (
       arith,
-      new_gap-taken doc.engine doc.stack doc.typing doc.view.text (λ h. undoes (undone_by h (c.args.group ∷ []))) 0 taken c.self.invariant
+      new_gap-taken (arc_value doc.engine) doc.stack doc.typing doc.view.text (λ h. undoes (undone_by h (c.args.group ∷ []))) 0 taken c.self.invariant.whole
           (λ h state. c.in_ok-taken.ensures.taken h state.stands state.within) false taken.change.units.base,
       c.in_ok-taken.ensures.made.counted,
     )
@@ -69,7 +70,7 @@ settled-requires-clause-sound c = c.in_ok-sel.ensures.sound
 pub settled-requires-clause-inside : goal.settled-requires-clause-inside
 settled-requires-clause-inside c =
     let doc = c.self.inside in
-    within-taken doc.engine doc.stack doc.typing doc.view.text (λ h. undoes (undone_by h (c.args.group ∷ []))) 0 c.in_ok-taken.taken c.self.invariant
+    within-taken (arc_value doc.engine) doc.stack doc.typing doc.view.text (λ h. undoes (undone_by h (c.args.group ∷ []))) 0 c.in_ok-taken.taken c.self.invariant.whole
     (λ h state. c.in_ok-taken.ensures.taken h state.stands state.within) c.in_ok-sel.sel.regions c.in_ok-sel.ensures.inside
 
 pub settled-requires-clause-whole : goal.settled-requires-clause-whole
@@ -79,7 +80,7 @@ settled-requires-clause-whole c =
     let stack = c.args.stack in
     let group = c.args.group in
     let turn = subst (λ (d : Doc). IsTurned d.groups stack group) (sym c.self.view_is) c.requires.turned in
-    whole-taken doc.engine doc.stack doc.typing doc.view.text (λ h. undoes (undone_by h (group ∷ []))) 0 taken c.self.invariant
+    whole-taken (arc_value doc.engine) doc.stack doc.typing doc.view.text (λ h. undoes (undone_by h (group ∷ []))) 0 taken c.self.invariant.whole
     (λ h state. c.in_ok-taken.ensures.taken h state.stands state.within)
     (record { stack = stack; typing = None; sel = c.in_ok-sel.sel }) c.in_ok-taken.ensures.made.limit
     (λ h agree.

@@ -1,4 +1,5 @@
 use Rattle.std.proofs.Common.{◌≡◌, ◌≤◌, false, List, ℕ, length, refl, ap, ap₂, sym, ◌∙◌, subst, arith}
+use Rattle.std.specs.Arc.{arc_value}
 use Rattle.plain_text.specs.Numbers.{has}
 use Rattle.plain_edits.specs.declared.delta.UnitDelta.{UnitDelta}
 use Rattle.plain_edits.specs.HistorySteps.{edits}
@@ -33,7 +34,7 @@ joined_or_opened-requires c =
     let doc = c.self.inside in
     omega (
       arith,
-      few-whole doc.engine doc.stack doc.typing doc.view.text c.self.invariant,
+      few-whole (arc_value doc.engine) doc.stack doc.typing doc.view.text c.self.invariant.whole,
       ap (λ (d : Doc). head d.engine.revisions) c.self.view_is,
       c.requires.has_number,
     )
@@ -45,10 +46,10 @@ front_taken-requires-clause-may c =
     let joined_is = c.run_group-joined.ensures ∙ ap run_group (c.run_on.ensures ∙ ap (run_on doc.typing) c.kind_of-kind.ensures) in
     let group_is : c.front_edit-edit.result.group ≡ group_by doc.stack (run_group (run_on doc.typing kind)) =
     ap (λ (e : UnitEdit). e.group) c.front_edit-edit.ensures ∙ c.in_ok-made.ensures.group ∙ ap (group_by doc.stack) joined_is in
-    let is_open = open-whole doc.engine doc.stack doc.typing doc.view.text c.self.invariant kind in
+    let is_open = open-whole (arc_value doc.engine) doc.stack doc.typing doc.view.text c.self.invariant.whole kind in
     subst (λ (d : Doc). MayAsk d.engine.revisions c.front_edit-edit.result.group) c.self.view_is (record {
       group_counts = subst (λ g. 1 ≤ g) (sym group_is) is_open.counts;
-      group_kept = subst (λ g. has doc.engine.revisions.collected g ≡ false) (sym group_is) is_open.kept;
+      group_kept = subst (λ g. has (arc_value doc.engine).revisions.collected g ≡ false) (sym group_is) is_open.kept;
       has_number = omega (arith, ap (λ (d : Doc). head d.engine.revisions) c.self.view_is, c.requires.has_number);
     })
 
@@ -73,25 +74,25 @@ settled-requires-clause-inside c =
     let doc = c.self.inside in
     let kind = kind_of c.args.act.now in
     let edit = c.front_edit-edit.result in
-    let state = state-whole doc.engine doc.stack doc.typing doc.view.text c.self.invariant in
+    let state = state-whole (arc_value doc.engine) doc.stack doc.typing doc.view.text c.self.invariant.whole in
     let replacements = (effect_in c.args.self.now.view c.args.act.now).replacements in
     let units_is = sym (ap (λ (e : UnitEdit). e.units) c.front_edit-edit.ensures) in
-    let shown_is = ap (λ (d : Doc). d.view.text) (sym c.self.view_is) ∙ shown-whole doc.engine doc.view.text state in
+    let shown_is = ap (λ (d : Doc). d.view.text) (sym c.self.view_is) ∙ shown-whole (arc_value doc.engine) doc.view.text state in
     let Over : List ℕ → Type 0 = λ t. IsEditOf (length t) replacements edit.units in
     let By : UnitDelta → Type 0 = λ u. IsEditOf (length c.args.self.now.view.text) replacements u in
     let joined_is = c.run_group-joined.ensures ∙ ap run_group (c.run_on.ensures ∙ ap (run_on doc.typing) c.kind_of-kind.ensures) in
     let group_is : edit.group ≡ group_by doc.stack (run_group (run_on doc.typing kind)) =
     ap (λ (e : UnitEdit). e.group) c.front_edit-edit.ensures ∙ c.in_ok-made.ensures.group ∙ ap (group_by doc.stack) joined_is in
-    let is_open = subst (IsOpenGroup doc.engine.revisions) (sym group_is) (open-whole doc.engine doc.stack doc.typing doc.view.text c.self.invariant kind) in
+    let is_open = subst (IsOpenGroup (arc_value doc.engine).revisions) (sym group_is) (open-whole (arc_value doc.engine) doc.stack doc.typing doc.view.text c.self.invariant.whole kind) in
     let Each : Doc → Type 0 =
     λ d. (h : History) (asked : AskedEdit) → StandsFor d.engine h → IsSaidBy h c.front_edit-edit.result asked → IsAfterEdit h asked c.in_ok-taken.taken in
     let each = subst Each (sym c.self.view_is) c.in_ok-taken.ensures.taken in
     let long =
-    length-front doc.engine edit replacements c.in_ok-taken.taken doc.view.text state is_open.shown (subst Over shown_is (subst By units_is c.requires.effect.edit))
+    length-front (arc_value doc.engine) edit replacements c.in_ok-taken.taken doc.view.text state is_open.shown (subst Over shown_is (subst By units_is c.requires.effect.edit))
     (ap (λ (e : UnitEdit). e.priority) c.front_edit-edit.ensures) (ap (λ (e : UnitEdit). e.author) c.front_edit-edit.ensures) each in
     let Within : List ℕ → Type 0 = λ t. AreWithin (length (text_with replacements t)) c.args.sel.regions in
     subst (λ n. AreWithin n c.left_by-left.result.sel.regions) (sym long)
-    (subst (λ (l : Left). AreWithin (length (text_with replacements (head_shown doc.engine))) l.sel.regions) (sym c.left_by-left.ensures)
+    (subst (λ (l : Left). AreWithin (length (text_with replacements (head_shown (arc_value doc.engine)))) l.sel.regions) (sym c.left_by-left.ensures)
     (subst Within shown_is c.requires.effect.inside))
 
 pub settled-requires-clause-whole : goal.settled-requires-clause-whole
@@ -101,10 +102,10 @@ settled-requires-clause-whole c =
     let edit = c.front_edit-edit.result in
     let taken = c.in_ok-taken.taken in
     let left = c.left_by-left.result in
-    let state = state-whole doc.engine doc.stack doc.typing doc.view.text c.self.invariant in
+    let state = state-whole (arc_value doc.engine) doc.stack doc.typing doc.view.text c.self.invariant.whole in
     let replacements = (effect_in c.args.self.now.view c.args.act.now).replacements in
     let units_is = sym (ap (λ (e : UnitEdit). e.units) c.front_edit-edit.ensures) in
-    let shown_is = ap (λ (d : Doc). d.view.text) (sym c.self.view_is) ∙ shown-whole doc.engine doc.view.text state in
+    let shown_is = ap (λ (d : Doc). d.view.text) (sym c.self.view_is) ∙ shown-whole (arc_value doc.engine) doc.view.text state in
     let Over : List ℕ → Type 0 = λ t. IsEditOf (length t) replacements edit.units in
     let By : UnitDelta → Type 0 = λ u. IsEditOf (length c.args.self.now.view.text) replacements u in
     let is = subst Over shown_is (subst By units_is c.requires.effect.edit) in
@@ -118,9 +119,9 @@ settled-requires-clause-whole c =
     let Each : Doc → Type 0 =
     λ d. (h : History) (asked : AskedEdit) → StandsFor d.engine h → IsSaidBy h c.front_edit-edit.result asked → IsAfterEdit h asked c.in_ok-taken.taken in
     let each = subst Each (sym c.self.view_is) c.in_ok-taken.ensures.taken in
-    whole-taken doc.engine doc.stack doc.typing doc.view.text (λ h. edits (meant h (replacing_edit edit.group h replacements))) 0 taken c.self.invariant
+    whole-taken (arc_value doc.engine) doc.stack doc.typing doc.view.text (λ h. edits (meant h (replacing_edit edit.group h replacements))) 0 taken c.self.invariant.whole
     (λ h was. each h (replacing_edit edit.group h replacements) was.stands
-    (IsSaidBy-front h edit replacements (subst (λ t. IsEditOf (length t) replacements edit.units) (head_shown-stands doc.engine h was.stands) is)
+    (IsSaidBy-front h edit replacements (subst (λ t. IsEditOf (length t) replacements edit.units) (head_shown-stands (arc_value doc.engine) h was.stands) is)
     (ap (λ (e : UnitEdit). e.priority) c.front_edit-edit.ensures) (ap (λ (e : UnitEdit). e.author) c.front_edit-edit.ensures)))
     left (c.in_ok-taken.ensures.made.limit ∙ ap (λ (d : Doc). d.engine.limit) (sym c.self.view_is))
     (λ h agree. Agree-front h doc.stack doc.typing kind edit.group (head h) front_priority 0 left agree group_is stack_is typing_is

@@ -14,5 +14,5 @@ invariant_of-view c =
     let inside = subst (λ (v : View). AreWithin (length v.text) others) (sym now) c.requires.inside in
     let ends = subst (λ (v : View). are_same_ends v.regions others ≡ true) (sym now) c.requires.ends in
     rw c.in_ok-view-inside.ensures.ok
-    (IsViewKept-same kept.config (arc_value kept.text) (arc_value kept.sel).regions (arc_value kept.query) (arc_value kept.found) (arc_value kept.lines)
-    c.view.invariant others c.requires.sound inside ends)
+    (IsViewKept-same kept.config (arc_value kept.text) (arc_value kept.sel).regions (arc_value kept.layers) (arc_value kept.query) (arc_value kept.found)
+    (arc_value kept.lines) c.view.invariant others c.requires.sound inside ends)

@@ -15,5 +15,6 @@ invariant_of-view c =
     let plain : (arc_value c.in_ok-view-inside.field-0).regions ≡ map without_goal (arc_value kept.sel).regions =
     ap (λ (s : Sel). s.regions) c.in_ok-view-inside.ensures.ok ∙ c.in_ok-without_goals.ensures ∙ ap (λ (s : Sel). map without_goal s.regions) c.deref.ensures ∙
     ap (λ (v : View). map without_goal v.regions) (c.self.view_is ∙ sym c.in_ok-view.ensures ∙ sym c.view.view_is) in
-    subst (λ (rs : List Region). IsViewKept kept.config text rs (arc_value kept.query) (arc_value kept.found) (arc_value kept.lines)) (sym plain)
-    (IsViewKept-plain kept.config text (arc_value kept.sel).regions (arc_value kept.query) (arc_value kept.found) (arc_value kept.lines) c.view.invariant)
+    subst (λ (rs : List Region). IsViewKept kept.config text rs (arc_value kept.layers) (arc_value kept.query) (arc_value kept.found) (arc_value kept.lines)) (sym plain)
+    (IsViewKept-plain kept.config text (arc_value kept.sel).regions (arc_value kept.layers) (arc_value kept.query) (arc_value kept.found)
+    (arc_value kept.lines) c.view.invariant)

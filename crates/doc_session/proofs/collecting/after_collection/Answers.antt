@@ -3,7 +3,7 @@ use Rattle.plain_edits.specs.Collection.{Collection}
 use Rattle.rev_collect.specs.Choice.{collection_said}
 use Rattle.doc_session.specs.Collecting.{collection_after}
 use Rattle.doc_session.proofs.CollectLemmas.{DocStandsFor-collected, DocStandsFor-found}
-use Rattle.doc_session.proofs.doc.after_collection.Goals as goal
+use Rattle.doc_session.proofs.collecting.after_collection.Goals as goal
 
 pub returns-in-Some-clause-stands : goal.returns-in-Some-clause-stands
 returns-in-Some-clause-stands c = λ plain stands.

@@ -1,0 +1,88 @@
+-- Layers of styles over the head text of a document: over the change of a revision, and after spans of a plugin.
+use Rattle.std.proofs.Common.{◌≡◌, ℕ, List, length, refl, ap, sym, ◌∙◌, subst}
+use Rattle.std.specs.Prelude.{◌-◌}
+use Rattle.std.proofs.lemmas.List.{length-map, length-replicate}
+use Rattle.plain_edits.specs.declared.delta.UnitDelta.{UnitDelta}
+use Rattle.plain_edits.specs.History.{History}
+use Rattle.plain_edits.specs.Styles.{Layer, mapped_layer}
+use Rattle.plain_edits.specs.UnitDelta.{unit_adds, unit_keeps}
+use Rattle.span_styles.specs.Layers.{AreOver, length_after, mapped_layers, new_layers, unstyled}
+use Rattle.span_styles.proofs.ForCallers.{AreOver-mapped, AreOver-new, length_after-text}
+use Rattle.stale_spans.specs.declared.asked.AskedSpans.{AskedSpans}
+use Rattle.stale_spans.specs.Asked.{layers_with_spans, moved_layers}
+use Rattle.stale_spans.proofs.ForCallers.{mapped_layers-change}
+use Rattle.doc_layout.specs.Changed.{IsChangeOf}
+use Rattle.doc_session.specs.declared.taken.Taken.{Taken}
+use Rattle.doc_session.specs.Document.{Document, text_of}
+use Rattle.doc_session.specs.InMemory.{Doc}
+use Rattle.doc_session.specs.Inner.{IsAfter, IsUntold}
+use Rattle.doc_session.specs.Stands.{DocStandsFor}
+use Rattle.doc_session.specs.Step.{styled_document}
+use Rattle.doc_session.specs.Whole.{IsKept}
+
+-- on a text that was just loaded
+pub over-new : (plugins : ℕ) (text other : List ℕ) (layers : List Layer) → layers ≡ new_layers plugins (length text) → other ≡ text → AreOver (length other) layers
+over-new plugins text other layers is same =
+    subst (λ t. AreOver (length t) layers) (sym same) (subst (AreOver (length text)) (sym is) (AreOver-new plugins (length text)))
+
+pub as_many-new : (plugins len : ℕ) (layers : List Layer) → layers ≡ new_layers plugins len → length layers ≡ plugins
+as_many-new plugins len layers is = ap length is ∙ length-replicate plugins (unstyled len)
+
+-- ---- what a document in memory keeps
+
+pub over-kept : (doc now : Doc) (layers : List Layer) → IsKept doc → doc ≡ now → layers ≡ now.view.layers → AreOver (length now.view.text) layers
+over-kept doc now layers kept same is =
+    subst (AreOver (length now.view.text)) (sym is) (subst (λ (d : Doc). AreOver (length d.view.text) d.view.layers) same kept.over)
+
+pub as_many-kept : (doc now : Doc) → IsKept doc → doc ≡ now → length now.view.layers ≡ length now.sessions
+as_many-kept doc now kept same = subst (λ (d : Doc). length d.view.layers ≡ length d.sessions) same kept.as_many
+
+-- ---- over the change of a revision
+
+-- 64 bits count the characters after it
+pub length_after-changed : (text made : List ℕ) (units : UnitDelta) → IsChangeOf text made units → length_after units ≡ length made
+length_after-changed text made units is = length_after-text units text (sym is.base) ∙ ap length (sym is.leads)
+
+pub over-changed : (text made : List ℕ) (units : UnitDelta) (layers moved : List Layer) → IsChangeOf text made units → AreOver (length text) layers →
+    moved ≡ mapped_layers units layers → AreOver (length made) moved
+over-changed text made units layers moved is over moved_is =
+    subst (λ n. AreOver n moved) (length_after-changed text made units is)
+    (subst (AreOver (length_after units)) (sym moved_is) (AreOver-mapped units layers (subst (λ n. AreOver n layers) (sym is.base) over)))
+
+pub as_many-changed : (units : UnitDelta) (layers moved : List Layer) → moved ≡ mapped_layers units layers → length moved ≡ length layers
+as_many-changed units layers moved is = ap length is ∙ length-map layers (mapped_layer (unit_keeps units) (unit_adds units))
+
+-- they follow by the style rule, whatever document it stands for
+pub moved-changed : (doc : Doc) (plain : Document) (history : History) (author : ℕ) (taken : Taken) (moved : List Layer) → DocStandsFor doc plain →
+    IsAfter plain.history history author taken → AreOver (length doc.view.text) doc.view.layers →
+    moved ≡ mapped_layers taken.change.units doc.view.layers → moved ≡ moved_layers plain.history history plain.layers
+moved-changed doc plain history author taken moved stands after over is =
+    let here : AreOver (length (text_of plain)) doc.view.layers = subst (λ t. AreOver (length t) doc.view.layers) stands.parts.shown_is over in
+    is ∙ mapped_layers-change plain.history history taken.change doc.view.layers after.changes after.text_before here ∙
+    ap (moved_layers plain.history history) (sym stands.layers)
+
+-- ---- after spans of a plugin
+
+pub IsUntold-styled : (doc made : Doc) (plain : Document) (caller : ℕ) (asked : AskedSpans) (layers : List Layer) → DocStandsFor doc plain →
+    made ≡ record doc { view = record doc.view { layers = layers } } →
+    layers ≡ layers_with_spans plain.history asked (caller - 1) doc.view.layers → IsUntold made plain (styled_document plain caller asked)
+IsUntold-styled doc made plain caller asked layers stands is layers_are =
+    subst (λ d. IsUntold d plain (styled_document plain caller asked)) (sym is) (record {
+      parts = stands.parts;
+      limit = stands.limit;
+      sessions = stands.sessions;
+      acknowledged = stands.acknowledged;
+      groups = stands.groups;
+      typing = stands.typing;
+      agree = stands.agree;
+      regions = stands.regions;
+      regions_are = stands.regions_are;
+      layers = sym (layers_are ∙ ap (layers_with_spans plain.history asked (caller - 1)) (sym stands.layers));
+      saved = stands.saved;
+      saved_before = stands.saved_before;
+      window = stands.window;
+      query = stands.query;
+      config = stands.config;
+      screen_stays = refl;
+      shown = stands.screen;
+    })
