@@ -26,7 +26,7 @@ use Rattle.xi_top.specs.Ending.{Outcome, most_lines, too_long}
 use Rattle.xi_top.specs.Lines.{IsShort, IsNextTooLong, AreSoMany, HoldsLines}
 use Rattle.xi_top.specs.Written.{AreSent, IsSent, IsCutOff}
 use Rattle.xi_top.specs.Run.{HasFailedIf}
-use Rattle.xi_top.specs.Inner.{Begun, IsWhole, IsAt, IsNoSourceFault, Stops, GoesOn, Finishes, Enters, FailsBy, KeepsBytes, Counts, EndsLine, HasNoEnd}
+use Rattle.xi_top.specs.Inner.{Begun, IsWhole, HasTaken, IsNoSourceFault, Stops, GoesOn, Finishes, Enters, FailsBy, KeepsBytes, Counts, EndsLine, HasNoEnd}
 use Rattle.xi_top.proofs.LineLemmas.{ended_lines-more, unended-more, ended_lines-begin, unended-begin, lines_of-first, concat-first}
 
 -- how a run ended where `?` handed on why
@@ -136,7 +136,7 @@ module _ {K : Type 0} (tell : K → SinkState) (start : SinkState) where
   -- ---- stops
 
   -- the source failed
-  pub stops_source : (taken left : List ℕ) (core : Core K) (begun : Begun) → IsAt tell start taken core begun →
+  pub stops_source : (taken left : List ℕ) (core : Core K) (begun : Begun) → HasTaken tell start taken core begun →
       Stops tell start taken left core (Err SourceFault)
   stops_source taken left core begun at =
       let At : List ℕ → Type 0 = λ bytes. HoldsLines (Err SourceFault) bytes left (commands (journal_of core)) in
@@ -199,7 +199,7 @@ module _ {K : Type 0} (tell : K → SinkState) (start : SinkState) where
 
   -- ---- a line that ends
 
-  module _ (taken bytes line : List ℕ) (old new : Core K) (begun : Begun) (ends : EndsLine bytes) (at : IsAt tell start taken old begun)
+  module _ (taken bytes line : List ℕ) (old new : Core K) (begun : Begun) (ends : EndsLine bytes) (at : HasTaken tell start taken old begun)
       (is : line ≡ begun.bytes ++ bytes) where
     same_line : unended [] taken ++ bytes ≡ line
     same_line = ap (λ b. b ++ bytes) (sym at.rest) ∙ sym is
@@ -224,7 +224,7 @@ module _ {K : Type 0} (tell : K → SinkState) (start : SinkState) where
 
     -- or it was
     pub takes_line : (next : Begun) → length line ≤ too_long → AddsSentEntry tell old new (command_of line) → next.bytes ≡ [] →
-        next.count ≡ begun.count + 1 → IsAt tell start (taken ++ bytes) new next
+        next.count ≡ begun.count + 1 → HasTaken tell start (taken ++ bytes) new next
     takes_line next fits adds none one =
         let count : length (ended_lines [] (taken ++ bytes)) ≡ length (ended_lines [] taken) + 1 =
         ap length one_more ∙ length-append (ended_lines [] taken) (line ∷ []) in
@@ -243,12 +243,12 @@ module _ {K : Type 0} (tell : K → SinkState) (start : SinkState) where
         each_append (l ∷ lines) each here = (each.0, each_append lines each.1 here)
 
   -- there was no memory for its bytes
-  pub stops_no_room : (taken bytes : List ℕ) (core : Core K) (begun : Begun) → IsAt tell start taken core begun → (left : List ℕ) →
+  pub stops_no_room : (taken bytes : List ℕ) (core : Core K) (begun : Begun) → HasTaken tell start taken core begun → (left : List ℕ) →
       Stops tell start (taken ++ bytes) left core (Err NoMemory)
   stops_no_room taken bytes core begun at left = stops_memory taken bytes left core at.whole at.asked
 
   -- a line is too long: these first bytes of it have no LF
-  stops_too_long : (taken bytes more left : List ℕ) (core : Core K) (begun : Begun) → IsAt tell start taken core begun → HasNoEnd bytes →
+  stops_too_long : (taken bytes more left : List ℕ) (core : Core K) (begun : Begun) → HasTaken tell start taken core begun → HasNoEnd bytes →
       too_long ≤ length (begun.bytes ++ bytes) → Stops tell start (taken ++ (bytes ++ more)) left core (Err TooLong)
   stops_too_long taken bytes more left core begun at none over =
       let Long : List ℕ → Type 0 = λ b. too_long ≤ length b in
@@ -270,7 +270,7 @@ module _ {K : Type 0} (tell : K → SinkState) (start : SinkState) where
         stays = at.whole.stays;
       }
 
-  pub stops_long_line : (taken bytes : List ℕ) (core : Core K) (begun : Begun) → EndsLine bytes → IsAt tell start taken core begun →
+  pub stops_long_line : (taken bytes : List ℕ) (core : Core K) (begun : Begun) → EndsLine bytes → HasTaken tell start taken core begun →
       too_long < length (begun.bytes ++ bytes) → (left : List ℕ) → Stops tell start (taken ++ bytes) left core (Err TooLong)
   stops_long_line taken bytes core begun (front, is, none) at over left =
       let At : List ℕ → Type 0 = λ b. Stops tell start (taken ++ b) left core (Err TooLong) in
@@ -286,7 +286,7 @@ module _ {K : Type 0} (tell : K → SinkState) (start : SinkState) where
       )))
 
   -- as many lines were taken as a run takes
-  stops_many : (taken left : List ℕ) (core : Core K) (begun : Begun) → IsAt tell start taken core begun → begun.count ≡ most_lines →
+  stops_many : (taken left : List ℕ) (core : Core K) (begun : Begun) → HasTaken tell start taken core begun → begun.count ≡ most_lines →
       Stops tell start taken left core (Err TooMany)
   stops_many taken left core begun at full =
       let At : List ℕ → Type 0 = λ bytes. HoldsLines (Err TooMany) bytes left (commands (journal_of core)) in
@@ -301,7 +301,7 @@ module _ {K : Type 0} (tell : K → SinkState) (start : SinkState) where
       }
 
   -- a line was taken, and was the last one that a run takes or not
-  pub goes_next : (taken : List ℕ) (core : Core K) (begun : Begun) (outcome : Outcome) → IsAt tell start taken core begun →
+  pub goes_next : (taken : List ℕ) (core : Core K) (begun : Begun) (outcome : Outcome) → HasTaken tell start taken core begun →
       Counts begun.count outcome → GoesOn tell start taken core begun outcome
   goes_next taken core begun (Ok done) at counts = at
   goes_next taken core begun (Err ending) at counts =
@@ -311,7 +311,7 @@ module _ {K : Type 0} (tell : K → SinkState) (start : SinkState) where
   -- ---- bytes that end no line
 
   pub goes_begin : (taken bytes : List ℕ) (core : Core K) (begun next : Begun) (outcome : Outcome) → HasNoEnd bytes →
-      IsAt tell start taken core begun → KeepsBytes begun next bytes outcome → GoesOn tell start (taken ++ bytes) core next outcome
+      HasTaken tell start taken core begun → KeepsBytes begun next bytes outcome → GoesOn tell start (taken ++ bytes) core next outcome
   goes_begin taken bytes core begun next (Ok done) none at kept =
       let same : ended_lines [] (taken ++ bytes) ≡ ended_lines [] taken = ended_lines-begin taken bytes none in
       record {
@@ -401,7 +401,7 @@ module _ {K : Type 0} (tell : K → SinkState) (start : SinkState) where
     stays = whole.stays;
   }
 
-  pub finish_empty : (taken : List ℕ) (core : Core K) (begun : Begun) → IsAt tell start taken core begun → begun.bytes ≡ [] →
+  pub finish_empty : (taken : List ℕ) (core : Core K) (begun : Begun) → HasTaken tell start taken core begun → begun.bytes ≡ [] →
       Finishes tell start taken core (Ok tt)
   finish_empty taken core begun at none =
       let all : lines_of taken ≡ ended_lines [] taken =
@@ -417,7 +417,7 @@ module _ {K : Type 0} (tell : K → SinkState) (start : SinkState) where
   all_lines taken begun is some =
       ap (λ rest. ended_lines [] taken ++ last_line rest) (sym is) ∙ ap (λ last. ended_lines [] taken ++ last) (last_line-some begun.bytes some)
 
-  pub finish_last : (taken : List ℕ) (old new : Core K) (begun : Begun) (outcome : Outcome) → IsAt tell start taken old begun → begun.bytes ≢ [] →
+  pub finish_last : (taken : List ℕ) (old new : Core K) (begun : Begun) (outcome : Outcome) → HasTaken tell start taken old begun → begun.bytes ≢ [] →
       Enters tell old new (command_of begun.bytes) outcome → Finishes tell start taken new outcome
   finish_last taken old new begun (Ok done) at some adds = (
     tt,
@@ -446,7 +446,7 @@ module _ {K : Type 0} (tell : K → SinkState) (start : SinkState) where
 
 -- before the first byte
 pub at_first : {K : Type 0} (tell : K → SinkState) (core : Core K) (begun : Begun) → IsServing core → journal_of core ≡ [] → begun.bytes ≡ [] →
-    begun.count ≡ 0 → IsAt tell (tell (sink_of core)) [] core begun
+    begun.count ≡ 0 → HasTaken tell (tell (sink_of core)) [] core begun
 at_first tell core begun serving empty none zero_of =
     let At : List Entry → Type 0 = λ entries. Gains (tell (sink_of core)).held (tell (sink_of core)).held (written first_session entries) in
     record {

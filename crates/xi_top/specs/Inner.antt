@@ -43,7 +43,7 @@ pub record IsWhole {K : Type 0} (tell : K → SinkState) (start : SinkState) (co
   pub failures : (tell (sink_of core)).failures ≡ start.failures
 
 -- these bytes were taken: each line that LF ended in them is an entry, whose piece the sink gained, and none is too long
-pub record IsAt {K : Type 0} (tell : K → SinkState) (start : SinkState) (taken : List ℕ) (core : Core K) (begun : Begun) : Type 0 where
+pub record HasTaken {K : Type 0} (tell : K → SinkState) (start : SinkState) (taken : List ℕ) (core : Core K) (begun : Begun) : Type 0 where
   pub whole : IsWhole tell start core
   pub asked : commands (journal_of core) ≡ map command_of (ended_lines [] taken)
   pub rest : begun.bytes ≡ unended [] taken
@@ -65,7 +65,7 @@ pub record Stops {K : Type 0} (tell : K → SinkState) (start : SinkState) (take
 
 -- the run goes on after these bytes, or it stopped, whatever is left
 abbrev pub GoesOn : {K : Type 0} → (K → SinkState) → SinkState → List ℕ → Core K → Begun → Outcome → Type 0
-GoesOn tell start taken core begun (Ok done) = IsAt tell start taken core begun
+GoesOn tell start taken core begun (Ok done) = HasTaken tell start taken core begun
 GoesOn tell start taken core begun (Err ending) =
     IsNoSourceFault (Err ending) × ((more : List ℕ) → Stops tell start taken more core (Err ending))
 

@@ -24,7 +24,7 @@ pub struct Intake {
 }
 
 impl Intake {
-    ghost use Rattle.xi_top.specs.Inner.{IsAt, Finishes, GoesOn, IsFed, IsSmall, EndsLine, HasNoEnd, KeepsBytes, Counts, begun_of};
+    ghost use Rattle.xi_top.specs.Inner.{HasTaken, Finishes, GoesOn, IsFed, IsSmall, EndsLine, HasNoEnd, KeepsBytes, Counts, begun_of};
 
     /// Nothing was taken.
     pub fn new(alloc: Global) -> Intake
@@ -47,7 +47,7 @@ impl Intake {
         requires small { IsSmall (begun_of self.old) }
         ensures fed { OnOk result (IsFed core.new (begun_of self.old) (begun_of self.new) chunk.now) }
         ensures goes { (start : SinkState) (taken : List ℕ)
-            → IsAt (sink_state K.held K.faults K.failures) start taken core.old (begun_of self.old)
+            → HasTaken (sink_state K.held K.faults K.failures) start taken core.old (begun_of self.old)
             → GoesOn (sink_state K.held K.faults K.failures) start (taken ++ chunk.now) core.new (begun_of self.new) result }
     {
         let mut rest = chunk;
@@ -70,7 +70,7 @@ impl Intake {
         requires small { IsSmall (begun_of self.old) }
         ensures fed { OnOk result (IsFed core.new (begun_of self.old) (begun_of self.new) ending.now) }
         ensures goes { (start : SinkState) (taken : List ℕ) → EndsLine ending.now
-            → IsAt (sink_state K.held K.faults K.failures) start taken core.old (begun_of self.old)
+            → HasTaken (sink_state K.held K.faults K.failures) start taken core.old (begun_of self.old)
             → GoesOn (sink_state K.held K.faults K.failures) start (taken ++ ending.now) core.new (begun_of self.new) result }
     {
         if ending.len() > TOO_LONG - self.begun.len() {
@@ -116,7 +116,7 @@ impl Intake {
     pub fn finish<K: Sink>(&self, alloc: Global, core: &mut Core<K>) -> Result<(), Ending>
         requires { IsServing core.old }
         ensures { (start : SinkState) (taken : List ℕ)
-            → IsAt (sink_state K.held K.faults K.failures) start taken core.old (begun_of self.now)
+            → HasTaken (sink_state K.held K.faults K.failures) start taken core.old (begun_of self.now)
             → Finishes (sink_state K.held K.faults K.failures) start taken core.new result }
     {
         if self.begun.is_empty() {

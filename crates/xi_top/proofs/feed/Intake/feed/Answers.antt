@@ -2,7 +2,7 @@ use Rattle.std.proofs.Common.{◌≡◌, ◌++◌, ◌+◌, ℕ, List, drop, sym
 use Rattle.std.proofs.lemmas.List.{take-append-drop}
 use Rattle.outside.specs.Sink.{sink_state}
 use Rattle.xi_top.specs.Ending.{Outcome}
-use Rattle.xi_top.specs.Inner.{IsAt, GoesOn, EndsLine, HasNoEnd, begun_of}
+use Rattle.xi_top.specs.Inner.{HasTaken, GoesOn, EndsLine, HasNoEnd, begun_of}
 use Rattle.xi_top.proofs.LineLemmas.{none_found, line_found}
 use Rattle.xi_top.proofs.IntakeLemmas.{failed_with, goes_begin, stops_within}
 use Rattle.xi_top.proofs.feed.Intake.feed.Goals as goal
@@ -47,7 +47,7 @@ loop-at-preserved g c =
         done.0 ++ line,
         done.1 ∙ ap (λ x. done.0 ++ x) split ∙ sym (append_assoc done.0 line later),
         λ start taken at.
-            let At : List ℕ → Type 0 = λ bytes. IsAt tell start bytes c.end_line.new.core (begun_of c.end_line.new.self) in
+            let At : List ℕ → Type 0 = λ bytes. HasTaken tell start bytes c.end_line.new.core (begun_of c.end_line.new.self) in
             subst At (append_assoc taken done.0 line) (c.in_ok-end_line.ensures.goes start (taken ++ done.0) ends (done.2 start taken at)),
       );
     }
