@@ -132,7 +132,7 @@ abbrev pub part : ℕ → ℕ → List Span
 part start end = record { start = start; end = end; style = 2 } ∷ []
 
 -- what spans come to, and where they go then
-pub record StaleSpans : Type 0 where
+pub record SpansOnDocuments : Type 0 where
   -- `bc` of the loaded text, where the front end put `X` at the start since
   pub before : styles_after (types 88 ∷ styles 0 1 2 (part 0 2) ∷ []) ≡ (None ∷ None ∷ Some 2 ∷ Some 2 ∷ None ∷ []) ∷ []
   pub shown : map (λ (line : Line). line.styles) (layout_of (word_after (types 88 ∷ styles 0 1 2 (part 0 2) ∷ []))) ≡

@@ -1,6 +1,6 @@
 //! Worked rows, each the contract of a function: what the definitions give in small cases.
 
-ghost use Rattle.document_laws.specs.Rows.{Collects, Configures, JoinsUndone, StaleSpans, Steps};
+ghost use Rattle.document_laws.specs.Rows.{Collects, Configures, JoinsUndone, SpansOnDocuments, Steps};
 
 /// Insertions that follow each other are one step, and a new line is another.
 pub fn steps()
@@ -24,5 +24,5 @@ pub fn collects()
 
 /// Spans against an old revision come to their characters, and no style comes back with a redo.
 pub fn stale_spans()
-    ensures { StaleSpans }
+    ensures { SpansOnDocuments }
 {}
