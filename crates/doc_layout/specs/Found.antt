@@ -5,7 +5,7 @@ use Rattle.plain_text.specs.declared.run.Run.{Run}
 use Rattle.plain_edits.specs.declared.style.Span.{Span}
 use Rattle.plain_edits.specs.Styles.{Layer}
 use Rattle.plain_screen.specs.Plan.{is_within}
-use Rattle.span_styles.specs.Spans.{spans_from}
+use Rattle.span_runs.specs.Spans.{spans_from}
 
 -- whether the character with this index stands in a result of the search
 abbrev pub is_found : List Run → ℕ → Bool

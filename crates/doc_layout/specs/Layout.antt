@@ -8,7 +8,7 @@ use Rattle.plain_edits.specs.Styles.{Layer}
 use Rattle.plain_screen.specs.declared.piece.Piece.{Piece}
 use Rattle.plain_screen.specs.declared.screen.Line.{Line}
 use Rattle.plain_screen.specs.View.{layout_line_of}
-use Rattle.span_styles.specs.Spans.{spans_of}
+use Rattle.span_runs.specs.Spans.{spans_of}
 use Rattle.line_render.specs.Rendered.{rendered}
 use Rattle.plain_view.specs.Viewed.{byte_column_of}
 use Rattle.doc_layout.specs.Found.{found_spans}

@@ -20,8 +20,8 @@ use Rattle.plain_view.specs.Viewed.{Viewed}
 use Rattle.find_core.specs.Matches.{matches_of}
 use Rattle.selection_core.specs.Mapped.{AreWithin}
 use Rattle.selection_core.specs.Selection.{IsSelection, greater_end, lesser_end}
-use Rattle.span_styles.specs.Spans.{spans_from}
-use Rattle.span_styles.specs.Triples.{triples_of}
+use Rattle.span_runs.specs.Spans.{spans_from}
+use Rattle.span_runs.specs.Triples.{triples_of}
 use Rattle.line_render.specs.Rendered.{carets_of, cursor_of, cut_spans, is_last_piece, is_selected, own_gaps, rendered, selected_layer, text_of_piece}
 use Rattle.edit_ops.specs.Regions.{without_goal}
 use Rattle.doc_layout.specs.Found.{found_spans}

@@ -8,7 +8,7 @@ use plain_edits::Span;
 use plain_screen::{Line, Piece, Triple};
 use plain_text::{NoMemory, Region, Regions, Sel, Text};
 use selection_core::Selection;
-use span_styles::{place_at, places_in, triples};
+use span_runs::{place_at, places_in, triples};
 use std::alloc::Global;
 
 const fn piece(start: u64, end: u64, ln: Option<u64>) -> Piece {

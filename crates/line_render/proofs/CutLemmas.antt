@@ -8,7 +8,7 @@ use Rattle.plain_text.specs.declared.selection.Region.{Region}
 use Rattle.plain_text.proofs.callers.ListLemmas.{AllByRecursion-append}
 use Rattle.plain_edits.specs.declared.style.Span.{Span}
 use Rattle.selection_core.specs.Selection.{lesser_end, greater_end}
-use Rattle.span_styles.specs.Triples.{LieInLine}
+use Rattle.span_runs.specs.Triples.{LieInLine}
 use Rattle.line_render.specs.Rendered.{reaches_in, cut_span, cut_spans}
 use Rattle.line_render.specs.Inner.{touching_spans, onto_run, cut_region, selected_runs, styled_span}
 

@@ -4,7 +4,7 @@ use Rattle.std.specs.Prelude.{◌&&◌, ◌==◌, if◌then◌else◌}
 use Rattle.std.specs.List.{range_with_len}
 use Rattle.std.proofs.lemmas.Bool.{eq-eqb}
 use Rattle.plain_edits.specs.declared.style.Span.{Span}
-use Rattle.span_styles.specs.Spans.{onto_spans, spans_from}
+use Rattle.span_runs.specs.Spans.{onto_spans, spans_from}
 use Rattle.line_render.specs.Inner.{onto_run, styled_span}
 
 -- the runs of so many characters from one on

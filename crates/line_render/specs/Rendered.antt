@@ -9,8 +9,8 @@ use Rattle.plain_edits.specs.Styles.{Layer}
 use Rattle.plain_screen.specs.declared.piece.Piece.{Piece}
 use Rattle.plain_screen.specs.declared.screen.Line.{Line}
 use Rattle.selection_core.specs.Selection.{lesser_end, greater_end}
-use Rattle.span_styles.specs.Spans.{spans_from}
-use Rattle.span_styles.specs.Triples.{triples_of}
+use Rattle.span_runs.specs.Spans.{spans_from}
+use Rattle.span_runs.specs.Triples.{triples_of}
 
 -- the carets of regions
 abbrev pub carets_of : List Region → List ℕ

@@ -4,7 +4,7 @@ ghost use Rattle.line_render.specs.Rendered.{carets_of};
 ghost use Rattle.line_render.specs.Inner.{shown_gaps};
 
 use plain_text::{NoMemory, Offsets, Region, Text};
-use span_styles::{place_at, places_in};
+use span_runs::{place_at, places_in};
 use std::alloc::Global;
 
 // The byte offsets of the carets at the first `gaps` gaps of a line that starts at gap `start`.

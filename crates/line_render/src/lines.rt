@@ -11,7 +11,7 @@ use crate::touching::{regions_touching, spans_touching};
 use plain_edits::Span;
 use plain_screen::{Line, Piece};
 use plain_text::{NoMemory, Sel, Text, TryClone};
-use span_styles::triples;
+use span_runs::triples;
 use std::alloc::Global;
 
 /// The line of a piece of a text. This walks the text, and all spans, which may come in any order; who has the characters of the piece

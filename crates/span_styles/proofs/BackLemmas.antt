@@ -7,8 +7,8 @@ use Rattle.std.proofs.lemmas.Bool.Decides.{nat_tests}
 use Rattle.std.proofs.lemmas.List.{length-replicate}
 use Rattle.plain_edits.specs.declared.style.Span.{Span}
 use Rattle.plain_edits.specs.Styles.{Layer, covers, or_style, span_style}
+use Rattle.span_runs.specs.Spans.{onto_spans, spans_from}
 use Rattle.span_styles.specs.Layers.{unstyled}
-use Rattle.span_styles.specs.Spans.{onto_spans, spans_from}
 use Rattle.span_styles.specs.Laws.{AreLongest, GoesOnOtherwise, SpansMakeTheirLayers}
 use Rattle.span_styles.proofs.SpannedLemmas.{spanned_from-inside}
 

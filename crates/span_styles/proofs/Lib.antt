@@ -7,8 +7,6 @@ pub mod MapLemmas
 pub mod StillLemmas
 pub mod ShowLemmas
 pub mod BackLemmas
-pub mod OrderLemmas
-pub mod PlaceLemmas
 pub mod TableLemmas
 pub mod DeadLemmas
 pub mod LengthLemmas

@@ -5,7 +5,7 @@ use Rattle.std.proofs.lemmas.List.{drop-replicate}
 use Rattle.plain_text.specs.declared.run.Run.{Run}
 use Rattle.plain_edits.specs.declared.style.Span.{Span}
 use Rattle.plain_edits.specs.Styles.{Layer}
-use Rattle.span_styles.specs.Spans.{onto_spans, spans_from, spans_in}
+use Rattle.span_runs.specs.Spans.{onto_spans, spans_from, spans_in}
 use Rattle.span_styles.specs.Layers.{unstyled}
 use Rattle.span_styles.specs.Inner.{one_span}
 

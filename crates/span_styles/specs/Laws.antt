@@ -6,8 +6,8 @@ use Rattle.plain_edits.specs.UnitDelta.{unit_keeps, unit_adds}
 use Rattle.plain_edits.specs.Styles.{Layer, mapped_layer}
 use Rattle.subset_runs.specs.Subset.{items_outside}
 use Rattle.delta_core.specs.Synthesis.{IsBetween}
+use Rattle.span_runs.specs.Spans.{spans_from}
 use Rattle.span_styles.specs.Layers.{unstyled, spanned_from}
-use Rattle.span_styles.specs.Spans.{spans_from}
 
 -- the styles of all characters of a text, dead and alive: those that are alive have these, in order, and the dead have none
 abbrev pub styles_with_dead : List Bool → Layer → Layer

@@ -1,6 +1,4 @@
 pub mod Layers
-pub mod Spans
-pub mod Triples
 pub mod Table
 pub mod Laws
 pub mod Inner

@@ -1,19 +1,15 @@
--- Worked rows: small layers and lines, with what the definitions are to give.
-use Rattle.std.specs.Prelude.{◌≡◌, ℕ, pos, negsuc, ℤ, List, [], ◌∷◌}
+-- Worked rows: small layers, with what the definitions are to give.
+use Rattle.std.specs.Prelude.{◌≡◌, ℕ, List, [], ◌∷◌}
 use Rattle.plain_text.specs.declared.run.Run.{Run}
 use Rattle.plain_edits.specs.declared.style.Span.{Span}
 use Rattle.plain_edits.specs.declared.delta.UnitDelta.{UnitDelta}
 use Rattle.plain_edits.specs.Styles.{Layer}
-use Rattle.plain_screen.specs.declared.screen.Triple.{Triple}
+use Rattle.span_runs.specs.Spans.{spans_in, spans_of}
+use Rattle.span_runs.specs.Rows.{span}
 use Rattle.span_styles.specs.Layers.{unstyled, spanned_layer, mapped_layers}
-use Rattle.span_styles.specs.Spans.{spans_in, spans_of}
-use Rattle.span_styles.specs.Triples.{triples_of}
 
 abbrev pub run : ℕ → ℕ → Run
 run start end = record { start = start; end = end }
-
-abbrev pub span : ℕ → ℕ → ℕ → Span
-span start end style = record { start = start; end = end; style = style }
 
 -- a layer after spans over a range
 abbrev pub with_spans : Layer → Run → List Span → Layer
@@ -43,12 +39,3 @@ pub record SpansAreSet : Type 0 where
   pub joined : spans_in (run 0 4) (with_spans styled (run 3 4) (span 3 4 2 ∷ [])) ≡ span 1 4 2 ∷ []
   pub cut : spans_in (run 2 4) styled ≡ span 2 3 2 ∷ []
   pub twice : spans_of (styled ∷ with_spans styled (run 0 1) (span 0 1 3 ∷ []) ∷ []) (run 0 4) ≡ span 0 1 3 ∷ span 1 3 2 ∷ span 1 3 2 ∷ []
-
-abbrev pub triple : ℤ → ℕ → ℕ → Triple
-triple start len id = record { start = start; len = len; id = id }
-
--- `aé中b` with two neighbouring spans; and `abc` with a region and a match in it, whichever comes first
-pub record TriplesAreInBytes : Type 0 where
-  pub bytes : triples_of (97 ∷ 233 ∷ 20013 ∷ 98 ∷ []) (span 1 2 2 ∷ span 2 3 3 ∷ []) ≡ triple (pos 1) 2 2 ∷ triple (pos 0) 3 3 ∷ []
-  pub back : triples_of (97 ∷ 98 ∷ 99 ∷ []) (span 0 3 0 ∷ span 1 2 1 ∷ []) ≡ triple (pos 0) 3 0 ∷ triple (negsuc 1) 1 1 ∷ []
-  pub sorted : triples_of (97 ∷ 98 ∷ 99 ∷ []) (span 1 2 1 ∷ span 0 3 0 ∷ []) ≡ triple (pos 0) 3 0 ∷ triple (negsuc 1) 1 1 ∷ []

@@ -2,8 +2,8 @@ ghost use Rattle.std.specs.Prelude.{◌≡◌, ◌++◌, ◌∷◌, ◌<◌, ◌
 ghost use Rattle.std.specs.Arc.{arc_value};
 ghost use Rattle.plain_edits.specs.UnitDelta.{IsUnitDelta, unit_adds, unit_keeps};
 ghost use Rattle.plain_edits.specs.Styles.{mapped_layer};
+ghost use Rattle.span_runs.specs.Spans.{spans_in};
 ghost use Rattle.span_styles.specs.Layers.{RiseWithin, length_after, spanned_layer};
-ghost use Rattle.span_styles.specs.Spans.{spans_in};
 ghost use Rattle.span_styles.specs.Inner.{one_span};
 
 use crate::run::StyleRuns;

@@ -1,16 +1,16 @@
 ghost use Rattle.std.specs.Prelude.{◌≡◌, ◌↔◌, ◌∷◌, ◌<◌, ◌≤◌, ◌^◌, [], length, IsTrue, IfOk};
 ghost use Rattle.plain_edits.specs.UnitDelta.{IsUnitDelta};
+ghost use Rattle.span_runs.specs.Spans.{spans_in, spans_of};
 ghost use Rattle.span_styles.specs.Layers.{AreOver, LieIn, RiseWithin, layer_at, length_after, mapped_layers, new_layers, spanned_layers};
 ghost use Rattle.std.specs.List.{flat_map};
-ghost use Rattle.span_styles.specs.Spans.{spans_in, spans_of};
 ghost use Rattle.span_styles.specs.Inner.{IsWhole, LeavesAll};
 
 use crate::layer::StyleLayer;
-use crate::order::{copied as copied_spans, in_order};
 use crate::spanned::SpannedRange;
 use delta_core::{Part, UnitWalk};
 use plain_edits::{Span, Spans, UnitDelta};
 use plain_text::{NoMemory, Run, TryClone};
+use span_runs::in_order;
 use std::alloc::Global;
 use std::marker::Model;
 
@@ -57,7 +57,7 @@ impl Layers {
         requires within { LieIn range spans.now }
         ensures { IfOk result (λ made. made ≡ spanned_layers self.now layer (record { range = range; spans = spans.now } ∷ [])) }
     {
-        let spans = copied_spans(alloc, spans)?;
+        let spans = Spans::from_vec(spans.iter().copied().collect(alloc)?);
         let spanned = [SpannedRange { range, spans }];
         self.set_ranges(alloc, layer, &spanned)
     }

@@ -1,6 +1,6 @@
 //! Worked rows, each the contract of a function: what the definitions give in small cases.
 
-ghost use Rattle.span_styles.specs.Rows.{SpansAreSet, StylesStay, TriplesAreInBytes};
+ghost use Rattle.span_styles.specs.Rows.{SpansAreSet, StylesStay};
 
 /// Styles stay with their characters through an edit.
 pub fn styles_stay()
@@ -10,9 +10,4 @@ pub fn styles_stay()
 /// Spans clear their range and then style it.
 pub fn spans_are_set()
     ensures { SpansAreSet }
-{}
-
-/// Triples count bytes, each from the end of the one before.
-pub fn triples_are_in_bytes()
-    ensures { TriplesAreInBytes }
 {}

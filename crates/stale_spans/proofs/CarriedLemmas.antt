@@ -9,9 +9,9 @@ use Rattle.plain_text.specs.declared.run.Run.{Run}
 use Rattle.plain_edits.specs.declared.style.Span.{Span}
 use Rattle.plain_edits.specs.declared.delta.UnitDelta.{UnitDelta}
 use Rattle.plain_edits.specs.Styles.{Layer}
+use Rattle.span_runs.specs.Spans.{sorted_spans, spans_from, spans_of, with_span}
 use Rattle.span_styles.specs.declared.spanned.SpannedRange.{SpannedRange}
 use Rattle.span_styles.specs.Layers.{AreOver, LieIn, length_after, mapped_layers, new_layers, spanned_layers}
-use Rattle.span_styles.specs.Spans.{sorted_spans, spans_from, spans_of, with_span}
 use Rattle.span_styles.proofs.ForCallers.{AreOver-mapped, AreOver-new, AreOver-spanned}
 use Rattle.stale_spans.specs.Marks.{carried_marks, marks_of, numbered_spans}
 use Rattle.stale_spans.proofs.PieceLemmas.{Rise, Rise-spans_from}

@@ -5,8 +5,8 @@ use Rattle.std.proofs.lemmas.Bool.{eqb-true}
 use Rattle.std.proofs.lemmas.Bool.Decides.{nat_tests}
 use Rattle.plain_edits.specs.declared.style.Span.{Span}
 use Rattle.plain_edits.specs.Styles.{Layer, covers, or_style, span_style, spanned_style}
+use Rattle.span_runs.specs.Spans.{onto_spans, spans_from}
 use Rattle.span_styles.specs.Layers.{LieIn, RiseWithin, spanned_from}
-use Rattle.span_styles.specs.Spans.{onto_spans, spans_from}
 use Rattle.stale_spans.specs.Marks.{layer_under, piece_of, restyled}
 
 -- ---- spans that rise

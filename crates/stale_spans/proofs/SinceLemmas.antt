@@ -3,9 +3,9 @@ use Rattle.std.proofs.Common.{◌≡◌, ℕ, zero, suc, ◌<◌, List, [], ◌�
 use Rattle.std.specs.Prelude.{slice_set}
 use Rattle.plain_edits.specs.History.{History}
 use Rattle.plain_edits.specs.Styles.{Layer, with_spans}
+use Rattle.span_runs.specs.Spans.{spans_from}
 use Rattle.span_styles.specs.declared.spanned.SpannedRange.{SpannedRange}
 use Rattle.span_styles.specs.Layers.{AreOver, RiseWithin, layer_at, length_after, spanned_layer, spanned_layers}
-use Rattle.span_styles.specs.Spans.{spans_from}
 use Rattle.rev_engine.specs.State.{State}
 use Rattle.rev_engine.specs.Engine.{StandsFor}
 use Rattle.rev_engine.proofs.ForCallers.{shown_head-stands}

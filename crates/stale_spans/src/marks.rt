@@ -2,8 +2,8 @@
 // resolved once, and no part of the range walks over all of them.
 ghost use Rattle.std.specs.Prelude.{◌≡◌, ◌^◌, ◌<◌, ◌≤◌, map, IfOk};
 ghost use Rattle.plain_edits.specs.UnitDelta.{IsUnitDelta};
+ghost use Rattle.span_runs.specs.Spans.{spans_from};
 ghost use Rattle.span_styles.specs.Layers.{LieIn, RiseWithin, length_after};
-ghost use Rattle.span_styles.specs.Spans.{spans_from};
 ghost use Rattle.stale_spans.specs.Marks.{carried_marks, marks_of, meaning_of, piece_of};
 
 use plain_edits::{Span, Spans, UnitDelta};

@@ -5,7 +5,7 @@ use Rattle.plain_text.specs.declared.selection.Region.{Region}
 use Rattle.plain_edits.specs.declared.style.Span.{Span}
 use Rattle.plain_screen.specs.declared.screen.Triple.{Triple}
 use Rattle.plain_screen.specs.declared.screen.Line.{Line}
-use Rattle.span_styles.specs.Triples.{LieInLine, triples_of}
+use Rattle.span_runs.specs.Triples.{LieInLine, triples_of}
 use Rattle.line_render.specs.Rendered.{carets_of, own_gaps, cut_spans, selected_spans}
 use Rattle.line_render.specs.Inner.{selected_runs, shown_gaps, touching_regions}
 use Rattle.line_render.proofs.CaretLemmas.{shown_gaps-touching}

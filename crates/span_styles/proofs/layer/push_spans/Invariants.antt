@@ -1,5 +1,5 @@
 use Rattle.std.proofs.Common.{◌++◌, length}
-use Rattle.span_styles.specs.Spans.{spans_in}
+use Rattle.span_runs.specs.Spans.{spans_in}
 use Rattle.span_styles.proofs.ShowLemmas.{IsShowing}
 use Rattle.span_styles.proofs.layer.push_spans.Given as goal
 

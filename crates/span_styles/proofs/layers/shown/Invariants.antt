@@ -1,6 +1,6 @@
 use Rattle.std.proofs.Common.{◌≡◌, ◌++◌, drop}
 use Rattle.std.specs.List.{flat_map}
-use Rattle.span_styles.specs.Spans.{spans_in}
+use Rattle.span_runs.specs.Spans.{spans_in}
 use Rattle.span_styles.proofs.layers.shown.Given as goal
 
 abbrev pub invariant-loop-layer : goal.invariant-loop-layer

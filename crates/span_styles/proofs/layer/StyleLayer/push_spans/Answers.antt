@@ -1,5 +1,5 @@
 use Rattle.std.proofs.Common.{◌≡◌, ◌++◌, append-nil, ap, sym, ◌∙◌}
-use Rattle.span_styles.specs.Spans.{spans_in}
+use Rattle.span_runs.specs.Spans.{spans_in}
 use Rattle.span_styles.specs.Layers.{unstyled}
 use Rattle.span_styles.specs.Shared.{shared_layer}
 use Rattle.span_styles.proofs.ShowLemmas.{spans_in-unstyled}

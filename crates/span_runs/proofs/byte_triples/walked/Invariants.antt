@@ -1,7 +1,7 @@
 use Rattle.std.proofs.Common.{◌≡◌, ◌+◌, ◌≤◌, ◌++◌, ◌∷◌, length}
 use Rattle.std.specs.Str.{chars, IsUtf8}
-use Rattle.span_styles.proofs.PlaceLemmas.{places_from}
-use Rattle.span_styles.proofs.byte_triples.walked.Given as goal
+use Rattle.span_runs.proofs.PlaceLemmas.{places_from}
+use Rattle.span_runs.proofs.byte_triples.walked.Given as goal
 
 abbrev pub invariant-loop-c : goal.invariant-loop-c
 invariant-loop-c l = record {

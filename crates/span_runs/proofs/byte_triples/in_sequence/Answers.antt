@@ -2,9 +2,9 @@ use Rattle.std.proofs.Common.{◌≡◌, ℕ, List, ◌+◌, ◌-◌, ◌++◌, 
 use Rattle.plain_text.proofs.callers.TextLemmas.{place_of-rises}
 use Rattle.plain_edits.specs.declared.style.Span.{Span}
 use Rattle.plain_screen.specs.declared.screen.Triple.{Triple}
-use Rattle.span_styles.specs.Triples.{triples_after}
-use Rattle.span_styles.proofs.PlaceLemmas.{triples_after-step, triple_of, LieInLine-at}
-use Rattle.span_styles.proofs.byte_triples.in_sequence.Goals as goal
+use Rattle.span_runs.specs.Triples.{triples_after}
+use Rattle.span_runs.proofs.PlaceLemmas.{triples_after-step, triple_of, LieInLine-at}
+use Rattle.span_runs.proofs.byte_triples.in_sequence.Goals as goal
 
 abbrev made_of : ℕ → ℕ → ℕ → ℕ → Triple
 made_of end id start next = record { start = pos start -ℤ pos end; len = next - start; id = id }

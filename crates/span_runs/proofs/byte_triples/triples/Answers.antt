@@ -1,9 +1,9 @@
 use Rattle.std.proofs.Common.{◌≤◌, length, subst, sym, ap, ◌∙◌}
 use Rattle.plain_edits.specs.declared.style.Span.{Span}
-use Rattle.span_styles.specs.Spans.{sorted_spans}
-use Rattle.span_styles.specs.Triples.{LieInLine}
-use Rattle.span_styles.proofs.PlaceLemmas.{all-sorted_spans}
-use Rattle.span_styles.proofs.byte_triples.triples.Goals as goal
+use Rattle.span_runs.specs.Spans.{sorted_spans}
+use Rattle.span_runs.specs.Triples.{LieInLine}
+use Rattle.span_runs.proofs.PlaceLemmas.{all-sorted_spans}
+use Rattle.span_runs.proofs.byte_triples.triples.Goals as goal
 
 pub in_sequence-requires-clause-inside : goal.in_sequence-requires-clause-inside
 in_sequence-requires-clause-inside c =

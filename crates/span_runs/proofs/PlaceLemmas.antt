@@ -11,8 +11,8 @@ use Rattle.std.proofs.lemmas.List.FromFn.{get_or-map-range_with_len, length-map-
 use Rattle.plain_text.specs.Text.{byte_len, place_of}
 use Rattle.plain_edits.specs.declared.style.Span.{Span}
 use Rattle.plain_screen.specs.declared.screen.Triple.{Triple}
-use Rattle.span_styles.specs.Spans.{span_cmp, with_span, sorted_spans}
-use Rattle.span_styles.specs.Triples.{LieInLine, triples_after}
+use Rattle.span_runs.specs.Spans.{span_cmp, with_span, sorted_spans}
+use Rattle.span_runs.specs.Triples.{LieInLine, triples_after}
 
 -- the offsets behind each character, the first of which stands at this offset
 abbrev pub places_from : ℕ → List ℕ → List ℕ

@@ -2,8 +2,8 @@ ghost use Rattle.std.specs.Prelude.{◌≡◌, ◌+◌, ◌-◌, ◌<◌, ◌≤
 ghost use Rattle.std.specs.List.{range_with_len};
 ghost use Rattle.std.specs.Str.{chars};
 ghost use Rattle.plain_text.specs.Text.{byte_len, place_of};
-ghost use Rattle.span_styles.specs.Spans.{sorted_spans};
-ghost use Rattle.span_styles.specs.Triples.{LieInLine, triples_after, triples_of};
+ghost use Rattle.span_runs.specs.Spans.{sorted_spans};
+ghost use Rattle.span_runs.specs.Triples.{LieInLine, triples_after, triples_of};
 
 use crate::order::{copied, in_order};
 use plain_edits::Span;

@@ -11,7 +11,7 @@ use Rattle.std.proofs.lemmas.Cmp.{then_total, on_total}
 use Rattle.std.proofs.lemmas.Bool.{eqb-true}
 use Rattle.std.proofs.lemmas.List.Sorted.{IsPermutation-keeps, ranks_by}
 use Rattle.plain_edits.specs.declared.style.Span.{Span}
-use Rattle.span_styles.specs.Spans.{span_cmp, with_span, sorted_spans}
+use Rattle.span_runs.specs.Spans.{span_cmp, with_span, sorted_spans}
 
 -- ---- the order of spans
 

@@ -4,7 +4,7 @@ use Rattle.std.specs.List.{AllByRecursion}
 use Rattle.plain_text.specs.Text.{place_of}
 use Rattle.plain_edits.specs.declared.style.Span.{Span}
 use Rattle.plain_screen.specs.declared.screen.Triple.{Triple}
-use Rattle.span_styles.specs.Spans.{sorted_spans}
+use Rattle.span_runs.specs.Spans.{sorted_spans}
 
 -- the triples of spans that stand in order, where the span before them ends at this byte: the start counts from there, and may lie before it
 abbrev pub triples_after : List ℕ → ℕ → List Span → List Triple

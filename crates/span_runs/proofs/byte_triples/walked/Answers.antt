@@ -2,8 +2,8 @@ use Rattle.std.proofs.Common.{◌≡◌, ℕ, List, ◌++◌, ◌∷◌, [], ◌
 use Rattle.std.specs.Char.{encode_utf8, len_utf8}
 use Rattle.std.specs.Str.{chars}
 use Rattle.std.proofs.lemmas.Str.{IsUtf8-past_char, length-encode}
-use Rattle.span_styles.proofs.PlaceLemmas.{places_from, places-all, places-step, places-end}
-use Rattle.span_styles.proofs.byte_triples.walked.Goals as goal
+use Rattle.span_runs.proofs.PlaceLemmas.{places_from, places-all, places-step, places-end}
+use Rattle.span_runs.proofs.byte_triples.walked.Goals as goal
 
 pub loop-c-preserved : goal.loop-c-preserved
 loop-c-preserved c =

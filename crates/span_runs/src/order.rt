@@ -1,5 +1,5 @@
 ghost use Rattle.std.specs.Prelude.{◌≡◌, IfOk};
-ghost use Rattle.span_styles.specs.Spans.{sorted_spans};
+ghost use Rattle.span_runs.specs.Spans.{sorted_spans};
 
 use plain_edits::{Span, Spans};
 use plain_text::NoMemory;
@@ -11,8 +11,8 @@ pub(crate) fn copied(alloc: Global, spans: &[Span]) -> Result<Spans, NoMemory>
     Ok(Spans::from_vec(spans.iter().copied().collect(alloc)?))
 }
 
-// The spans by their starts, those of one start by their styles, and those by their ends.
-pub(crate) fn in_order(spans: Spans) -> Result<Spans, NoMemory>
+/// The spans by their starts, those of one start by their styles, and those by their ends. The sort takes memory.
+pub fn in_order(spans: Spans) -> Result<Spans, NoMemory>
     ensures { IfOk result (λ sorted. sorted ≡ sorted_spans spans) }
 {
     let mut sorted = spans.into_vec();

@@ -1,8 +1,8 @@
 use Rattle.std.proofs.Common.{rules, ap, ◌∙◌}
 use Rattle.std.proofs.lemmas.List.Sorted.{answers_always}
-use Rattle.span_styles.specs.Spans.{sorted_spans}
-use Rattle.span_styles.proofs.OrderLemmas.{sorted_spans-from_sort}
-use Rattle.span_styles.proofs.order.in_order.Goals as goal
+use Rattle.span_runs.specs.Spans.{sorted_spans}
+use Rattle.span_runs.proofs.OrderLemmas.{sorted_spans-from_sort}
+use Rattle.span_runs.proofs.order.in_order.Goals as goal
 
 pub returns : goal.returns
 returns c =

@@ -1,6 +1,6 @@
 use Rattle.std.proofs.Common.{◌<◌, ℕ, List, ap, ◌∙◌, arith, length, get_or, rules}
-use Rattle.span_styles.proofs.PlaceLemmas.{place_at-index, length-places, place-le-byte_len}
-use Rattle.span_styles.proofs.byte_triples.place_at.Goals as goal
+use Rattle.span_runs.proofs.PlaceLemmas.{place_at-index, length-places, place-le-byte_len}
+use Rattle.span_runs.proofs.byte_triples.place_at.Goals as goal
 
 pub bounds-as_slice-gap : goal.bounds-as_slice-gap
 bounds-as_slice-gap c =

@@ -1,7 +1,7 @@
 use Rattle.std.proofs.Common.{◌≡◌, ◌<◌, ◌≤◌, ◌^◌, ◌++◌, length, drop}
 use Rattle.plain_text.specs.Text.{byte_len}
-use Rattle.span_styles.specs.Triples.{LieInLine, triples_after}
-use Rattle.span_styles.proofs.byte_triples.in_sequence.Given as goal
+use Rattle.span_runs.specs.Triples.{LieInLine, triples_after}
+use Rattle.span_runs.proofs.byte_triples.in_sequence.Given as goal
 
 abbrev pub invariant-loop-span : goal.invariant-loop-span
 invariant-loop-span l = record {
