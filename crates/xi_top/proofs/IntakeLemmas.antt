@@ -15,18 +15,19 @@ use Rattle.outside.specs.Faults.{counted}
 use Rattle.outside.specs.Sink.{SinkState, Gains}
 use Rattle.outside.specs.Source.{SourceState, Gives}
 use Rattle.outside.proofs.ForCallers.{Gives-append, Gains-append, Gains-none, Rose-earlier}
-use Rattle.core_session.specs.declared.session.Core.{Core}
+use Rattle.xi_top.specs.declared.session.Core.{Core}
 use Rattle.xi_plain.specs.Journal.{closing_entry, may_follow, can_be, is_legal, IsLegal, commands, front_entries}
-use Rattle.core_session.specs.Session.{first_session, written}
-use Rattle.core_session.specs.Core.{IsOfLine, IsOpen, IsServing, AddsSentEntry, AddsUnsentEntry, ChangesNothing, journal_of, sink_of, piece_after, front_entry}
-use Rattle.core_session.proofs.ForCallers.{written-push, IsOfLine-command_of, shows_closed}
+use Rattle.xi_top.specs.Session.{first_session, written}
+use Rattle.xi_top.specs.Core.{IsOfLine, IsOpen, IsServing, AddsSentEntry, AddsUnsentEntry, ChangesNothing, journal_of, sink_of, piece_after, front_entry}
+use Rattle.xi_top.proofs.SessionLemmas.{written-push, IsOfLine-command_of}
+use Rattle.xi_top.proofs.ClosedLemmas.{shows_closed}
 use Rattle.xi_top.specs.declared.ending.Ending.{Ending}
 use Rattle.xi_top.specs.declared.ending.Ending.TheVariants.{NoMemory, SourceFault, SinkFault, TooMany, TooLong}
 use Rattle.xi_top.specs.Ending.{Outcome, most_lines, too_long}
 use Rattle.xi_top.specs.Lines.{IsShort, IsNextTooLong, AreSoMany, HoldsLines}
 use Rattle.xi_top.specs.Written.{AreSent, IsSent, IsCutOff}
 use Rattle.xi_top.specs.Run.{HasFailedIf}
-use Rattle.xi_top.specs.Inner.{Begun, IsWhole, HasTaken, IsNoSourceFault, Stops, GoesOn, Finishes, Enters, FailsBy, KeepsBytes, Counts, EndsLine, HasNoEnd}
+use Rattle.xi_top.specs.InnerRun.{Begun, IsWhole, HasTaken, IsNoSourceFault, Stops, GoesOn, Finishes, Enters, FailsBy, KeepsBytes, Counts, EndsLine, HasNoEnd}
 use Rattle.xi_top.proofs.LineLemmas.{ended_lines-more, unended-more, ended_lines-begin, unended-begin, lines_of-first, concat-first}
 
 -- how a run ended where `?` handed on why

@@ -1,3 +1,17 @@
+pub mod SessionLemmas
+pub mod ViewLemmas
+pub mod PlanLemmas
+pub mod ScreenLemmas
+pub mod StepLemmas
+pub mod RevisionLemmas
+pub mod ShowsLemmas
+pub mod OpenLemmas
+pub mod FaultLemmas
+pub mod PrepareLemmas
+pub mod ConfigLemmas
+pub mod LawLemmas
+pub mod OnlyViewLemmas
+pub mod ClosedLemmas
 pub mod LineLemmas
 pub mod IntakeLemmas
 pub mod CalmLemmas

@@ -6,7 +6,7 @@ use Rattle.std.proofs.lemmas.Bool.Decides.{nat_tests}
 use Rattle.plain_text.specs.InputLines.{ended_lines, unended, last_line, lines_of}
 use Rattle.plain_text.proofs.callers.InputLemmas.{ended_lines-append, unended-append, concat-ended_lines}
 use Rattle.memchr.specs.Find.{Nowhere, Passes, is_byte}
-use Rattle.xi_top.specs.Inner.{EndsLine, HasNoEnd}
+use Rattle.xi_top.specs.InnerRun.{EndsLine, HasNoEnd}
 
 -- bytes without LF end no line
 ends_none : (b : ℕ) → (b ≡ 10 → ⊥) → (b == 10) ≡ false

@@ -1,24 +1,55 @@
--- Worked rows of runs.
-use Rattle.std.proofs.Common.{◌≡◌, ℕ, ◌+◌, ◌<◌, ◌≤◌, inl, inr, List, [], ◌∷◌, ◌++◌, length, map, drop, Option, Some, Ok, Err, refl, ap, sym, ◌∙◌, subst, length-append, arith}
+-- Worked rows of sessions, computed, and of runs.
+use Rattle.std.proofs.Common.{◌≡◌, ℕ, ◌+◌, ◌<◌, ◌≤◌, true, inl, inr, List, [], ◌∷◌, ◌++◌, length, map, drop, codes, Option, Some, Ok, Err, refl, ap, sym, ◌∙◌, subst, length-append, arith}
 use Rattle.std.proofs.lemmas.List.{length-map, nil_from_length}
+use Rattle.std.specs.Fmt.{digits}
 use Rattle.std.specs.List.{concat}
 use Rattle.std.specs.Prelude.{IfSome}
+use Rattle.json.specs.Print.{escape_byte}
+use Rattle.json_rpc.specs.Line.{line_of}
+use Rattle.serde_json.specs.Data.{object, no_members}
+use Rattle.view_update.proofs.ForCallers.{IsLineOf-empty_note}
+use Rattle.plain_screen.specs.declared.screen.Update.{Update}
 use Rattle.xi_plain.specs.declared.entry.Entry.{Entry}
 use Rattle.plain_text.specs.InputLines.{ended_lines, lines_of}
 use Rattle.front_wire.specs.Front.{command_of}
 use Rattle.outside.specs.Sink.{Gains}
 use Rattle.xi_plain.specs.Journal.{closing_entry}
-use Rattle.core_session.specs.Session.{first_session, written}
-use Rattle.core_session.specs.Core.{piece_after}
-use Rattle.core_session.specs.Rows.{opening, insertion, opening_bytes, first_bytes}
-use Rattle.core_session.proofs.ForCallers.{first_insertion}
+use Rattle.xi_top.specs.Session.{first_session, view_id, written}
+use Rattle.xi_top.specs.Core.{piece_after}
 use Rattle.xi_top.specs.declared.ending.Ending.TheVariants.{NoMemory, SourceFault, SinkFault, TooMany, TooLong}
 use Rattle.xi_top.specs.Ending.{Outcome, status_of}
 use Rattle.xi_top.specs.Written.{IsProperPart}
 use Rattle.xi_top.specs.Run.{Passage, IsRun}
-use Rattle.xi_top.specs.Rows.{FirstReadFails, ThirdWriteFails, HalfLine, opening_line, unsent_insertion}
+use Rattle.xi_top.specs.Rows.{FirstInsertion, FirstReadFails, FirstView, HalfLine, StrangeNotes, ThirdWriteFails, ThreeInsertions, first_bytes, insertion, opening, opening_bytes, opening_line, unsent_insertion}
+use Rattle.xi_top.proofs.LawLemmas.{other_view_is_passed_over, other_view_shows_nothing, unread_shows_nothing}
 use Rattle.xi_top.proofs.CalmLemmas.{told_input}
 use Rattle.xi_top.proofs.RunLemmas.{asked-lines}
+
+-- ---- what a session writes
+
+pub first_view : FirstView
+unfolding line_of digits escape_byte lib.Utf8.encode
+first_view = refl
+
+pub first_insertion : FirstInsertion
+unfolding line_of digits escape_byte lib.Utf8.encode
+first_insertion = refl
+
+pub three_insertions : ThreeInsertions
+unfolding line_of digits escape_byte lib.Utf8.encode
+three_insertions = refl
+
+-- an update of a second view, without operations
+second_update : Update
+second_update = record { ops = []; pristine = true }
+
+pub strange_notes : StrangeNotes
+unfolding line_of digits escape_byte lib.Utf8.encode second_update
+strange_notes = record {
+  no_params = unread_shows_nothing view_id (object no_members) IsLineOf-empty_note refl;
+  other_view = other_view_is_passed_over view_id (codes "view-id-2") second_update (record { id = refl; ops = tt }) refl;
+  only_view = other_view_shows_nothing (codes "view-id-2") second_update (record { id = refl; ops = tt }) refl;
+}
 
 -- ---- the first read fails
 

@@ -9,7 +9,7 @@ use Rattle.outside.specs.Sink.{SinkState}
 use Rattle.outside.proofs.ForCallers.{Gains-none}
 use Rattle.xi_plain.specs.Journal.{closing_entry, commands, IsLegal}
 use Rattle.xi_plain.proofs.ForCallers.{front_entries-alone}
-use Rattle.core_session.proofs.ForCallers.{shows_none}
+use Rattle.xi_top.proofs.ClosedLemmas.{shows_none}
 use Rattle.xi_top.specs.declared.ending.Ending.TheVariants.{NoMemory, SourceFault, SinkFault, TooMany, TooLong}
 use Rattle.xi_top.specs.Ending.{Outcome, status_of, most_lines}
 use Rattle.xi_top.specs.Written.{IsSent, IsCutOff, IsWritten, IsWrittenByCount}

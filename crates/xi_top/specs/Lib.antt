@@ -1,7 +1,13 @@
+pub mod Answer
+pub mod Session
+pub mod Shows
+pub mod Core
+pub mod Laws
 pub mod Ending
 pub mod Lines
 pub mod Written
 pub mod Run
 pub mod Calm
 pub mod Rows
-pub mod Inner
+pub mod InnerSession
+pub mod InnerRun

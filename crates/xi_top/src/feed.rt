@@ -1,11 +1,11 @@
 ghost use Rattle.std.specs.Prelude.{◌≡◌, ℕ, ◌+◌, ◌<◌, ◌≤◌, ◌++◌, List, [], length, OnOk};
 ghost use Rattle.outside.specs.Sink.{SinkState, sink_state};
-ghost use Rattle.core_session.specs.Core.{IsServing};
+ghost use Rattle.xi_top.specs.Core.{IsServing};
 ghost use Rattle.xi_top.specs.Ending.{most_lines};
 
 use crate::ending::Ending;
 use crate::enter::enter;
-use core_session::Core;
+use crate::session::Core;
 use memchr::memchr;
 use outside::Sink;
 use std::alloc::Global;
@@ -24,7 +24,7 @@ pub struct Intake {
 }
 
 impl Intake {
-    ghost use Rattle.xi_top.specs.Inner.{HasTaken, Finishes, GoesOn, IsFed, IsSmall, EndsLine, HasNoEnd, KeepsBytes, Counts, begun_of};
+    ghost use Rattle.xi_top.specs.InnerRun.{HasTaken, Finishes, GoesOn, IsFed, IsSmall, EndsLine, HasNoEnd, KeepsBytes, Counts, begun_of};
 
     /// Nothing was taken.
     pub fn new(alloc: Global) -> Intake

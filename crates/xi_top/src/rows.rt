@@ -1,6 +1,26 @@
-//! Worked rows, each the contract of a function: what a run comes to in small cases, and what is none.
+//! Worked rows, each the contract of a function: what a session writes and what a run comes to in small cases, and what is none.
 
-ghost use Rattle.xi_top.specs.Rows.{FirstReadFails, HalfLine, ThirdWriteFails};
+ghost use Rattle.xi_top.specs.Rows.{FirstInsertion, FirstReadFails, FirstView, HalfLine, StrangeNotes, ThirdWriteFails, ThreeInsertions};
+
+/// The first view is answered, and has one empty line with the caret.
+pub fn first_view()
+    ensures { FirstView }
+{}
+
+/// An insertion into it tells its line, and where the caret is.
+pub fn first_insertion()
+    ensures { FirstInsertion }
+{}
+
+/// Each insertion tells its line and where the caret is.
+pub fn three_insertions()
+    ensures { ThreeInsertions }
+{}
+
+/// Notes that no core writes show no screen.
+pub fn strange_notes()
+    ensures { StrangeNotes }
+{}
 
 /// A run whose first read fails has the closing entry alone.
 pub fn first_read_fails()

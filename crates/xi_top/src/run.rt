@@ -7,7 +7,7 @@ ghost use Rattle.xi_top.specs.Calm.{IsCalm, EndsWell};
 
 use crate::ending::Ending;
 use crate::serve::serve;
-use core_session::Core;
+use crate::session::Core;
 use outside::{Sink, Source};
 use plain_text::Text;
 use std::alloc::Global;

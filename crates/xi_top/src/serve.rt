@@ -1,12 +1,12 @@
 ghost use Rattle.std.specs.Prelude.{◌≡◌, []};
 ghost use Rattle.outside.specs.Source.{source_state};
 ghost use Rattle.outside.specs.Sink.{sink_state};
-ghost use Rattle.core_session.specs.Core.{IsServing, journal_of};
-ghost use Rattle.xi_top.specs.Inner.{IsServed};
+ghost use Rattle.xi_top.specs.Core.{IsServing, journal_of};
+ghost use Rattle.xi_top.specs.InnerRun.{IsServed};
 
 use crate::ending::Ending;
 use crate::feed::Intake;
-use core_session::Core;
+use crate::session::Core;
 use outside::{Pulled, Sink, Source};
 use std::alloc::Global;
 

@@ -3,9 +3,9 @@ use Rattle.std.specs.Prelude.{unwrap_or}
 use Rattle.outside.specs.Source.{source_state}
 use Rattle.outside.specs.Sink.{sink_state}
 use Rattle.outside.proofs.ForCallers.{Gives-append, Rose-earlier}
-use Rattle.core_session.specs.Core.{sink_of}
+use Rattle.xi_top.specs.Core.{sink_of}
 use Rattle.xi_top.specs.Ending.{Outcome}
-use Rattle.xi_top.specs.Inner.{IsServed, begun_of}
+use Rattle.xi_top.specs.InnerRun.{IsServed, begun_of}
 use Rattle.xi_top.proofs.IntakeLemmas.{failed_with, stops_source, no_failure, left_told, Gives-nothing, Gives-end}
 use Rattle.xi_top.proofs.serve.serve.Goals as goal
 

@@ -1,8 +1,8 @@
 use Rattle.std.proofs.Common.{◌-◌, ◌≤◌, ◌^◌, ℕ, List}
 use Rattle.outside.specs.Source.{Gives}
 use Rattle.outside.specs.Sink.{sink_state}
-use Rattle.core_session.specs.Core.{sink_of}
-use Rattle.xi_top.specs.Inner.{HasTaken, IsSmall, weight, begun_of}
+use Rattle.xi_top.specs.Core.{sink_of}
+use Rattle.xi_top.specs.InnerRun.{HasTaken, IsSmall, weight, begun_of}
 use Rattle.xi_top.proofs.serve.serve.Given as goal
 
 abbrev pub invariant-loop-intake : goal.invariant-loop-intake

@@ -1,7 +1,7 @@
 use Rattle.std.proofs.Common.{rules, ◌≡◌, ◌++◌, ◌≤◌, ℕ, length, length-append, sym, ap, subst, arith}
 use Rattle.outside.specs.Sink.{sink_state}
 use Rattle.xi_top.specs.Ending.{Outcome, too_long}
-use Rattle.xi_top.specs.Inner.{Begun, Counts, GoesOn, begun_of}
+use Rattle.xi_top.specs.InnerRun.{Begun, Counts, GoesOn, begun_of}
 use Rattle.xi_top.proofs.IntakeLemmas.{failed_with, stops_long_line, stops_no_room, stops_line, no_fault, takes_line, goes_next}
 use Rattle.xi_top.proofs.feed.Intake.end_line.Goals as goal
 

@@ -2,7 +2,7 @@ use Rattle.std.proofs.Common.{◌≡◌, ◌++◌, ◌+◌, ℕ, List, drop, sym
 use Rattle.std.proofs.lemmas.List.{take-append-drop}
 use Rattle.outside.specs.Sink.{sink_state}
 use Rattle.xi_top.specs.Ending.{Outcome}
-use Rattle.xi_top.specs.Inner.{HasTaken, GoesOn, EndsLine, HasNoEnd, begun_of}
+use Rattle.xi_top.specs.InnerRun.{HasTaken, GoesOn, EndsLine, HasNoEnd, begun_of}
 use Rattle.xi_top.proofs.LineLemmas.{none_found, line_found}
 use Rattle.xi_top.proofs.IntakeLemmas.{failed_with, goes_begin, stops_within}
 use Rattle.xi_top.proofs.feed.Intake.feed.Goals as goal

@@ -3,7 +3,7 @@ use Rattle.std.proofs.lemmas.Bool.Decides.{nat_tests}
 use Rattle.std.proofs.lemmas.List.{nil_from_length}
 use Rattle.front_wire.specs.Front.{command_of}
 use Rattle.outside.specs.Sink.{sink_state}
-use Rattle.xi_top.specs.Inner.{Enters, begun_of}
+use Rattle.xi_top.specs.InnerRun.{Enters, begun_of}
 use Rattle.xi_top.proofs.IntakeLemmas.{finish_empty, finish_last}
 use Rattle.xi_top.proofs.feed.Intake.finish.Goals as goal
 

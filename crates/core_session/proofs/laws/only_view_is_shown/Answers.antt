@@ -1,5 +1,0 @@
-use Rattle.core_session.proofs.OnlyViewLemmas.{only_view_is_shown}
-use Rattle.core_session.proofs.laws.only_view_is_shown.Goals as goal
-
-pub returns : goal.returns
-returns c = only_view_is_shown

@@ -1,0 +1,10 @@
+use Rattle.std.proofs.Common.{refl}
+use Rattle.xi_top.specs.Session.{config_step}
+use Rattle.xi_top.specs.declared.act.Reply.TheVariants.{Accepted}
+use Rattle.xi_top.proofs.OpenLemmas.{IsOutcome-all}
+use Rattle.xi_top.proofs.act.configure.Goals as goal
+
+pub returns-in-Some : goal.returns-in-Some
+returns-in-Some c = λ views stands.
+    IsOutcome-all c.args.document.now c.in-Some.doc Accepted (config_step c.args.config) views c.step.result c.in-Some.is stands (λ view. refl)
+    (λ view is. c.step.ensures view.document is)

@@ -1,0 +1,112 @@
+-- What private functions say: what an act and a command come to in memory.
+use Rattle.std.specs.Prelude.{◌≡◌, ℕ, ◌^◌, ◌-◌, ◌<◌, List, length, Option, Some, None, Result, IfOk, IfErr, ⊤, option_map}
+use Rattle.std.specs.List.{AllByRecursion}
+use Rattle.std.specs.Option.{option_or}
+use Rattle.std.specs.Str.{encode_utf8_all}
+use Rattle.serde_json.specs.Data.{Data, null}
+use Rattle.plain_edits.specs.History.{head}
+use Rattle.json_rpc.specs.Line.{line_of, IsLineOf}
+use Rattle.view_update.specs.Written.{update_data}
+use Rattle.view_update.specs.Reading.{ViewUpdate, line_update}
+use Rattle.doc_session.specs.InMemory.{Doc}
+use Rattle.doc_session.specs.Document.{Document}
+use Rattle.doc_session.specs.Stands.{DocStandsFor}
+use Rattle.xi_top.specs.declared.session.Prepared.{Prepared}
+use Rattle.xi_plain.specs.declared.command.Command.{Command}
+use Rattle.xi_top.specs.Session.{Session, view_id, outcome, messages, lines_written, step, updates_for, scroll_for, Outcome}
+use Rattle.doc_session.specs.Fault.{DocRefuses}
+use Rattle.doc_session.specs.Step.{AreEffectsOf, EventStep, event_step, refusal_at}
+use Rattle.doc_session.specs.declared.event.Effects.{Effects}
+use Rattle.doc_session.specs.declared.event.Event.{Event}
+use Rattle.json_rpc.specs.Response.{text_data}
+use Rattle.doc_session.specs.declared.fault.DocFault.{DocFault}
+use Rattle.doc_session.specs.declared.fault.DocFault.TheVariants as Fault
+use Rattle.doc_session.specs.PositionView.{position_view}
+use Rattle.xi_top.specs.declared.act.Reply.{Reply as ReplyInMemory}
+use Rattle.xi_top.specs.declared.act.Reply.TheVariants.{Opened, Accepted, Copied, Refused, Spent, NotBuilt, Silent}
+use Rattle.xi_top.specs.declared.act.ActEffects.{ActEffects}
+use Rattle.xi_top.specs.Answer.{Reply, accepted, refused, spent, not_built, silent}
+use Rattle.xi_top.specs.Core.{ServesDocument, Stands, StandsForSession}
+
+-- no plugin has a session in the document, and it may take one more edit
+abbrev pub TakesEvents : Doc → Type 0
+TakesEvents doc = (length doc.sessions ≡ 0) × (head doc.engine.revisions < 2 ^ 63 - 1)
+
+-- it takes events, and stands for a plain one, where there is a document
+abbrev pub MayBeAsked : Option Doc → Type 0
+MayBeAsked None = ⊤
+MayBeAsked (Some doc) = TakesEvents doc × ∥ ((plain : Document) × DocStandsFor doc plain) ∥₁
+
+-- the bytes are the lines of the messages, and each of these lines reads as its message
+pub record AreLinesOf (messages : List Data) (bytes : List ℕ) : Type 0 where
+  pub joined : bytes ≡ lines_written messages
+  pub each : AllByRecursion (λ message. IsLineOf message (line_of message)) messages
+
+-- the line of an update reads back as it
+abbrev pub ReadsBack : ViewUpdate → Type 0
+ReadsBack told = line_update (line_of (update_data told.view told.update)) ≡ Some (Some told)
+
+-- the line of each of them does
+abbrev pub UpdatesReadBack : List ViewUpdate → Type 0
+UpdatesReadBack updates = AllByRecursion ReadsBack updates
+
+-- the document that is in place then: the next one, where there is one
+abbrev pub document_then : Option Doc → Option Doc → Option Doc
+document_then next before = option_or next before
+
+-- what an event of the front end alone makes of a document: the one that its step gives and what is told of it, or the event is refused
+pub record IsMade (old : Doc) (event : Event) (result : Result (Doc × Effects) DocFault) : Type 0 where
+  pub served : (plain : Document) → DocStandsFor old plain → IfOk result (λ made. ServesDocument made.0 (event_step plain event).document)
+  pub effects : (plain : Document) → DocStandsFor old plain → IfOk result (λ made. AreEffectsOf (event_step plain event) made.1)
+  pub accepted : (plain : Document) → DocStandsFor old plain → IfOk result (λ _. refusal_at plain event ≡ None)
+  pub refused : (plain : Document) → DocStandsFor old plain → IfErr result (DocRefuses (refusal_at plain event))
+
+-- what a command comes to: the lines of its piece, whose updates read back, and the document of the views after it
+pub record IsDone (before : Option Doc) (session : Session) (command : Command) (piece : List ℕ) (next : Option Doc) : Type 0 where
+  pub lines : AreLinesOf (messages session command) (encode_utf8_all piece)
+  pub reads_back : UpdatesReadBack (outcome session command.act).updates
+  pub stands : Stands (document_then next before) (outcome session command.act).views
+
+-- the same before it is an entry, and the configuration after it
+pub record IsPrepared (before : Option Doc) (session : Session) (made : Prepared) : Type 0 where
+  pub lines : AreLinesOf (messages session made.command) (encode_utf8_all made.piece)
+  pub reads_back : UpdatesReadBack (outcome session made.command.act).updates
+  pub stands : StandsForSession (document_then made.next before) made.config (step session made.command)
+
+-- what a reply in memory is
+abbrev pub reply_of : ReplyInMemory → Reply
+reply_of Opened = accepted (text_data view_id)
+reply_of Accepted = accepted null
+reply_of (Copied text) = accepted (text_data text)
+reply_of (Refused fault) = refused fault
+reply_of Spent = spent
+reply_of NotBuilt = not_built
+reply_of Silent = silent
+
+-- what came of an act in memory, beside the document before, is the outcome
+pub record IsOutcome (before : Option Doc) (outcome : Outcome) (effects : ActEffects) : Type 0 where
+  pub reply : reply_of effects.reply ≡ outcome.reply
+  pub updates : updates_for view_id effects.update ≡ outcome.updates
+  pub scroll : scroll_for view_id (option_map position_view effects.scroll) ≡ outcome.scroll
+  pub stands : Stands (document_then effects.next before) outcome.views
+
+-- there is a document in memory, it stands for this one, and no plugin has a session in it
+abbrev pub Serves : Option Doc → Document → Type 0
+Serves None plain = ⊥
+Serves (Some doc) plain = ServesDocument doc plain
+
+-- what came of an event that was taken, with this answer: the document of its step, and what this tells the front end
+pub record IsTaken (step : EventStep) (answer : ReplyInMemory) (effects : ActEffects) : Type 0 where
+  pub reply : effects.reply ≡ answer
+  pub next : Serves effects.next step.document
+  pub update : effects.update ≡ step.update
+  pub scroll : option_map position_view effects.scroll ≡ step.scroll
+
+-- a fault of the front end's own edit: its characters are spent, or memory is wanting
+abbrev pub IsSpentOrLack : DocFault → Type 0
+IsSpentOrLack (Fault.Unknown head) = ⊥
+IsSpentOrLack (Fault.Collected floor) = ⊥
+IsSpentOrLack (Fault.Misfit first) = ⊥
+IsSpentOrLack (Fault.Spent total) = ⊤
+IsSpentOrLack (Fault.BadParams member) = ⊥
+IsSpentOrLack Fault.NoMemory = ⊤
