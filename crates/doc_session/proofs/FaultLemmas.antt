@@ -1,22 +1,20 @@
 -- What a fault of a document says, by the fault that it was made of.
-use Rattle.std.proofs.Common.{◌≡◌, ◌≢◌, ℕ, Bool, true, false, Option, Some, None, refl, ap, ◌∙◌}
-use Rattle.std.specs.Prelude.{if◌then◌else◌, nat_lt, option_map}
+use Rattle.std.proofs.Common.{◌≡◌, ℕ, List, Option, None, refl, ap, sym, ◌∙◌}
+use Rattle.std.specs.Prelude.{option_map}
 use Rattle.std.specs.Option.{option_or}
-use Rattle.plain_edits.specs.Edits.{Refusal, collected, unknown}
+use Rattle.plain_edits.specs.Edits.{Refusal}
 use Rattle.plain_edits.specs.EditFault.{Refuses}
-use Rattle.plain_edits.specs.History.{History, head, text_at}
+use Rattle.plain_edits.specs.History.{History, text_at}
 use Rattle.plain_edits.specs.declared.fault.EditFault.{EditFault}
 use Rattle.plain_edits.specs.declared.fault.EditFault.TheVariants as Edits
 use Rattle.stale_spans.specs.declared.asked.AskedSpans.{AskedSpans}
-use Rattle.stale_spans.specs.declared.fault.Misplaced.{Misplaced}
 use Rattle.stale_spans.specs.declared.fault.SpansFault.{SpansFault}
 use Rattle.stale_spans.specs.declared.fault.SpansFault.TheVariants as Ranges
-use Rattle.stale_spans.specs.Asked.{spans_refusal}
 use Rattle.stale_spans.specs.Places.{misplaced}
-use Rattle.stale_spans.specs.Refused.{IsRefused, place_refusal}
+use Rattle.stale_spans.specs.Refused.{IsRefused}
 use Rattle.doc_session.specs.declared.fault.DocFault.TheVariants.{NoMemory}
-use Rattle.doc_session.specs.Asking.{range_refusal}
-use Rattle.doc_session.specs.Fault.{DocRefuses, of_edit_fault, of_spans_fault, refusal_of}
+use Rattle.doc_session.specs.Asking.{acknowledgement_refusal, range_refusal}
+use Rattle.doc_session.specs.Fault.{DocRefuses, of_edit_fault, of_spans_fault}
 use Rattle.doc_session.specs.Refusal.{DocRefusal, edit_refused, of_range}
 
 -- an edit is refused as the engine refuses it
@@ -29,38 +27,31 @@ DocRefuses-edit refusal Edits.NoMemory refuses = λ some. absurd (some refl)
 
 -- ---- spans
 
--- a refusal of spans, as a document says it
-abbrev told : Option SpansFault → Option DocRefusal
-told None = None
-told (Some fault) = refusal_of (of_spans_fault fault)
+module _ (history : History) (asked : AskedSpans) where
+  abbrev at_first : Option Refusal → Option DocRefusal
+  at_first refusal = option_or (edit_refused refusal) (option_map of_range (misplaced (text_at history asked.rev) asked.start asked.len asked.spans))
 
-told-parts : (above below : Bool) (last first : ℕ) (member : Option Misplaced) →
-    option_or (edit_refused (if above then Some (unknown last) else (if below then Some (collected first) else None))) (option_map of_range member) ≡
-    told (option_or (if above then Some (Ranges.Unknown last) else (if below then Some (Ranges.Collected first) else None)) (place_refusal member))
-told-parts true below last first member = refl
-told-parts false true last first member = refl
-told-parts false false last first None = refl
-told-parts false false last first (Some member) = refl
+  -- they are refused for their revision
+  pub DocRefuses-revision : (fault : EditFault) → Refuses (acknowledgement_refusal history asked.rev) fault → DocRefuses (range_refusal history asked) (of_edit_fault fault)
+  DocRefuses-revision (Edits.Unknown last) refuses = λ some. ap at_first (refuses (λ is. cc))
+  DocRefuses-revision (Edits.Collected first) refuses = λ some. ap at_first (refuses (λ is. cc))
+  DocRefuses-revision (Edits.Misfit first) refuses = λ some. ap at_first (refuses (λ is. cc))
+  DocRefuses-revision (Edits.Spent total) refuses = λ some. ap at_first (refuses (λ is. cc))
+  DocRefuses-revision Edits.NoMemory refuses = λ some. absurd (some refl)
 
-range_refusal-told : (history : History) (asked : AskedSpans) → range_refusal history asked ≡ told (spans_refusal history asked)
-range_refusal-told history asked =
-    told-parts (nat_lt (head history) asked.rev) (nat_lt asked.rev history.floor) (head history) history.floor
-    (misplaced (text_at history asked.rev) asked.start asked.len asked.spans)
+  -- or else for what is no place of its text, where anything is
+  module _ (text : List ℕ) (kept : acknowledgement_refusal history asked.rev ≡ None) (is : text ≡ text_at history asked.rev) where
+    placed_first : range_refusal history asked ≡ option_map of_range (misplaced text asked.start asked.len asked.spans)
+    placed_first =
+        ap at_first kept ∙ ap (λ t. option_map of_range (misplaced t asked.start asked.len asked.spans)) (sym is)
 
--- what is not refused there is not refused here
-pub range_refusal-none : (history : History) (asked : AskedSpans) → spans_refusal history asked ≡ None → range_refusal history asked ≡ None
-range_refusal-none history asked none = range_refusal-told history asked ∙ ap told none
+    pub range_refusal-none : misplaced text asked.start asked.len asked.spans ≡ None → range_refusal history asked ≡ None
+    range_refusal-none none = placed_first ∙ ap (option_map of_range) none
 
-refused-is : (refusal : Option SpansFault) (fault : SpansFault) → IsRefused refusal fault → of_spans_fault fault ≢ NoMemory → refusal ≡ Some fault
-refused-is refusal (Ranges.Unknown last) refused some = refused
-refused-is refusal (Ranges.Collected first) refused some = refused
-refused-is refusal (Ranges.Misplaced member) refused some = refused
-refused-is refusal Ranges.NoMemory refused some = absurd (some refl)
-
-pub DocRefuses-spans : (history : History) (asked : AskedSpans) (fault : SpansFault) → IsRefused (spans_refusal history asked) fault →
-    DocRefuses (range_refusal history asked) (of_spans_fault fault)
-DocRefuses-spans history asked fault refused = λ some.
-    range_refusal-told history asked ∙ ap told (refused-is (spans_refusal history asked) fault refused some)
+    pub DocRefuses-place : (fault : SpansFault) → IsRefused (misplaced text asked.start asked.len asked.spans) fault →
+        DocRefuses (range_refusal history asked) (of_spans_fault fault)
+    DocRefuses-place (Ranges.Misplaced member) refused = λ some. placed_first ∙ ap (option_map of_range) refused
+    DocRefuses-place Ranges.NoMemory refused = λ some. absurd (some refl)
 
 -- want of memory is no refusal
 pub DocRefuses-lack : (refusal : Option DocRefusal) → DocRefuses refusal NoMemory

@@ -58,7 +58,7 @@ pub moved-changed : (doc : Doc) (plain : Document) (history : History) (author :
     moved ≡ mapped_layers taken.change.units doc.view.layers → moved ≡ moved_layers plain.history history plain.layers
 moved-changed doc plain history author taken moved stands after over is =
     let here : AreOver (length (text_of plain)) doc.view.layers = subst (λ t. AreOver (length t) doc.view.layers) stands.parts.shown_is over in
-    is ∙ mapped_layers-change plain.history history taken.change doc.view.layers after.changes after.text_before here ∙
+    is ∙ mapped_layers-change plain.history history taken.change.units after.changes.kept after.changes.added after.text_before doc.view.layers here ∙
     ap (moved_layers plain.history history) (sym stands.layers)
 
 -- ---- after spans of a plugin

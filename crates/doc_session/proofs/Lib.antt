@@ -10,6 +10,7 @@ pub mod LoadLemmas
 pub mod FrontLemmas
 pub mod UntoldLemmas
 pub mod LayerLemmas
+pub mod ReadLemmas
 pub mod IdleLemmas
 pub mod SomeLemmas
 pub mod PieceLemmas

@@ -34,8 +34,6 @@ of_edit_fault (Edits.Spent total) = Spent total
 of_edit_fault Edits.NoMemory = NoMemory
 
 abbrev pub of_spans_fault : SpansFault → DocFault
-of_spans_fault (Ranges.Unknown head) = Unknown head
-of_spans_fault (Ranges.Collected floor) = Collected floor
 of_spans_fault (Ranges.Misplaced member) = BadParams member
 of_spans_fault Ranges.NoMemory = NoMemory
 

@@ -12,13 +12,12 @@ use Rattle.edit_ops.specs.Commands.{Effect, effect_of}
 use Rattle.edit_ops.specs.Replacements.{IsEditOf}
 use Rattle.rev_engine.specs.declared.edit.Change.{Change}
 use Rattle.rev_engine.specs.declared.edit.UnitEdit.{UnitEdit}
-use Rattle.rev_engine.specs.State.{State}
+use Rattle.rev_engine.specs.State.{State, shown_at}
 use Rattle.rev_engine.specs.Engine.{IsChange, IsSaidBy, StandsFor}
 use Rattle.rev_engine.specs.Asked.{IsCollectionTaken}
 use Rattle.rev_engine.specs.Given.{AskedEdit, after}
 use Rattle.undo_groups.specs.Groups.{Groups, IsStack, is_known}
 use Rattle.stale_spans.specs.Asked.{moved_layers}
-pub use Rattle.stale_spans.specs.Asked.{StandsForSome, head_shown}
 use Rattle.doc_layout.specs.Changed.{IsChangeOf}
 use Rattle.doc_layout.specs.Told.{screen_of}
 use Rattle.doc_view.specs.declared.told.Pristine.{Pristine}
@@ -37,6 +36,16 @@ use Rattle.doc_session.specs.Stands.{AreRegionsOf}
 use Rattle.doc_session.specs.Step.{AreEffectsOf, EventStep}
 use Rattle.doc_session.specs.Typing.{run_on}
 use Rattle.doc_session.specs.Whole.{IsStateOf}
+
+-- ---- an engine
+
+-- it stands for some history
+abbrev pub StandsForSome : State → Type 0
+StandsForSome engine = ∥ ((history : History) × StandsFor engine history) ∥₁
+
+-- what its head shows
+abbrev pub head_shown : State → List ℕ
+head_shown engine = shown_at engine.union engine.revisions (head engine.revisions)
 
 -- ---- edits
 

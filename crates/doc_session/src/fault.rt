@@ -8,7 +8,7 @@ use std::error::Error;
 use std::fmt;
 
 /// Why an event is refused. They are looked for in this order.
-#[derive(Clone, Copy, PartialEq, Eq, Drop)]
+#[derive(Clone, Copy, Debug, PartialEq, Eq, Drop)]
 pub enum DocFault {
     /// The revision that an edit, spans or an acknowledgement names is above this one, the head.
     Unknown(u64),
@@ -41,12 +41,6 @@ impl fmt::Display for DocFault {
             }
             DocFault::NoMemory => fmt::Display::fmt(&EditFault::NoMemory, f),
         }
-    }
-}
-
-impl fmt::Debug for DocFault {
-    fn fmt<W: fmt::Write>(&self, f: &mut fmt::Formatter<W>) -> fmt::Result {
-        fmt::Display::fmt(self, f)
     }
 }
 
@@ -85,8 +79,6 @@ impl From<SpansFault> for DocFault {
 
     fn from(given: SpansFault) -> DocFault {
         match given {
-            SpansFault::Unknown(head) => DocFault::Unknown(head),
-            SpansFault::Collected(floor) => DocFault::Collected(floor),
             SpansFault::Misplaced(member) => DocFault::BadParams(member),
             SpansFault::NoMemory => DocFault::NoMemory,
         }

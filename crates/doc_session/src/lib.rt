@@ -13,6 +13,7 @@ mod fault;
 pub mod laws;
 mod left;
 mod looking;
+mod reading;
 mod said;
 mod sessions;
 mod styles;

@@ -15,6 +15,7 @@ ghost use Rattle.doc_session.specs.Step.{spans_step};
 use crate::doc::Doc;
 use crate::event::{Body, Effects};
 use crate::fault::DocFault;
+use crate::reading::read_at;
 use crate::said::{NO_REQUEST, Said};
 use crate::taken::Taken;
 use doc_view::TextLeft;
@@ -41,7 +42,8 @@ impl Doc {
             → IfErr result (DocRefuses (range_refusal plain.history asked.now)) }
         ensures sessions { IfOk result (λ made. made.0.sessions ≡ self.now.sessions) }
     {
-        let layers = with_spans(alloc, &self.engine, self.view.layers(), caller - 1, asked)?;
+        let read = read_at(alloc, &self.engine, asked.rev)?;
+        let layers = with_spans(alloc, &read, self.view.layers(), caller - 1, asked)?;
         let view = self.view.with_layers(alloc, layers)?;
         let next = self.with_view(alloc, view, self.typing)?;
         let said = Said {

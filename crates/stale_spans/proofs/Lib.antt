@@ -3,7 +3,6 @@ pub mod PieceLemmas
 pub mod CarriedLemmas
 pub mod GapLemmas
 pub mod PlacedLemmas
-pub mod ReadLemmas
 pub mod SinceLemmas
 pub mod MovedLemmas
 pub mod ForCallers

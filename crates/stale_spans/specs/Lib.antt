@@ -1,7 +1,6 @@
-pub mod Faults
 pub mod Refused
 pub mod Places
+pub mod Read
 pub mod Asked
 pub mod Marks
-pub mod Inner
 pub mod Rows

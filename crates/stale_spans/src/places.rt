@@ -4,7 +4,7 @@ ghost use Rattle.std.specs.List.{list_all};
 ghost use Rattle.plain_text.specs.Text.{gap_at};
 ghost use Rattle.span_styles.specs.Layers.{LieIn};
 ghost use Rattle.stale_spans.specs.Places.{StandIn, is_span_placed, meant_range, meant_span, misplaced};
-ghost use Rattle.stale_spans.specs.Refused.{IsRefused, place_refusal};
+ghost use Rattle.stale_spans.specs.Refused.{IsRefused};
 ghost use Rattle.stale_spans.specs.declared.fault.Misplaced.TheVariants as Members;
 
 use crate::{AskedSpans, Misplaced, SpansFault};
@@ -29,7 +29,7 @@ pub(crate) fn placed(
     ensures inside { IfOk result (λ made. made.range.end ≤ length text.now) }
     ensures within { IfOk result (λ made. LieIn made.range made.spans) }
     ensures accepted { OnOk result (misplaced text.now asked.now.start asked.now.len asked.now.spans ≡ None) }
-    ensures refused { IfErr result (IsRefused (place_refusal (misplaced text.now asked.now.start asked.now.len asked.now.spans))) }
+    ensures refused { IfErr result (IsRefused (misplaced text.now asked.now.start asked.now.len asked.now.spans)) }
 {
     let Some(start) = gap_at(text, asked.start) else {
         return Err(SpansFault::Misplaced(Misplaced::Start));
@@ -49,7 +49,7 @@ fn placed_spans(alloc: Global, text: &Rope, from: u64, spans: &[Span]) -> Result
     ensures meant { IfOk result (λ made. made ≡ map (meant_span text.now from) spans.now) }
     ensures accepted { OnOk result (list_all (is_span_placed text.now from) spans.now ≡ true) }
     ensures refused { IfErr result (IsRefused
-        (if list_all (is_span_placed text.now from) spans.now then None else place_refusal (Some Members.Spans))) }
+        (if list_all (is_span_placed text.now from) spans.now then None else Some Members.Spans)) }
 {
     let mut made = Spans::new(alloc);
     for span in spans {

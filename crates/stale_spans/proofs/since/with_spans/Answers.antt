@@ -1,22 +1,21 @@
 use Rattle.std.proofs.Common.{ap, fold, length, subst, sym, ◌∙◌}
 use Rattle.std.proofs.lemmas.List.{length-set}
-use Rattle.span_styles.specs.Layers.{AreOver, layer_at, spanned_layer, spanned_layers}
+use Rattle.span_styles.specs.Layers.{AreOver, layer_at, length_after, spanned_layer, spanned_layers}
 use Rattle.span_styles.proofs.ForCallers.{AreOver-spanned}
-use Rattle.stale_spans.specs.Asked.{head_shown}
 use Rattle.stale_spans.proofs.SinceLemmas.{layers_with_spans-made}
 use Rattle.stale_spans.proofs.since.with_spans.Goals as goal
 
 pub returns-clause-layers : goal.returns-clause-layers
-returns-clause-layers c = λ history stands.
-    layers_with_spans-made c.args.engine.now history c.args.asked.now c.args.layers.now c.args.layer c.in_ok-read.read stands c.requires.over
-    c.requires.known (c.in_ok-read.ensures.read history stands) c.in_ok-read.ensures.edit c.in_ok-spanned.spanned c.in_ok-ranges.ranges.items
+returns-clause-layers c = λ history at.
+    layers_with_spans-made history c.args.asked.now c.args.layers.now c.args.layer c.args.read.now c.requires.edit.base c.requires.over
+    c.requires.known at c.in_ok-spanned.spanned c.in_ok-ranges.ranges.items
     c.in_ok-set_ranges.field-0 c.in_ok-spanned.ensures.meant c.in_ok-ranges.ensures.pieces
     (c.in_ok-set_ranges.ensures ∙ ap (spanned_layers c.args.layers.now c.args.layer) c.deref.ensures.value)
 
 pub returns-clause-over : goal.returns-clause-over
 returns-clause-over c =
-    subst (AreOver (length (head_shown c.args.engine.now))) (sym c.in_ok-set_ranges.ensures)
-    (AreOver-spanned (length (head_shown c.args.engine.now)) c.args.layers.now c.args.layer c.deref.result.now c.requires.over c.requires.known)
+    subst (AreOver (length_after c.args.read.now.units)) (sym c.in_ok-set_ranges.ensures)
+    (AreOver-spanned (length_after c.args.read.now.units) c.args.layers.now c.args.layer c.deref.result.now c.requires.over c.requires.known)
 
 pub returns-clause-as_many : goal.returns-clause-as_many
 returns-clause-as_many c =

@@ -1,20 +1,22 @@
 use Rattle.std.proofs.Common.{◌≡◌, ◌-◌, Option, length, ap, ap₂, sym, ◌∙◌, subst, arith}
+use Rattle.std.proofs.lemmas.Result.{err_from_is_err_and}
 use Rattle.std.specs.Arc.{arc_value}
 use Rattle.span_styles.specs.Layers.{AreOver}
 use Rattle.rev_engine.specs.Engine.{StandsFor}
 use Rattle.rev_engine.specs.State.{State}
-use Rattle.stale_spans.specs.Asked.{StandsForSome, head_shown, layers_with_spans}
+use Rattle.stale_spans.specs.Asked.{layers_with_spans}
 use Rattle.doc_view.specs.View.{View}
 use Rattle.doc_session.specs.declared.typing.Typing.{Typing}
 use Rattle.doc_session.specs.InMemory.{Doc}
+use Rattle.doc_session.specs.Inner.{StandsForSome, head_shown}
 use Rattle.doc_session.specs.Step.{styled_document}
-use Rattle.doc_session.proofs.FaultLemmas.{range_refusal-none}
+use Rattle.doc_session.proofs.FaultLemmas.{DocRefuses-place, DocRefuses-revision, range_refusal-none}
 use Rattle.doc_session.proofs.HeadLemmas.{shown-whole, some-whole, state-whole}
 use Rattle.doc_session.proofs.LayerLemmas.{IsUntold-styled}
 use Rattle.doc_session.proofs.doc.Doc.styled.Goals as goal
 
-pub with_spans-requires-clause-some : goal.with_spans-requires-clause-some
-with_spans-requires-clause-some c =
+pub read_at-requires : goal.read_at-requires
+read_at-requires c =
     let doc = c.self.inside in
     subst StandsForSome (sym c.deref.ensures)
     (some-whole (arc_value doc.engine) doc.view.text (state-whole (arc_value doc.engine) doc.stack doc.typing doc.view.text c.self.invariant.whole))
@@ -25,8 +27,8 @@ with_spans-requires-clause-over c =
     let shown_is =
     shown-whole (arc_value doc.engine) doc.view.text (state-whole (arc_value doc.engine) doc.stack doc.typing doc.view.text c.self.invariant.whole) ∙
     ap head_shown (sym c.deref.ensures) in
-    subst (AreOver (length (head_shown c.deref.result.now))) (sym c.layers.ensures)
-    (subst (λ t. AreOver (length t) doc.view.layers) shown_is c.self.invariant.over)
+    subst (λ n. AreOver n c.layers.result.now) (ap length shown_is ∙ sym c.in_ok-read.ensures.leads)
+    (subst (AreOver (length doc.view.text)) (sym c.layers.ensures) c.self.invariant.over)
 
 pub with_spans-requires-clause-known : goal.with_spans-requires-clause-known
 with_spans-requires-clause-known c =
@@ -48,7 +50,7 @@ with_view-requires-clause-over c =
     shown-whole (arc_value doc.engine) doc.view.text (state-whole (arc_value doc.engine) doc.stack doc.typing doc.view.text c.self.invariant.whole) ∙
     ap head_shown (sym c.deref.ensures) in
     subst (AreOver (length now.view.text)) (sym (ap (λ (v : View). v.layers) c.in_ok-view.ensures))
-    (subst (λ t. AreOver (length t) c.in_ok-layers.layers) (sym shown_is) c.in_ok-layers.ensures.over)
+    (subst (λ n. AreOver n c.in_ok-layers.layers) (c.in_ok-read.ensures.leads ∙ sym (ap length shown_is)) c.in_ok-layers.ensures.over)
 
 pub returns-clause-stepped : goal.returns-clause-stepped
 returns-clause-stepped c = λ plain stands.
@@ -59,7 +61,7 @@ returns-clause-stepped c = λ plain stands.
     let engine_is = c.deref.ensures ∙ ap (λ (d : Doc). d.engine) c.self.view_is in
     let was = subst (λ (e : State). StandsFor e plain.history) (sym engine_is) stands.parts.stands in
     let layers_are : layers ≡ layers_with_spans plain.history asked (caller - 1) now.view.layers =
-    c.in_ok-layers.ensures.layers plain.history was ∙
+    c.in_ok-layers.ensures.layers plain.history (c.in_ok-read.ensures.read plain.history was) ∙
     ap (layers_with_spans plain.history asked (caller - 1)) (c.layers.ensures ∙ ap (λ (d : Doc). d.view.layers) c.self.view_is) in
     let next_is =
     c.in_ok-next.ensures ∙
@@ -71,5 +73,21 @@ returns-clause-stepped c = λ plain stands.
 pub returns-clause-accepted : goal.returns-clause-accepted
 returns-clause-accepted c = λ plain stands.
     let engine_is = c.deref.ensures ∙ ap (λ (d : Doc). d.engine) c.self.view_is in
-    range_refusal-none plain.history c.args.asked.now
-    (c.in_ok-layers.ensures.accepted plain.history (subst (λ (e : State). StandsFor e plain.history) (sym engine_is) stands.parts.stands))
+    let was = subst (λ (e : State). StandsFor e plain.history) (sym engine_is) stands.parts.stands in
+    range_refusal-none plain.history c.args.asked.now c.in_ok-read.read.text (c.in_ok-read.ensures.accepted plain.history was)
+    (c.in_ok-read.ensures.read plain.history was).text c.in_ok-layers.ensures.accepted
+
+pub returns-in_err-read-clause-refused : goal.returns-in_err-read-clause-refused
+returns-in_err-read-clause-refused c = λ plain stands.
+    let engine_is = c.deref.ensures ∙ ap (λ (d : Doc). d.engine) c.self.view_is in
+    let was = subst (λ (e : State). StandsFor e plain.history) (sym engine_is) stands.parts.stands in
+    let p = err_from_is_err_and c.from_residual.result c.from_residual.ensures.1 in
+    rw (p.1, p.2) (DocRefuses-revision plain.history c.args.asked.now c.in_err-read.field-0.0 (c.in_err-read.ensures.refused plain.history was))
+
+pub returns-in_err-layers-clause-refused : goal.returns-in_err-layers-clause-refused
+returns-in_err-layers-clause-refused c = λ plain stands.
+    let engine_is = c.deref.ensures ∙ ap (λ (d : Doc). d.engine) c.self.view_is in
+    let was = subst (λ (e : State). StandsFor e plain.history) (sym engine_is) stands.parts.stands in
+    let p = err_from_is_err_and c.from_residual-in_err-layers.result c.from_residual-in_err-layers.ensures.1 in
+    rw (p.1, p.2) (DocRefuses-place plain.history c.args.asked.now c.in_ok-read.read.text (c.in_ok-read.ensures.accepted plain.history was)
+    (c.in_ok-read.ensures.read plain.history was).text c.in_err-layers.field-0.0 c.in_err-layers.ensures.refused)
