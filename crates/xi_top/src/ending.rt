@@ -1,5 +1,5 @@
 /// Why a run ended before its input did.
-#[derive(Clone, Copy, PartialEq, Eq)]
+#[derive(Clone, Copy)]
 pub enum Ending {
     /// There was no memory for a line.
     NoMemory,
