@@ -82,33 +82,9 @@ IsCommand-else act no_undo no_redo no_scroll no_request no_find no_next no_previ
 -- ---- what is never refused
 
 -- where nothing is edited nothing is refused
-refusal-selecting : (plain : Document) → command_refusal plain (selecting plain.regions) ≡ None
+pub refusal-selecting : (plain : Document) → command_refusal plain (selecting plain.regions) ≡ None
 refusal-selecting plain =
     ap (λ b. if b then None else asked_refusal plain (front_edit plain None [])) (do_nothing-none (length (text_of plain)))
-
-pub refusal_undo : (plain : Document) → command_refusal plain (effect_on plain Acts.Undo) ≡ None
-refusal_undo plain = refusal-selecting plain
-
-pub refusal_redo : (plain : Document) → command_refusal plain (effect_on plain Acts.Redo) ≡ None
-refusal_redo plain = refusal-selecting plain
-
-pub refusal_scroll : (plain : Document) (first last : ℕ) → command_refusal plain (effect_on plain (Acts.Scroll first last)) ≡ None
-refusal_scroll plain first last = refusal-selecting plain
-
-pub refusal_request : (plain : Document) (first last : ℕ) → command_refusal plain (effect_on plain (Acts.RequestLines first last)) ≡ None
-refusal_request plain first last = refusal-selecting plain
-
-pub refusal_find : (plain : Document) (chars : List ℕ) (case_sensitive regex whole_words : Option Bool) →
-    command_refusal plain (effect_on plain (Acts.Find chars case_sensitive regex whole_words)) ≡ None
-refusal_find plain chars case_sensitive regex whole_words = refusal-selecting plain
-
-pub refusal_next : (plain : Document) (wrap_around allow_same : Option Bool) →
-    command_refusal plain (effect_on plain (Acts.FindNext wrap_around allow_same)) ≡ None
-refusal_next plain wrap_around allow_same = refusal-selecting plain
-
-pub refusal_previous : (plain : Document) (wrap_around allow_same : Option Bool) →
-    command_refusal plain (effect_on plain (Acts.FindPrevious wrap_around allow_same)) ≡ None
-refusal_previous plain wrap_around allow_same = refusal-selecting plain
 
 -- an edit that is refused requests no lines
 pub request_of-refused : (plain : Document) (act : EditAct) (refusal : Refusal) → command_refusal plain (effect_on plain act) ≡ Some refusal →
@@ -120,7 +96,7 @@ request_of-refused plain act refusal refused = by (form_of act)
     by (redoes is) = ap request_of is
     by (scrolls first last is) = ap request_of is
     by (requests first last is) =
-        absurd (let taken = sym (refusal_request plain first last) ∙ sym (ap (λ a. command_refusal plain (effect_on plain a)) is) ∙ refused in cc)
+        absurd (let taken = sym (refusal-selecting plain) ∙ sym (ap (λ a. command_refusal plain (effect_on plain a)) is) ∙ refused in cc)
     by (finds chars case_sensitive regex whole_words is) = ap request_of is
     by (finds_next wrap_around allow_same is) = ap request_of is
     by (finds_previous wrap_around allow_same is) = ap request_of is

@@ -414,14 +414,11 @@ module _ (doc : Doc) (plain : Document) (stands : IsUncollected doc plain) (foun
       DocStandsFor-whole made (collected_document plain) (subst (λ f. IsUncollected made (with_collection plain f)) is uncollected)
       (HasNoneLeft-collected doc plain stands)
 
-pub DocStandsFor-found : {E : Type 0} (doc : Doc) (plain : Document) (found : Collection) (result : Result Doc E) → IsUncollected doc plain →
-    Some found ≡ collection_after plain →
-    (found.floor ≤ least_acknowledged (head plain.history) plain.sessions → IfOk result (λ made. IsUncollected made (with_collection plain (Some found)))) →
-    IfOk result (λ made. DocStandsFor made (collected_document plain))
-DocStandsFor-found doc plain found (Err lack) stands is made = tt
-DocStandsFor-found doc plain found (Ok made) stands is each =
-    DocStandsFor-collected doc plain stands (Some found) is made
-    (each (floor-found plain.history plain.groups.retired (least_acknowledged (head plain.history) plain.sessions) found (sym is)))
+-- its floor is one that each session has acknowledged
+pub floor-collected : (plain : Document) (found : Collection) → Some found ≡ collection_after plain →
+    found.floor ≤ least_acknowledged (head plain.history) plain.sessions
+floor-collected plain found is =
+    floor-found plain.history plain.groups.retired (least_acknowledged (head plain.history) plain.sessions) found (sym is)
 
 -- ---- the document with other sessions
 

@@ -1,7 +1,8 @@
 -- What private functions say: the steps of an event.
-use Rattle.std.specs.Prelude.{◌≡◌, ℕ, ◌+◌, ◌^◌, ◌<◌, ◌≤◌, Bool, true, false, if◌then◌else◌, ◌==◌, List, [], length, Option, Some, None, ⊤}
+use Rattle.std.specs.Prelude.{◌≡◌, ℕ, ◌+◌, ◌^◌, ◌<◌, ◌≤◌, Bool, true, false, if◌then◌else◌, ◌==◌, List, [], length, map, Option, Some, None, ⊤}
 use Rattle.std.specs.Arc.{arc_value}
 use Rattle.std.specs.List.{AllByRecursion}
+use Rattle.plain_text.specs.declared.run.Run.{Run}
 use Rattle.plain_text.specs.Text.{byte_len}
 use Rattle.plain_text.specs.Numbers.{has, turned}
 use Rattle.plain_edits.specs.History.{History, head, inserted_count, text_at}
@@ -9,6 +10,7 @@ use Rattle.plain_edits.specs.Undo.{undone_now}
 use Rattle.xi_plain.specs.declared.command.EditAct.{EditAct}
 use Rattle.delta_core.specs.Wire.{wire_of}
 use Rattle.edit_ops.specs.Commands.{Effect, effect_of}
+use Rattle.edit_ops.specs.Regions.{without_goal}
 use Rattle.edit_ops.specs.Replacements.{IsEditOf}
 use Rattle.rev_engine.specs.declared.edit.Change.{Change}
 use Rattle.rev_engine.specs.declared.edit.UnitEdit.{UnitEdit}
@@ -21,19 +23,25 @@ use Rattle.stale_spans.specs.Asked.{moved_layers}
 use Rattle.doc_layout.specs.Changed.{IsChangeOf}
 use Rattle.doc_layout.specs.Told.{screen_of}
 use Rattle.doc_view.specs.declared.told.Pristine.{Pristine}
+use Rattle.doc_view.specs.Search.{next_found, previous_found, search_for}
 use Rattle.doc_view.specs.View.{View, pieces_in}
+use Rattle.doc_session.specs.declared.event.Body.TheVariants.{Null}
 use Rattle.doc_session.specs.declared.event.Effects.{Effects}
 use Rattle.doc_session.specs.declared.left.Left.{Left}
+use Rattle.doc_session.specs.declared.looking.Viewing.{Viewing}
+use Rattle.doc_session.specs.declared.looking.Viewing.TheVariants.{Layout, Lines, Next, Other, Previous, Seek, Window}
+use Rattle.doc_session.specs.declared.said.Scrolling.{Scrolling}
+use Rattle.doc_session.specs.declared.said.Scrolling.TheVariants.{Nowhere, ToCaret}
 use Rattle.doc_session.specs.declared.taken.Taken.{Taken}
 use Rattle.doc_session.specs.declared.typing.Typing.{Typing}
 use Rattle.doc_session.specs.Agree.{Agree}
 use Rattle.doc_session.specs.Asking.{front_priority}
 use Rattle.doc_session.specs.Collecting.{AreAcknowledged}
-use Rattle.doc_session.specs.Document.{Document, layout_of, text_of}
+use Rattle.doc_session.specs.Document.{Document, layout_of, no_request, text_of}
 use Rattle.doc_session.specs.Effects.{notice_of}
 use Rattle.doc_session.specs.InMemory.{Doc}
 use Rattle.doc_session.specs.Stands.{AreRegionsOf}
-use Rattle.doc_session.specs.Step.{AreEffectsOf, EventStep}
+use Rattle.doc_session.specs.Step.{AreEffectsOf, EventStep, at_next_match, at_previous_match, configured_document, going_on, looking_document, scroll_if, scrolled_document, seeking_document, step_to}
 use Rattle.doc_session.specs.Typing.{run_on}
 use Rattle.doc_session.specs.Whole.{IsStateOf}
 
@@ -198,6 +206,55 @@ pub record IsUncollected (doc : Doc) (plain : Document) : Type 0 where
 -- the document after a line that makes no revision and ends the run, with this view of its text
 abbrev pub looking_doc : Doc → View → Doc
 looking_doc doc view = record doc { typing = run_on doc.typing None; view = view }
+
+-- ---- lines that leave the text as it is
+
+-- whether the front end scrolls to the last caret, where that stands elsewhere then
+abbrev pub is_scrolling : Scrolling → Bool
+is_scrolling ToCaret = true
+is_scrolling Nowhere = false
+
+-- such a line, and what it makes of a view
+abbrev pub viewed : View → Viewing → View
+viewed view (Window lines) = record view { regions = map without_goal view.regions; window = lines }
+viewed view (Lines lines) = record view { regions = map without_goal view.regions }
+viewed view (Seek chars case_counts) =
+    record view { regions = map without_goal view.regions; query = search_for view.query chars case_counts }
+viewed view (Next wrap_around) = record view { regions = next_found view.text view.query wrap_around view.regions }
+viewed view (Previous wrap_around) = record view { regions = previous_found view.text view.query wrap_around view.regions }
+viewed view (Layout config) = record view { config = config }
+viewed view Other = view
+
+-- and of a plain document
+abbrev pub viewed_document : Document → Viewing → Document
+viewed_document document (Window lines) = scrolled_document document lines
+viewed_document document (Lines lines) = looking_document document
+viewed_document document (Seek chars case_counts) = seeking_document document chars case_counts
+viewed_document document (Next wrap_around) = at_next_match document wrap_around
+viewed_document document (Previous wrap_around) = at_previous_match document wrap_around
+viewed_document document (Layout config) = configured_document document config
+viewed_document document Other = going_on document None
+
+-- the lines that it requests, and whether it scrolls: not where nothing is shown or sought
+abbrev pub viewed_lines : Viewing → Run
+viewed_lines (Lines lines) = lines
+viewed_lines viewing = no_request
+
+abbrev pub scrolls_at : Viewing → Bool
+scrolls_at (Layout config) = false
+scrolls_at Other = false
+scrolls_at viewing = true
+
+-- its step
+abbrev pub viewing_step : Document → Viewing → EventStep
+viewing_step document viewing =
+    let next = viewed_document document viewing in
+    step_to (viewed_lines viewing) document next Null (scroll_if (scrolls_at viewing) document next) None
+
+-- a configuration has a tab width
+abbrev pub MayView : Viewing → Type 0
+MayView (Layout config) = 0 < config.tab
+MayView viewing = ⊤
 
 -- what an event makes is what its step gives, before anything is collected: the document after it, and what those outside are told
 pub record IsStepped (step : EventStep) (made : Doc × Effects) : Type 0 where

@@ -1,5 +1,5 @@
 // What a collection reads of a document, and makes of it.
-ghost use Rattle.std.specs.Prelude.{◌≡◌, ◌≤◌, true, Some, IfOk, IfSome};
+ghost use Rattle.std.specs.Prelude.{◌≡◌, ◌≤◌, true, Some, IfOk, IfSome, unwrap_or};
 ghost use Rattle.std.specs.Arc.{arc_value};
 ghost use Rattle.std.specs.List.{fold, AllByRecursion};
 ghost use Rattle.plain_text.specs.Numbers.{has};
@@ -22,18 +22,19 @@ use std::collections::BTreeSet;
 use std::sync::Arc;
 use undo_groups::Stack;
 
-/// The document in which what may be collected is collected: the same, where that is nothing.
-pub(crate) fn after_collection(alloc: Global, doc: Doc) -> Result<Doc, NoMemory>
-    ensures stands { (plain : Document) → IsUncollected doc plain → IfOk result (λ made. DocStandsFor made (collected_document plain)) }
-    ensures sessions { IfOk result (λ made. made.sessions ≡ doc.sessions) }
-{
-    match doc.collectable(alloc)? {
-        Some((floor, groups)) => doc.without(alloc, floor, &groups),
-        None => Ok(doc),
-    }
-}
-
 impl Doc {
+    /// The document in which what may be collected is collected, or `None` where that is nothing.
+    pub(crate) fn collected(&self, alloc: Global) -> Result<Option<Doc>, NoMemory>
+        ensures stands { (plain : Document) → IsUncollected self.now plain
+            → IfOk result (λ made. DocStandsFor (unwrap_or made self.now) (collected_document plain)) }
+        ensures sessions { IfOk result (λ made. (unwrap_or made self.now).sessions ≡ self.now.sessions) }
+    {
+        match self.collectable(alloc)? {
+            Some((floor, groups)) => Ok(Some(self.without(alloc, floor, &groups)?)),
+            None => Ok(None),
+        }
+    }
+
     // What is collected now, if anything: the groups of a floor. That is nothing where no group is retired, and where a session lags.
     fn collectable(&self, alloc: Global) -> Result<Option<(u64, BTreeSet<u64>)>, NoMemory>
         ensures found { (plain : Document) → IsUncollected self.now plain

@@ -1,15 +1,17 @@
 ghost use Rattle.std.specs.Prelude.{◌≡◌};
+ghost use Rattle.doc_session.specs.Inner.{is_scrolling};
 ghost use Rattle.doc_session.specs.Step.{copies, scrolls};
 
+use crate::said::Scrolling;
 use xi_plain::EditAct;
 
-/// Whether a command scrolls to the last caret, where that stands elsewhere then.
-pub(crate) fn scrolls(act: &EditAct) -> bool
-    ensures { result ≡ scrolls act.now }
+/// Where the front end scrolls after a command.
+pub(crate) fn scrolls(act: &EditAct) -> Scrolling
+    ensures { is_scrolling result ≡ scrolls act.now }
 {
     match act {
-        EditAct::SelectAll => false,
-        _ => true,
+        EditAct::SelectAll => Scrolling::Nowhere,
+        _ => Scrolling::ToCaret,
     }
 }
 

@@ -16,7 +16,7 @@ ghost use Rattle.doc_session.specs.Refusal.{edit_refused};
 ghost use Rattle.undo_groups.specs.Groups.{next_redo, next_undo, redone_one, undone_one};
 ghost use Rattle.doc_session.specs.Agree.{Agree};
 ghost use Rattle.doc_layout.specs.Told.{scroll_between};
-ghost use Rattle.doc_session.specs.Inner.{IsAfter, IsAfterEdit, IsFrontEdit, IsLeftOf, IsMoved, IsStepped, IsTakenFrom, IsTurned, IsUncollected, IsUntold, effect_in, head_shown, is_pristine_in, next_document, pristine_to};
+ghost use Rattle.doc_session.specs.Inner.{IsAfter, IsAfterEdit, IsFrontEdit, IsLeftOf, IsMoved, IsStepped, IsTakenFrom, IsTurned, IsUncollected, IsUntold, effect_in, head_shown, is_pristine_in, is_scrolling, next_document, pristine_to};
 ghost use Rattle.doc_session.specs.PositionView.{position_view};
 ghost use Rattle.doc_session.specs.ScreenOf.{IsShownAfter};
 ghost use Rattle.doc_session.specs.Stands.{DocStandsFor};
@@ -25,12 +25,12 @@ ghost use Rattle.doc_session.specs.Whole.{IsWhole};
 ghost use Rattle.doc_view.specs.Told.{IsTextLeft, settled_view, told};
 ghost use Rattle.doc_view.specs.View.{point_in};
 
-use crate::collecting::after_collection;
 use crate::commands::{copies, scrolls};
 use crate::event::{Body, Effects, Event};
 use crate::fault::DocFault;
 use crate::left::{Left, joined_or_opened, left_by, named_or_opened};
-use crate::said::{NO_REQUEST, Said};
+use crate::looking::Viewing;
+use crate::said::{NO_REQUEST, Said, Scrolling};
 use crate::sessions::Sessions;
 use crate::taken::{Taken, taken_by, taken_head, taken_turn};
 use crate::typing::{Typing, kind_of, run_group, run_on, run_with};
@@ -154,8 +154,8 @@ impl Doc {
     {
         let _steps = steps;
         let (next, effects) = self.next(alloc, event)?;
-        let made = after_collection(alloc, next)?;
-        Ok((made, effects))
+        let collected = next.collected(alloc)?;
+        Ok((collected.unwrap_or(next), effects))
     }
 
     /// The same, in place of this document: it is put there last, so after an `Err` the document is as before, for want of memory too.
@@ -219,13 +219,12 @@ impl Doc {
             }
             Event::Ack { caller, rev } => self.acknowledged(alloc, caller, rev),
             Event::Ended { caller } => Ok(self.ended(alloc, caller)?),
-            Event::Config(config) => Ok(self.configured(alloc, config)?),
-            Event::Other => Ok(self.other(alloc)?),
+            Event::Config(config) => Ok(self.looking(alloc, Viewing::Layout(config))?),
+            Event::Other => Ok(self.looking(alloc, Viewing::Other)?),
         }
     }
 
     // A command of the front end.
-    #[tactic(auto, using(crate::proofs::ActLemmas::refusal_undo, crate::proofs::ActLemmas::refusal_redo, crate::proofs::ActLemmas::refusal_scroll, crate::proofs::ActLemmas::refusal_request, crate::proofs::ActLemmas::refusal_find, crate::proofs::ActLemmas::refusal_next, crate::proofs::ActLemmas::refusal_previous))]
     fn act(&self, alloc: Global, act: EditAct) -> Result<(Doc, Effects), DocFault>
         requires { head self.now.engine.revisions < 2 ^ 63 - 1 }
         ensures stepped { (plain : Document) → DocStandsFor self.now plain → IfOk result (IsStepped (act_step plain act)) }
@@ -238,18 +237,30 @@ impl Doc {
         match act {
             EditAct::Undo => Ok(self.undo(alloc)?),
             EditAct::Redo => Ok(self.redo(alloc)?),
-            EditAct::Scroll { first, last } => Ok(self.scroll(alloc, lines_from(first, last))?),
+            EditAct::Scroll { first, last } => {
+                let lines = Run {
+                    start: first,
+                    end: last,
+                };
+                Ok(self.looking(alloc, Viewing::Window(lines))?)
+            }
             EditAct::RequestLines { first, last } => {
-                Ok(self.request(alloc, lines_from(first, last))?)
+                let lines = Run {
+                    start: first,
+                    end: last,
+                };
+                Ok(self.looking(alloc, Viewing::Lines(lines))?)
             }
             EditAct::Find {
                 chars,
                 case_sensitive,
                 ..
-            } => Ok(self.find(alloc, chars, case_sensitive)?),
-            EditAct::FindNext { wrap_around, .. } => Ok(self.find_next(alloc, wrap_around)?),
+            } => Ok(self.looking(alloc, Viewing::Seek(chars, case_sensitive))?),
+            EditAct::FindNext { wrap_around, .. } => {
+                Ok(self.looking(alloc, Viewing::Next(wrap_around))?)
+            }
             EditAct::FindPrevious { wrap_around, .. } => {
-                Ok(self.find_previous(alloc, wrap_around)?)
+                Ok(self.looking(alloc, Viewing::Previous(wrap_around))?)
             }
             act => self.command(alloc, &act),
         }
@@ -290,7 +301,7 @@ impl Doc {
             text: TextLeft::Same,
             request: NO_REQUEST,
             body,
-            scrolls: scrolls(act),
+            scrolling: scrolls(act),
             notice: None,
         };
         self.told(alloc, next, said)
@@ -397,7 +408,7 @@ impl Doc {
     {
         match group {
             Some(group) => self.turned(alloc, stack, group),
-            None => self.other(alloc),
+            None => self.looking(alloc, Viewing::Other),
         }
     }
 
@@ -418,7 +429,7 @@ impl Doc {
             typing: None,
             sel,
         };
-        self.settled(alloc, taken, left, Body::Null, true)
+        self.settled(alloc, taken, left, Body::Null, Scrolling::ToCaret)
     }
 
     // A plugin edits the text, in the group that it names or in the next.
@@ -449,7 +460,8 @@ impl Doc {
             .view
             .moved(alloc, &taken.change.units, after_cursor, Goals::Kept)?;
         let left = left_by(made, None, sel);
-        Ok(self.settled(alloc, taken, left, Body::Edited { rev, group }, false)?)
+        let body = Body::Edited { rev, group };
+        Ok(self.settled(alloc, taken, left, body, Scrolling::Nowhere)?)
     }
 
     // The document after a revision, and what the front end and the plugins are told.
@@ -459,7 +471,7 @@ impl Doc {
         taken: Taken,
         left: Left,
         body: Body,
-        scrolls: bool,
+        scrolling: Scrolling,
     ) -> Result<(Doc, Effects), NoMemory>
         requires whole { IsWhole (arc_value taken.engine) left.stack left.typing (head_shown (arc_value taken.engine)) }
         requires made { IsTakenFrom self.now.engine taken }
@@ -468,7 +480,7 @@ impl Doc {
         ensures stepped { (plain : Document) (history : History) (author : ℕ) → DocStandsFor self.now plain
             → IsAfter plain.history history author taken → Agree history.revisions history.collected left.stack left.typing
             → left.sel.regions ≢ [] → IfOk result (IsStepped (revision_step plain (next_document plain history left) author body
-            (scroll_if scrolls plain (next_document plain history left)))) }
+            (scroll_if (is_scrolling scrolling) plain (next_document plain history left)))) }
         ensures sessions { IfOk result (λ made. made.0.sessions ≡ self.now.sessions) }
     {
         let layers = self.moved_layers(alloc, &taken)?;
@@ -482,7 +494,7 @@ impl Doc {
             text: TextLeft::Edited,
             request: NO_REQUEST,
             body,
-            scrolls,
+            scrolling,
             notice: Some(notice),
         };
         self.told(alloc, next, said)
@@ -531,17 +543,18 @@ impl Doc {
     ) -> Result<(Doc, Effects), NoMemory>
         requires text { IsTextLeft said.text self.now.view next.view }
         ensures stepped { (plain later : Document) → DocStandsFor self.now plain → IsUntold next plain later
-            → IfOk result (IsStepped (step_to said.request plain later said.body (scroll_if said.scrolls plain later) said.notice)) }
+            → IfOk result (IsStepped
+            (step_to said.request plain later said.body (scroll_if (is_scrolling said.scrolling) plain later) said.notice)) }
         ensures sessions { IfOk result (λ made. made.0.sessions ≡ next.sessions) }
     {
         let Said {
             text,
             request,
             body,
-            scrolls,
+            scrolling,
             notice,
         } = said;
-        let scroll = self.scroll_to(&next, scrolls);
+        let scroll = self.scroll_to(&next, scrolling);
         let (next, update) = self.updated(alloc, next, text, request)?;
         let effects = Effects {
             body,
@@ -598,14 +611,14 @@ impl Doc {
     }
 
     // Where the last caret stands then, where that is asked and it is another place on the layout than before.
-    fn scroll_to(&self, next: &Doc, asked: bool) -> Option<(u64, u64)>
+    fn scroll_to(&self, next: &Doc, asked: Scrolling) -> Option<(u64, u64)>
         ensures { option_map position_view result
-            ≡ (if asked then scroll_between (point_in self.now.view) (point_in next.now.view) else None) }
+            ≡ (if is_scrolling asked then scroll_between (point_in self.now.view) (point_in next.now.view) else None) }
     {
-        if !asked {
-            return None;
+        match asked {
+            Scrolling::Nowhere => None,
+            Scrolling::ToCaret => scroll_of(self.view.point(), next.view.point()),
         }
-        scroll_of(self.view.point(), next.view.point())
     }
 
     // The session of a plugin acknowledges this revision.
@@ -735,16 +748,6 @@ impl Doc {
         ensures { IfOk result (λ made. made ≡ self.now) }
     {
         self.with_view(alloc, self.view.copy()?, self.typing)
-    }
-}
-
-// The lines from the first one up to the last, which is not included.
-fn lines_from(first: u64, last: u64) -> Run
-    ensures { result ≡ record { start = first; end = last } }
-{
-    Run {
-        start: first,
-        end: last,
     }
 }
 

@@ -6,13 +6,21 @@ use xi_plain::Notice;
 /// What an event requests that requests no lines.
 pub(crate) const NO_REQUEST: Run = Run { start: 0, end: 0 };
 
-/// What is said of an event beside its update: what it left of the text, which lines it requests, what it is answered, whether the front
-/// end scrolls to the last caret where that stands elsewhere then, and what the plugins are told.
+/// Where the front end scrolls.
+#[derive(Clone, Copy)]
+pub(crate) enum Scrolling {
+    /// To the last caret, where that stands elsewhere than before.
+    ToCaret,
+    Nowhere,
+}
+
+/// What is said of an event beside its update: what it left of the text, which lines it requests, what it is answered, where the front end
+/// scrolls, and what the plugins are told.
 #[derive(Drop)]
 pub(crate) struct Said {
     pub(crate) text: TextLeft,
     pub(crate) request: Run,
     pub(crate) body: Body,
-    pub(crate) scrolls: bool,
+    pub(crate) scrolling: Scrolling,
     pub(crate) notice: Option<Notice>,
 }

@@ -16,7 +16,7 @@ use crate::doc::Doc;
 use crate::event::{Body, Effects};
 use crate::fault::DocFault;
 use crate::reading::read_at;
-use crate::said::{NO_REQUEST, Said};
+use crate::said::{NO_REQUEST, Said, Scrolling};
 use crate::taken::Taken;
 use doc_view::TextLeft;
 use plain_text::NoMemory;
@@ -50,7 +50,7 @@ impl Doc {
             text: TextLeft::Edited,
             request: NO_REQUEST,
             body: Body::Null,
-            scrolls: false,
+            scrolling: Scrolling::Nowhere,
             notice: None,
         };
         Ok(self.told(alloc, next, said)?)

@@ -1,11 +1,15 @@
-use Rattle.std.proofs.Common.{length, ap, sym, ◌∙◌, subst}
-use Rattle.std.specs.Prelude.{None, Option}
+use Rattle.std.proofs.Common.{length, ap, ap₂, sym, ◌∙◌, subst}
+use Rattle.std.specs.Prelude.{IfOk, None, Option}
+use Rattle.doc_view.specs.View.{View}
+use Rattle.doc_session.specs.declared.event.Body.TheVariants.{Null}
 use Rattle.doc_session.specs.declared.typing.Typing.{Typing}
 use Rattle.doc_session.specs.InMemory.{Doc}
-use Rattle.doc_session.specs.Inner.{IsLeftOf, IsUntold}
+use Rattle.doc_session.specs.Inner.{IsLeftOf, IsStepped, IsUntold, viewed, viewed_document}
+use Rattle.doc_session.specs.Step.{scroll_if, step_to}
 use Rattle.doc_session.specs.Typing.{run_on}
 use Rattle.doc_session.proofs.GroupLemmas.{IsLeftOf-run}
 use Rattle.doc_session.proofs.LayerLemmas.{as_many-kept, over-kept}
+use Rattle.doc_session.proofs.ViewLemmas.{IsUntold-viewed, layers-viewed, text-viewed}
 use Rattle.doc_session.proofs.doc.Doc.looking.Goals as goal
 
 pub with_view-requires-clause-typing : goal.with_view-requires-clause-typing
@@ -14,25 +18,40 @@ with_view-requires-clause-typing c =
     subst (λ (d : Doc). IsLeftOf d.typing c.run_on.result) c.self.view_is
     (subst (IsLeftOf doc.typing) (sym c.run_on.ensures) (IsLeftOf-run doc.typing None))
 
+pub with_view-requires-clause-text : goal.with_view-requires-clause-text
+with_view-requires-clause-text c =
+    ap (λ (v : View). v.text) c.in_ok-view.ensures ∙ text-viewed c.self.inside.view c.args.viewing ∙ ap (λ (d : Doc). d.view.text) c.self.view_is
+
 pub with_view-requires-clause-over : goal.with_view-requires-clause-over
-with_view-requires-clause-over c = over-kept _ c.args.self.now c.args.view.layers c.self.invariant c.self.view_is c.requires.layers
+with_view-requires-clause-over c =
+    over-kept _ c.args.self.now c.in_ok-view.view.layers c.self.invariant c.self.view_is
+    (ap (λ (v : View). v.layers) c.in_ok-view.ensures ∙ layers-viewed c.self.inside.view c.args.viewing ∙ ap (λ (d : Doc). d.view.layers) c.self.view_is)
 
 pub with_view-requires-clause-as_many : goal.with_view-requires-clause-as_many
-with_view-requires-clause-as_many c = ap length c.requires.layers ∙ as_many-kept _ c.args.self.now c.self.invariant c.self.view_is
+with_view-requires-clause-as_many c =
+    ap length (ap (λ (v : View). v.layers) c.in_ok-view.ensures ∙ layers-viewed c.self.inside.view c.args.viewing ∙ ap (λ (d : Doc). d.view.layers) c.self.view_is) ∙
+    as_many-kept _ c.args.self.now c.self.invariant c.self.view_is
 
 pub told-requires : goal.told-requires
 told-requires c = record {
   text = (
-    ap (λ (d : Doc). d.view.text) c.in_ok-next.ensures ∙ c.requires.text,
-    ap (λ (d : Doc). d.view.layers) c.in_ok-next.ensures ∙ c.requires.layers,
+    ap (λ (d : Doc). d.view.text) c.in_ok-next.ensures ∙ ap (λ (v : View). v.text) c.in_ok-view.ensures ∙ text-viewed c.self.inside.view c.args.viewing ∙
+        ap (λ (d : Doc). d.view.text) c.self.view_is,
+    ap (λ (d : Doc). d.view.layers) c.in_ok-next.ensures ∙ ap (λ (v : View). v.layers) c.in_ok-view.ensures ∙ layers-viewed c.self.inside.view c.args.viewing ∙
+        ap (λ (d : Doc). d.view.layers) c.self.view_is,
   );
 }
 
 pub returns-clause-stepped : goal.returns-clause-stepped
-returns-clause-stepped c = λ plain later stands untold.
+returns-clause-stepped c = λ plain stands.
     let now = c.args.self.now in
+    let viewing = c.args.viewing in
+    let next = viewed_document plain viewing in
     let next_is =
     c.in_ok-next.ensures ∙
-    ap (λ (t : Option Typing). record now { view = c.args.view; typing = t })
+    ap₂ (λ (v : View) (t : Option Typing). record now { view = v; typing = t })
+    (c.in_ok-view.ensures ∙ ap (λ (d : Doc). viewed d.view viewing) c.self.view_is)
     (c.run_on.ensures ∙ ap (λ (d : Doc). run_on d.typing None) c.self.view_is) in
-    c.told.ensures.stepped plain later stands (subst (λ (d : Doc). IsUntold d plain later) (sym next_is) untold)
+    subst (λ step. IfOk c.told.result (IsStepped step))
+    (ap₂ (λ lines asks. step_to lines plain next Null (scroll_if asks plain next) None) c.viewed_lines-request.ensures c.scrolls_at-scrolling.ensures)
+    (c.told.ensures.stepped plain next stands (subst (λ (d : Doc). IsUntold d plain next) (sym next_is) (IsUntold-viewed now plain stands viewing)))

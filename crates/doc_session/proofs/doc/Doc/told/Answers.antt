@@ -1,4 +1,5 @@
 use Rattle.std.proofs.Common.{refl}
+use Rattle.doc_session.specs.Inner.{is_scrolling}
 use Rattle.doc_session.proofs.SettleLemmas.{IsUncollected-told, scroll-told, update-told}
 use Rattle.doc_session.proofs.doc.Doc.told.Goals as goal
 
@@ -12,7 +13,7 @@ returns-clause-stepped c = λ plain later stands untold.
       effects = record {
         body = refl;
         update = update-told now next request plain later stands untold c.in_ok-next.update c.in_ok-next.ensures.update;
-        scroll = scroll-told now next request plain later stands untold c.args.said.scrolls _ c.scroll_to-scroll.ensures;
+        scroll = scroll-told now next request plain later stands untold (is_scrolling c.args.said.scrolling) _ c.scroll_to-scroll.ensures;
         notice = refl;
       };
     }
