@@ -11,12 +11,12 @@ use Rattle.plain_edits.specs.History.{Revision, edit, undo, undone}
 use Rattle.plain_edits.specs.Edits.{is_edit_of}
 use Rattle.plain_edits.proofs.callers.HistoryLemmas.{undone-edit, undone-undo}
 use Rattle.undo_groups.specs.Groups.{Groups, IsStack, grown, excess, retiring, after_opening, is_known, next_undo, no_groups}
-use Rattle.doc_session.specs.declared.typing.Kind.{Kind}
-use Rattle.doc_session.specs.declared.typing.Typing.{Typing}
+use Rattle.edit_groups.specs.declared.typing.Kind.{Kind}
+use Rattle.edit_groups.specs.declared.typing.Typing.{Typing}
+use Rattle.edit_groups.specs.Grouping.{group_by, groups_by, run_group}
+use Rattle.edit_groups.specs.Typing.{is_same_kind, run_on, run_with}
 use Rattle.doc_session.specs.Agree.{Agree, IsNewest, is_given}
-use Rattle.doc_session.specs.Grouping.{group_by, groups_by, run_group}
 use Rattle.doc_session.specs.Inner.{IsTurned}
-use Rattle.doc_session.specs.Typing.{is_same_kind, run_on, run_with}
 
 -- ---- truths
 

@@ -3,24 +3,23 @@ use Rattle.std.proofs.Common.{◌≡◌, ℕ, ◌<◌, ◌≤◌, Bool, true, fa
 use Rattle.std.specs.Prelude.{IfSome}
 use Rattle.std.specs.BTreeSet.{BTreeSet}
 use Rattle.std.specs.List.{AllByRecursion, filter, list_all, list_any}
-use Rattle.std.specs.Ordering.{is_eq, nat_cmp}
 use Rattle.std.proofs.Math.Logic.{∥∥₁_map}
 use Rattle.std.proofs.Math.Seq.{drop-length}
-use Rattle.std.proofs.lemmas.Bool.{cases_eq, cases_lt, and_parts, and_from, or_right, eqb-true, eq-eqb, ne_eqb}
-use Rattle.std.proofs.lemmas.Bool.Decides.{nat_tests}
+use Rattle.std.proofs.lemmas.Bool.{cases_lt, and_parts, and_from, or_right, eq-eqb, ne_eqb}
 use Rattle.plain_text.specs.Numbers.{has, with_number, without_number, IsRising}
 use Rattle.plain_text.proofs.callers.NumberLemmas.{IsRising-without, has-with_numbers}
-use Rattle.number_set.proofs.ForCallers.{above, absent, has-own, no}
+use Rattle.number_set.proofs.ForCallers.{has-own, no}
 use Rattle.plain_edits.specs.Collection.{Collection, clean_floor, collected_at, collection_at, collection_of, is_at_rest, is_based_from, is_clean, resting_groups}
 use Rattle.plain_edits.specs.Edits.{is_edit_of}
 use Rattle.plain_edits.specs.History.{History, Revision, head, undone}
 use Rattle.plain_edits.proofs.callers.CollectionLemmas.{all_has, greatest_clean_floor, is_at_rest_iff}
 use Rattle.undo_groups.specs.Groups.{Groups, IsStack, forgotten, is_known}
+use Rattle.edit_groups.proofs.ForCallers.{has-removed, least-within, same_order}
+use Rattle.edit_groups.specs.declared.typing.Typing.{Typing}
 use Rattle.rev_collect.specs.Choice.{collection_said}
 use Rattle.rev_engine.specs.Asked.{IsCollectionTaken}
 use Rattle.rev_engine.specs.State.{State}
 use Rattle.rev_engine.specs.Engine.{StandsFor}
-use Rattle.doc_session.specs.declared.typing.Typing.{Typing}
 use Rattle.doc_session.specs.Agree.{Agree, IsNewest, is_given}
 use Rattle.doc_session.specs.Collecting.{AreAcknowledged, AreEnded, HasNoneLeft, collected_document, collection_after, least_acknowledged, with_collection}
 use Rattle.doc_session.specs.Document.{Document}
@@ -29,43 +28,9 @@ use Rattle.doc_session.specs.Inner.{IsUncollected, MayCollectIn}
 use Rattle.doc_session.specs.Stands.{DocStandsFor}
 use Rattle.doc_session.specs.Whole.{IsWhole, IsWholeOf}
 use Rattle.doc_session.proofs.HeadLemmas.{head-stands}
-use Rattle.doc_session.proofs.SessionLemmas.{AreAcknowledged-raised, least-ended, least-within}
+use Rattle.doc_session.proofs.SessionLemmas.{AreAcknowledged-raised, least-ended}
 
 -- ---- numbers without some
-
-same_order : (n : ℕ) → is_eq (nat_cmp n n) ≡ true
-same_order n = grind (arith, nat_tests)
-
-other_order : (n m : ℕ) → (n ≡ m → ⊥) → is_eq (nat_cmp n m) ≡ false
-other_order n m other = grind (arith, nat_tests)
-
-either : (m x : Bool) (rest : Bool) → (m ≡ true → x ≡ false) → (x || (if m then false else rest)) ≡ (if m then false else x || rest)
-either true x rest apart = ap (λ b. b || false) (apart refl)
-either false x rest apart = refl
-
-pub has-removed : (xs : List ℕ) (n m : ℕ) → IsRising xs → has (without_number xs n) m ≡ (if n == m then false else has xs m)
-has-removed [] n m up = by (n == m)
-  where
-    by : (same : Bool) → false ≡ (if same then false else false)
-    by true = refl
-    by false = refl
-has-removed (x ∷ xs) n m up =
-    elim (cases_eq n x) [
-      | inl is ↦
-          ap (λ b. has (cond b xs (x ∷ without_number xs n)) m) (ap (λ k. is_eq (nat_cmp n k)) (sym is) ∙ same_order n) ∙
-          elim (cases_eq n m) [
-            | inl own ↦
-                absent (has xs m) (λ there. absurd (omega (arith, above x m xs up.0 there, is, own))) ∙
-                ap (λ b. if b then false else has (x ∷ xs) m) (sym (eq-eqb n m own))
-            | inr other ↦
-                ap (λ b. b || has xs m) (sym (ne_eqb x m (λ same. other (is ∙ same)))) ∙
-                ap (λ b. if b then false else has (x ∷ xs) m) (sym (ne_eqb n m other))
-          ]
-      | inr differs ↦
-          ap (λ b. has (cond b xs (x ∷ without_number xs n)) m) (other_order n x differs) ∙
-          ap (λ b. x == m || b) (has-removed xs n m up.1) ∙
-          either (n == m) (x == m) (has xs m) (λ own. ne_eqb x m (λ same. differs (eqb-true n m own ∙ sym same)))
-    ]
 
 in_turn : (a b rest : Bool) → (if b then false else (if a then false else rest)) ≡ (if a || b then false else rest)
 in_turn true true rest = refl

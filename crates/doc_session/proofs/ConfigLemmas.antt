@@ -2,12 +2,12 @@
 use Rattle.std.proofs.Common.{◌≡◌, Bool, true, false, None, refl, ◌∙◌}
 use Rattle.std.specs.Prelude.{if◌then◌else◌}
 use Rattle.plain_text.specs.declared.run.Run.{Run}
+use Rattle.edit_groups.specs.Grouping.{named_group}
 use Rattle.doc_session.specs.declared.event.Event.{Event}
 use Rattle.doc_session.specs.declared.event.Event.TheVariants.{Ack, Config as Configure, Edit, Ended, Front, Other, Spans}
 use Rattle.doc_session.specs.Asking.{asked_spans, plugin_edit}
 use Rattle.doc_session.specs.Document.{Document, no_request}
 use Rattle.doc_session.specs.Effects.{settled, updated, wants_update}
-use Rattle.doc_session.specs.Grouping.{named_group}
 use Rattle.doc_session.specs.Step.{config_after, configured_document, event_step, given_document, going_on, request_of, styled_document, taken_step}
 use Rattle.doc_session.proofs.ActLemmas.{by_front}
 use Rattle.doc_session.proofs.CollectLemmas.{part-collected}

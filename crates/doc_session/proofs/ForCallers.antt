@@ -8,6 +8,6 @@ pub use Rattle.doc_session.proofs.HeadLemmas.{head-stands}
 pub use Rattle.doc_session.proofs.LoadLemmas.{text_of-loaded}
 pub use Rattle.doc_session.proofs.MoveLemmas.{head-after, head-undid, sound-given}
 pub use Rattle.doc_session.proofs.IdleLemmas.{typing-some, typing-within}
-pub use Rattle.doc_session.proofs.SessionLemmas.{least-ended, least-within}
+pub use Rattle.doc_session.proofs.SessionLemmas.{least-ended}
 pub use Rattle.doc_session.proofs.ScreenLemmas.{IsScreenOf-shown}
 pub use Rattle.doc_session.proofs.SomeLemmas.{effect-some}

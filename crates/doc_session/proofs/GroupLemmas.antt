@@ -20,13 +20,13 @@ use Rattle.rev_engine.specs.Asked.{IsKnown, MayAskUndo}
 use Rattle.rev_engine.specs.State.{State}
 use Rattle.rev_engine.proofs.ForCallers.{IsKnown-stands, collected-stands, head-stands, undone_now-stands}
 use Rattle.undo_groups.specs.Groups.{Groups, IsStack, is_known, next_undo, undone_one, next_redo, redone_one}
-use Rattle.doc_session.specs.declared.left.Left.{Left}
-use Rattle.doc_session.specs.declared.typing.Kind.{Kind}
-use Rattle.doc_session.specs.declared.typing.Typing.{Typing}
+use Rattle.edit_groups.specs.declared.left.Left.{Left}
+use Rattle.edit_groups.specs.declared.typing.Kind.{Kind}
+use Rattle.edit_groups.specs.declared.typing.Typing.{Typing}
+use Rattle.edit_groups.specs.Grouping.{group_by, groups_by, known_group, named_group, run_group}
+use Rattle.edit_groups.specs.Typing.{is_same_kind, run_on, run_with}
 use Rattle.doc_session.specs.Agree.{Agree}
-use Rattle.doc_session.specs.Grouping.{group_by, groups_by, named_group, run_group}
-use Rattle.doc_session.specs.Inner.{IsLeftOf, IsMoved, IsOpenGroup, IsTurned, known_group}
-use Rattle.doc_session.specs.Typing.{is_same_kind, run_on, run_with}
+use Rattle.doc_session.specs.Inner.{IsLeftOf, IsMoved, IsOpenGroup, IsTurned}
 use Rattle.doc_session.specs.Whole.{IsWhole, IsWholeOf}
 use Rattle.doc_session.proofs.AgreeLemmas.{Agree-edited, Agree-ended, IsLast-next_undo, IsNewest-edited, JoinsKnown, JoinsKnown-newest, JoinsNewest-run, counts-joined, edits-turned, has-next_undo, kept-joined, kept-turned, shown-joined}
 

@@ -8,7 +8,7 @@ use Rattle.rev_engine.specs.Engine.{StandsFor}
 use Rattle.rev_engine.proofs.ForCallers.{shown_head-stands}
 use Rattle.doc_session.specs.Inner.{StandsForSome, head_shown}
 use Rattle.undo_groups.specs.Groups.{Groups}
-use Rattle.doc_session.specs.declared.typing.Typing.{Typing}
+use Rattle.edit_groups.specs.declared.typing.Typing.{Typing}
 use Rattle.doc_session.specs.Whole.{IsStateOf, IsStateOfSome, IsWhole, IsWholeOf}
 pub use Rattle.rev_engine.proofs.ForCallers.{head-stands}
 

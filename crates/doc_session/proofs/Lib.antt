@@ -5,7 +5,6 @@ pub mod HeadLemmas
 pub mod MoveLemmas
 pub mod SessionLemmas
 pub mod CollectLemmas
-pub mod ForgetLemmas
 pub mod LoadLemmas
 pub mod FrontLemmas
 pub mod UntoldLemmas

@@ -37,9 +37,9 @@ use Rattle.selection_core.specs.Mapped.{AreWithin, length_after, mapped_region, 
 use Rattle.selection_core.specs.Selection.{merged_regions}
 use Rattle.selection_core.proofs.ForCallers.{new_gap-after_step}
 use Rattle.undo_groups.specs.Groups.{Groups}
-use Rattle.doc_session.specs.declared.left.Left.{Left}
+use Rattle.edit_groups.specs.declared.left.Left.{Left}
+use Rattle.edit_groups.specs.declared.typing.Typing.{Typing}
 use Rattle.doc_session.specs.declared.taken.Taken.{Taken}
-use Rattle.doc_session.specs.declared.typing.Typing.{Typing}
 use Rattle.doc_session.specs.Effects.{notice_of, change_delta}
 use Rattle.doc_layout.specs.Changed.{IsChangeOf}
 use Rattle.doc_session.specs.Inner.{IsAfter, IsNoticed, IsSaidOfSome, IsTakenFrom, SaysSome, StandsForSome, head_shown}

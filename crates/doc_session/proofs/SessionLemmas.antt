@@ -1,50 +1,14 @@
 -- What the sessions of a document have acknowledged, and the least of it.
-use Rattle.std.proofs.Common.{◌≡◌, ℕ, zero, suc, ◌+◌, ◌<◌, ◌≤◌, min, Bool, true, false, if◌then◌else◌, List, [], ◌∷◌, length, drop, get_or, Option, Some, None, refl, ap, sym, ◌∙◌, arith}
+use Rattle.std.proofs.Common.{◌≡◌, ℕ, zero, suc, ◌≤◌, Bool, true, false, if◌then◌else◌, List, [], ◌∷◌, Option, Some, None, refl, arith}
 use Rattle.std.specs.Prelude.{replicate, slice_index_or, slice_set, nat_lt}
-use Rattle.std.proofs.Math.Nat.{le-max_left, le-min, max-le, min-le_left, min-le_right}
+use Rattle.std.proofs.Math.Nat.{le-max_left, max-le, min-le_left, min-le_right}
 use Rattle.std.proofs.lemmas.Bool.{ltb-false}
-use Rattle.std.proofs.lemmas.List.{drop_more}
 use Rattle.plain_edits.specs.Edits.{collected, unknown}
 use Rattle.plain_edits.specs.History.{History, head, loaded}
 use Rattle.doc_session.specs.Asking.{acknowledgement_refusal}
 use Rattle.doc_session.specs.Collecting.{AreAcknowledged, AreEnded, IsAcknowledged, acknowledged_by, least_acknowledged, session_of, with_session}
 
--- ---- the least acknowledgement
-
-pub least-within : (head : ℕ) (sessions : List (Option ℕ)) → least_acknowledged head sessions ≤ head
-least-within head [] = omega arith
-least-within head (None ∷ sessions) = least-within head sessions
-least-within head (Some rev ∷ sessions) =
-    let rest = least_acknowledged head sessions in
-    omega (arith, min-le_right rev rest, least-within head sessions)
-
--- the least of a session and of others, one after the other
-turns-le : (a b c : ℕ) → min a (min b c) ≤ min b (min a c)
-turns-le a b c =
-    le-min (omega (arith, min-le_right a (min b c), min-le_left b c))
-    (le-min (min-le_left a (min b c)) (omega (arith, min-le_right a (min b c), min-le_right b c)))
-
-min-turns : (a b c : ℕ) → min a (min b c) ≡ min b (min a c)
-min-turns a b c = omega (arith, turns-le a b c, turns-le b a c)
-
-least-min : (rev last : ℕ) (sessions : List (Option ℕ)) → least_acknowledged (min rev last) sessions ≡ min rev (least_acknowledged last sessions)
-least-min rev last [] = refl
-least-min rev last (None ∷ sessions) = least-min rev last sessions
-least-min rev last (Some other ∷ sessions) =
-    ap (min other) (least-min rev last sessions) ∙ min-turns other rev (least_acknowledged last sessions)
-
-least-in_turn : (last : ℕ) (session : Option ℕ) (sessions : List (Option ℕ)) →
-    least_acknowledged (least_acknowledged last (session ∷ [])) sessions ≡ least_acknowledged last (session ∷ sessions)
-least-in_turn last None sessions = refl
-least-in_turn last (Some rev) sessions = least-min rev last sessions
-
-pub least-step : (last : ℕ) (sessions : List (Option ℕ)) (i : ℕ) (d : Option ℕ) (next : ℕ) → i < length sessions →
-    next ≡ least_acknowledged last (get_or sessions i d ∷ []) →
-    least_acknowledged next (drop (i + 1) sessions) ≡ least_acknowledged last (drop i sessions)
-least-step last sessions i d next inside is =
-    ap (λ n. least_acknowledged n (drop (i + 1) sessions)) is ∙ least-in_turn last (get_or sessions i d) (drop (i + 1) sessions) ∙
-    ap (least_acknowledged last) (sym (drop_more sessions i d inside))
-
+-- where no session is open, the least acknowledgement is the head
 pub least-ended : (head : ℕ) (sessions : List (Option ℕ)) → AreEnded sessions → least_acknowledged head sessions ≡ head
 least-ended head [] ended = refl
 least-ended head (None ∷ sessions) ended = least-ended head sessions ended.1

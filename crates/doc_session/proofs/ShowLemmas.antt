@@ -2,13 +2,13 @@
 use Rattle.std.proofs.Common.{◌≡◌, Option, Some, None, refl}
 use Rattle.plain_text.specs.declared.run.Run.{Run}
 use Rattle.plain_edits.specs.Collection.{Collection}
+use Rattle.edit_groups.specs.Grouping.{named_group}
 use Rattle.doc_session.specs.InMemory.{Doc}
 use Rattle.doc_session.specs.declared.event.Event.{Event}
 use Rattle.doc_session.specs.declared.event.Event.TheVariants.{Ack, Config as Configure, Edit, Ended, Front, Other, Spans}
 use Rattle.doc_session.specs.Collecting.{acknowledged_document, collected_document, collection_after, ended_document, with_collection}
 use Rattle.doc_session.specs.Document.{Document, no_request}
 use Rattle.doc_session.specs.Asking.{asked_spans, plugin_edit}
-use Rattle.doc_session.specs.Grouping.{named_group}
 use Rattle.doc_session.specs.Effects.{settled}
 use Rattle.doc_session.specs.ScreenOf.{IsShownAfter, IsUpToDate}
 use Rattle.doc_session.specs.Stands.{DocStandsFor}

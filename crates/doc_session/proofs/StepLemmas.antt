@@ -15,22 +15,22 @@ use Rattle.rev_engine.specs.declared.edit.UnitEdit.{UnitEdit}
 use Rattle.rev_engine.specs.Engine.{IsSaidBy, StandsFor, asked_by}
 use Rattle.rev_engine.specs.Given.{AskedEdit}
 use Rattle.undo_groups.specs.Groups.{Groups}
+use Rattle.edit_groups.specs.declared.left.Left.{Left}
+use Rattle.edit_groups.specs.declared.typing.Kind.{Kind}
+use Rattle.edit_groups.specs.declared.typing.Typing.{Typing}
+use Rattle.edit_groups.specs.Grouping.{group_by, groups_by, known_group, named_group, run_group}
+use Rattle.edit_groups.specs.Typing.{run_on}
 use Rattle.stale_spans.specs.Asked.{moved_layers}
 use Rattle.doc_view.specs.Idle.{do_nothing}
 use Rattle.doc_view.specs.declared.moved.Goals.{Goals}
 use Rattle.doc_view.specs.Moved.{AreMoved, with_goals}
 use Rattle.doc_session.specs.InMemory.{Doc}
-use Rattle.doc_session.specs.declared.left.Left.{Left}
 use Rattle.doc_session.specs.declared.taken.Taken.{Taken}
-use Rattle.doc_session.specs.declared.typing.Kind.{Kind}
-use Rattle.doc_session.specs.declared.typing.Typing.{Typing}
 use Rattle.doc_session.specs.Asking.{asked_refusal, replacing_edit, front_edit, plugin_edit}
 use Rattle.doc_session.specs.Document.{Document, text_of}
-use Rattle.doc_session.specs.Grouping.{group_by, groups_by, named_group, run_group}
-use Rattle.doc_session.specs.Inner.{IsAfter, IsAfterEdit, effect_in, known_group, next_document}
+use Rattle.doc_session.specs.Inner.{IsAfter, IsAfterEdit, effect_in, next_document}
 use Rattle.doc_session.specs.Stands.{DocStandsFor}
 use Rattle.doc_session.specs.Step.{effect_on, is_idle, regions_by}
-use Rattle.doc_session.specs.Typing.{run_on}
 use Rattle.doc_session.proofs.GroupLemmas.{known_group-named}
 use Rattle.doc_session.proofs.MoveLemmas.{mapped_regions-moved, sound-given}
 

@@ -9,12 +9,13 @@ use Rattle.plain_edits.specs.Styles.{Layer}
 use Rattle.rev_engine.specs.State.{State}
 use Rattle.stale_spans.specs.Asked.{moved_layers}
 use Rattle.edit_ops.specs.Regions.{without_goal}
+use Rattle.edit_groups.specs.declared.left.Left.{Left}
+use Rattle.edit_groups.specs.declared.typing.Kind.{Kind}
+use Rattle.edit_groups.specs.Typing.{run_on}
 use Rattle.doc_view.specs.declared.search.Search.{Search}
 use Rattle.doc_view.specs.Search.{next_found, next_match, previous_found, previous_match, results}
 use Rattle.doc_view.proofs.ForCallers.{AreWithin-plain, IsSelection-plain, next_found-within, previous_found-within, some-plain, with_match-some, with_match-sound}
-use Rattle.doc_session.specs.declared.left.Left.{Left}
 use Rattle.doc_session.specs.declared.taken.Taken.{Taken}
-use Rattle.doc_session.specs.declared.typing.Kind.{Kind}
 use Rattle.doc_session.specs.Agree.{Agree}
 use Rattle.selection_core.specs.Mapped.{AreWithin}
 use Rattle.selection_core.specs.Selection.{IsSelection}
@@ -23,7 +24,6 @@ use Rattle.doc_session.specs.InMemory.{Doc}
 use Rattle.doc_session.specs.Inner.{IsAfter, IsUntold, head_shown, looking_doc, next_document}
 use Rattle.doc_session.specs.Stands.{AreRegionsOf, DocStandsFor}
 use Rattle.doc_session.specs.Step.{configured_document, selected_document}
-use Rattle.doc_session.specs.Typing.{run_on}
 use Rattle.doc_session.proofs.AgreeLemmas.{Agree-still}
 use Rattle.doc_session.proofs.HeadLemmas.{head_shown-stands}
 use Rattle.doc_session.proofs.SessionLemmas.{AreAcknowledged-later}

@@ -5,7 +5,7 @@ use Rattle.plain_text.specs.Numbers.{has}
 use Rattle.plain_edits.specs.History.{Revision, undone}
 use Rattle.plain_edits.specs.Edits.{is_edit_of}
 use Rattle.undo_groups.specs.Groups.{Groups, IsStack, is_known, next_undo}
-use Rattle.doc_session.specs.declared.typing.Typing.{Typing}
+use Rattle.edit_groups.specs.declared.typing.Typing.{Typing}
 
 -- whether the group was given out
 abbrev pub is_given : Groups → ℕ → Bool

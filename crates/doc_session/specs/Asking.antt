@@ -10,10 +10,10 @@ use Rattle.rev_engine.specs.declared.edit.Edit.{Edit}
 use Rattle.rev_engine.specs.Given.{AskedEdit}
 use Rattle.stale_spans.specs.declared.asked.AskedSpans.{AskedSpans}
 use Rattle.stale_spans.specs.Places.{misplaced}
+use Rattle.edit_groups.specs.Grouping.{group_by}
 use Rattle.doc_session.specs.Document.{Document}
 use Rattle.doc_session.specs.Refusal.{DocRefusal, edit_refused, of_range}
 use Rattle.delta_core.specs.Elements.{delta_by}
-use Rattle.doc_session.specs.Grouping.{group_by}
 
 -- the priority of the front end's edits
 abbrev pub front_priority : ℕ

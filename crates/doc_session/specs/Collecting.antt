@@ -1,24 +1,13 @@
 -- Sessions of plugins, what they acknowledge, and which old undo groups are collected after an event.
-use Rattle.std.specs.Prelude.{◌≡◌, ℕ, ◌-◌, ◌≤◌, min, max, List, [], ◌∷◌, Option, Some, None, slice_index_or, slice_set, ⊤}
+use Rattle.std.specs.Prelude.{◌≡◌, ℕ, ◌≤◌, List, [], Option, Some, None, ⊤}
 use Rattle.std.specs.List.{fold, AllByRecursion}
 use Rattle.plain_edits.specs.Collection.{Collection, collected_at, collection_of}
 use Rattle.plain_edits.specs.History.{History, head}
 use Rattle.undo_groups.specs.Groups.{forgotten}
+pub use Rattle.edit_groups.specs.Sessions.{acknowledged_by, least_acknowledged, session_of, with_session}
 use Rattle.doc_session.specs.Document.{Document}
 
--- ---- sessions, each of which is the revision that it has acknowledged, or nothing where it has ended
-
--- the session after it acknowledged a revision: the greater one counts, and none where it has ended
-abbrev pub acknowledged_by : ℕ → Option ℕ → Option ℕ
-acknowledged_by rev None = None
-acknowledged_by rev (Some last) = Some (max last rev)
-
--- the session of a caller, who counts from 1; and all sessions, in which the caller's is this one
-abbrev pub session_of : List (Option ℕ) → ℕ → Option ℕ
-session_of sessions caller = slice_index_or sessions (caller - 1) None
-
-abbrev pub with_session : List (Option ℕ) → ℕ → Option ℕ → List (Option ℕ)
-with_session sessions caller session = slice_set sessions (caller - 1) session
+-- ---- sessions
 
 -- the document after the session of a caller acknowledged a revision, and after it ended
 abbrev pub acknowledged_document : Document → ℕ → ℕ → Document
@@ -27,12 +16,6 @@ acknowledged_document document caller rev =
 
 abbrev pub ended_document : Document → ℕ → Document
 ended_document document caller = record document { sessions = with_session document.sessions caller None }
-
--- THE LEAST ACKNOWLEDGEMENT of the open sessions, or the head where none is open
-abbrev pub least_acknowledged : ℕ → List (Option ℕ) → ℕ
-least_acknowledged head [] = head
-least_acknowledged head (None ∷ sessions) = least_acknowledged head sessions
-least_acknowledged head (Some rev ∷ sessions) = min rev (least_acknowledged head sessions)
 
 -- a session has ended, or has acknowledged a revision from the floor to the head
 abbrev pub IsAcknowledged : History → Option ℕ → Type 0

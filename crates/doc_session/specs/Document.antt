@@ -14,9 +14,9 @@ use Rattle.doc_session.specs.Layout.{layout, Position, position_of}
 pub use Rattle.doc_layout.specs.Told.{no_request}
 use Rattle.plain_screen.specs.Screen.{Screen}
 use Rattle.undo_groups.specs.Groups.{Groups, no_groups}
+use Rattle.edit_groups.specs.declared.typing.Typing.{Typing}
 use Rattle.doc_view.specs.declared.search.Search.{Search}
 use Rattle.doc_view.specs.Search.{no_search, results}
-use Rattle.doc_session.specs.declared.typing.Typing.{Typing}
 
 -- a document: its history, the most characters that may be inserted after loading, for each plugin, in order, the revision that its
 -- session has acknowledged, or nothing where that has ended, its undo groups and its run of typing, if there is one, the regions of its

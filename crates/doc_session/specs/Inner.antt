@@ -1,5 +1,5 @@
 -- What private functions say: the steps of an event.
-use Rattle.std.specs.Prelude.{◌≡◌, ℕ, ◌+◌, ◌^◌, ◌<◌, ◌≤◌, Bool, true, false, if◌then◌else◌, ◌==◌, List, [], length, map, Option, Some, None, ⊤}
+use Rattle.std.specs.Prelude.{◌≡◌, ℕ, ◌+◌, ◌^◌, ◌<◌, ◌≤◌, Bool, true, false, ◌==◌, List, [], length, map, Option, Some, None, ⊤}
 use Rattle.std.specs.Arc.{arc_value}
 use Rattle.std.specs.List.{AllByRecursion}
 use Rattle.plain_text.specs.declared.run.Run.{Run}
@@ -18,7 +18,10 @@ use Rattle.rev_engine.specs.State.{State, shown_at}
 use Rattle.rev_engine.specs.Engine.{IsChange, IsSaidBy, StandsFor}
 use Rattle.rev_engine.specs.Asked.{IsCollectionTaken}
 use Rattle.rev_engine.specs.Given.{AskedEdit, after}
-use Rattle.undo_groups.specs.Groups.{Groups, IsStack, is_known}
+use Rattle.undo_groups.specs.Groups.{Groups, IsStack}
+use Rattle.edit_groups.specs.declared.left.Left.{Left}
+use Rattle.edit_groups.specs.declared.typing.Typing.{Typing}
+use Rattle.edit_groups.specs.Typing.{run_on}
 use Rattle.stale_spans.specs.Asked.{moved_layers}
 use Rattle.doc_layout.specs.Changed.{IsChangeOf}
 use Rattle.doc_layout.specs.Told.{screen_of}
@@ -27,13 +30,11 @@ use Rattle.doc_view.specs.Search.{next_found, previous_found, search_for}
 use Rattle.doc_view.specs.View.{View, pieces_in}
 use Rattle.doc_session.specs.declared.event.Body.TheVariants.{Null}
 use Rattle.doc_session.specs.declared.event.Effects.{Effects}
-use Rattle.doc_session.specs.declared.left.Left.{Left}
 use Rattle.doc_session.specs.declared.looking.Viewing.{Viewing}
 use Rattle.doc_session.specs.declared.looking.Viewing.TheVariants.{Layout, Lines, Next, Other, Previous, Seek, Window}
 use Rattle.doc_session.specs.declared.said.Scrolling.{Scrolling}
 use Rattle.doc_session.specs.declared.said.Scrolling.TheVariants.{Nowhere, ToCaret}
 use Rattle.doc_session.specs.declared.taken.Taken.{Taken}
-use Rattle.doc_session.specs.declared.typing.Typing.{Typing}
 use Rattle.doc_session.specs.Agree.{Agree}
 use Rattle.doc_session.specs.Asking.{front_priority}
 use Rattle.doc_session.specs.Collecting.{AreAcknowledged}
@@ -42,7 +43,6 @@ use Rattle.doc_session.specs.Effects.{notice_of}
 use Rattle.doc_session.specs.InMemory.{Doc}
 use Rattle.doc_session.specs.Stands.{AreRegionsOf}
 use Rattle.doc_session.specs.Step.{AreEffectsOf, EventStep, at_next_match, at_previous_match, configured_document, going_on, looking_document, scroll_if, scrolled_document, seeking_document, step_to}
-use Rattle.doc_session.specs.Typing.{run_on}
 use Rattle.doc_session.specs.Whole.{IsStateOf}
 
 -- ---- an engine
@@ -97,11 +97,6 @@ abbrev pub IsAfterEdit : History → AskedEdit → Taken → Type 0
 IsAfterEdit history asked taken = IsAfter history (after history asked) asked.author taken
 
 -- ---- undo groups
-
--- the group is named, and the stack knows it
-abbrev pub known_group : Groups → Option ℕ → Option ℕ
-known_group groups None = None
-known_group groups (Some group) = if is_known groups group then Some group else None
 
 -- a live group is undone or given back, and nothing else changes
 pub record IsTurned (before next : Groups) (group : ℕ) : Type 0 where

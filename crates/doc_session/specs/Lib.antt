@@ -1,6 +1,4 @@
 pub mod Layout
-pub mod Typing
-pub mod Grouping
 pub mod Document
 pub mod Collecting
 pub mod Refusal

@@ -14,6 +14,9 @@ use Rattle.selection_core.specs.Selection.{merged_regions}
 use Rattle.edit_ops.specs.Commands.{Effect, copied_text, effect_of}
 use Rattle.edit_ops.specs.Regions.{without_goal}
 use Rattle.undo_groups.specs.Groups.{Groups, next_undo, undone_one, next_redo, redone_one}
+use Rattle.edit_groups.specs.declared.typing.Kind.{Kind}
+use Rattle.edit_groups.specs.Typing.{kind_of, run_on, run_with}
+use Rattle.edit_groups.specs.Grouping.{named_group, run_group, groups_by}
 use Rattle.doc_view.specs.Idle.{do_nothing}
 use Rattle.doc_view.specs.Search.{next_found, previous_found, search_for}
 use Rattle.doc_session.specs.Layout.{Position}
@@ -24,10 +27,7 @@ use Rattle.doc_session.specs.declared.event.Body.TheVariants.{Null, Copied, Edit
 use Rattle.doc_session.specs.declared.event.Effects.{Effects}
 use Rattle.doc_session.specs.declared.event.Event.{Event}
 use Rattle.doc_session.specs.declared.event.Event.TheVariants.{Ack, Config as Configure, Edit, Ended, Front, Other, Spans}
-use Rattle.doc_session.specs.declared.typing.Kind.{Kind}
 use Rattle.doc_session.specs.Document.{Document, no_request, pieces_of, text_of}
-use Rattle.doc_session.specs.Typing.{kind_of, run_on, run_with}
-use Rattle.doc_session.specs.Grouping.{named_group, run_group, groups_by}
 use Rattle.stale_spans.specs.declared.asked.AskedSpans.{AskedSpans}
 use Rattle.stale_spans.specs.Asked.{layers_with_spans, moved_layers}
 use Rattle.stale_spans.specs.Places.{StandIn}

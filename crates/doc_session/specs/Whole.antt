@@ -4,8 +4,8 @@ use Rattle.plain_edits.specs.History.{History, head, text_at, inserted_count}
 use Rattle.rev_engine.specs.State.{State}
 use Rattle.rev_engine.specs.Engine.{StandsFor}
 use Rattle.undo_groups.specs.Groups.{Groups}
+use Rattle.edit_groups.specs.declared.typing.Typing.{Typing}
 use Rattle.span_styles.specs.Layers.{AreOver}
-use Rattle.doc_session.specs.declared.typing.Typing.{Typing}
 use Rattle.doc_session.specs.Agree.{Agree}
 use Rattle.doc_session.specs.InMemory.{Doc}
 

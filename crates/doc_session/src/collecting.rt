@@ -15,6 +15,7 @@ ghost use Rattle.doc_session.specs.Inner.{IsUncollected, MayCollectIn};
 ghost use Rattle.doc_session.specs.Stands.{DocStandsFor};
 
 use crate::doc::Doc;
+use edit_groups::{forgetting, retired_groups};
 use plain_text::NoMemory;
 use rev_engine::Engine;
 use std::alloc::Global;
@@ -72,20 +73,6 @@ impl Doc {
     }
 }
 
-// The groups that no undo reaches any more, in O(r log r) with r of them.
-fn retired_groups(alloc: Global, stack: &Stack) -> Result<BTreeSet<u64>, NoMemory>
-    ensures { IfOk result (λ groups. groups.keys ≡ stack.now.retired) }
-{
-    let _given = stack.given();
-    let mut groups = BTreeSet::new(alloc);
-    let mut index = 0;
-    while let Some(group) = stack.retired(index) {
-        groups.insert(group)?;
-        index += 1;
-    }
-    Ok(groups)
-}
-
 // A copy of the engine, which these groups are collected from at the floor.
 fn collecting(
     alloc: Global,
@@ -101,19 +88,4 @@ fn collecting(
     let mut made = engine.copy(alloc)?;
     made.collect(alloc, floor, groups)?;
     Ok(Arc::new(alloc, made)?)
-}
-
-// The stack after it forgot these groups, which it has retired.
-fn forgetting(alloc: Global, stack: &Stack, groups: &BTreeSet<u64>) -> Result<Stack, NoMemory>
-    requires { AllByRecursion (λ group. has stack.now.retired group ≡ true) groups.now.keys }
-    ensures forgotten { IfOk result (λ made. made ≡ fold forgotten stack.now groups.now.keys) }
-    ensures sound { IfOk result (λ made. IsStack made) }
-{
-    let _known = (stack.given(), groups.len());
-    let mut made = stack.copy(alloc)?;
-    for group in groups {
-        made.forget(*group)?;
-    }
-    let _given = made.given();
-    Ok(made)
 }

@@ -28,14 +28,15 @@ ghost use Rattle.doc_view.specs.View.{point_in};
 use crate::commands::{copies, scrolls};
 use crate::event::{Body, Effects, Event};
 use crate::fault::DocFault;
-use crate::left::{Left, joined_or_opened, left_by, named_or_opened};
 use crate::looking::Viewing;
 use crate::said::{NO_REQUEST, Said, Scrolling};
-use crate::sessions::Sessions;
 use crate::taken::{Taken, taken_by, taken_head, taken_turn};
-use crate::typing::{Typing, kind_of, run_group, run_on, run_with};
 use doc_layout::{scroll_of, whole_text};
 use doc_view::{Goals, Pristine, TextLeft, ViewState, does_nothing};
+use edit_groups::{
+    Left, Sessions, Typing, joined_or_opened, kind_of, left_by, named_or_opened, run_group, run_on,
+    run_with,
+};
 use plain_edits::UnitDelta;
 use plain_screen::Update;
 use plain_text::{NoMemory, Run, Sel, Steps, Text};

@@ -11,17 +11,14 @@ mod doc;
 mod event;
 mod fault;
 pub mod laws;
-mod left;
 mod looking;
 mod reading;
 mod said;
-mod sessions;
 mod styles;
 mod taken;
-mod typing;
 
 pub use doc::Doc;
+pub use edit_groups::{Kind, Typing};
 pub use event::{Body, Effects, Event};
 pub use fault::DocFault;
 pub use stale_spans::Misplaced;
-pub use typing::{Kind, Typing};

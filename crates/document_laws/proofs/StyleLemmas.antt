@@ -19,6 +19,8 @@ use Rattle.stale_spans.specs.declared.asked.AskedSpans.{AskedSpans}
 use Rattle.stale_spans.specs.Asked.{layers_with_spans, moved_layers}
 use Rattle.stale_spans.specs.Places.{meant_range}
 use Rattle.undo_groups.specs.Groups.{Groups, next_redo, next_undo, redone_one, undone_one}
+use Rattle.edit_groups.specs.Grouping.{named_group}
+use Rattle.edit_groups.specs.Typing.{kind_of}
 use Rattle.edit_ops.specs.Commands.{Effect}
 use Rattle.doc_session.specs.declared.event.Event.{Event}
 use Rattle.doc_session.specs.declared.event.Event.TheVariants.{Ack, Config as Configure, Edit, Ended, Front, Other, Spans}
@@ -26,9 +28,7 @@ use Rattle.doc_session.specs.Asking.{asked_spans, plugin_edit}
 use Rattle.doc_session.specs.Collecting.{collected_document, collection_after, with_collection}
 use Rattle.doc_session.specs.Document.{Document, loaded_document, no_request, text_of}
 use Rattle.doc_session.specs.Effects.{settled, updated, wants_update}
-use Rattle.doc_session.specs.Grouping.{named_group}
 use Rattle.doc_session.specs.Step.{act_step, at_next_match, at_previous_match, command_step, configured_document, effect_on, given_document, going_on, history_step, idle_step, is_idle, looking_document, scrolled_document, seeking_document, selected_document, styled_document, taken_step, typed_document, typed_step, undone_document}
-use Rattle.doc_session.specs.Typing.{kind_of}
 use Rattle.document_laws.specs.Laws.{AreOverText, SaysNoStyles, StylesFollow}
 use Rattle.document_laws.proofs.GroupLemmas.{part-stepped}
 use Rattle.doc_session.proofs.ForCallers.{text_of-loaded}

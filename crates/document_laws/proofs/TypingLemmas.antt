@@ -12,16 +12,16 @@ use Rattle.plain_edits.specs.History.{head, text_at, IsSound}
 use Rattle.plain_edits.specs.Undo.{undone_now}
 use Rattle.rev_engine.specs.Given.{meant}
 use Rattle.undo_groups.specs.Groups.{Groups, after_opening, next_undo, undone_one}
-use Rattle.doc_session.specs.declared.typing.Kind.{Kind}
-use Rattle.doc_session.specs.declared.typing.Kind.TheVariants as Kinds
-use Rattle.doc_session.specs.declared.typing.Typing.{Typing}
+use Rattle.edit_groups.specs.declared.typing.Kind.{Kind}
+use Rattle.edit_groups.specs.declared.typing.Kind.TheVariants as Kinds
+use Rattle.edit_groups.specs.declared.typing.Typing.{Typing}
+use Rattle.edit_groups.specs.Grouping.{group_by, groups_by, run_group}
+use Rattle.edit_groups.specs.Typing.{run_on, run_with}
 use Rattle.doc_session.specs.Asking.{front_edit}
 use Rattle.doc_session.specs.Collecting.{collected_document, collection_after, with_collection}
 use Rattle.doc_session.specs.Document.{Document, no_request, pieces_of, text_of}
 use Rattle.doc_session.specs.Effects.{settled, updated, wants_update}
-use Rattle.doc_session.specs.Grouping.{group_by, groups_by, run_group}
 use Rattle.doc_session.specs.Step.{effect_on, history_step, idle_step, is_idle, selected_document, taken_step, typed_document, typed_step, undone_document}
-use Rattle.doc_session.specs.Typing.{run_on, run_with}
 use Rattle.doc_session.proofs.ForCallers.{effect-some, next_undo-opened, typing-some, typing-within}
 use Rattle.doc_session.specs.declared.event.Event.TheVariants.{Front}
 use Rattle.document_laws.specs.Laws.{after_event, after_typing, after_undo, bare_groups}

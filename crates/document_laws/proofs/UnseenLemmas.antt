@@ -14,6 +14,8 @@ use Rattle.plain_edits.specs.Edits.{Refusal, collected, misfit_or_spent, unknown
 use Rattle.plain_edits.specs.History.{head, inserted_count, text_at}
 use Rattle.rev_engine.specs.Given.{AskedEdit}
 use Rattle.undo_groups.specs.Groups.{Groups, groups_of, next_redo, next_undo, redone_one, undone_one}
+use Rattle.edit_groups.specs.Grouping.{run_group}
+use Rattle.edit_groups.specs.Typing.{kind_of, run_on}
 use Rattle.doc_session.specs.declared.event.Body.{Body}
 use Rattle.doc_session.specs.declared.event.Body.TheVariants.{Null}
 use Rattle.doc_session.specs.declared.event.Event.{Event}
@@ -25,9 +27,8 @@ use Rattle.doc_session.specs.Effects.{settled, update_after, updated, wants_upda
 use Rattle.doc_session.specs.Layout.{Position}
 use Rattle.doc_session.specs.Refusal.{edit_refused}
 use Rattle.doc_session.specs.Step.{EventStep, act_step, answer_to, at_next_match, at_previous_match, command_step, configured_document, edited_document, effect_on, event_step, going_on, history_step, idle_step, is_idle, looking_document, refusal_at, revision_step, scroll_if, scrolled_document, scrolls, seeking_document, selected_document, step_to, taken_step, typed_step, undone_document}
-use Rattle.doc_session.specs.Grouping.{run_group}
-use Rattle.doc_session.specs.Typing.{kind_of, run_on}
-use Rattle.doc_session.proofs.ForCallers.{floor-found, head-after, least-within}
+use Rattle.edit_groups.proofs.ForCallers.{least-within}
+use Rattle.doc_session.proofs.ForCallers.{floor-found, head-after}
 use Rattle.document_laws.specs.Laws.{AcknowledgementsAreUnseen, AreAlike, CollectionIsUnseen, IsOfFront, TellTheSame, after_event, bare, bare_groups}
 use Rattle.document_laws.proofs.GroupLemmas.{bare-forgotten, head-undid}
 

@@ -9,15 +9,15 @@ use Rattle.xi_plain.specs.declared.config.Config.{Config}
 use Rattle.span_styles.specs.Layers.{AreOver}
 use Rattle.stale_spans.specs.Asked.{moved_layers}
 use Rattle.undo_groups.specs.Groups.{Groups, after_opening, next_redo, next_undo}
+use Rattle.edit_groups.specs.declared.typing.Kind.TheVariants as Kinds
+use Rattle.edit_groups.specs.Typing.{run_on}
 use Rattle.doc_session.specs.declared.event.Event.{Event}
 use Rattle.doc_session.specs.declared.event.Body.TheVariants.{Null}
 use Rattle.doc_session.specs.declared.event.Event.TheVariants.{Ack, Config as Configure, Edit, Ended, Front, Other, Spans}
-use Rattle.doc_session.specs.declared.typing.Kind.TheVariants as Kinds
 use Rattle.doc_session.specs.Document.{Document, loaded_document, text_of}
 use Rattle.doc_session.specs.InMemory.{Doc}
 use Rattle.doc_session.specs.Stands.{DocStandsFor}
 use Rattle.doc_session.specs.Step.{EventStep, event_step, refusal_at}
-use Rattle.doc_session.specs.Typing.{run_on}
 
 -- the document after an event, after an undo, and after a redo
 abbrev pub after_event : Document → Event → Document

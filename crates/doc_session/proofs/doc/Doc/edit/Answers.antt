@@ -12,15 +12,15 @@ use Rattle.rev_engine.specs.Given.{after, meant}
 use Rattle.selection_core.specs.Mapped.{AreWithin}
 use Rattle.selection_core.specs.Selection.{IsSelection}
 use Rattle.undo_groups.specs.Groups.{IsStack}
+use Rattle.edit_groups.specs.declared.left.Left.{Left}
+use Rattle.edit_groups.specs.Grouping.{group_by, groups_by, known_group, named_group}
 use Rattle.doc_view.specs.declared.moved.Goals.TheVariants.{Kept}
 use Rattle.doc_session.specs.declared.event.Body.TheVariants.{Edited}
-use Rattle.doc_session.specs.declared.left.Left.{Left}
 use Rattle.doc_session.specs.Asking.{asked_refusal, plugin_edit}
 use Rattle.doc_session.specs.Fault.{DocRefuses}
 use Rattle.doc_session.specs.Refusal.{edit_refused}
-use Rattle.doc_session.specs.Grouping.{group_by, groups_by, named_group}
 use Rattle.doc_session.specs.InMemory.{Doc}
-use Rattle.doc_session.specs.Inner.{IsStepped, IsTakenFrom, head_shown, known_group, next_document}
+use Rattle.doc_session.specs.Inner.{IsStepped, IsTakenFrom, head_shown, next_document}
 use Rattle.doc_session.specs.Step.{EventStep, regions_by, revision_step}
 use Rattle.doc_session.specs.Stands.{DocStandsFor}
 use Rattle.doc_session.proofs.AgreeLemmas.{JoinsKnown}

@@ -3,13 +3,13 @@ use Rattle.std.specs.Prelude.{IfOk, Option}
 use Rattle.edit_ops.specs.Commands.{Effect}
 use Rattle.selection_core.specs.Mapped.{AreWithin}
 use Rattle.selection_core.specs.Selection.{IsSelection}
+use Rattle.edit_groups.specs.declared.typing.Typing.{Typing}
+use Rattle.edit_groups.specs.Typing.{kind_of, run_on}
 use Rattle.doc_view.specs.View.{View}
-use Rattle.doc_session.specs.declared.typing.Typing.{Typing}
 use Rattle.doc_session.specs.Document.{pieces_of, text_of}
 use Rattle.doc_session.specs.InMemory.{Doc}
 use Rattle.doc_session.specs.Inner.{IsLeftOf, IsStepped}
 use Rattle.doc_session.specs.Step.{effect_on, scroll_if, selected_document, still_step}
-use Rattle.doc_session.specs.Typing.{kind_of, run_on}
 use Rattle.doc_session.proofs.GroupLemmas.{IsLeftOf-run}
 use Rattle.doc_session.specs.Stands.{AreRegionsOf}
 use Rattle.doc_session.proofs.LayerLemmas.{as_many-kept, over-kept}

@@ -1,12 +1,12 @@
 use Rattle.std.proofs.Common.{length, ap, ap₂, sym, ◌∙◌, subst}
 use Rattle.std.specs.Prelude.{IfOk, None, Option}
+use Rattle.edit_groups.specs.declared.typing.Typing.{Typing}
+use Rattle.edit_groups.specs.Typing.{run_on}
 use Rattle.doc_view.specs.View.{View}
 use Rattle.doc_session.specs.declared.event.Body.TheVariants.{Null}
-use Rattle.doc_session.specs.declared.typing.Typing.{Typing}
 use Rattle.doc_session.specs.InMemory.{Doc}
 use Rattle.doc_session.specs.Inner.{IsLeftOf, IsStepped, IsUntold, viewed, viewed_document}
 use Rattle.doc_session.specs.Step.{scroll_if, step_to}
-use Rattle.doc_session.specs.Typing.{run_on}
 use Rattle.doc_session.proofs.GroupLemmas.{IsLeftOf-run}
 use Rattle.doc_session.proofs.LayerLemmas.{as_many-kept, over-kept}
 use Rattle.doc_session.proofs.ViewLemmas.{IsUntold-viewed, layers-viewed, text-viewed}

@@ -5,8 +5,8 @@ use Rattle.span_styles.specs.Layers.{AreOver}
 use Rattle.rev_engine.specs.Engine.{StandsFor}
 use Rattle.rev_engine.specs.State.{State}
 use Rattle.stale_spans.specs.Asked.{layers_with_spans}
+use Rattle.edit_groups.specs.declared.typing.Typing.{Typing}
 use Rattle.doc_view.specs.View.{View}
-use Rattle.doc_session.specs.declared.typing.Typing.{Typing}
 use Rattle.doc_session.specs.InMemory.{Doc}
 use Rattle.doc_session.specs.Inner.{StandsForSome, head_shown}
 use Rattle.doc_session.specs.Step.{styled_document}

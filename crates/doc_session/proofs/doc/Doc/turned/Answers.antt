@@ -7,9 +7,9 @@ use Rattle.std.specs.Prelude.{IfOk}
 use Rattle.std.specs.Arc.{arc_value}
 use Rattle.edit_ops.specs.Regions.{without_goal}
 use Rattle.undo_groups.specs.Groups.{Groups}
+use Rattle.edit_groups.specs.declared.left.Left.{Left}
 use Rattle.doc_view.specs.declared.moved.Goals.TheVariants.{Cleared}
 use Rattle.doc_session.specs.declared.event.Body.TheVariants.{Null}
-use Rattle.doc_session.specs.declared.left.Left.{Left}
 use Rattle.doc_session.specs.Agree.{Agree}
 use Rattle.doc_session.specs.InMemory.{Doc}
 use Rattle.doc_session.specs.Inner.{IsAfter, IsStepped, IsTakenFrom, IsTurned}

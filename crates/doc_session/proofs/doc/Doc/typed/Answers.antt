@@ -12,15 +12,15 @@ use Rattle.rev_engine.specs.Given.{AskedEdit, MayAsk, after, meant}
 use Rattle.selection_core.specs.Mapped.{AreWithin}
 use Rattle.selection_core.specs.Selection.{IsSelection}
 use Rattle.undo_groups.specs.Groups.{IsStack}
-use Rattle.doc_session.specs.declared.left.Left.{Left}
+use Rattle.edit_groups.specs.declared.left.Left.{Left}
+use Rattle.edit_groups.specs.Grouping.{group_by, groups_by, run_group}
+use Rattle.edit_groups.specs.Typing.{kind_of, run_on, run_with}
 use Rattle.doc_session.specs.Asking.{replacing_edit, front_edit, front_priority}
 use Rattle.doc_session.specs.Document.{pieces_of, text_of}
-use Rattle.doc_session.specs.Grouping.{group_by, groups_by, run_group}
 use Rattle.doc_session.specs.InMemory.{Doc}
 use Rattle.doc_session.specs.Inner.{IsAfterEdit, IsOpenGroup, IsStepped, effect_in, head_shown, next_document}
 use Rattle.doc_session.specs.Stands.{DocStandsFor}
 use Rattle.doc_session.specs.Step.{EventStep, answer_to, effect_on, revision_step, scroll_if, scrolls}
-use Rattle.doc_session.specs.Typing.{kind_of, run_on, run_with}
 use Rattle.doc_session.proofs.FrontLemmas.{IsSaidBy-front, length-front}
 use Rattle.doc_session.proofs.GroupLemmas.{Agree-front, few-whole, open-whole}
 use Rattle.doc_session.proofs.HeadLemmas.{head_shown-stands, shown-whole, state-whole}

@@ -1,18 +1,17 @@
 -- The retired groups as a set, and the stack as it forgets some of them one by one.
-use Rattle.std.proofs.Common.{◌≡◌, ℕ, zero, suc, ◌+◌, ◌<◌, ◌≤◌, true, false, if◌then◌else◌, ◌==◌, nat_cmp, Less, Greater, List, [], ◌∷◌, ◌++◌, length, take, drop, get_or, Option, Some, None, refl, ap, sym, ◌∙◌, subst, arith}
+use Rattle.std.proofs.Common.{◌≡◌, ℕ, zero, suc, ◌+◌, ◌<◌, ◌≤◌, true, false, if◌then◌else◌, ◌==◌, nat_cmp, Less, Greater, List, [], ◌∷◌, ◌++◌, length, take, drop, get_or, Option, Some, None, refl, ap, sym, ◌∙◌, subst, arith, Bool, ◌||◌, cond, inl, inr}
 use Rattle.std.specs.Prelude.{slice_get}
 use Rattle.std.specs.List.{AllByRecursion}
 use Rattle.std.specs.List.Sorted.{IsStrictlySortedBy}
-use Rattle.std.specs.Ordering.{match_ordering}
-use Rattle.std.proofs.lemmas.Bool.{or_right, ne_eqb}
+use Rattle.std.specs.Ordering.{is_eq, match_ordering}
+use Rattle.std.proofs.lemmas.Bool.{or_right, ne_eqb, cases_eq, eqb-true, eq-eqb}
 use Rattle.std.proofs.lemmas.Bool.Decides.{nat_tests}
 use Rattle.std.proofs.lemmas.List.{drop_more, take_more}
 use Rattle.plain_text.specs.Numbers.{has, with_number, without_number, IsRising}
 use Rattle.plain_text.proofs.callers.ListLemmas.{AllByRecursion-weaker}
 use Rattle.plain_text.proofs.callers.NumberLemmas.{IsRising-without}
-use Rattle.number_set.proofs.ForCallers.{few-rising, has-own, parted}
+use Rattle.number_set.proofs.ForCallers.{few-rising, has-own, parted, above, absent}
 use Rattle.undo_groups.specs.Groups.{Groups, IsStack, forgotten}
-use Rattle.doc_session.proofs.CollectLemmas.{has-removed}
 
 -- ---- the keys of a set
 
@@ -72,6 +71,42 @@ next-taken xs i n up is =
 -- a stack has at most as many retired groups as were given out
 pub few-retired : (s : Groups) → IsStack s → length s.retired ≤ s.given
 few-retired s is = few-rising s.given s.retired is.retired_rise is.retired_given
+
+-- ---- a rising list without a number
+
+pub same_order : (n : ℕ) → is_eq (nat_cmp n n) ≡ true
+same_order n = grind (arith, nat_tests)
+
+other_order : (n m : ℕ) → (n ≡ m → ⊥) → is_eq (nat_cmp n m) ≡ false
+other_order n m other = grind (arith, nat_tests)
+
+either : (m x : Bool) (rest : Bool) → (m ≡ true → x ≡ false) → (x || (if m then false else rest)) ≡ (if m then false else x || rest)
+either true x rest apart = ap (λ b. b || false) (apart refl)
+either false x rest apart = refl
+
+pub has-removed : (xs : List ℕ) (n m : ℕ) → IsRising xs → has (without_number xs n) m ≡ (if n == m then false else has xs m)
+has-removed [] n m up = by (n == m)
+  where
+    by : (same : Bool) → false ≡ (if same then false else false)
+    by true = refl
+    by false = refl
+has-removed (x ∷ xs) n m up =
+    elim (cases_eq n x) [
+      | inl is ↦
+          ap (λ b. has (cond b xs (x ∷ without_number xs n)) m) (ap (λ k. is_eq (nat_cmp n k)) (sym is) ∙ same_order n) ∙
+          elim (cases_eq n m) [
+            | inl own ↦
+                absent (has xs m) (λ there. absurd (omega (arith, above x m xs up.0 there, is, own))) ∙
+                ap (λ b. if b then false else has (x ∷ xs) m) (sym (eq-eqb n m own))
+            | inr other ↦
+                ap (λ b. b || has xs m) (sym (ne_eqb x m (λ same. other (is ∙ same)))) ∙
+                ap (λ b. if b then false else has (x ∷ xs) m) (sym (ne_eqb n m other))
+          ]
+      | inr differs ↦
+          ap (λ b. has (cond b xs (x ∷ without_number xs n)) m) (other_order n x differs) ∙
+          ap (λ b. x == m || b) (has-removed xs n m up.1) ∙
+          either (n == m) (x == m) (has xs m) (λ own. ne_eqb x m (λ same. differs (eqb-true n m own ∙ sym same)))
+    ]
 
 -- ---- forgetting one by one
 

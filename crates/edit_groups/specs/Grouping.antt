@@ -4,8 +4,8 @@ use Rattle.std.specs.List.{list_any}
 use Rattle.plain_text.specs.Numbers.{has}
 use Rattle.plain_edits.specs.History.{History}
 use Rattle.plain_edits.specs.Edits.{is_edit_of}
-use Rattle.undo_groups.specs.Groups.{Groups, after_opening}
-use Rattle.doc_session.specs.declared.typing.Typing.{Typing}
+use Rattle.undo_groups.specs.Groups.{Groups, after_opening, is_known}
+use Rattle.edit_groups.specs.declared.typing.Typing.{Typing}
 
 -- whether an edit may join the group: it counts from 1, has an edit and is not collected; it may be undone
 abbrev pub may_join : History → ℕ → Bool
@@ -16,6 +16,11 @@ may_join history group =
 abbrev pub named_group : History → Option ℕ → Option ℕ
 named_group history None = None
 named_group history (Some group) = if may_join history group then Some group else None
+
+-- the same, by what the stack knows: the group is named, and it knows it
+abbrev pub known_group : Groups → Option ℕ → Option ℕ
+known_group groups None = None
+known_group groups (Some group) = if is_known groups group then Some group else None
 
 -- the group that an edit of the run joins
 abbrev pub run_group : Option Typing → Option ℕ

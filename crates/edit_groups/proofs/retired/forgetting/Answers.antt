@@ -1,7 +1,7 @@
 use Rattle.std.proofs.Common.{◌≡◌, ◌∷◌, fold, ap, ap₂, sym, ◌∙◌, subst}
 use Rattle.undo_groups.specs.Groups.{forgotten}
-use Rattle.doc_session.proofs.ForgetLemmas.{AreLeft, AreLeft-next, keys_rise}
-use Rattle.doc_session.proofs.collecting.forgetting.Goals as goal
+use Rattle.edit_groups.proofs.ForgetLemmas.{AreLeft, AreLeft-next, keys_rise}
+use Rattle.edit_groups.proofs.retired.forgetting.Goals as goal
 
 pub loop-group-init : goal.loop-group-init
 loop-group-init c =

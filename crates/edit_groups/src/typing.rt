@@ -1,6 +1,6 @@
 ghost use Rattle.std.specs.Prelude.{◌≡◌};
-ghost use Rattle.doc_session.specs.Grouping.{run_group};
-ghost use Rattle.doc_session.specs.Typing.{kind_of, is_same_kind, run_on, run_with};
+ghost use Rattle.edit_groups.specs.Grouping.{run_group};
+ghost use Rattle.edit_groups.specs.Typing.{kind_of, is_same_kind, run_on, run_with};
 
 use xi_plain::EditAct;
 
@@ -20,7 +20,7 @@ pub struct Typing {
 }
 
 /// The kind of a command whose edits may run together.
-pub(crate) fn kind_of(act: &EditAct) -> Option<Kind>
+pub fn kind_of(act: &EditAct) -> Option<Kind>
     ensures { result ≡ kind_of act.now }
 {
     match act {
@@ -32,7 +32,7 @@ pub(crate) fn kind_of(act: &EditAct) -> Option<Kind>
 }
 
 /// The run that a command of this kind goes on with.
-pub(crate) fn run_on(typing: Option<Typing>, kind: Option<Kind>) -> Option<Typing>
+pub fn run_on(typing: Option<Typing>, kind: Option<Kind>) -> Option<Typing>
     ensures { result ≡ run_on typing kind }
 {
     match (typing, kind) {
@@ -48,7 +48,7 @@ fn is_same_kind(one: Kind, other: Kind) -> bool
 }
 
 /// The group that an edit of the run joins.
-pub(crate) fn run_group(run: Option<Typing>) -> Option<u64>
+pub fn run_group(run: Option<Typing>) -> Option<u64>
     ensures { result ≡ run_group run }
 {
     match run {
@@ -58,7 +58,7 @@ pub(crate) fn run_group(run: Option<Typing>) -> Option<u64>
 }
 
 /// The run after an edit of this kind in this group.
-pub(crate) fn run_with(kind: Option<Kind>, group: u64) -> Option<Typing>
+pub fn run_with(kind: Option<Kind>, group: u64) -> Option<Typing>
     ensures { result ≡ run_with kind group }
 {
     match kind {

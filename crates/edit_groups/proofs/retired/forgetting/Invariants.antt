@@ -1,7 +1,7 @@
 use Rattle.std.proofs.Common.{◌≡◌, fold}
 use Rattle.undo_groups.specs.Groups.{forgotten}
-use Rattle.doc_session.proofs.ForgetLemmas.{AreLeft}
-use Rattle.doc_session.proofs.collecting.forgetting.Given as goal
+use Rattle.edit_groups.proofs.ForgetLemmas.{AreLeft}
+use Rattle.edit_groups.proofs.retired.forgetting.Given as goal
 
 abbrev pub invariant-loop-group : goal.invariant-loop-group
 invariant-loop-group l = record {

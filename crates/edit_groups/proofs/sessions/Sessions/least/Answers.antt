@@ -1,7 +1,7 @@
 use Rattle.std.proofs.Common.{◌≡◌, ◌+◌, ℕ, List, Option, drop, ap, sym, ◌∙◌, arith}
-use Rattle.doc_session.specs.Collecting.{least_acknowledged}
-use Rattle.doc_session.proofs.SessionLemmas.{least-step}
-use Rattle.doc_session.proofs.sessions.Sessions.least.Goals as goal
+use Rattle.edit_groups.specs.Sessions.{least_acknowledged}
+use Rattle.edit_groups.proofs.LeastLemmas.{least-step}
+use Rattle.edit_groups.proofs.sessions.Sessions.least.Goals as goal
 
 pub loop-session-preserved : goal.loop-session-preserved
 loop-session-preserved c =

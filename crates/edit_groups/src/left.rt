@@ -1,8 +1,7 @@
-// What a revision leaves of a document beside its engine.
+// In which group an edit goes, and what a revision leaves of a document beside its text.
 ghost use Rattle.std.specs.Prelude.{◌≡◌, ◌+◌, ◌^◌, ◌<◌, IfOk, None, Some};
 ghost use Rattle.undo_groups.specs.Groups.{IsStack};
-ghost use Rattle.doc_session.specs.Grouping.{group_by, groups_by};
-ghost use Rattle.doc_session.specs.Inner.{known_group};
+ghost use Rattle.edit_groups.specs.Grouping.{group_by, groups_by, known_group};
 
 use crate::typing::Typing;
 use plain_text::{NoMemory, Sel};
@@ -11,21 +10,21 @@ use undo_groups::Stack;
 
 /// The undo groups, the run of typing and the regions that a revision leaves.
 #[derive(Drop)]
-pub(crate) struct Left {
-    pub(crate) stack: Stack,
-    pub(crate) typing: Option<Typing>,
-    pub(crate) sel: Sel,
+pub struct Left {
+    pub stack: Stack,
+    pub typing: Option<Typing>,
+    pub sel: Sel,
 }
 
 /// The undo groups with one more edit, and the group of this.
 #[derive(Drop)]
-pub(crate) struct Grouped {
-    pub(crate) stack: Stack,
-    pub(crate) group: u64,
+pub struct Grouped {
+    pub stack: Stack,
+    pub group: u64,
 }
 
 /// What an edit leaves: the groups with it, and this run and these regions.
-pub(crate) fn left_by(made: Grouped, typing: Option<Typing>, sel: Sel) -> Left
+pub fn left_by(made: Grouped, typing: Option<Typing>, sel: Sel) -> Left
     ensures { result ≡ record { stack = made.stack; typing = typing; sel = sel } }
 {
     let Grouped { stack, group: _ } = made;
@@ -33,7 +32,7 @@ pub(crate) fn left_by(made: Grouped, typing: Option<Typing>, sel: Sel) -> Left
 }
 
 /// An edit joins this group, where there is one, or opens the next.
-pub(crate) fn joined_or_opened(
+pub fn joined_or_opened(
     alloc: Global,
     stack: &Stack,
     joined: Option<u64>,
@@ -53,7 +52,7 @@ pub(crate) fn joined_or_opened(
 }
 
 /// An edit joins the group that it names, where that is known, or opens the next.
-pub(crate) fn named_or_opened(
+pub fn named_or_opened(
     alloc: Global,
     stack: &Stack,
     named: Option<u64>,

@@ -1,7 +1,7 @@
 use Rattle.std.proofs.Common.{ap, sym, ◌∙◌, arith}
 use Rattle.plain_text.specs.Numbers.{with_number}
-use Rattle.doc_session.proofs.ForgetLemmas.{all-taken-by, few-retired, next-taken}
-use Rattle.doc_session.proofs.collecting.retired_groups.Goals as goal
+use Rattle.edit_groups.proofs.ForgetLemmas.{all-taken-by, few-retired, next-taken}
+use Rattle.edit_groups.proofs.retired.retired_groups.Goals as goal
 
 pub overflow_add-index : goal.overflow_add-index
 overflow_add-index c =

@@ -1,6 +1,6 @@
 // The sessions of the plugins of a document.
 ghost use Rattle.std.specs.Prelude.{◌≡◌, ◌≤◌, [], ◌∷◌, length, replicate, IfOk, Some, None};
-ghost use Rattle.doc_session.specs.Collecting.{acknowledged_by, least_acknowledged, session_of, with_session};
+ghost use Rattle.edit_groups.specs.Sessions.{acknowledged_by, least_acknowledged, session_of, with_session};
 
 use plain_text::NoMemory;
 use std::alloc::Global;
@@ -8,7 +8,7 @@ use std::marker::Model;
 
 /// For each plugin, in order, the revision that its session has acknowledged, or `None` where that has ended.
 #[derive(Drop)]
-pub(crate) struct Sessions {
+pub struct Sessions {
     each: Vec<Option<u64>>,
 }
 
@@ -22,7 +22,7 @@ impl Model for Sessions {
 
 impl Sessions {
     /// So many sessions, all open, which have acknowledged the revision 0.
-    pub(crate) fn open(alloc: Global, plugins: u32) -> Result<Sessions, NoMemory>
+    pub fn open(alloc: Global, plugins: u32) -> Result<Sessions, NoMemory>
         ensures { IfOk result (λ made. made ≡ replicate plugins (Some 0)) }
     {
         let count = plugins as usize;
@@ -31,7 +31,8 @@ impl Sessions {
         })
     }
 
-    pub(crate) fn copy(&self, alloc: Global) -> Result<Sessions, NoMemory>
+    /// A second list of the same, in O(n) for n of them.
+    pub fn copy(&self, alloc: Global) -> Result<Sessions, NoMemory>
         ensures { IfOk result (λ made. made ≡ self.now) }
     {
         Ok(Sessions {
@@ -39,8 +40,8 @@ impl Sessions {
         })
     }
 
-    /// The least revision that an open session has acknowledged, or the head where none is open.
-    pub(crate) fn least(&self, head: u64) -> u64
+    /// The least revision that an open session has acknowledged, or the head where none is open, in O(n).
+    pub fn least(&self, head: u64) -> u64
         ensures { result ≡ least_acknowledged head self.now }
     {
         let mut least = head;
@@ -51,12 +52,7 @@ impl Sessions {
     }
 
     /// The sessions after that of this caller acknowledged a revision.
-    pub(crate) fn acknowledged(
-        &self,
-        alloc: Global,
-        caller: u32,
-        rev: u64,
-    ) -> Result<Sessions, NoMemory>
+    pub fn acknowledged(&self, alloc: Global, caller: u32, rev: u64) -> Result<Sessions, NoMemory>
         requires { (1 ≤ caller) × (caller ≤ length self.now) }
         ensures { IfOk result (λ made. made
             ≡ with_session self.now caller (acknowledged_by rev (session_of self.now caller))) }
@@ -68,7 +64,7 @@ impl Sessions {
     }
 
     /// The sessions after that of this caller ended.
-    pub(crate) fn ended(&self, alloc: Global, caller: u32) -> Result<Sessions, NoMemory>
+    pub fn ended(&self, alloc: Global, caller: u32) -> Result<Sessions, NoMemory>
         requires { (1 ≤ caller) × (caller ≤ length self.now) }
         ensures { IfOk result (λ made. made ≡ with_session self.now caller None) }
     {

@@ -2,9 +2,9 @@
 use Rattle.std.specs.Prelude.{ℕ, Bool, true, false, if◌then◌else◌, Option, Some, None, option_map}
 use Rattle.xi_plain.specs.declared.command.EditAct.{EditAct}
 use Rattle.xi_plain.specs.declared.command.EditAct.TheVariants as Acts
-use Rattle.doc_session.specs.declared.typing.Kind.{Kind}
-use Rattle.doc_session.specs.declared.typing.Kind.TheVariants.{Insert, DeleteBackward, DeleteForward}
-use Rattle.doc_session.specs.declared.typing.Typing.{Typing}
+use Rattle.edit_groups.specs.declared.typing.Kind.{Kind}
+use Rattle.edit_groups.specs.declared.typing.Kind.TheVariants.{Insert, DeleteBackward, DeleteForward}
+use Rattle.edit_groups.specs.declared.typing.Typing.{Typing}
 
 -- the kind of a command whose edits may run together
 abbrev pub kind_of : EditAct → Option Kind

@@ -1,0 +1,3 @@
+pub mod ForgetLemmas
+pub mod LeastLemmas
+pub mod ForCallers

@@ -1,0 +1,3 @@
+pub mod Typing
+pub mod Grouping
+pub mod Sessions
