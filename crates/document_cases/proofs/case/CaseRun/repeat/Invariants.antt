@@ -1,0 +1,5 @@
+use Rattle.std.proofs.Common.{◌≡◌, length}
+use Rattle.document_cases.proofs.case.CaseRun.repeat.Given as goal
+
+abbrev pub invariant-loop : goal.invariant-loop
+invariant-loop l = length l.self.doc.sessions ≡ 2
