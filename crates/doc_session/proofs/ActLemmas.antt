@@ -13,7 +13,7 @@ use Rattle.doc_view.proofs.ForCallers.{do_nothing-none}
 use Rattle.doc_session.specs.declared.event.Body.{Body}
 use Rattle.doc_session.specs.declared.event.Body.TheVariants.{Null}
 use Rattle.doc_session.specs.Asking.{asked_refusal, front_edit}
-use Rattle.doc_session.specs.Document.{Document, no_request, text_of}
+use Rattle.doc_session.specs.Document.{Document, no_request, head_text}
 use Rattle.doc_session.specs.Effects.{notice_of, scroll_after}
 use Rattle.doc_session.specs.Layout.{Position}
 use Rattle.doc_session.specs.Step.{EventStep, act_step, at_next_match, at_previous_match, command_refusal, command_step, effect_on, history_step, idle_step, is_idle, looking_document, request_of, revision_step, scrolled_document, seeking_document, step_to, typed_step}
@@ -84,7 +84,7 @@ IsCommand-else act no_undo no_redo no_scroll no_request no_find no_next no_previ
 -- where nothing is edited nothing is refused
 pub refusal-selecting : (plain : Document) → command_refusal plain (selecting plain.regions) ≡ None
 refusal-selecting plain =
-    ap (λ b. if b then None else asked_refusal plain (front_edit plain None [])) (do_nothing-none (length (text_of plain)))
+    ap (λ b. if b then None else asked_refusal plain (front_edit plain None [])) (do_nothing-none (length (head_text plain)))
 
 -- an edit that is refused requests no lines
 pub request_of-refused : (plain : Document) (act : EditAct) (refusal : Refusal) → command_refusal plain (effect_on plain act) ≡ Some refusal →

@@ -12,7 +12,7 @@ use Rattle.rev_engine.proofs.ForCallers.{formed-stands, refusal-kept}
 use Rattle.doc_session.specs.InMemory.{Doc}
 use Rattle.doc_session.specs.declared.event.Event.TheVariants.{Front}
 use Rattle.doc_session.specs.Asking.{asked_refusal, front_edit}
-use Rattle.doc_session.specs.Document.{Document, text_of}
+use Rattle.doc_session.specs.Document.{Document, head_text}
 use Rattle.doc_session.specs.Laws.{IsSpentIfAny}
 use Rattle.doc_session.specs.Refusal.{edit_refused}
 use Rattle.doc_session.specs.Stands.{DocStandsFor}
@@ -36,7 +36,7 @@ edit_fits doc plain replacements stands =
     let high : head h ≤ head h = omega arith in
     let same : asked_refusal plain (front_edit plain None replacements) ≡ misfit_or_spent None plain.limit total =
     refusal-kept h plain.limit (head h) delta low high ∙
-    ap (λ found. misfit_or_spent found plain.limit total) (Fits-elements (kept_by replacements) (added_by replacements) (text_of plain)) in
+    ap (λ found. misfit_or_spent found plain.limit total) (Fits-elements (kept_by replacements) (added_by replacements) (head_text plain)) in
     subst (λ refusal. IsSpentIfAny (edit_refused refusal)) (sym same) (spent_alone plain.limit total)
 
 effect_fits : (doc : Doc) (plain : Document) (effect : Effect) → DocStandsFor doc plain → IsSpentIfAny (edit_refused (command_refusal plain effect))

@@ -5,7 +5,7 @@ pub use Rattle.doc_session.proofs.CollectLemmas.{collection_of-lags, collection_
 pub use Rattle.doc_session.proofs.ConfigLemmas.{config-event_step}
 pub use Rattle.doc_session.proofs.FitLemmas.{command_fits}
 pub use Rattle.doc_session.proofs.HeadLemmas.{head-stands}
-pub use Rattle.doc_session.proofs.LoadLemmas.{text_of-loaded}
+pub use Rattle.doc_session.proofs.LoadLemmas.{head_text-loaded}
 pub use Rattle.doc_session.proofs.MoveLemmas.{head-after, head-undid, sound-given}
 pub use Rattle.doc_session.proofs.IdleLemmas.{typing-some, typing-within}
 pub use Rattle.doc_session.proofs.SessionLemmas.{least-ended}

@@ -13,7 +13,7 @@ use Rattle.stale_spans.specs.Asked.{layers_with_spans, moved_layers}
 use Rattle.stale_spans.proofs.ForCallers.{mapped_layers-change}
 use Rattle.doc_layout.specs.Changed.{IsChangeOf}
 use Rattle.doc_session.specs.declared.taken.Taken.{Taken}
-use Rattle.doc_session.specs.Document.{Document, text_of}
+use Rattle.doc_session.specs.Document.{Document, head_text}
 use Rattle.doc_session.specs.InMemory.{Doc}
 use Rattle.doc_session.specs.Inner.{IsAfter, IsUntold}
 use Rattle.doc_session.specs.Stands.{DocStandsFor}
@@ -57,7 +57,7 @@ pub moved-changed : (doc : Doc) (plain : Document) (history : History) (author :
     IsAfter plain.history history author taken → AreOver (length doc.view.text) doc.view.layers →
     moved ≡ mapped_layers taken.change.units doc.view.layers → moved ≡ moved_layers plain.history history plain.layers
 moved-changed doc plain history author taken moved stands after over is =
-    let here : AreOver (length (text_of plain)) doc.view.layers = subst (λ t. AreOver (length t) doc.view.layers) stands.parts.shown_is over in
+    let here : AreOver (length (head_text plain)) doc.view.layers = subst (λ t. AreOver (length t) doc.view.layers) stands.parts.shown_is over in
     is ∙ mapped_layers-change plain.history history taken.change.units after.changes.kept after.changes.added after.text_before doc.view.layers here ∙
     ap (moved_layers plain.history history) (sym stands.layers)
 

@@ -17,6 +17,7 @@ pub mod PieceLemmas
 pub mod SettleLemmas
 pub mod StepLemmas
 pub mod FaultLemmas
+pub mod ResultLemmas
 pub mod FitLemmas
 pub mod ScreenLemmas
 pub mod ShowLemmas

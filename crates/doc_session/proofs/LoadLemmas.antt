@@ -13,14 +13,14 @@ pub text_at-loaded : (text : List ℕ) → text_at (loaded text) 0 ≡ text
 text_at-loaded [] = refl
 text_at-loaded (c ∷ text) = ap (λ cs. c ∷ cs) (text_at-loaded text)
 
-pub text_of-loaded : (text : List ℕ) → text_at (loaded text) (head (loaded text)) ≡ text
-text_of-loaded text = text_at-loaded text
+pub head_text-loaded : (text : List ℕ) → text_at (loaded text) (head (loaded text)) ≡ text
+head_text-loaded text = text_at-loaded text
 
 pub IsStateOf-loaded : (text : List ℕ) (engine : State) (limit : ℕ) → StandsFor engine (loaded text) → engine.limit ≡ limit →
     limit ≤ 2 ^ 60 → IsStateOf (loaded text) engine text
 IsStateOf-loaded text engine limit stands limit_is bound = record {
   stands = stands;
-  shown_is = sym (text_of-loaded text);
+  shown_is = sym (head_text-loaded text);
   within = omega (arith, spent-loaded text);
   bound = omega (arith, limit_is, bound);
 }

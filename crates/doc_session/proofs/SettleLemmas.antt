@@ -20,7 +20,7 @@ use Rattle.doc_view.specs.declared.told.Pristine.{Pristine}
 use Rattle.doc_view.specs.Search.{results}
 use Rattle.doc_view.specs.Told.{has_lines, is_lacking, settled_view, told}
 use Rattle.doc_view.specs.View.{View, asked_in, layout_in, point_in}
-use Rattle.doc_session.specs.Document.{Document, caret_point, is_pristine, layout_of, pieces_of, results_of, text_of}
+use Rattle.doc_session.specs.Document.{Document, caret_point, is_pristine, layout_of, pieces_of, results_of, head_text}
 use Rattle.doc_session.specs.Effects.{are_valid, differ, is_shown, ops_of, settled, update_after, update_of, updated, wants_update}
 use Rattle.doc_session.specs.InMemory.{Doc}
 use Rattle.doc_session.specs.Inner.{IsUncollected, IsUntold, is_pristine_in, pristine_to}
@@ -55,10 +55,10 @@ are_valid-told last now index (line ∷ lines) =
 
 -- on an empty screen no line is valid, and a layout has a line
 pub are_valid-none : (window request : Run) (document : Document) → are_valid window request 0 (layout_of document) [] ≡ false
-are_valid-none window request document = by (pieces_of document) (pieces-some document.config.width document.config.tab (text_of document))
+are_valid-none window request document = by (pieces_of document) (pieces-some document.config.width document.config.tab (head_text document))
   where
     by : (pieces : List Piece) → 0 < length pieces →
-        are_valid window request 0 (layout (text_of document) pieces document.regions (results_of document) document.layers) [] ≡ false
+        are_valid window request 0 (layout (head_text document) pieces document.regions (results_of document) document.layers) [] ≡ false
     by [] some = absurd (omega (arith, some))
     by (piece ∷ pieces) some = refl
 
@@ -102,12 +102,12 @@ text-settled before after request pristine = by (is_lacking before after request
     by false = refl
 
 -- what a view keeps is of the plain document
-module _ (view : View) (plain : Document) (text : view.text ≡ text_of plain) (regions : view.regions ≡ plain.regions) (config : plain.config ≡ view.config) where
+module _ (view : View) (plain : Document) (text : view.text ≡ head_text plain) (regions : view.regions ≡ plain.regions) (config : plain.config ≡ view.config) where
   view-lines : plain.query ≡ view.query → plain.layers ≡ view.layers → layout_in view ≡ layout_of plain
   view-lines query layers =
       ap₂ (λ (k : Config) (q : Search). layout view.text (wrapped_pieces k.width k.tab view.text) view.regions (results view.text q) view.layers) (sym config) (sym query) ∙
       ap₂ (λ t rs. layout t (wrapped_pieces plain.config.width plain.config.tab t) rs (results t plain.query) view.layers) text regions ∙
-      ap (layout (text_of plain) (pieces_of plain) plain.regions (results_of plain)) (sym layers)
+      ap (layout (head_text plain) (pieces_of plain) plain.regions (results_of plain)) (sym layers)
 
   view-point : point_in view ≡ caret_point plain
   view-point =

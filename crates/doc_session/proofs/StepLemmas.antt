@@ -27,7 +27,7 @@ use Rattle.doc_view.specs.Moved.{AreMoved, with_goals}
 use Rattle.doc_session.specs.InMemory.{Doc}
 use Rattle.doc_session.specs.declared.taken.Taken.{Taken}
 use Rattle.doc_session.specs.Asking.{asked_refusal, replacing_edit, front_edit, plugin_edit}
-use Rattle.doc_session.specs.Document.{Document, text_of}
+use Rattle.doc_session.specs.Document.{Document, head_text}
 use Rattle.doc_session.specs.Inner.{IsAfter, IsAfterEdit, effect_in, next_document}
 use Rattle.doc_session.specs.Stands.{DocStandsFor}
 use Rattle.doc_session.specs.Step.{effect_on, is_idle, regions_by}
@@ -83,9 +83,9 @@ idle-is doc plain act units after idle stands is each =
     let replacements = (effect_in doc.view act).replacements in
     each replacements (subst (λ n. IsEditOf n replacements units) (sym is.edit.of) is.edit) ∙
     ap (λ n. do_nothing n replacements) (is.edit.of ∙ ap length stands.parts.shown_is) ∙
-    ap (λ (e : Effect). do_nothing (length (text_of plain)) e.replacements) (effect-is doc plain act stands)
+    ap (λ (e : Effect). do_nothing (length (head_text plain)) e.replacements) (effect-is doc plain act stands)
 
-pub copied-is : (doc : Doc) (plain : Document) → DocStandsFor doc plain → copied_text doc.view.text doc.view.regions ≡ copied_text (text_of plain) plain.regions
+pub copied-is : (doc : Doc) (plain : Document) → DocStandsFor doc plain → copied_text doc.view.text doc.view.regions ≡ copied_text (head_text plain) plain.regions
 copied-is doc plain stands = ap₂ copied_text stands.parts.shown_is stands.regions
 
 -- ---- the front end's edit

@@ -19,7 +19,7 @@ use Rattle.doc_session.specs.declared.taken.Taken.{Taken}
 use Rattle.doc_session.specs.Agree.{Agree}
 use Rattle.selection_core.specs.Mapped.{AreWithin}
 use Rattle.selection_core.specs.Selection.{IsSelection}
-use Rattle.doc_session.specs.Document.{Document, text_of}
+use Rattle.doc_session.specs.Document.{Document, head_text}
 use Rattle.doc_session.specs.InMemory.{Doc}
 use Rattle.doc_session.specs.Inner.{IsAfter, IsUntold, head_shown, looking_doc, next_document}
 use Rattle.doc_session.specs.Stands.{AreRegionsOf, DocStandsFor}
@@ -34,7 +34,7 @@ still_doc doc kind regions =
     record doc { typing = run_on doc.typing kind; view = record doc.view { regions = regions } }
 
 pub IsUntold-still : (doc made : Doc) (plain : Document) (kind : Option Kind) (regions others : List Region) → DocStandsFor doc plain →
-    made ≡ still_doc doc kind regions → regions ≡ others → AreRegionsOf (text_of plain) others → IsUntold made plain (selected_document plain kind others)
+    made ≡ still_doc doc kind regions → regions ≡ others → AreRegionsOf (head_text plain) others → IsUntold made plain (selected_document plain kind others)
 IsUntold-still doc made plain kind regions others stands is same are =
     let At : Doc → Type 0 = λ d. IsUntold d plain (selected_document plain kind others) in
     subst At (sym is) (record {
@@ -59,7 +59,7 @@ IsUntold-still doc made plain kind regions others stands is same are =
 
 -- a line that makes no revision and ends the run: other regions, another window, another search
 pub IsUntold-looking : (doc : Doc) (plain : Document) (regions others : List Region) (window lines : Run) (query sought : Search) → DocStandsFor doc plain →
-    regions ≡ others → lines ≡ window → sought ≡ query → AreRegionsOf (text_of plain) others →
+    regions ≡ others → lines ≡ window → sought ≡ query → AreRegionsOf (head_text plain) others →
     IsUntold (looking_doc doc (record doc.view { regions = regions; window = window; query = query })) plain
     (record (selected_document plain None others) { window = lines; query = sought })
 IsUntold-looking doc plain regions others window lines query sought stands same lines_are sought_is are = record {

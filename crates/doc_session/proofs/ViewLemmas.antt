@@ -7,7 +7,7 @@ use Rattle.doc_view.specs.Search.{next_found, previous_found, search_for}
 use Rattle.doc_view.specs.View.{View}
 use Rattle.doc_session.specs.declared.looking.Viewing.{Viewing}
 use Rattle.doc_session.specs.declared.looking.Viewing.TheVariants.{Layout, Lines, Next, Other, Previous, Seek, Window}
-use Rattle.doc_session.specs.Document.{Document, text_of}
+use Rattle.doc_session.specs.Document.{Document, head_text}
 use Rattle.doc_session.specs.InMemory.{Doc}
 use Rattle.doc_session.specs.Inner.{IsUntold, looking_doc, viewed, viewed_document}
 use Rattle.doc_session.specs.Stands.{DocStandsFor}
@@ -40,27 +40,27 @@ module _ (doc : Doc) (plain : Document) (stands : DocStandsFor doc plain) where
   pub IsUntold-viewed : (viewing : Viewing) → IsUntold (looking_doc doc (viewed doc.view viewing)) plain (viewed_document plain viewing)
   IsUntold-viewed (Window lines) =
       IsUntold-looking doc plain (map without_goal doc.view.regions) (map without_goal plain.regions) lines lines doc.view.query plain.query
-      stands plain_regions refl stands.query (AreRegionsOf-plain (text_of plain) plain.regions stands.regions_are)
+      stands plain_regions refl stands.query (AreRegionsOf-plain (head_text plain) plain.regions stands.regions_are)
   IsUntold-viewed (Lines lines) =
       IsUntold-looking doc plain (map without_goal doc.view.regions) (map without_goal plain.regions) doc.view.window plain.window doc.view.query plain.query
-      stands plain_regions stands.window stands.query (AreRegionsOf-plain (text_of plain) plain.regions stands.regions_are)
+      stands plain_regions stands.window stands.query (AreRegionsOf-plain (head_text plain) plain.regions stands.regions_are)
   IsUntold-viewed (Seek chars case_counts) =
       IsUntold-looking doc plain (map without_goal doc.view.regions) (map without_goal plain.regions) doc.view.window plain.window
       (search_for doc.view.query chars case_counts) (search_for plain.query chars case_counts) stands plain_regions stands.window
-      (ap (λ (s : Search). search_for s chars case_counts) stands.query) (AreRegionsOf-plain (text_of plain) plain.regions stands.regions_are)
+      (ap (λ (s : Search). search_for s chars case_counts) stands.query) (AreRegionsOf-plain (head_text plain) plain.regions stands.regions_are)
   IsUntold-viewed (Next wrap_around) =
       let regions_are =
       ap₂ (λ (text : List ℕ) (regions : List Region). next_found text doc.view.query wrap_around regions) stands.parts.shown_is stands.regions ∙
-      ap (λ query. next_found (text_of plain) query wrap_around plain.regions) (sym stands.query) in
+      ap (λ query. next_found (head_text plain) query wrap_around plain.regions) (sym stands.query) in
       IsUntold-looking doc plain (next_found doc.view.text doc.view.query wrap_around doc.view.regions)
-      (next_found (text_of plain) plain.query wrap_around plain.regions) doc.view.window plain.window doc.view.query plain.query
-      stands regions_are stands.window stands.query (AreRegionsOf-next (text_of plain) plain.query wrap_around plain.regions stands.regions_are)
+      (next_found (head_text plain) plain.query wrap_around plain.regions) doc.view.window plain.window doc.view.query plain.query
+      stands regions_are stands.window stands.query (AreRegionsOf-next (head_text plain) plain.query wrap_around plain.regions stands.regions_are)
   IsUntold-viewed (Previous wrap_around) =
       let regions_are =
       ap₂ (λ (text : List ℕ) (regions : List Region). previous_found text doc.view.query wrap_around regions) stands.parts.shown_is stands.regions ∙
-      ap (λ query. previous_found (text_of plain) query wrap_around plain.regions) (sym stands.query) in
+      ap (λ query. previous_found (head_text plain) query wrap_around plain.regions) (sym stands.query) in
       IsUntold-looking doc plain (previous_found doc.view.text doc.view.query wrap_around doc.view.regions)
-      (previous_found (text_of plain) plain.query wrap_around plain.regions) doc.view.window plain.window doc.view.query plain.query
-      stands regions_are stands.window stands.query (AreRegionsOf-previous (text_of plain) plain.query wrap_around plain.regions stands.regions_are)
+      (previous_found (head_text plain) plain.query wrap_around plain.regions) doc.view.window plain.window doc.view.query plain.query
+      stands regions_are stands.window stands.query (AreRegionsOf-previous (head_text plain) plain.query wrap_around plain.regions stands.regions_are)
   IsUntold-viewed (Layout config) = IsUntold-configured doc plain config stands
   IsUntold-viewed Other = IsUntold-still doc _ plain None doc.view.regions plain.regions stands refl stands.regions stands.regions_are

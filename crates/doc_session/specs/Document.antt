@@ -38,20 +38,20 @@ pub record Document : Type 0 where
 
 -- the head text, its pieces by wrapping for the width and the tab width, what is found in it, its layout with all regions, results and
 -- styles, the place of the last region's caret, and whether the text is the one that was loaded or last saved
-abbrev pub text_of : Document → List ℕ
-text_of document = text_at document.history (head document.history)
+abbrev pub head_text : Document → List ℕ
+head_text document = text_at document.history (head document.history)
 
 abbrev pub pieces_of : Document → List Piece
-pieces_of document = wrapped_pieces document.config.width document.config.tab (text_of document)
+pieces_of document = wrapped_pieces document.config.width document.config.tab (head_text document)
 
 abbrev pub results_of : Document → List Run
-results_of document = results (text_of document) document.query
+results_of document = results (head_text document) document.query
 
 abbrev pub layout_of : Document → List Line
-layout_of document = layout (text_of document) (pieces_of document) document.regions (results_of document) document.layers
+layout_of document = layout (head_text document) (pieces_of document) document.regions (results_of document) document.layers
 
 abbrev pub caret_point : Document → Position
-caret_point document = position_of (text_of document) (pieces_of document) (last_caret document.regions)
+caret_point document = position_of (head_text document) (pieces_of document) (last_caret document.regions)
 
 abbrev pub is_pristine : Document → Bool
 is_pristine document = head document.history == document.saved

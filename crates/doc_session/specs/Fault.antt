@@ -13,17 +13,17 @@ use Rattle.doc_session.specs.declared.fault.DocFault.TheVariants.{BadParams, Col
 use Rattle.doc_session.specs.Refusal.{DocRefusal, of_edit, of_range}
 
 -- the refusal that a fault is; want of memory is none
-abbrev pub refusal_of : DocFault → Option DocRefusal
-refusal_of (Unknown head) = Some (of_edit (unknown head))
-refusal_of (Collected floor) = Some (of_edit (collected floor))
-refusal_of (Misfit first) = Some (of_edit (misfit first))
-refusal_of (Spent total) = Some (of_edit (spent total))
-refusal_of (BadParams member) = Some (of_range member)
-refusal_of NoMemory = None
+abbrev pub doc_fault_refusal : DocFault → Option DocRefusal
+doc_fault_refusal (Unknown head) = Some (of_edit (unknown head))
+doc_fault_refusal (Collected floor) = Some (of_edit (collected floor))
+doc_fault_refusal (Misfit first) = Some (of_edit (misfit first))
+doc_fault_refusal (Spent total) = Some (of_edit (spent total))
+doc_fault_refusal (BadParams member) = Some (of_range member)
+doc_fault_refusal NoMemory = None
 
 -- the fault is this refusal, or want of memory
 abbrev pub DocRefuses : Option DocRefusal → DocFault → Type 0
-DocRefuses refusal fault = fault ≢ NoMemory → refusal ≡ refusal_of fault
+DocRefuses refusal fault = fault ≢ NoMemory → refusal ≡ doc_fault_refusal fault
 
 -- the fault of an edit, and that of spans, as a document says it
 abbrev pub of_edit_fault : EditFault → DocFault
@@ -43,10 +43,10 @@ member_name Start = codes "start"
 member_name Len = codes "len"
 member_name Spans = codes "spans"
 
-abbrev pub fault_text : DocFault → List ℕ
-fault_text (Unknown head) = edit_fault_text (Edits.Unknown head)
-fault_text (Collected floor) = edit_fault_text (Edits.Collected floor)
-fault_text (Misfit first) = edit_fault_text (Edits.Misfit first)
-fault_text (Spent total) = edit_fault_text (Edits.Spent total)
-fault_text (BadParams member) = codes "no place of the text: " ++ member_name member
-fault_text NoMemory = edit_fault_text Edits.NoMemory
+abbrev pub doc_fault_text : DocFault → List ℕ
+doc_fault_text (Unknown head) = edit_fault_text (Edits.Unknown head)
+doc_fault_text (Collected floor) = edit_fault_text (Edits.Collected floor)
+doc_fault_text (Misfit first) = edit_fault_text (Edits.Misfit first)
+doc_fault_text (Spent total) = edit_fault_text (Edits.Spent total)
+doc_fault_text (BadParams member) = codes "no place of the text: " ++ member_name member
+doc_fault_text NoMemory = edit_fault_text Edits.NoMemory

@@ -38,7 +38,7 @@ use Rattle.doc_session.specs.declared.taken.Taken.{Taken}
 use Rattle.doc_session.specs.Agree.{Agree}
 use Rattle.doc_session.specs.Asking.{front_priority}
 use Rattle.doc_session.specs.Collecting.{AreAcknowledged}
-use Rattle.doc_session.specs.Document.{Document, layout_of, no_request, text_of}
+use Rattle.doc_session.specs.Document.{Document, layout_of, no_request, head_text}
 use Rattle.doc_session.specs.Effects.{notice_of}
 use Rattle.doc_session.specs.InMemory.{Doc}
 use Rattle.doc_session.specs.Stands.{AreRegionsOf}
@@ -164,7 +164,7 @@ pub record IsUntold (doc : Doc) (before plain : Document) : Type 0 where
   pub typing : doc.typing ≡ plain.typing
   pub agree : Agree plain.history.revisions plain.history.collected plain.groups plain.typing
   pub regions : doc.view.regions ≡ plain.regions
-  pub regions_are : AreRegionsOf (text_of plain) plain.regions
+  pub regions_are : AreRegionsOf (head_text plain) plain.regions
   pub layers : plain.layers ≡ doc.view.layers
   pub saved : doc.saved ≡ plain.saved
   pub saved_before : plain.saved ≤ head plain.history
@@ -189,7 +189,7 @@ pub record IsUncollected (doc : Doc) (plain : Document) : Type 0 where
   pub typing : doc.typing ≡ plain.typing
   pub agree : Agree plain.history.revisions plain.history.collected plain.groups plain.typing
   pub regions : doc.view.regions ≡ plain.regions
-  pub regions_are : AreRegionsOf (text_of plain) plain.regions
+  pub regions_are : AreRegionsOf (head_text plain) plain.regions
   pub layers : plain.layers ≡ doc.view.layers
   pub saved : doc.saved ≡ plain.saved
   pub saved_before : plain.saved ≤ head plain.history

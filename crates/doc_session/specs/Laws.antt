@@ -10,7 +10,7 @@ use Rattle.plain_screen.specs.Plan.{shown_lines}
 use Rattle.edit_ops.specs.Replacements.{text_with}
 use Rattle.doc_session.specs.Asking.{front_edit}
 use Rattle.doc_session.specs.Collecting.{HasNoneLeft}
-use Rattle.doc_session.specs.Document.{Document, layout_of, text_of}
+use Rattle.doc_session.specs.Document.{Document, layout_of, head_text}
 use Rattle.doc_session.specs.Effects.{ops_of, updated, change_delta}
 use Rattle.doc_session.specs.InMemory.{Doc}
 use Rattle.doc_session.specs.Refusal.{DocRefusal, of_edit, of_range}
@@ -37,7 +37,7 @@ NoticesLead = (history : History) (from to : ℕ) → Fits (text_at history from
 -- the delta of a command of the front end fits the head text, and leads to the text after the command's replacements
 abbrev pub CommandsPut : Type 0
 CommandsPut = (plain : Document) (act : EditAct) (joined : Option ℕ) →
-    let text = text_of plain in
+    let text = head_text plain in
     let replacements = (effect_on plain act).replacements in
     let delta = (front_edit plain joined replacements).delta in
     Fits text delta × (applied (keeps text delta) (adds text delta) text ≡ text_with replacements text)

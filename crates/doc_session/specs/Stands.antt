@@ -6,7 +6,7 @@ use Rattle.selection_core.specs.Mapped.{AreWithin}
 use Rattle.selection_core.specs.Selection.{IsSelection}
 use Rattle.doc_layout.specs.Told.{screen_of}
 use Rattle.doc_session.specs.InMemory.{Doc}
-use Rattle.doc_session.specs.Document.{Document, layout_of, text_of}
+use Rattle.doc_session.specs.Document.{Document, layout_of, head_text}
 use Rattle.doc_session.specs.Agree.{Agree}
 use Rattle.doc_session.specs.Collecting.{AreAcknowledged, HasNoneLeft}
 use Rattle.doc_session.specs.Whole.{IsStateOf}
@@ -30,7 +30,7 @@ pub record DocStandsFor (doc : Doc) (plain : Document) : Type 0 where
   pub typing : doc.typing ≡ plain.typing
   pub agree : Agree plain.history.revisions plain.history.collected plain.groups plain.typing
   pub regions : doc.view.regions ≡ plain.regions
-  pub regions_are : AreRegionsOf (text_of plain) plain.regions
+  pub regions_are : AreRegionsOf (head_text plain) plain.regions
   pub layers : plain.layers ≡ doc.view.layers
   pub saved : doc.saved ≡ plain.saved
   pub saved_before : plain.saved ≤ head plain.history

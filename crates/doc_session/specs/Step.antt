@@ -27,7 +27,7 @@ use Rattle.doc_session.specs.declared.event.Body.TheVariants.{Null, Copied, Edit
 use Rattle.doc_session.specs.declared.event.Effects.{Effects}
 use Rattle.doc_session.specs.declared.event.Event.{Event}
 use Rattle.doc_session.specs.declared.event.Event.TheVariants.{Ack, Config as Configure, Edit, Ended, Front, Other, Spans}
-use Rattle.doc_session.specs.Document.{Document, no_request, pieces_of, text_of}
+use Rattle.doc_session.specs.Document.{Document, no_request, pieces_of, head_text}
 use Rattle.stale_spans.specs.declared.asked.AskedSpans.{AskedSpans}
 use Rattle.stale_spans.specs.Asked.{layers_with_spans, moved_layers}
 use Rattle.stale_spans.specs.Places.{StandIn}
@@ -87,11 +87,11 @@ edited_document document asked joined kind regions = record document {
 
 -- THE EFFECT OF A COMMAND on the text and the regions
 abbrev pub effect_on : Document → EditAct → Effect
-effect_on document act = effect_of document.config (text_of document) (pieces_of document) document.regions act
+effect_on document act = effect_of document.config (head_text document) (pieces_of document) document.regions act
 
 -- whether it makes no revision: it drops nothing, and adds nothing
 abbrev pub is_idle : Document → Effect → Bool
-is_idle document effect = do_nothing (length (text_of document)) effect.replacements
+is_idle document effect = do_nothing (length (head_text document)) effect.replacements
 
 -- whether it copies what is selected; and what it is answered: the copied text, or nothing
 abbrev pub copies : EditAct → Bool
@@ -100,7 +100,7 @@ copies Copy = true
 copies act = false
 
 abbrev pub answer_to : Document → EditAct → Body
-answer_to document act = if copies act then Copied (copied_text (text_of document) document.regions) else Null
+answer_to document act = if copies act then Copied (copied_text (head_text document) document.regions) else Null
 
 -- whether it scrolls to the last caret where that stands elsewhere then: one that selects all does not; and where it scrolls to
 abbrev pub scrolls : EditAct → Bool
@@ -177,11 +177,11 @@ seeking_document document chars case_sensitive =
 -- the next match is selected, or the previous one; where there is none the regions stay, with their goals
 abbrev pub at_next_match : Document → Option Bool → Document
 at_next_match document wrap_around =
-    selected_document document None (next_found (text_of document) document.query wrap_around document.regions)
+    selected_document document None (next_found (head_text document) document.query wrap_around document.regions)
 
 abbrev pub at_previous_match : Document → Option Bool → Document
 at_previous_match document wrap_around =
-    selected_document document None (previous_found (text_of document) document.query wrap_around document.regions)
+    selected_document document None (previous_found (head_text document) document.query wrap_around document.regions)
 
 -- the lines that a command requests: at that line alone
 abbrev pub request_of : EditAct → Run
@@ -293,14 +293,14 @@ refusal_at document Other = None
 
 -- THE EVENTS that may come to a document with so many plugins: what a plugin does is done by one of these, each of its spans stands in
 -- their range, and a configuration has a tab width
-abbrev pub MayCome : ℕ → Event → Type 0
-MayCome plugins (Front act) = ⊤
-MayCome plugins (Edit caller edit named) = (1 ≤ caller) × (caller ≤ plugins)
-MayCome plugins (Spans caller rev start len spans) = (1 ≤ caller) × (caller ≤ plugins) × StandIn len spans
-MayCome plugins (Ack caller rev) = (1 ≤ caller) × (caller ≤ plugins)
-MayCome plugins (Ended caller) = (1 ≤ caller) × (caller ≤ plugins)
-MayCome plugins (Configure config) = 0 < config.tab
-MayCome plugins Other = ⊤
+abbrev pub IsEventFor : ℕ → Event → Type 0
+IsEventFor plugins (Front act) = ⊤
+IsEventFor plugins (Edit caller edit named) = (1 ≤ caller) × (caller ≤ plugins)
+IsEventFor plugins (Spans caller rev start len spans) = (1 ≤ caller) × (caller ≤ plugins) × StandIn len spans
+IsEventFor plugins (Ack caller rev) = (1 ≤ caller) × (caller ≤ plugins)
+IsEventFor plugins (Ended caller) = (1 ≤ caller) × (caller ≤ plugins)
+IsEventFor plugins (Configure config) = 0 < config.tab
+IsEventFor plugins Other = ⊤
 
 -- the effects are those of the step
 pub record AreEffectsOf (step : EventStep) (effects : Effects) : Type 0 where

@@ -10,7 +10,7 @@ ghost use Rattle.selection_core.specs.Selection.{IsSelection};
 ghost use Rattle.span_styles.specs.Layers.{AreOver};
 ghost use Rattle.doc_session.specs.Asking.{acknowledgement_refusal, front_edit, front_priority, plugin_edit, asked_refusal};
 ghost use Rattle.doc_session.specs.Collecting.{acknowledged_document, ended_document};
-ghost use Rattle.doc_session.specs.Document.{Document, layout_of, loaded_document, text_of};
+ghost use Rattle.doc_session.specs.Document.{Document, layout_of, loaded_document, head_text};
 ghost use Rattle.doc_session.specs.Fault.{DocRefuses};
 ghost use Rattle.doc_session.specs.Refusal.{edit_refused};
 ghost use Rattle.undo_groups.specs.Groups.{next_redo, next_undo, redone_one, undone_one};
@@ -20,7 +20,7 @@ ghost use Rattle.doc_session.specs.Inner.{IsAfter, IsAfterEdit, IsFrontEdit, IsL
 ghost use Rattle.doc_session.specs.PositionView.{position_view};
 ghost use Rattle.doc_session.specs.ScreenOf.{IsShownAfter};
 ghost use Rattle.doc_session.specs.Stands.{DocStandsFor};
-ghost use Rattle.doc_session.specs.Step.{AreEffectsOf, MayCome, act_step, answer_to, command_refusal, command_step, effect_on, event_step, history_step, idle_step, plugin_step, refusal_at, revision_step, scroll_if, silent_step, step_to, taken_step, typed_step};
+ghost use Rattle.doc_session.specs.Step.{AreEffectsOf, IsEventFor, act_step, answer_to, command_refusal, command_step, effect_on, event_step, history_step, idle_step, plugin_step, refusal_at, revision_step, scroll_if, silent_step, step_to, taken_step, typed_step};
 ghost use Rattle.doc_session.specs.Whole.{IsWhole};
 ghost use Rattle.doc_view.specs.Told.{IsTextLeft, settled_view, told};
 ghost use Rattle.doc_view.specs.View.{point_in};
@@ -140,7 +140,7 @@ impl Doc {
         event: Event,
         steps: &mut Steps<L>,
     ) -> Result<(Doc, Effects), DocFault>
-        requires event { MayCome (length self.now.sessions) event }
+        requires event { IsEventFor (length self.now.sessions) event }
         requires has_number { head self.now.engine.revisions < 2 ^ 63 - 1 }
         ensures stands { (plain : Document) → DocStandsFor self.now plain
             → IfOk result (λ made. DocStandsFor made.0 (event_step plain event).document) }
@@ -166,7 +166,7 @@ impl Doc {
         event: Event,
         steps: &mut Steps<L>,
     ) -> Result<Effects, DocFault>
-        requires event { MayCome (length self.old.sessions) event }
+        requires event { IsEventFor (length self.old.sessions) event }
         requires has_number { head self.old.engine.revisions < 2 ^ 63 - 1 }
         ensures stands { (plain : Document) → DocStandsFor self.old plain
             → OnOk result (DocStandsFor self.new (event_step plain event).document) }
@@ -187,7 +187,7 @@ impl Doc {
 
     // The document after an event, before anything is collected, and what those outside are told of it.
     fn next(&self, alloc: Global, event: Event) -> Result<(Doc, Effects), DocFault>
-        requires event { MayCome (length self.now.sessions) event }
+        requires event { IsEventFor (length self.now.sessions) event }
         requires has_number { head self.now.engine.revisions < 2 ^ 63 - 1 }
         ensures stepped { (plain : Document) → DocStandsFor self.now plain
             → IfOk result (IsStepped (taken_step plain event)) }
@@ -725,7 +725,7 @@ impl Doc {
 
     /// A copy of the head text.
     pub fn head_text(&self, alloc: Global) -> Result<Text, NoMemory>
-        ensures { (plain : Document) → DocStandsFor self.now plain → IfOk result (λ text. text ≡ text_of plain) }
+        ensures { (plain : Document) → DocStandsFor self.now plain → IfOk result (λ text. text ≡ head_text plain) }
     {
         whole_text(alloc, self.engine.head_rope())
     }

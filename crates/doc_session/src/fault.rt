@@ -25,9 +25,9 @@ pub enum DocFault {
 
 impl fmt::Display for DocFault {
     ghost use Rattle.std.specs.Prelude.{Some};
-    ghost use Rattle.doc_session.specs.Fault.{fault_text};
+    ghost use Rattle.doc_session.specs.Fault.{doc_fault_text};
 
-    ghost output = { λ fault. Some (fault_text fault) };
+    ghost output = { λ fault. Some (doc_fault_text fault) };
 
     fn fmt<W: fmt::Write>(&self, f: &mut fmt::Formatter<W>) -> fmt::Result {
         match self {

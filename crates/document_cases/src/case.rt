@@ -3,7 +3,7 @@
 ghost use Rattle.std.specs.Prelude.{◌≡◌, ◌-◌, ◌^◌, ◌<◌, Some, None, length, IfOk, OnOk};
 ghost use Rattle.plain_edits.specs.History.{head};
 ghost use Rattle.case_lines.specs.Quoted.{unquoted};
-ghost use Rattle.doc_session.specs.Step.{MayCome};
+ghost use Rattle.doc_session.specs.Step.{IsEventFor};
 
 use crate::events::read_event;
 use crate::told::{told, with_text};
@@ -131,7 +131,7 @@ impl CaseRun {
     /// An event comes to the document.
     fn meet(&mut self, alloc: Global, event: Event) -> anyhow::Result<()>
         requires sessions { length self.old.doc.sessions ≡ 2 }
-        requires event { MayCome 2 event }
+        requires event { IsEventFor 2 event }
         ensures { length self.new.doc.sessions ≡ 2 }
     {
         self.ensure_said()?;
@@ -210,7 +210,7 @@ fn applied<L: Ledger>(
     requires name { blank.name ≡ L.name }
     requires parts { blank.parts ≡ L.parts }
     requires some { 0 < blank.parts }
-    requires event { MayCome (length doc.old.sessions) event }
+    requires event { IsEventFor (length doc.old.sessions) event }
     requires has_number { head doc.old.engine.revisions < 2 ^ 63 - 1 }
     ensures { length doc.new.sessions ≡ length doc.old.sessions }
 {

@@ -1,7 +1,7 @@
 //! Lines that are events of a document.
 
 ghost use Rattle.std.specs.Prelude.{◌<◌, ◌≤◌, length, IfOk};
-ghost use Rattle.doc_session.specs.Step.{MayCome};
+ghost use Rattle.doc_session.specs.Step.{IsEventFor};
 ghost use Rattle.stale_spans.specs.Places.{StandIn};
 
 use crate::acts::read_act;
@@ -24,7 +24,7 @@ struct Asked {
 
 /// The event that a line says.
 pub fn read_event(alloc: Global, line: &[u8]) -> anyhow::Result<Event>
-    ensures { IfOk result (MayCome 2) }
+    ensures { IfOk result (IsEventFor 2) }
 {
     let mut words = Words { rest: line };
     let event = event(alloc, &mut words)?;
@@ -33,7 +33,7 @@ pub fn read_event(alloc: Global, line: &[u8]) -> anyhow::Result<Event>
 }
 
 fn event(alloc: Global, words: &mut Words<'_>) -> anyhow::Result<Event>
-    ensures { IfOk result (MayCome 2) }
+    ensures { IfOk result (IsEventFor 2) }
 {
     match words.next_word() {
         b"edit" => edit(alloc, words),
@@ -57,7 +57,7 @@ fn plugin(words: &mut Words<'_>) -> anyhow::Result<u32>
 }
 
 fn edit(alloc: Global, words: &mut Words<'_>) -> anyhow::Result<Event>
-    ensures { IfOk result (MayCome 2) }
+    ensures { IfOk result (IsEventFor 2) }
 {
     let caller = plugin(words)?;
     let rev = field(b"base=", words)?;
@@ -116,7 +116,7 @@ impl Asked {
 }
 
 fn spans(alloc: Global, words: &mut Words<'_>) -> anyhow::Result<Event>
-    ensures { IfOk result (MayCome 2) }
+    ensures { IfOk result (IsEventFor 2) }
 {
     let caller = plugin(words)?;
     let rev = field(b"rev=", words)?;
@@ -156,7 +156,7 @@ fn span_in(len: u64, words: &mut Words<'_>) -> anyhow::Result<Span>
 }
 
 fn ack(words: &mut Words<'_>) -> anyhow::Result<Event>
-    ensures { IfOk result (MayCome 2) }
+    ensures { IfOk result (IsEventFor 2) }
 {
     let caller = plugin(words)?;
     let rev = field(b"rev=", words)?;
@@ -164,14 +164,14 @@ fn ack(words: &mut Words<'_>) -> anyhow::Result<Event>
 }
 
 fn ended(words: &mut Words<'_>) -> anyhow::Result<Event>
-    ensures { IfOk result (MayCome 2) }
+    ensures { IfOk result (IsEventFor 2) }
 {
     let caller = plugin(words)?;
     Ok(Event::Ended { caller })
 }
 
 fn config(words: &mut Words<'_>) -> anyhow::Result<Event>
-    ensures { IfOk result (MayCome 2) }
+    ensures { IfOk result (IsEventFor 2) }
 {
     let tab = u32::try_from(field(b"tab=", words)?)?;
     let width = u32::try_from(field(b"width=", words)?)?;

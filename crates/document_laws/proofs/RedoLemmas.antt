@@ -13,7 +13,7 @@ use Rattle.plain_edits.proofs.callers.HistoryLemmas.{text_at-undid_back}
 use Rattle.undo_groups.specs.Groups.{Groups, IsStack, next_redo, next_undo, redone_one, undone_one}
 use Rattle.undo_groups.specs.Laws.{RedoTakesUndoBack as StackLaw}
 use Rattle.doc_session.specs.Collecting.{AreAcknowledged, AreEnded, HasNoneLeft, collected_document, collection_after, least_acknowledged, with_collection}
-use Rattle.doc_session.specs.Document.{Document, no_request, text_of}
+use Rattle.doc_session.specs.Document.{Document, no_request, head_text}
 use Rattle.doc_session.specs.Effects.{settled, updated}
 use Rattle.doc_session.specs.Step.{going_on, history_step, taken_step, undone_document}
 use Rattle.doc_session.proofs.ForCallers.{IsLast-next_undo, collection_of-lags, collection_of-nothing, fold_forgotten, has-next_undo}
@@ -54,7 +54,7 @@ module _ (d : Document) (are : AreAcknowledged d.history d.sessions) (left : Has
       ap (with_collection e) none
 
   pub redo_after_undo : StackLaw → IsSound d.history → undone_now d.history ≡ d.groups.undone → IsStack d.groups → 0 < d.groups.index →
-      (text_of (after_redo (after_undo d)) ≡ text_of d) × ((after_redo (after_undo d)).groups ≡ d.groups)
+      (head_text (after_redo (after_undo d)) ≡ head_text d) × ((after_redo (after_undo d)).groups ≡ d.groups)
   redo_after_undo law sound undone stack some =
       let s = d.groups in
       let group = slice_index s.live (s.index - 1) in

@@ -26,12 +26,12 @@ use Rattle.doc_session.specs.declared.event.Event.{Event}
 use Rattle.doc_session.specs.declared.event.Event.TheVariants.{Ack, Config as Configure, Edit, Ended, Front, Other, Spans}
 use Rattle.doc_session.specs.Asking.{asked_spans, plugin_edit}
 use Rattle.doc_session.specs.Collecting.{collected_document, collection_after, with_collection}
-use Rattle.doc_session.specs.Document.{Document, loaded_document, no_request, text_of}
+use Rattle.doc_session.specs.Document.{Document, loaded_document, no_request, head_text}
 use Rattle.doc_session.specs.Effects.{settled, updated, wants_update}
 use Rattle.doc_session.specs.Step.{act_step, at_next_match, at_previous_match, command_step, configured_document, effect_on, given_document, going_on, history_step, idle_step, is_idle, looking_document, scrolled_document, seeking_document, selected_document, styled_document, taken_step, typed_document, typed_step, undone_document}
 use Rattle.document_laws.specs.Laws.{AreOverText, SaysNoStyles, StylesFollow}
 use Rattle.document_laws.proofs.GroupLemmas.{part-stepped}
-use Rattle.doc_session.proofs.ForCallers.{text_of-loaded}
+use Rattle.doc_session.proofs.ForCallers.{head_text-loaded}
 
 -- ---- where no revision is made the style rule leaves all styles
 
@@ -86,7 +86,7 @@ spans-over h asked index layers over =
 
 pub AreOverText-loaded : (text : List ℕ) (plugins limit : ℕ) (config : Config) → AreOverText (loaded_document text plugins limit config)
 AreOverText-loaded text plugins limit config =
-    subst (λ t. AreOver (length t) (loaded_document text plugins limit config).layers) (sym (text_of-loaded text)) (AreOver-new plugins (length text))
+    subst (λ t. AreOver (length t) (loaded_document text plugins limit config).layers) (sym (head_text-loaded text)) (AreOver-new plugins (length text))
 
 -- ---- the steps
 
@@ -156,7 +156,7 @@ module _ (d : Document) (over : AreOverText d) where
       let made = collected_document next in
       let follows : Follows d made = follows-collected d next (follows-taken event none) in
       record {
-        over = subst (AreOver (length (text_of made))) (sym follows) (moved-over d.history made.history d.layers);
+        over = subst (AreOver (length (head_text made))) (sym follows) (moved-over d.history made.history d.layers);
         as_many = ap length follows ∙ length-map d.layers (moved_layer d.history made.history);
         moved = λ says. follows;
       }

@@ -19,7 +19,7 @@ use Rattle.edit_groups.specs.Grouping.{group_by, groups_by, run_group}
 use Rattle.edit_groups.specs.Typing.{run_on, run_with}
 use Rattle.doc_session.specs.Asking.{front_edit}
 use Rattle.doc_session.specs.Collecting.{collected_document, collection_after, with_collection}
-use Rattle.doc_session.specs.Document.{Document, no_request, pieces_of, text_of}
+use Rattle.doc_session.specs.Document.{Document, no_request, pieces_of, head_text}
 use Rattle.doc_session.specs.Effects.{settled, updated, wants_update}
 use Rattle.doc_session.specs.Step.{effect_on, history_step, idle_step, is_idle, selected_document, taken_step, typed_document, typed_step, undone_document}
 use Rattle.doc_session.proofs.ForCallers.{effect-some, next_undo-opened, typing-some, typing-within}
@@ -141,7 +141,7 @@ runs start [] document is = is
 runs start (chars ∷ texts) document is = runs start texts (after_event document (Front (Insert chars))) (one_run start document chars is)
 
 -- the undo
-run_undone : (start document : Document) → IsBefore start → IsInRun start document → text_of (after_undo document) ≡ text_of start
+run_undone : (start document : Document) → IsBefore start → IsInRun start document → head_text (after_undo document) ≡ head_text start
 run_undone start document before is =
     let group = next_group start in
     let groups = undone_one document.groups in
@@ -149,15 +149,15 @@ run_undone start document before is =
     let set : groups.undone ≡ with_number (undone_now start.history) group =
     undone-undone_one document.groups group found ∙ ap (λ (g : Groups). with_number g.undone group) is.1 ∙
     ap (λ us. with_number us group) (sym before.1) in
-    ap (λ o. text_of (collected_document (history_step document o groups).document)) found ∙
-    part-stepped text_of document (undone_document document groups) refl (λ x collection. refl) ∙
+    ap (λ o. head_text (collected_document (history_step document o groups).document)) found ∙
+    part-stepped head_text document (undone_document document groups) refl (λ x collection. refl) ∙
     ap (text_at (undid document.history groups.undone)) (head-undid document.history groups.undone) ∙
     ap (λ us. text_at (undid document.history us) (head document.history + 1)) set ∙
     text_at-run start.history document.history group is.0 (omega arith) before.2
 
 -- there is a region, and regions lie in the text
 abbrev pub HasRegions : Document → Type 0
-HasRegions document = (document.regions ≢ []) × AreWithin (length (text_of document)) document.regions
+HasRegions document = (document.regions ≢ []) × AreWithin (length (head_text document)) document.regions
 
 -- characters that are no edit leave the text
 settled-HasRegions : (before after : Document) → HasRegions after → HasRegions (settled no_request before after)
@@ -178,10 +178,10 @@ collected-HasRegions after has = by (collection_after after)
 -- they are none
 none_typed : (plain : Document) (chars : List ℕ) → HasRegions plain → is_idle plain (typing plain chars) ≡ true → chars ≡ []
 none_typed plain [] has idle = refl
-none_typed plain (c ∷ chars) has idle = absurd (typing-some (text_of plain) (c ∷ chars) plain.regions (λ none. cc) has.0 has.1 idle)
+none_typed plain (c ∷ chars) has idle = absurd (typing-some (head_text plain) (c ∷ chars) plain.regions (λ none. cc) has.0 has.1 idle)
 
 pub run_taken_back : (texts : List (List ℕ)) (plain : Document) → IsBefore plain → HasRegions plain → concat texts ≢ [] →
-    text_of (after_undo (after_typing plain texts)) ≡ text_of plain
+    head_text (after_undo (after_typing plain texts)) ≡ head_text plain
 run_taken_back [] plain is has some = absurd (some refl)
 run_taken_back (chars ∷ texts) plain is has some = by (run_taken_back texts) (is_idle plain (typing plain chars)) refl
   where
@@ -189,17 +189,17 @@ run_taken_back (chars ∷ texts) plain is has some = by (run_taken_back texts) (
     effect = typing plain chars
 
     by : ((document : Document) → IsBefore document → HasRegions document → concat texts ≢ [] →
-        text_of (after_undo (after_typing document texts)) ≡ text_of document) → (idle : Bool) → is_idle plain effect ≡ idle → text_of (after_undo (after_typing
-        (collected_document (if idle then idle_step plain (Insert chars) effect else typed_step plain (Insert chars) effect).document) texts)) ≡ text_of plain
+        head_text (after_undo (after_typing document texts)) ≡ head_text document) → (idle : Bool) → is_idle plain effect ≡ idle → head_text (after_undo (after_typing
+        (collected_document (if idle then idle_step plain (Insert chars) effect else typed_step plain (Insert chars) effect).document) texts)) ≡ head_text plain
     by later true idle =
         let next = selected_document plain inserts effect.regions in
         let still : IsBefore next = (is.0, is.1, is.2, ap (λ t. run_on t inserts) is.3) in
         let left : HasRegions next =
-        (effect-some plain.config (text_of plain) (pieces_of plain) plain.regions has.0 (Insert chars), typing-within (text_of plain) chars plain.regions has.1 idle) in
+        (effect-some plain.config (head_text plain) (pieces_of plain) plain.regions has.0 (Insert chars), typing-within (head_text plain) chars plain.regions has.1 idle) in
         let rest : concat texts ≢ [] = λ empty. some (ap (λ t. t ++ concat texts) (none_typed plain chars has idle) ∙ empty) in
         later (collected_document (settled no_request plain next)) (collected-IsBefore (settled no_request plain next) (settled-IsBefore plain next still))
         (collected-HasRegions (settled no_request plain next) (settled-HasRegions plain next left)) rest ∙
-        part-stepped text_of plain next refl (λ x collection. refl)
+        part-stepped head_text plain next refl (λ x collection. refl)
     by later false idle =
         let next = typed_document plain inserts effect in
         let first = collected_document (settled no_request plain next) in

@@ -14,7 +14,7 @@ use Rattle.edit_groups.specs.Typing.{run_on}
 use Rattle.doc_session.specs.declared.event.Event.{Event}
 use Rattle.doc_session.specs.declared.event.Body.TheVariants.{Null}
 use Rattle.doc_session.specs.declared.event.Event.TheVariants.{Ack, Config as Configure, Edit, Ended, Front, Other, Spans}
-use Rattle.doc_session.specs.Document.{Document, loaded_document, text_of}
+use Rattle.doc_session.specs.Document.{Document, loaded_document, head_text}
 use Rattle.doc_session.specs.InMemory.{Doc}
 use Rattle.doc_session.specs.Stands.{DocStandsFor}
 use Rattle.doc_session.specs.Step.{EventStep, event_step, refusal_at}
@@ -61,12 +61,12 @@ bare document = record document {
 -- an undo takes back whole what the front end typed, where no insertion went before: some characters at least, in however many insertions
 abbrev pub UndoTakesRunBack : Type 0
 UndoTakesRunBack = (doc : Doc) (plain : Document) (texts : List (List ℕ)) → DocStandsFor doc plain →
-    run_on plain.typing (Some Kinds.Insert) ≡ None → concat texts ≢ [] → text_of (after_undo (after_typing plain texts)) ≡ text_of plain
+    run_on plain.typing (Some Kinds.Insert) ≡ None → concat texts ≢ [] → head_text (after_undo (after_typing plain texts)) ≡ head_text plain
 
 -- a redo directly after an undo, where there is one, gives text and groups back
 abbrev pub RedoTakesUndoBack : Type 0
 RedoTakesUndoBack = (doc : Doc) (plain : Document) → DocStandsFor doc plain → 0 < plain.groups.index →
-    (text_of (after_redo (after_undo plain)) ≡ text_of plain) × ((after_redo (after_undo plain)).groups ≡ plain.groups)
+    (head_text (after_redo (after_undo plain)) ≡ head_text plain) × ((after_redo (after_undo plain)).groups ≡ plain.groups)
 
 -- after an event that opens a group there is nothing to redo, and a redo makes no revision
 abbrev pub NewGroupEndsRedo : Type 0
@@ -147,7 +147,7 @@ AcknowledgementsAreUnseen = (document : Document) (event : Event) → IsOfSessio
 
 -- the layers of a document are over its text
 abbrev pub AreOverText : Document → Type 0
-AreOverText document = AreOver (length (text_of document)) document.layers
+AreOverText document = AreOver (length (head_text document)) document.layers
 
 -- an event in which no plugin says styles
 abbrev pub SaysNoStyles : Event → Type 0

@@ -14,7 +14,7 @@ use Rattle.plain_screen.specs.declared.screen.Line.{Line}
 use Rattle.doc_session.specs.declared.event.Body.TheVariants.{Edited}
 use Rattle.doc_session.specs.declared.event.Event.{Event}
 use Rattle.doc_session.specs.declared.event.Event.TheVariants.{Ack, Config as Configure, Edit, Ended, Front, Other, Spans}
-use Rattle.doc_session.specs.Document.{Document, layout_of, loaded_document, text_of}
+use Rattle.doc_session.specs.Document.{Document, layout_of, loaded_document, head_text}
 use Rattle.doc_session.specs.Refusal.{of_edit, of_range}
 use Rattle.doc_session.specs.Step.{event_step, refusal_at}
 use Rattle.document_laws.specs.Laws.{after_event}
@@ -31,7 +31,7 @@ abbrev pub after_events : List Event → Document
 after_events events = fold after_event empty_document events
 
 abbrev pub text_after : List Event → List ℕ
-text_after events = text_of (after_events events)
+text_after events = head_text (after_events events)
 
 -- the front end types a character
 abbrev pub types : ℕ → Event
@@ -146,7 +146,7 @@ pub record SpansOnDocuments : Type 0 where
   -- a range without spans is cleared
   pub cleared : styles_after (styles 0 1 2 (part 0 2) ∷ styles 0 1 1 [] ∷ []) ≡ (None ∷ None ∷ Some 2 ∷ None ∷ []) ∷ []
   -- no revision is made, and a run of typing goes on
-  pub run : text_of (word_after (types 88 ∷ styles 0 1 2 (part 0 2) ∷ types 89 ∷ Front Undo ∷ [])) ≡ 97 ∷ 98 ∷ 99 ∷ 100 ∷ []
+  pub run : head_text (word_after (types 88 ∷ styles 0 1 2 (part 0 2) ∷ types 89 ∷ Front Undo ∷ [])) ≡ 97 ∷ 98 ∷ 99 ∷ 100 ∷ []
   -- a revision that there is not is refused before a start that is no place, and this before a length
   pub above : refusal_at (word_after []) (styles 1 9 9 []) ≡ Some (of_edit (unknown 0))
   pub start : refusal_at (word_after []) (styles 0 9 9 []) ≡ Some (of_range Members.Start)

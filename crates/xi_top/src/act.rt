@@ -5,7 +5,7 @@ ghost use Rattle.doc_session.specs.Document.{Document};
 ghost use Rattle.doc_session.specs.Fault.{DocRefuses};
 ghost use Rattle.doc_session.specs.Refusal.{DocRefusal};
 ghost use Rattle.doc_session.specs.Stands.{DocStandsFor};
-ghost use Rattle.doc_session.specs.Step.{EventStep, MayCome, event_step};
+ghost use Rattle.doc_session.specs.Step.{EventStep, IsEventFor, event_step};
 ghost use Rattle.xi_top.specs.Core.{ServesView, Stands};
 ghost use Rattle.xi_top.specs.InnerSession.{IsMade, IsOutcome, IsSpentOrLack, IsTaken, MayBeAsked, TakesEvents, reply_of};
 ghost use Rattle.xi_top.specs.Answer.{accepted, result_of};
@@ -110,7 +110,7 @@ fn others(alloc: Global, document: &Option<Doc>, reply: Reply) -> Result<ActEffe
 /// The step of a document at an event that it never refuses, answered so.
 fn step(alloc: Global, doc: &Doc, event: Event, reply: Reply) -> Result<ActEffects, NoMemory>
     requires alone { TakesEvents doc.now }
-    requires event { MayCome 0 event }
+    requires event { IsEventFor 0 event }
     ensures { (plain : Document) → DocStandsFor doc.now plain → IfOk result (IsTaken (event_step plain event) reply) }
 {
     match after_alone(alloc, doc, event) {
@@ -284,7 +284,7 @@ fn answer_of(body: Body) -> Reply
 /// The document after an event of the front end, whose steps nobody counts.
 fn after_alone(alloc: Global, doc: &Doc, event: Event) -> Result<(Doc, Effects), DocFault>
     requires alone { TakesEvents doc.now }
-    requires event { MayCome 0 event }
+    requires event { IsEventFor 0 event }
     ensures { IsMade doc.now event result }
 {
     counted::<Brand>(alloc, doc, event, Blank::new(1))
@@ -298,7 +298,7 @@ fn counted<L: Ledger>(
 ) -> Result<(Doc, Effects), DocFault>
     requires blank { (blank.name ≡ L.name) × ((blank.parts ≡ L.parts) × (0 < blank.parts)) }
     requires alone { TakesEvents doc.now }
-    requires event { MayCome 0 event }
+    requires event { IsEventFor 0 event }
     ensures { IsMade doc.now event result }
 {
     let mut steps = Steps::<L>::new(blank);

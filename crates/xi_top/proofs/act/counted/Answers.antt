@@ -1,11 +1,11 @@
 use Rattle.std.proofs.Common.{ℕ, sym, subst}
-use Rattle.doc_session.specs.Step.{MayCome}
+use Rattle.doc_session.specs.Step.{IsEventFor}
 use Rattle.xi_top.proofs.PrepareLemmas.{IsMade-after}
 use Rattle.xi_top.proofs.act.counted.Goals as goal
 
 pub after-requires-clause-event : goal.after-requires-clause-event
 after-requires-clause-event g c =
-    let At : ℕ → Type 0 = λ plugins. MayCome plugins c.args.event in
+    let At : ℕ → Type 0 = λ plugins. IsEventFor plugins c.args.event in
     subst At (sym c.requires.alone.0) c.requires.event
 
 pub returns : goal.returns

@@ -1,0 +1,84 @@
+use Rattle.std.proofs.Common.{◌≡◌, None, refl, ap, sym, subst}
+use Rattle.std.specs.Prelude.{IfErr, IfOk, OnOk, length}
+use Rattle.doc_session.specs.declared.event.Event.{Event}
+use Rattle.doc_session.specs.Asking.{acknowledgement_refusal, asked_refusal, plugin_edit}
+use Rattle.doc_session.specs.Fault.{DocRefuses}
+use Rattle.doc_session.specs.Inner.{IsStepped}
+use Rattle.doc_session.specs.Step.{IsEventFor, command_refusal, effect_on, refusal_at, taken_step}
+use Rattle.doc_session.proofs.ResultLemmas.{accepted-edit, as_many-same}
+use Rattle.doc_session.proofs.doc.Doc.next.Goals as goal
+
+pub returns-in-Front : goal.returns-in-Front
+returns-in-Front c = record {
+  stepped = λ plain stands.
+      subst (λ (event : Event). IfOk c.act.result (IsStepped (taken_step plain event))) (sym c.in-Front.is) (c.act.ensures.stepped plain stands);
+  accepted = λ plain stands.
+      subst (λ (event : Event). OnOk c.act.result (refusal_at plain event ≡ None)) (sym c.in-Front.is)
+      (accepted-edit c.act.result (command_refusal plain (effect_on plain c.in-Front.act)) (c.act.ensures.accepted plain stands));
+  refused = λ plain stands.
+      subst (λ (event : Event). IfErr c.act.result (DocRefuses (refusal_at plain event))) (sym c.in-Front.is) (c.act.ensures.refused plain stands);
+  plugins = as_many-same c.act.result c.args.self.now.sessions c.act.ensures.sessions;
+}
+
+pub returns-in-Edit : goal.returns-in-Edit
+returns-in-Edit c = record {
+  stepped = λ plain stands.
+      subst (λ (event : Event). IfOk c.edit.result (IsStepped (taken_step plain event))) (sym c.in-Edit.is) (c.edit.ensures.stepped plain stands);
+  accepted = λ plain stands.
+      subst (λ (event : Event). OnOk c.edit.result (refusal_at plain event ≡ None)) (sym c.in-Edit.is)
+      (accepted-edit c.edit.result (asked_refusal plain (plugin_edit plain c.in-Edit.caller c.in-Edit.edit None)) (c.edit.ensures.accepted plain stands));
+  refused = λ plain stands.
+      subst (λ (event : Event). IfErr c.edit.result (DocRefuses (refusal_at plain event))) (sym c.in-Edit.is) (c.edit.ensures.refused plain stands);
+  plugins = as_many-same c.edit.result c.args.self.now.sessions c.edit.ensures.sessions;
+}
+
+pub returns-in-Spans : goal.returns-in-Spans
+returns-in-Spans c = record {
+  stepped = λ plain stands.
+      subst (λ (event : Event). IfOk c.styled.result (IsStepped (taken_step plain event))) (sym c.in-Spans.is) (c.styled.ensures.stepped plain stands);
+  accepted = λ plain stands.
+      subst (λ (event : Event). OnOk c.styled.result (refusal_at plain event ≡ None)) (sym c.in-Spans.is)
+      (c.styled.ensures.accepted plain stands);
+  refused = λ plain stands.
+      subst (λ (event : Event). IfErr c.styled.result (DocRefuses (refusal_at plain event))) (sym c.in-Spans.is) (c.styled.ensures.refused plain stands);
+  plugins = as_many-same c.styled.result c.args.self.now.sessions c.styled.ensures.sessions;
+}
+
+pub returns-in-Ack : goal.returns-in-Ack
+returns-in-Ack c = record {
+  stepped = λ plain stands.
+      subst (λ (event : Event). IfOk c.acknowledged.result (IsStepped (taken_step plain event))) (sym c.in-Ack.is) (c.acknowledged.ensures.stepped plain stands);
+  accepted = λ plain stands.
+      subst (λ (event : Event). OnOk c.acknowledged.result (refusal_at plain event ≡ None)) (sym c.in-Ack.is)
+      (accepted-edit c.acknowledged.result (acknowledgement_refusal plain.history c.in-Ack.rev) (c.acknowledged.ensures.accepted plain stands));
+  refused = λ plain stands.
+      subst (λ (event : Event). IfErr c.acknowledged.result (DocRefuses (refusal_at plain event))) (sym c.in-Ack.is) (c.acknowledged.ensures.refused plain stands);
+  plugins = c.acknowledged.ensures.plugins;
+}
+
+pub returns-in_ok-ended-in-Ended : goal.returns-in_ok-ended-in-Ended
+returns-in_ok-ended-in-Ended c = record {
+  stepped = λ plain stands.
+      subst (λ (event : Event). IsStepped (taken_step plain event) c.in_ok-ended-in-Ended.field-0) (sym c.in-Ended.is) (c.in_ok-ended-in-Ended.ensures.stepped plain stands);
+  accepted = λ plain stands. subst (λ (event : Event). refusal_at plain event ≡ None) (sym c.in-Ended.is) refl;
+  refused = λ plain stands. tt;
+  plugins = c.in_ok-ended-in-Ended.ensures.plugins;
+}
+
+pub returns-in_ok-looking-in-Config : goal.returns-in_ok-looking-in-Config
+returns-in_ok-looking-in-Config c = record {
+  stepped = λ plain stands.
+      subst (λ (event : Event). IsStepped (taken_step plain event) c.in_ok-looking-in-Config.field-0) (sym c.in-Config.is) (c.in_ok-looking-in-Config.ensures.stepped plain stands);
+  accepted = λ plain stands. subst (λ (event : Event). refusal_at plain event ≡ None) (sym c.in-Config.is) refl;
+  refused = λ plain stands. tt;
+  plugins = ap length c.in_ok-looking-in-Config.ensures.sessions;
+}
+
+pub returns-in_ok-looking-in-Other : goal.returns-in_ok-looking-in-Other
+returns-in_ok-looking-in-Other c = record {
+  stepped = λ plain stands.
+      subst (λ (event : Event). IsStepped (taken_step plain event) c.in_ok-looking-in-Other.field-0) (sym c.in-Other.is) (c.in_ok-looking-in-Other.ensures.stepped plain stands);
+  accepted = λ plain stands. subst (λ (event : Event). refusal_at plain event ≡ None) (sym c.in-Other.is) refl;
+  refused = λ plain stands. tt;
+  plugins = ap length c.in_ok-looking-in-Other.ensures.sessions;
+}
