@@ -4,7 +4,7 @@ use Rattle.doc_session.specs.declared.event.Event.{Event}
 use Rattle.doc_session.specs.Asking.{acknowledgement_refusal, asked_refusal, plugin_edit}
 use Rattle.doc_session.specs.Fault.{DocRefuses}
 use Rattle.doc_session.specs.Inner.{IsStepped}
-use Rattle.doc_session.specs.Step.{IsEventFor, command_refusal, effect_on, refusal_at, taken_step}
+use Rattle.doc_session.specs.Step.{command_refusal, effect_on, refusal_at, taken_step}
 use Rattle.doc_session.proofs.ResultLemmas.{accepted-edit, as_many-same}
 use Rattle.doc_session.proofs.doc.Doc.next.Goals as goal
 
