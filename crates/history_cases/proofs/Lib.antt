@@ -1,5 +1,2 @@
-mod OpenLemmas
-mod Refusals
 mod Sets
-mod Since
 mod TakenLemmas

@@ -1,20 +1,16 @@
 -- What the lines of a case say of a history, and what each of them leaves.
-use Rattle.std.specs.Prelude.{◌≡◌, ℕ, ◌≤◌, Bool, true, false, List, [], ◌∷◌, map, Option, Some, None, option_and_then}
+use Rattle.std.specs.Prelude.{◌≡◌, ℕ, ◌≤◌, true, false, List, [], map, Option, Some, None}
 use Rattle.std.specs.List.{filter, AllByRecursion}
 use Rattle.plain_text.specs.Numbers.{has}
 use Rattle.plain_edits.specs.History.{History, head, loaded, text_at, is_visible_under}
 use Rattle.plain_edits.specs.Edits.{MayUndo, edit_refusal, edited, undid, plain_edit}
-use Rattle.plain_edits.specs.Collection.{MayCollect, collected_at, kept}
-use Rattle.plain_edits.specs.declared.fault.EditFault.{EditFault}
+use Rattle.plain_edits.specs.Collection.{MayCollect, collected_at}
 use Rattle.plain_edits.specs.EditFault.{refusal_of}
 use Rattle.rev_undo.specs.Allowed.{HasEdit}
 use Rattle.rev_engine.specs.declared.edit.Edit.{Edit as AnyEdit}
 use Rattle.rev_engine.specs.Asked.{IsFrozenAt}
-use Rattle.history_cases.specs.declared.step.UndoRefusal.{UndoRefusal}
-use Rattle.history_cases.specs.declared.step.UndoRefusal.TheVariants.{NoEdit, Frozen}
-use Rattle.history_cases.specs.declared.step.Step.{Step}
-use Rattle.history_cases.specs.declared.step.Step.TheVariants.{Load, Limit, Edit, Closed, Undo, Collect, Shows, Under, Floor, Kept}
-use Rattle.history_cases.specs.declared.step.Line.{Line}
+use Rattle.history_cases.specs.declared.refusal.Refusal.{Refusal}
+use Rattle.history_cases.specs.declared.refusal.Refusal.TheVariants.{Edit, Closed, NoEdit, Frozen, Uncollectable}
 
 -- a case as far as it has come: its history, and how many characters may be inserted in all
 pub record Case : Type 0 where
@@ -25,39 +21,43 @@ pub record Case : Type 0 where
 abbrev pub new_case : Case
 new_case = record { history = loaded []; limit = 1000 }
 
--- an edit may be of the group: it is not collected
-abbrev pub IsOpen : Case → AnyEdit → Type 0
-IsOpen before e = has before.history.collected e.group ≡ false
+-- why an edit is refused: its group is collected, or else by the edit refusal
+abbrev pub IsEditRefused : Case → AnyEdit → Refusal → Type 0
+IsEditRefused before e (Edit fault) =
+    (has before.history.collected e.group ≡ false) × (edit_refusal before.history before.limit e.rev e.delta ≡ refusal_of fault)
+IsEditRefused before e Closed = has before.history.collected e.group ≡ true
+IsEditRefused before e NoEdit = ⊥
+IsEditRefused before e (Frozen group) = ⊥
+IsEditRefused before e Uncollectable = ⊥
 
--- the answer to an edit under a limit, a fault or none, is the edit refusal
-abbrev pub IsEditAnswer : History → ℕ → AnyEdit → Option EditFault → Type 0
-IsEditAnswer history limit e answer = edit_refusal history limit e.rev e.delta ≡ option_and_then refusal_of answer
+-- AN EDIT, which nothing refuses or which changes nothing
+abbrev pub Edits : Case → AnyEdit → Case → Option Refusal → Type 0
+Edits before e after None =
+    (has before.history.collected e.group ≡ false) ×
+    (edit_refusal before.history before.limit e.rev e.delta ≡ None) ×
+    (after ≡ record before { history = edited before.history (plain_edit before.history e.rev e.delta e.group e.priority e.author) })
+Edits before e after (Some refusal) = IsEditRefused before e refusal × (after ≡ before)
 
--- what an edit with this answer leaves: the history with it, or all as it was
-abbrev pub edited_by : History → AnyEdit → Option EditFault → History
-edited_by history e None = edited history (plain_edit history e.rev e.delta e.group e.priority e.author)
-edited_by history e (Some fault) = history
-
--- why an undo may not come: not all of its groups have an edit, or they all do and this is the least frozen group
-abbrev pub IsUndoRefused : History → List ℕ → UndoRefusal → Type 0
+-- why an undo is refused: not all of its groups have an edit, or they all do and this is the least frozen group
+abbrev pub IsUndoRefused : History → List ℕ → Refusal → Type 0
+IsUndoRefused history groups (Edit fault) = ⊥
+IsUndoRefused history groups Closed = ⊥
 IsUndoRefused history groups NoEdit = AllByRecursion (HasEdit history) groups → ⊥
 IsUndoRefused history groups (Frozen group) = AllByRecursion (HasEdit history) groups × IsFrozenAt history groups group
+IsUndoRefused history groups Uncollectable = ⊥
 
--- the answer to an undo, a refusal or none: it is refused exactly where it may not come
-abbrev pub IsUndoAnswer : History → List ℕ → Option UndoRefusal → Type 0
-IsUndoAnswer history groups None = MayUndo history groups
-IsUndoAnswer history groups (Some refusal) = (MayUndo history groups → ⊥) × IsUndoRefused history groups refusal
+-- AN UNDO, which is refused exactly where it may not come
+abbrev pub Undoes : Case → List ℕ → Case → Option Refusal → Type 0
+Undoes before groups after None = MayUndo before.history groups × (after ≡ record before { history = undid before.history groups })
+Undoes before groups after (Some refusal) =
+    (MayUndo before.history groups → ⊥) × IsUndoRefused before.history groups refusal × (after ≡ before)
 
--- what an undo with this answer leaves
-abbrev pub undid_by : History → List ℕ → Option UndoRefusal → History
-undid_by history groups None = undid history groups
-undid_by history groups (Some refusal) = history
-
--- what a collection leaves, by whether it is said to be refused
-abbrev pub Collects : Case → ℕ → List ℕ → Bool → Case → Type 0
-Collects before floor groups false after =
+-- A COLLECTION, which is refused exactly where it may not come
+abbrev pub Collects : Case → ℕ → List ℕ → Case → Option Refusal → Type 0
+Collects before floor groups after None =
     MayCollect before.history floor groups × (after ≡ record before { history = collected_at before.history floor groups })
-Collects before floor groups true after = (MayCollect before.history floor groups → ⊥) × (after ≡ before)
+Collects before floor groups after (Some refusal) =
+    (MayCollect before.history floor groups → ⊥) × (refusal ≡ Uncollectable) × (after ≡ before)
 
 -- the revision is there and shows the text
 abbrev pub ShowsText : History → ℕ → List ℕ → Type 0
@@ -67,27 +67,3 @@ ShowsText history rev text = (rev ≤ head history) × (text_at history rev ≡ 
 abbrev pub ShowsUnder : History → List ℕ → List ℕ → Type 0
 ShowsUnder history groups text =
     map (λ tagged. tagged.character) (filter (is_visible_under history.revisions groups (head history)) history.characters) ≡ text
-
--- THE LINE HOLDS in a case, and leaves this one
-abbrev pub Holds : Case → Step → Case → Type 0
-Holds before (Load text) after = after ≡ record before { history = loaded text }
-Holds before (Limit limit) after = after ≡ record before { limit = limit }
-Holds before (Edit e answer) after =
-    IsOpen before e × IsEditAnswer before.history before.limit e answer × (after ≡ record before { history = edited_by before.history e answer })
-Holds before (Closed group) after = (has before.history.collected group ≡ true) × (after ≡ before)
-Holds before (Undo groups answer) after =
-    IsUndoAnswer before.history groups answer × (after ≡ record before { history = undid_by before.history groups answer })
-Holds before (Collect floor groups is_refused) after = Collects before floor groups is_refused after
-Holds before (Shows rev text) after = ShowsText before.history rev text × (after ≡ before)
-Holds before (Under groups text) after = ShowsUnder before.history groups text × (after ≡ before)
-Holds before (Floor floor) after = (before.history.floor ≡ floor) × (after ≡ before)
-Holds before (Kept count) after = (kept before.history ≡ count) × (after ≡ before)
-
--- each line holds, one after the other
-abbrev pub Run : Case → List Line → Case → Type 0
-Run before [] after = after ≡ before
-Run before (line ∷ lines) after = (between : Case) × Holds before line.step between × Run between lines after
-
--- THE CASE HOLDS: each of its lines does, from the empty text on
-abbrev pub CaseHolds : List Line → Type 0
-CaseHolds lines = (after : Case) × Run new_case lines after

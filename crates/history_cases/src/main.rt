@@ -27,38 +27,30 @@
 //! In a text `\n` is the end of a line, `\t` a tab, `\s` a space and `\\` a backslash; after `insert` a text is one word. What is
 //! refused changes nothing, and its refusal has to stand in the line after it.
 //!
-//! For each edit `delta_core` has to find the first misfit of the plain history. As long as a history has edits, undos and collections
-//! at the head, `rev_rebase` has to put the edits where the plain history has them, `rev_undo` to say what an undo hides and, after each
-//! step, what every set of the first four groups that are not collected hides, beside that of a line `under`, `rev_collect` to give the
-//! list that is left, and a `rev_list` to keep as many characters, and to hide of them at each revision from the floor on what is hidden
-//! there. An engine has to answer as the plain history does, to have its floor and its collected groups, to keep as many characters, to
-//! show the same at each revision from the floor on, and to tell of each edit and undo a change that leads from the text before to that
-//! after. An undo of a collected group it has to refuse for the least such group, and to stay as it is; it has to tell beforehand that
-//! it takes no edit of a collected group, and no undo of a group without an edit. The list and the engine stop at a collection below the head, or one that raises the floor alone, and go on with the next
-//! history: the line that is printed says how many steps were taken in all, and how many of them each took.
+//! For each edit `delta_core` has to find the first misfit of the plain history. Beside that history go an engine, and a `rev_list`
+//! with the crates that work on it, until a collection below the head, or one that raises the floor alone: the line that is printed says
+//! how many steps were taken in all, and how many of them by each. Both have to answer each step as the plain history does, and to tell
+//! beforehand that they take no edit of a collected group and no undo of a group without an edit. After it `rev_rebase` has put the edit
+//! where that history has it, or `rev_collect` given the list that is left; both keep as many characters; at each revision from the floor
+//! on the list hides what is hidden there, and the engine shows the same, and tells an edit since then that leads to the head text; and
+//! `rev_undo` says what every set of the first four groups that are not collected hides, and that of a line `under`.
 //!
-//! That a case passes only where each of its lines holds says the contract of `run_case`, for the lines of a file and for those that a
-//! seed draws; how lines are read and which are drawn, the output alone shows. A new case is a new file in `data/`, and its line in `stdout`.
+//! What steps do by the definitions of a history, why they are refused, and that a text is shown, are clauses of `Run`. How lines are
+//! read, which steps are drawn, and that the bodies agree, the output alone shows. A new case is a new file in `data/`, and its line in
+//! `stdout`.
 #![tactic(auto)]
 
-mod answers;
-mod by_engine;
-mod by_rev_list;
-mod case_run;
+mod bodies;
 mod reading;
+mod refusal;
+mod run;
 mod seeded;
-mod step;
-
-ghost use Rattle.std.specs.Prelude.{◌≡◌, false, IfOk, IsTrue};
-ghost use Rattle.history_cases.specs.Case.{CaseHolds};
 
 use anyhow::ensure;
-use case_run::{Count, run_case};
-use reading::read_lines;
-use seeded::{Drawn, drawn_lines};
+use run::Count;
+use seeded::{Drawn, run_seed};
 use std::fs;
 use std::rt::Files;
-use step::Line;
 
 /// There are lists from the seeds 1 to this one.
 const SEEDS: u64 = 32;
@@ -66,14 +58,14 @@ const SEEDS: u64 = 32;
 fn main(rt: HostRuntime) -> anyhow::Result<()> {
     let mut all_hold = true;
     for name in case_names(&rt)?.as_slice() {
-        let lines = file_lines(&rt, name.as_str());
-        all_hold &= run_lines(&rt, name.as_str().trim_end_matches(".history"), &lines)?;
+        let count = run_file(&rt, name.as_str());
+        all_hold &= print_outcome(&rt, name.as_str().trim_end_matches(".history"), count)?;
     }
     let mut drawn = Drawn::default();
     for seed in 1..=SEEDS {
-        let lines = drawn_lines(rt.alloc(), seed, &mut drawn);
+        let count = run_seed(rt.alloc(), seed, &mut drawn);
         let name = format!(in rt.alloc(); "seed {seed}")?;
-        all_hold &= run_lines(&rt, name.as_str(), &lines)?;
+        all_hold &= print_outcome(&rt, name.as_str(), count)?;
     }
     print_drawn(&rt, &drawn)?;
     ensure!(all_hold, "a case does not hold");
@@ -93,49 +85,27 @@ fn case_names(rt: &HostRuntime) -> anyhow::Result<Vec<String>> {
     Ok(names)
 }
 
-fn file_lines(rt: &HostRuntime, file: &str) -> anyhow::Result<Vec<Line>> {
+fn run_file(rt: &HostRuntime, file: &str) -> anyhow::Result<Count> {
     let case = fs::read(rt, file)?;
-    read_lines(rt.alloc(), &case)
+    reading::run_case(rt.alloc(), &case)
 }
 
-/// Runs the lines, if they could be had; whether they hold.
-fn run_lines(
+/// Prints what came of a case; whether it holds.
+fn print_outcome(
     rt: &HostRuntime,
     name: &str,
-    lines: &anyhow::Result<Vec<Line>>,
+    outcome: anyhow::Result<Count>,
 ) -> anyhow::Result<bool> {
-    match lines {
-        Ok(lines) => print_outcome(rt, name, lines),
-        Err(why) => print_failure(rt, name, why),
+    match outcome {
+        Ok(Count { steps, by_bodies }) => {
+            println!(rt; "pass {name}: steps {steps}, rev_list {by_bodies}, engine {by_bodies}")?;
+            Ok(true)
+        }
+        Err(why) => {
+            println!(rt; "FAIL {name}: {why:#}")?;
+            Ok(false)
+        }
     }
-}
-
-/// Runs a case and prints what comes of it; whether it holds.
-fn print_outcome(rt: &HostRuntime, name: &str, lines: &[Line]) -> anyhow::Result<bool>
-    ensures { IfOk result (λ holds. IsTrue holds → CaseHolds lines.now) }
-{
-    match run_case(rt.alloc(), lines) {
-        Ok(count) => print_pass(rt, name, count),
-        Err(why) => print_failure(rt, name, &why),
-    }
-}
-
-fn print_pass(rt: &HostRuntime, name: &str, count: Count) -> anyhow::Result<bool> {
-    let Count {
-        steps,
-        by_list,
-        by_engine,
-    } = count;
-    println!(rt; "pass {name}: steps {steps}, rev_list {by_list}, engine {by_engine}")?;
-    Ok(true)
-}
-
-/// It does not hold.
-fn print_failure(rt: &HostRuntime, name: &str, why: &anyhow::Error) -> anyhow::Result<bool>
-    ensures { IfOk result (λ holds. holds ≡ false) }
-{
-    println!(rt; "FAIL {name}: {why:#}")?;
-    Ok(false)
 }
 
 /// Prints what the lists have beside edits in new groups.

@@ -1,122 +1,109 @@
-//! What the lines of a case say.
+//! Reads the lines of a case, each of which is done at once.
 
 ghost use Rattle.std.specs.Prelude.{◌<◌, ◌≤◌, ◌-◌, length};
 
-use crate::step::{Line, Step, UndoRefusal};
-use anyhow::{Context, bail};
+use crate::refusal::{Answer, Refusal};
+use crate::run::{Count, Run};
+use anyhow::{Context, Result, bail, ensure};
 use case_lines::{Words, content_of, first_line, number_of, unquoted};
+use plain_collection::kept;
 use plain_edits::{Delta, EditFault, El, Misfit};
 use plain_text::{List, Text};
 use rev_engine::Edit;
 use std::alloc::Global;
 
-/// The steps of a case, in order.
-pub fn read_lines(alloc: Global, case: &[u8]) -> anyhow::Result<Vec<Line>> {
-    let mut lines = Vec::new(alloc);
+/// Runs the lines of a case, each of which has to hold.
+pub fn run_case(alloc: Global, case: &[u8]) -> Result<Count> {
+    let mut run = Run::new(alloc)?;
+    take_lines(&mut run, case)
+}
+
+fn take_lines(run: &mut Run, case: &[u8]) -> Result<Count> {
+    let mut answer = None;
     let mut number = 0_u64;
     let mut rest = case;
     while !rest.is_empty() {
         let (line, later) = first_line(rest);
         number = number.saturating_add(1);
-        push_line(alloc, number, content_of(line), &mut lines).context(format_args!(
-            "line {number}"
-        ))?;
+        answer = take_numbered(run, number, content_of(line), answer)?;
         rest = later;
     }
-    Ok(lines)
+    ensure!(answer.is_none(), "the last step is refused: {answer:?}");
+    Ok(run.count)
 }
 
-/// Puts the step of a line behind the others; a refusal goes to the last of them, and a remark says nothing.
-fn push_line(alloc: Global, number: u64, line: &[u8], lines: &mut Vec<Line>) -> anyhow::Result<()> {
+fn take_numbered(run: &mut Run, number: u64, line: &[u8], answer: Answer) -> Result<Answer> {
+    take_line(run, line, answer).context(format_args!("line {number}"))
+}
+
+/// Does what a line says, after a step with this answer. It gives the answer that the next line has to say.
+fn take_line(run: &mut Run, line: &[u8], answer: Answer) -> Result<Answer> {
     if line.is_empty() || line[0] == b'#' {
-        return Ok(());
+        return Ok(answer);
     }
-    let step = match line.strip_prefix(b"refused ".as_slice()) {
-        Some(cause) => refused(lines.pop(), cause)?,
-        None => read_step(alloc, line)?,
-    };
-    lines.push(Line { number, step })?;
+    let mut words = Words { rest: line };
+    let word = words.next_word();
+    if word == b"refused".as_slice() {
+        let said = read_refusal(&mut words)?;
+        ensure!(answer == Some(said), "the answer is {answer:?}");
+        return Ok(None);
+    }
+    ensure!(answer.is_none(), "the step before is refused: {answer:?}");
+    match word {
+        b"edit" => run.edit(&read_edit(run.alloc, &mut words)?),
+        b"undo" => run.undo(&read_groups(run.alloc, &mut words)?),
+        b"collect" => {
+            let floor = number(&mut words)?;
+            run.collect(floor, read_groups(run.alloc, &mut words)?.as_slice())
+        }
+        _ => take_fact(run, word, &mut words),
+    }
+}
+
+/// Does what a line says that is not refused: it begins anew, or says what is so.
+fn take_fact(run: &mut Run, word: &[u8], words: &mut Words<'_>) -> Result<Answer> {
+    match word {
+        b"text" => run.load(&text(run.alloc, words.rest)?)?,
+        b"limit" => run.set_limit(number(words)?)?,
+        b"shows" => {
+            let rev = number(words)?;
+            run.shows(rev, &text(run.alloc, words.rest)?)?;
+        }
+        b"under" => {
+            let groups = read_groups(run.alloc, words)?;
+            run.shows_under(groups.as_slice(), &text(run.alloc, words.rest)?)?;
+        }
+        b"floor" => is_said(run.plain.floor(), words)?,
+        b"kept" => is_said(kept(&run.plain), words)?,
+        _ => bail!("no line begins with this word"),
+    }
+    Ok(None)
+}
+
+/// The number is what the line says.
+fn is_said(is: u64, words: &mut Words<'_>) -> Result<()> {
+    ensure!(number(words)? == is, "it is {is}");
     Ok(())
 }
 
-fn read_step(alloc: Global, line: &[u8]) -> anyhow::Result<Step> {
-    let mut words = Words { rest: line };
-    match words.next_word() {
-        b"text" => Ok(Step::Load(text(alloc, words.rest)?)),
-        b"limit" => Ok(Step::Limit(number(&mut words)?)),
-        b"edit" => Ok(Step::Edit {
-            edit: read_edit(alloc, &mut words)?,
-            refusal: None,
-        }),
-        b"undo" => Ok(Step::Undo {
-            groups: read_groups(alloc, &mut words)?,
-            refusal: None,
-        }),
-        b"collect" => Ok(Step::Collect {
-            floor: number(&mut words)?,
-            groups: read_groups(alloc, &mut words)?,
-            is_refused: false,
-        }),
-        b"shows" => Ok(Step::Shows {
-            rev: number(&mut words)?,
-            text: text(alloc, words.rest)?,
-        }),
-        b"under" => Ok(Step::Under {
-            groups: read_groups(alloc, &mut words)?,
-            text: text(alloc, words.rest)?,
-        }),
-        b"floor" => Ok(Step::Floor(number(&mut words)?)),
-        b"kept" => Ok(Step::Kept(number(&mut words)?)),
-        _ => bail!("no line begins with this word"),
-    }
-}
-
-/// The step of the line before, which is refused for this cause.
-fn refused(before: Option<Line>, cause: &[u8]) -> anyhow::Result<Step> {
-    match before.map(|line| line.step) {
-        Some(Step::Edit { edit, .. }) => Ok(match read_refusal(cause)? {
-            None => Step::Closed(edit.group),
-            refusal => Step::Edit { edit, refusal },
-        }),
-        Some(Step::Undo { groups, .. }) => Ok(Step::Undo {
-            groups,
-            refusal: Some(read_undo_refusal(cause)?),
-        }),
-        Some(Step::Collect { floor, groups, .. }) => Ok(Step::Collect {
-            floor,
-            groups,
-            is_refused: true,
-        }),
-        _ => bail!("only an edit, an undo or a collection is refused"),
-    }
-}
-
-/// The fault of an edit, and none where it may not come at all.
-fn read_refusal(cause: &[u8]) -> anyhow::Result<Option<EditFault>> {
-    let mut words = Words { rest: cause };
+fn read_refusal(words: &mut Words<'_>) -> Result<Refusal> {
     Ok(match words.next_word() {
-        b"edit" => None,
-        b"unknown" => Some(EditFault::Unknown(number(&mut words)?)),
-        b"collected" => Some(EditFault::Collected(number(&mut words)?)),
-        b"spent" => Some(EditFault::Spent(u128::from(number(&mut words)?))),
-        b"misfit" => Some(EditFault::Misfit(Misfit {
-            kind: u8::try_from(number(&mut words)?)?,
-            at: number(&mut words)?,
+        b"edit" => Refusal::Closed,
+        b"unknown" => Refusal::Edit(EditFault::Unknown(number(words)?)),
+        b"collected" => Refusal::Edit(EditFault::Collected(number(words)?)),
+        b"spent" => Refusal::Edit(EditFault::Spent(u128::from(number(words)?))),
+        b"misfit" => Refusal::Edit(EditFault::Misfit(Misfit {
+            kind: u8::try_from(number(words)?)?,
+            at: number(words)?,
         })),
-        _ => bail!("no such refusal of an edit"),
+        b"undo" => Refusal::NoEdit,
+        b"frozen" => Refusal::Frozen(number(words)?),
+        b"collect" => Refusal::Uncollectable,
+        _ => bail!("no such refusal"),
     })
 }
 
-fn read_undo_refusal(cause: &[u8]) -> anyhow::Result<UndoRefusal> {
-    let mut words = Words { rest: cause };
-    match words.next_word() {
-        b"undo" => Ok(UndoRefusal::NoEdit),
-        b"frozen" => Ok(UndoRefusal::Frozen(number(&mut words)?)),
-        _ => bail!("no such refusal of an undo"),
-    }
-}
-
-fn read_edit(alloc: Global, words: &mut Words<'_>) -> anyhow::Result<Edit> {
+fn read_edit(alloc: Global, words: &mut Words<'_>) -> Result<Edit> {
     Ok(Edit {
         rev: field(b"base=", words)?,
         group: field(b"group=", words)?,
@@ -127,7 +114,7 @@ fn read_edit(alloc: Global, words: &mut Words<'_>) -> anyhow::Result<Edit> {
     })
 }
 
-fn read_delta(alloc: Global, words: &mut Words<'_>) -> anyhow::Result<Delta> {
+fn read_delta(alloc: Global, words: &mut Words<'_>) -> Result<Delta> {
     let base_len = field(b"len=", words)?;
     let mut els = List::new(alloc);
     'elements: while !words.rest.is_empty() {
@@ -136,7 +123,7 @@ fn read_delta(alloc: Global, words: &mut Words<'_>) -> anyhow::Result<Delta> {
     Ok(Delta { els, base_len })
 }
 
-fn read_element(alloc: Global, words: &mut Words<'_>) -> anyhow::Result<El>
+fn read_element(alloc: Global, words: &mut Words<'_>) -> Result<El>
     requires { 0 < length words.old.rest.now }
     ensures { length words.new.rest.now < length words.old.rest.now }
 {
@@ -153,7 +140,7 @@ fn read_element(alloc: Global, words: &mut Words<'_>) -> anyhow::Result<El>
 }
 
 /// The groups up to the end of the line, or to the word `shows`.
-fn read_groups(alloc: Global, words: &mut Words<'_>) -> anyhow::Result<List<u64>> {
+fn read_groups(alloc: Global, words: &mut Words<'_>) -> Result<List<u64>> {
     let mut groups = List::new(alloc);
     'groups: while !words.rest.is_empty() {
         match words.next_word() {
@@ -164,20 +151,20 @@ fn read_groups(alloc: Global, words: &mut Words<'_>) -> anyhow::Result<List<u64>
     Ok(groups)
 }
 
-fn field(name: &[u8], words: &mut Words<'_>) -> anyhow::Result<u64> {
+fn field(name: &[u8], words: &mut Words<'_>) -> Result<u64> {
     match words.next_word().strip_prefix(name) {
         Some(digits) => number_of(digits).context("a number is due"),
         None => bail!("base=, group=, priority=, author= and len= are due, in this order"),
     }
 }
 
-fn number(words: &mut Words<'_>) -> anyhow::Result<u64>
+fn number(words: &mut Words<'_>) -> Result<u64>
     ensures { length words.new.rest.now ≤ length words.old.rest.now - 1 }
 {
     number_of(words.next_word()).context("a number is due")
 }
 
-fn text(alloc: Global, written: &[u8]) -> anyhow::Result<Text> {
+fn text(alloc: Global, written: &[u8]) -> Result<Text> {
     let Some(bytes) = unquoted(alloc, written)? else {
         bail!("a backslash needs n, t, s or a backslash after it");
     };

@@ -1,11 +1,12 @@
-//! Lists of steps from seeds.
+//! Runs steps that are drawn from seeds.
 
 ghost use Rattle.std.specs.Prelude.{◌<◌};
 
-use crate::answers::{answer, has_edit, now_undone, undo};
-use crate::case_run::LIMIT;
-use crate::step::{Line, Step};
-use plain_collection::{Collection, collection_of, may_collect};
+use crate::bodies::last_group;
+use crate::refusal::{Refusal, has_edit, now_undone};
+use crate::run::{Count, Run};
+use anyhow::{Context, Result};
+use plain_collection::{Collection, collection_of};
 use plain_edits::{Delta, El, Els};
 use plain_history::{PlainHistory, has};
 use plain_text::{List, NoMemory, Text};
@@ -21,7 +22,10 @@ const EDITS: u64 = 30;
 
 const STEPS: u64 = 40;
 
-/// How many steps of some kinds the lists have.
+/// Of 1 to 4 bytes.
+const CHARACTERS: [char; 8] = ['a', 'b', 'c', '\n', 'é', 'ß', '→', '𝄞'];
+
+/// How many steps of some kinds were drawn.
 #[derive(Drop, Default)]
 pub struct Drawn {
     pub undos: u64,
@@ -36,13 +40,92 @@ pub struct Drawn {
     pub collections: u64,
 }
 
-/// Of 1 to 4 bytes.
-const CHARACTERS: [char; 8] = ['a', 'b', 'c', '\n', 'é', 'ß', '→', '𝄞'];
+fn rise(count: &mut u64, is_so: bool) {
+    *count = count.saturating_add(u64::from(is_so));
+}
 
 /// Numbers from a seed.
 #[derive(Drop)]
 struct Draws {
+    alloc: Global,
     words: Lcg64Xsh32,
+}
+
+/// Runs a text, and steps over it, that a seed draws.
+pub fn run_seed(alloc: Global, seed: u64, drawn: &mut Drawn) -> Result<Count> {
+    let mut run = Run::new(alloc)?;
+    take_seed(&mut run, seed, drawn)
+}
+
+fn take_seed(run: &mut Run, seed: u64, drawn: &mut Drawn) -> Result<Count> {
+    let mut draws = Draws {
+        alloc: run.alloc,
+        words: Lcg64Xsh32::seed_from_u64(seed),
+    };
+    let text = draws.text(6)?;
+    run.load(&text)?;
+    for number in 1..=if seed <= EDITED { EDITS } else { STEPS } {
+        take_numbered(run, &mut draws, drawn, seed, number)?;
+    }
+    Ok(run.count)
+}
+
+fn take_numbered(
+    run: &mut Run,
+    draws: &mut Draws,
+    drawn: &mut Drawn,
+    seed: u64,
+    number: u64,
+) -> Result<()> {
+    take_step(run, draws, drawn, seed).context(format_args!("step {number}"))
+}
+
+fn take_step(run: &mut Run, draws: &mut Draws, drawn: &mut Drawn, seed: u64) -> Result<()> {
+    let kind = if seed <= EDITED { 0 } else { draws.below(10) };
+    match kind {
+        0..=6 => take_edit(run, draws, drawn),
+        7 | 8 => take_undo(run, draws, drawn),
+        _ => take_collection(run, draws, drawn),
+    }
+}
+
+fn take_edit(run: &mut Run, draws: &mut Draws, drawn: &mut Drawn) -> Result<()> {
+    let edit = draws.edit(&run.plain)?;
+    let is_undone = has(now_undone(&run.plain), edit.group);
+    let is_further = has_edit(&run.plain, edit.group);
+    let answer = run.edit(&edit)?;
+    let is_closed = answer == Some(Refusal::Closed);
+    rise(&mut drawn.edits_of_collected_groups, is_closed);
+    rise(
+        &mut drawn.edits_in_undone_groups,
+        answer.is_none() && is_undone,
+    );
+    rise(&mut drawn.further_edits, answer.is_none() && is_further);
+    Ok(())
+}
+
+/// An undo of any set: a group with an edit is in it or not. Of the collected groups it mostly has those that are undone.
+fn take_undo(run: &mut Run, draws: &mut Draws, drawn: &mut Drawn) -> Result<()> {
+    let groups = draws.undone(&run.plain)?;
+    let mut before = now_undone(&run.plain).iter();
+    let takes_back = before.any(|group| !has(groups.as_slice(), *group));
+    let answer = run.undo(&groups)?;
+    rise(&mut drawn.undos, answer.is_none());
+    rise(&mut drawn.taken_back, answer.is_none() && takes_back);
+    rise(&mut drawn.refused_undos, answer.is_some());
+    Ok(())
+}
+
+/// A collection of some of the groups that have an edit, at the head, where all are at rest; it may collect nothing.
+fn take_collection(run: &mut Run, draws: &mut Draws, drawn: &mut Drawn) -> Result<()> {
+    let retired = draws.retired(&run.plain)?;
+    let head = run.plain.head();
+    let found = collection_of(run.alloc, &run.plain, retired.as_slice(), head)?;
+    if let Some(Collection { floor, groups }) = found {
+        let answer = run.collect(floor, groups.as_slice())?;
+        rise(&mut drawn.collections, answer.is_none());
+    }
+    Ok(())
 }
 
 impl Draws {
@@ -53,88 +136,23 @@ impl Draws {
     {
         u64::from(self.words.next_u32()) % n
     }
-}
 
-/// The lines that a seed draws: a text, and steps over it, each with what the plain history answers to it.
-pub fn drawn_lines(alloc: Global, seed: u64, drawn: &mut Drawn) -> anyhow::Result<Vec<Line>> {
-    let words = Lcg64Xsh32::seed_from_u64(seed);
-    let mut draws = Draws { words };
-    let text = drawn_text(alloc, &mut draws, 6)?;
-    let plain = PlainHistory::loaded(alloc, &text)?;
-    let mut lines = Vec::new(alloc);
-    lines.push(Line {
-        number: 0,
-        step: Step::Load(text),
-    })?;
-    let mut drawing = Drawing { draws, plain };
-    for number in 1..=if seed <= EDITED { EDITS } else { STEPS } {
-        let step = if seed <= EDITED {
-            Some(drawing.edit(alloc, drawn)?)
-        } else {
-            drawing.step(alloc, drawn)?
-        };
-        if let Some(step) = step {
-            lines.push(Line { number, step })?;
+    fn text(&mut self, count: u64) -> Result<Text, NoMemory> {
+        let mut text = Text::new(self.alloc);
+        for _ in 0..count {
+            let character = CHARACTERS.get(self.below(8) as usize);
+            text.push(*character.unwrap_or(&'a'))?;
         }
-    }
-    Ok(lines)
-}
-
-/// A list that is being drawn, with the plain history of its steps.
-#[derive(Drop)]
-struct Drawing {
-    draws: Draws,
-    plain: PlainHistory,
-}
-
-impl Drawing {
-    /// A step of any kind, and none where a collection is drawn that collects nothing.
-    fn step(&mut self, alloc: Global, drawn: &mut Drawn) -> anyhow::Result<Option<Step>> {
-        match self.draws.below(10) {
-            0..=6 => Ok(Some(self.edit(alloc, drawn)?)),
-            7 | 8 => Ok(Some(self.undo(alloc, drawn)?)),
-            _ => self.collection(alloc, drawn),
-        }
+        Ok(text)
     }
 
-    fn edit(&mut self, alloc: Global, drawn: &mut Drawn) -> anyhow::Result<Step> {
-        let edit = drawn_edit(alloc, &mut self.draws, &self.plain)?;
-        let group = edit.group;
-        if has(self.plain.collected(), group) {
-            rise(&mut drawn.edits_of_collected_groups, true);
-            return Ok(Step::Closed(group));
-        }
-        let is_undone = has(now_undone(&self.plain), group);
-        let is_further = has_edit(&self.plain, group);
-        let refusal = answer(alloc, &mut self.plain, LIMIT, &edit)?;
-        if refusal.is_none() {
-            rise(&mut drawn.edits_in_undone_groups, is_undone);
-            rise(&mut drawn.further_edits, is_further);
-        }
-        Ok(Step::Edit { edit, refusal })
-    }
-
-    /// An undo of any set: a group with an edit is in it or not. Of the collected groups it mostly has those that are undone.
-    fn undo(&mut self, alloc: Global, drawn: &mut Drawn) -> anyhow::Result<Step> {
-        let groups = self.drawn_groups(alloc)?;
-        let takes_back = now_undone(&self.plain)
-            .iter()
-            .any(|group| !has(groups.as_slice(), *group));
-        let refusal = undo(alloc, &mut self.plain, &groups)?;
-        rise(&mut drawn.undos, refusal.is_none());
-        rise(&mut drawn.taken_back, refusal.is_none() && takes_back);
-        rise(&mut drawn.refused_undos, refusal.is_some());
-        Ok(Step::Undo { groups, refusal })
-    }
-
-    fn drawn_groups(&mut self, alloc: Global) -> Result<List<u64>, NoMemory> {
-        let plain = &self.plain;
-        let mut groups = List::new(alloc);
+    fn undone(&mut self, plain: &PlainHistory) -> Result<List<u64>, NoMemory> {
+        let mut groups = List::new(self.alloc);
         for group in 1..=last_group(plain) {
             let is_in = if has(plain.collected(), group) {
-                has(now_undone(plain), group) != (self.draws.below(24) == 0)
+                has(now_undone(plain), group) != (self.below(24) == 0)
             } else {
-                has_edit(plain, group) && self.draws.below(3) == 0
+                has_edit(plain, group) && self.below(3) == 0
             };
             if is_in {
                 groups.push(group)?;
@@ -143,134 +161,93 @@ impl Drawing {
         Ok(groups)
     }
 
-    /// A collection of some of the groups that have an edit, at the head, where all are at rest.
-    fn collection(&mut self, alloc: Global, drawn: &mut Drawn) -> anyhow::Result<Option<Step>> {
-        let plain = &self.plain;
-        let mut retired = List::new(alloc);
+    fn retired(&mut self, plain: &PlainHistory) -> Result<List<u64>, NoMemory> {
+        let mut groups = List::new(self.alloc);
         for group in 1..=last_group(plain) {
-            if has_edit(plain, group) && self.draws.below(3) == 0 {
-                retired.push(group)?;
+            if has_edit(plain, group) && self.below(3) == 0 {
+                groups.push(group)?;
             }
         }
-        let found = collection_of(alloc, plain, retired.as_slice(), plain.head())?;
-        let Some(Collection { floor, groups }) = found else {
-            return Ok(None);
+        Ok(groups)
+    }
+
+    /// An edit against one of the last revisions, and now and then against one that is collected or not there, or of a collected group.
+    fn edit(&mut self, plain: &PlainHistory) -> Result<Edit, NoMemory> {
+        let head = plain.head();
+        let mut rev = if self.below(16) == 0 {
+            head.saturating_add(1)
+        } else {
+            head.saturating_sub(self.below(8))
         };
-        let is_refused = !may_collect(plain, floor, groups.as_slice());
-        if !is_refused {
-            self.plain.collect(alloc, floor, groups.as_slice())?;
+        if rev < plain.floor() && self.below(4) > 0 {
+            rev = plain.floor();
         }
-        rise(&mut drawn.collections, !is_refused);
-        Ok(Some(Step::Collect {
-            floor,
-            groups,
-            is_refused,
-        }))
+        let text = plain.text_at(self.alloc, rev)?;
+        Ok(Edit {
+            rev,
+            group: self.group(plain),
+            priority: self.below(3) as u32,
+            author: self.below(2) as u32,
+            after_cursor: false,
+            delta: self.delta(&text)?,
+        })
+    }
+
+    /// One of the last four groups, and now and then the last collected one.
+    fn group(&mut self, plain: &PlainHistory) -> u64 {
+        match plain.collected().last() {
+            Some(group) if self.below(12) == 0 => *group,
+            _ => last_group(plain)
+                .saturating_sub(3)
+                .saturating_add(self.below(4)),
+        }
+    }
+
+    /// A delta over the text, and now and then one that need not fit.
+    fn delta(&mut self, text: &Text) -> Result<Delta, NoMemory> {
+        let mut base_len = text.byte_len();
+        let els = if self.below(6) == 0 {
+            self.unfit_elements(base_len)?
+        } else {
+            self.elements(text)?
+        };
+        if self.below(16) == 0 {
+            base_len = base_len.saturating_add(1);
+        }
+        Ok(Delta { els, base_len })
+    }
+
+    /// Up to three stretches of up to three characters, each with another text in its place.
+    fn elements(&mut self, text: &Text) -> Result<Els, NoMemory> {
+        let mut els = List::new(self.alloc);
+        let len = text.char_count();
+        let mut at = 0_u64;
+        for _ in 0..self.below(3).saturating_add(1) {
+            let left = len.saturating_sub(at);
+            let from = at.saturating_add(self.below(left.saturating_add(1)));
+            els.push(copy(text.place_of(at), text.place_of(from)))?;
+            let count = self.below(3);
+            els.push(El::Insert {
+                text: self.text(count)?,
+            })?;
+            at = from.saturating_add(self.below(4)).min(len);
+        }
+        els.push(copy(text.place_of(at), text.byte_len()))?;
+        Ok(els)
+    }
+
+    /// Two copies between bytes anywhere in the text or just past it.
+    fn unfit_elements(&mut self, byte_len: u64) -> Result<Els, NoMemory> {
+        let mut els = List::new(self.alloc);
+        let most = byte_len.saturating_add(2);
+        for _ in 0..2 {
+            let a = self.below(most);
+            els.push(copy(a, self.below(most).max(a)))?;
+        }
+        Ok(els)
     }
 }
 
-/// The last of the groups that edits are drawn of: the four after the last collected one.
-fn last_group(plain: &PlainHistory) -> u64 {
-    match plain.collected().last() {
-        Some(group) => group.saturating_add(4),
-        None => 4,
-    }
-}
-
-fn rise(count: &mut u64, is_so: bool) {
-    *count = count.saturating_add(u64::from(is_so));
-}
-
-/// An edit against one of the last revisions, and now and then against one that is collected or not there, or of a collected group.
-fn drawn_edit(alloc: Global, draws: &mut Draws, plain: &PlainHistory) -> Result<Edit, NoMemory> {
-    let head = plain.head();
-    let mut rev = if draws.below(16) == 0 {
-        head.saturating_add(1)
-    } else {
-        head.saturating_sub(draws.below(8))
-    };
-    if rev < plain.floor() && draws.below(4) > 0 {
-        rev = plain.floor();
-    }
-    let text = plain.text_at(alloc, rev)?;
-    Ok(Edit {
-        rev,
-        group: drawn_group(draws, plain),
-        priority: draws.below(3) as u32,
-        author: draws.below(2) as u32,
-        after_cursor: false,
-        delta: drawn_delta(alloc, draws, &text)?,
-    })
-}
-
-/// One of the groups that edits are drawn of, and now and then the last collected one.
-fn drawn_group(draws: &mut Draws, plain: &PlainHistory) -> u64 {
-    match plain.collected().last() {
-        Some(group) if draws.below(12) == 0 => *group,
-        _ => last_group(plain)
-            .saturating_sub(3)
-            .saturating_add(draws.below(4)),
-    }
-}
-
-/// A delta over the text, and now and then one that need not fit.
-fn drawn_delta(alloc: Global, draws: &mut Draws, text: &Text) -> Result<Delta, NoMemory> {
-    let mut base_len = text.byte_len();
-    let els = if draws.below(6) == 0 {
-        unfit_elements(alloc, draws, base_len)?
-    } else {
-        drawn_elements(alloc, draws, text)?
-    };
-    if draws.below(16) == 0 {
-        base_len = base_len.saturating_add(1);
-    }
-    Ok(Delta { els, base_len })
-}
-
-/// Up to three stretches of up to three characters, each with another text in its place.
-fn drawn_elements(alloc: Global, draws: &mut Draws, text: &Text) -> Result<Els, NoMemory> {
-    let mut els = List::new(alloc);
-    let len = text.char_count();
-    let mut at = 0_u64;
-    for _ in 0..draws.below(3).saturating_add(1) {
-        let left = len.saturating_sub(at);
-        let from = at.saturating_add(draws.below(left.saturating_add(1)));
-        els.push(El::Copy {
-            a: text.place_of(at),
-            b: text.place_of(from),
-        })?;
-        let count = draws.below(3);
-        els.push(El::Insert {
-            text: drawn_text(alloc, draws, count)?,
-        })?;
-        at = from.saturating_add(draws.below(4)).min(len);
-    }
-    els.push(El::Copy {
-        a: text.place_of(at),
-        b: text.byte_len(),
-    })?;
-    Ok(els)
-}
-
-/// Two copies between bytes anywhere in the text or just past it.
-fn unfit_elements(alloc: Global, draws: &mut Draws, byte_len: u64) -> Result<Els, NoMemory> {
-    let mut els = List::new(alloc);
-    let most = byte_len.saturating_add(2);
-    for _ in 0..2 {
-        let a = draws.below(most);
-        els.push(El::Copy {
-            a,
-            b: draws.below(most).max(a),
-        })?;
-    }
-    Ok(els)
-}
-
-fn drawn_text(alloc: Global, draws: &mut Draws, count: u64) -> Result<Text, NoMemory> {
-    let mut text = Text::new(alloc);
-    for _ in 0..count {
-        let character = CHARACTERS.get(draws.below(8) as usize);
-        text.push(*character.unwrap_or(&'a'))?;
-    }
-    Ok(text)
+fn copy(a: u64, b: u64) -> El {
+    El::Copy { a, b }
 }

@@ -2,7 +2,7 @@ use Rattle.std.proofs.Common.{ap, ◌∙◌}
 use Rattle.std.proofs.lemmas.Result.{IfOk-weaker}
 use Rattle.plain_edits.specs.Collection.{collection_of}
 use Rattle.history_cases.proofs.TakenLemmas.{taken_said}
-use Rattle.history_cases.proofs.by_rev_list.taken.Goals as goal
+use Rattle.history_cases.proofs.bodies.taken.Goals as goal
 
 pub returns : goal.returns
 returns c =

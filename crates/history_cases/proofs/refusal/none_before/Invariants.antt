@@ -1,7 +1,7 @@
 use Rattle.std.proofs.Common.{ℕ, ◌≤◌, drop}
 use Rattle.std.specs.List.{AllByRecursion}
 use Rattle.rev_engine.specs.Asked.{DiffersAt}
-use Rattle.history_cases.proofs.answers.none_before.Given as goal
+use Rattle.history_cases.proofs.refusal.none_before.Given as goal
 
 abbrev pub invariant-loop-other : goal.invariant-loop-other
 invariant-loop-other l =
