@@ -28,7 +28,7 @@ pub fn read_act(alloc: Global, word: &[u8], words: &mut Words<'_>) -> anyhow::Re
             line: number(words)?,
         }),
         b"click" | b"drag" | b"scroll" | b"request_lines" => placed(word, words),
-        _ => plain(word).context("no line begins with this word"),
+        _ => plain(word).context("no event begins with this word"),
     }
 }
 
@@ -93,18 +93,38 @@ fn placed(word: &[u8], words: &mut Words<'_>) -> anyhow::Result<EditAct> {
 /// The commands that are one word.
 fn plain(word: &[u8]) -> Option<EditAct> {
     match word {
-        b"insert_newline" => Some(EditAct::InsertNewline),
-        b"insert_tab" => Some(EditAct::InsertTab),
-        b"delete_backward" => Some(EditAct::DeleteBackward),
-        b"delete_forward" => Some(EditAct::DeleteForward),
-        b"delete_word_backward" => Some(EditAct::DeleteWordBackward),
-        b"delete_word_forward" => Some(EditAct::DeleteWordForward),
         b"cut" => Some(EditAct::Cut),
         b"copy" => Some(EditAct::Copy),
         b"undo" => Some(EditAct::Undo),
         b"redo" => Some(EditAct::Redo),
         b"select_all" => Some(EditAct::SelectAll),
         b"collapse" => Some(EditAct::Collapse),
+        _ => key(word).or(search(word)),
+    }
+}
+
+/// The keys that insert or delete.
+fn key(word: &[u8]) -> Option<EditAct> {
+    match word {
+        b"insert_newline" => Some(EditAct::InsertNewline),
+        b"insert_tab" => Some(EditAct::InsertTab),
+        _ => deletion(word.strip_prefix(b"delete_")?),
+    }
+}
+
+fn deletion(way: &[u8]) -> Option<EditAct> {
+    match way {
+        b"backward" => Some(EditAct::DeleteBackward),
+        b"forward" => Some(EditAct::DeleteForward),
+        b"word_backward" => Some(EditAct::DeleteWordBackward),
+        b"word_forward" => Some(EditAct::DeleteWordForward),
+        _ => None,
+    }
+}
+
+/// The searches that go on.
+fn search(word: &[u8]) -> Option<EditAct> {
+    match word {
         b"find_next" => Some(EditAct::FindNext {
             wrap_around: None,
             allow_same: None,

@@ -92,18 +92,10 @@ impl CaseRun {
             b"" | b"#" => Ok(()),
             b"text" => self.begin(alloc, &mut words),
             b"times" => self.repeat(alloc, &mut words),
-            b"shows"
-            | b"kept"
-            | b"lines"
-            | b"refused"
-            | b"answers"
-            | b"scrolls"
-            | b"notes"
-            | b"updates"
-            | b"line"
-            | b"carets"
-            | b"styles" => self.compare(alloc, line),
-            _ => self.meet(alloc, read_event(alloc, line)?),
+            _ => match self.said(alloc, line)? {
+                Some(said) => self.compare(alloc, line, said.as_str()),
+                None => self.meet(alloc, read_event(alloc, line)?),
+            },
         }
     }
 
@@ -159,13 +151,12 @@ impl CaseRun {
         }
     }
 
-    /// What the line says is so.
-    fn compare(&mut self, alloc: Global, line: &[u8]) -> anyhow::Result<()>
+    /// What the line says is what came.
+    fn compare(&mut self, alloc: Global, line: &[u8], came: &str) -> anyhow::Result<()>
         requires { length self.old.doc.sessions ≡ 2 }
         ensures { length self.new.doc.sessions ≡ 2 }
     {
-        let said = self.said(alloc, line)?;
-        ensure_same(alloc, line, said.as_str())?;
+        ensure_same(alloc, line, came)?;
         if line.starts_with(b"refused") {
             self.refusal = None;
         }
@@ -173,16 +164,19 @@ impl CaseRun {
         Ok(())
     }
 
-    /// What the line should say.
-    fn said(&self, alloc: Global, line: &[u8]) -> anyhow::Result<String> {
+    /// What the line should say, where its first word asks for something; a refused event came to nothing.
+    fn said(&self, alloc: Global, line: &[u8]) -> anyhow::Result<Option<String>> {
         let mut words = Words { rest: line };
         match (words.next_word(), &self.effects) {
-            (b"shows", _) => self.shown(alloc),
-            (b"kept", _) => Ok(format!(in alloc; "kept {}", self.doc.kept())?),
-            (b"lines", _) => Ok(format!(in alloc; "lines {}", self.doc.lines())?),
-            (b"refused", _) => self.refused(alloc),
+            (b"shows", _) => Ok(Some(self.shown(alloc)?)),
+            (b"kept", _) => Ok(Some(format!(in alloc; "kept {}", self.doc.kept())?)),
+            (b"lines", _) => Ok(Some(format!(in alloc; "lines {}", self.doc.lines())?)),
+            (b"refused", _) => Ok(Some(self.refused(alloc)?)),
             (word, Some(effects)) => told(alloc, effects, word, &mut words),
-            (_, None) => bail!("the event before is refused"),
+            (_, None) => {
+                self.ensure_said()?;
+                Ok(None)
+            }
         }
     }
 

@@ -10,20 +10,24 @@ use std::alloc::Global;
 use std::fmt::Write;
 use xi_plain::Notice;
 
-/// What a line should say that begins with the word `part`, and says this part of the effects.
+/// What a line should say whose first word is `part`, where that is a part of the effects.
 pub fn told(
     alloc: Global,
     effects: &Effects,
     part: &[u8],
     words: &mut Words<'_>,
-) -> anyhow::Result<String> {
-    match part {
-        b"answers" => answered(alloc, &effects.body),
-        b"scrolls" => scrolled(alloc, effects.scroll),
-        b"notes" => noted(alloc, effects.notice.as_ref()),
-        b"updates" => updated(alloc, effects.update.as_ref()),
-        _ => of_line(alloc, effects.update.as_ref(), part, number(words)?),
-    }
+) -> anyhow::Result<Option<String>> {
+    let said = match part {
+        b"answers" => answered(alloc, &effects.body)?,
+        b"scrolls" => scrolled(alloc, effects.scroll)?,
+        b"notes" => noted(alloc, effects.notice.as_ref())?,
+        b"updates" => updated(alloc, effects.update.as_ref())?,
+        b"line" | b"carets" | b"styles" => {
+            of_line(alloc, effects.update.as_ref(), part, number(words)?)?
+        }
+        _ => return Ok(None),
+    };
+    Ok(Some(said))
 }
 
 fn answered(alloc: Global, body: &Body) -> anyhow::Result<String> {
