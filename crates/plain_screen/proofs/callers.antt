@@ -4,3 +4,4 @@ pub mod SameLemmas
 pub mod PlanLemmas
 pub mod TouchedLemmas
 pub mod ViewLemmas
+pub mod OwnLemmas

@@ -1,7 +1,9 @@
 -- A text cut into pieces, each of which is a line of a layout, and where a gap belongs.
-use Rattle.std.specs.Prelude.{◌≡◌, ℕ, zero, suc, ◌+◌, ◌-◌, ◌<◌, ◌≤◌, nat_lt, nat_le, if◌then◌else◌, List, [], ◌∷◌, ◌++◌, length, map, take, ◌⊎◌, Option, Some, None, slice_get}
+use Rattle.std.specs.Prelude.{◌≡◌, ℕ, zero, suc, ◌+◌, ◌-◌, ◌<◌, ◌≤◌, nat_lt, nat_le, if◌then◌else◌, List, [], ◌∷◌, ◌++◌, length, map, take, ◌⊎◌, Option, Some, None, slice_get, unwrap_or}
 use Rattle.std.specs.List.{AllByRecursion, concat, count_by}
+use Rattle.std.specs.Option.{option_map}
 use Rattle.plain_text.specs.Lines.{logical_lines}
+use Rattle.plain_text.specs.declared.run.Run.{Run}
 use Rattle.plain_screen.specs.declared.piece.Piece.{Piece}
 
 -- the numbers rise from `from` on, and the last of them is `len`
@@ -50,6 +52,10 @@ pub record IsLayoutLineOf (pieces : List Piece) (gap index : ℕ) : Type 0 where
   pub by_then : (piece : Piece) → slice_get pieces index ≡ Some piece → piece.start ≤ gap
   pub last : (later : ℕ) (piece : Piece) → index < later → slice_get pieces later ≡ Some piece → gap < piece.start
 
+-- the gap at which a layout line starts; 0 where there is no such line
+abbrev pub start_of : List Piece → ℕ → ℕ
+start_of pieces line = unwrap_or (option_map (λ piece. piece.start) (slice_get pieces line)) 0
+
 -- a logical line: its index, the gap where it starts, and its characters
 pub record LogicalLine : Type 0 where
   pub index : ℕ
@@ -67,6 +73,13 @@ logical_line_from index start gap (line ∷ next ∷ lines) =
 -- THE LOGICAL LINE OF A GAP
 abbrev pub logical_line_of : List ℕ → ℕ → LogicalLine
 logical_line_of text gap = logical_line_from 0 0 gap (logical_lines text)
+
+-- THE LOGICAL LINE THAT A LAYOUT LINE IS OF, and the characters of the text that it has
+abbrev pub line_under : List ℕ → List Piece → ℕ → LogicalLine
+line_under text pieces line = logical_line_of text (start_of pieces line)
+
+abbrev pub extent_of : LogicalLine → Run
+extent_of line = record { start = line.start; end = line.start + length line.text }
 
 -- the same said of a line: it is the line of this index, starts where the lines before it end, and is the last one that starts by the gap
 pub record IsLogicalLineOf (text : List ℕ) (gap : ℕ) (line : LogicalLine) : Type 0 where

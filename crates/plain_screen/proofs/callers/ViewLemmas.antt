@@ -78,7 +78,7 @@ AreEnds-text front [] back ln ends are =
     ap (λ t. t ++ []) (slice_range-within front [] back 0 0 (omega arith) (omega arith))
 AreEnds-text front (c ∷ line) back ln ends are = pieces_of_line-text front (c ∷ line) back ln 0 ends are
 
-abbrev lines_of : List (List ℕ × List ℕ) → List (List ℕ)
+abbrev pub lines_of : List (List ℕ × List ℕ) → List (List ℕ)
 lines_of cuts = map (λ (line, ends). line) cuts
 
 pieces_from-text : (front : List ℕ) (number : ℕ) (cuts : List (List ℕ × List ℕ)) → AllByRecursion (λ (line, ends). AreEnds (length line) ends) cuts →
@@ -129,7 +129,7 @@ ArePieces-whole_lines text = ArePieces-pieces_by (λ line. length line ∷ []) e
 -- ---- the layout line of a gap
 
 -- each piece starts after the one before, and the first not before `low`
-abbrev StartsFrom : ℕ → List Piece → Type 0
+abbrev pub StartsFrom : ℕ → List Piece → Type 0
 StartsFrom low [] = Unit {0}
 StartsFrom low (piece ∷ pieces) = (low ≤ piece.start) × StartsFrom (piece.start + 1) pieces
 
@@ -218,11 +218,11 @@ AreCounted-starts gap low (first ∷ pieces) starts =
         after rest (suc i) piece le is = rest.after i piece (omega arith) is
 
 -- the first piece of a text starts at its start
-abbrev StartsAtStart : List Piece → Type 0
+abbrev pub StartsAtStart : List Piece → Type 0
 StartsAtStart [] = ⊥
 StartsAtStart (piece ∷ pieces) = piece.start ≡ 0
 
-logical_lines-some : (text : List ℕ) → logical_lines text ≡ [] → ⊥
+pub logical_lines-some : (text : List ℕ) → logical_lines text ≡ [] → ⊥
 logical_lines-some [] none = cc
 logical_lines-some (c ∷ text) none = by (c == 10) (logical_lines text) none
   where
@@ -240,7 +240,7 @@ pieces_from-start ((c ∷ line, []) ∷ cuts) some are = absurd (let zero_is_lon
 pieces_from-start ((c ∷ line, end ∷ ends) ∷ cuts) some are = refl
 
 -- what is known of the pieces of a text: where they start, and the first of them
-ArePieces-starts : (text : List ℕ) (pieces : List Piece) → ArePieces text pieces → StartsFrom 0 pieces × StartsAtStart pieces
+pub ArePieces-starts : (text : List ℕ) (pieces : List Piece) → ArePieces text pieces → StartsFrom 0 pieces × StartsAtStart pieces
 ArePieces-starts text pieces are =
     let ended : AreEnded (lines_of are.cuts) = subst AreEnded (sym are.lines) (AreEnded-logical_lines text) in
     let At : List Piece → Type 0 = λ ps. StartsFrom 0 ps × StartsAtStart ps in
