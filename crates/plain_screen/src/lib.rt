@@ -9,5 +9,5 @@ mod screen;
 mod view;
 
 pub use piece::Piece;
-pub use screen::{Line, Lines, Op, Ops, Triple, Triples, Update};
+pub use screen::{Line, Lines, Op, Ops, Restyle, Restyles, Triple, Triples, Update};
 pub use view::TextView;

@@ -27,6 +27,17 @@ pub struct Line {
 /// Lines, from the top.
 pub type Lines = List<Line>;
 
+/// What becomes of an old line whose text stays.
+#[derive(PartialEq, Eq, Drop)]
+pub struct Restyle {
+    /// The byte offsets of the carets in the line, rising.
+    pub cursor: Offsets,
+    pub styles: Triples,
+}
+
+/// What becomes of old lines, from the first of them on.
+pub type Restyles = List<Restyle>;
+
 /// What a front end does with its list of lines.
 #[derive(PartialEq, Eq, Drop)]
 pub enum Op {
@@ -38,6 +49,9 @@ pub enum Op {
     Invalidate { n: u64 },
     /// Adds these lines.
     Ins { lines: Lines },
+    /// Takes over as many old lines as these, each with its text and with new carets and styles, and numbers those that have a number from
+    /// `ln` on.
+    Update { ln: Option<u64>, lines: Restyles },
 }
 
 /// Operations, in order.
@@ -68,6 +82,15 @@ impl TryClone for Line {
     }
 }
 
+impl TryClone for Restyle {
+    fn copy(&self, alloc: Global) -> Result<Restyle, NoMemory> {
+        Ok(Restyle {
+            cursor: self.cursor.copy(alloc)?,
+            styles: self.styles.copy(alloc)?,
+        })
+    }
+}
+
 impl TryClone for Op {
     fn copy(&self, alloc: Global) -> Result<Op, NoMemory> {
         match self {
@@ -75,6 +98,10 @@ impl TryClone for Op {
             Op::Skip { n } => Ok(Op::Skip { n: *n }),
             Op::Invalidate { n } => Ok(Op::Invalidate { n: *n }),
             Op::Ins { lines } => Ok(Op::Ins {
+                lines: lines.copy(alloc)?,
+            }),
+            Op::Update { ln, lines } => Ok(Op::Update {
+                ln: *ln,
                 lines: lines.copy(alloc)?,
             }),
         }

@@ -1,15 +1,15 @@
--- Lemmas on touched lines: the partners of a layout rise, and each is the same line but for its number.
-use Rattle.std.proofs.Common.{◌≡◌, ◌⊎◌, inl, inr, ℕ, zero, suc, ◌+◌, ◌-◌, ◌<◌, ◌≤◌, Bool, true, false, ◌&&◌, List, [], ◌∷◌, ◌++◌, length, map, take, Option, Some, None, refl, ap, sym, subst, ◌∙◌, arith, length-append}
+-- Lemmas on touched lines: the partners of a layout rise, and each may be taken over for its line.
+use Rattle.std.proofs.Common.{◌≡◌, ◌⊎◌, inl, inr, ℕ, zero, suc, ◌+◌, ◌-◌, ◌<◌, ◌≤◌, Bool, true, false, List, [], ◌∷◌, ◌++◌, length, map, take, Option, Some, None, refl, ap, sym, subst, ◌∙◌, arith, length-append}
 use Rattle.std.specs.Prelude.{if◌then◌else◌, slice_get, nat_lt, unwrap_or}
 use Rattle.std.specs.List.{enumerate_from, flat_map}
 use Rattle.std.specs.Cmp.Lexicographic.{pointwise, as_long}
-use Rattle.std.proofs.lemmas.Bool.{lt-ltb, le-ltb, cases_lt, true≢false}
+use Rattle.std.proofs.lemmas.Bool.{lt-ltb, le-ltb, cases_lt, and_parts, true≢false}
 use Rattle.std.proofs.lemmas.List.{map-append}
 use Rattle.plain_text.specs.declared.run.Run.{Run}
 use Rattle.plain_screen.specs.declared.screen.Line.{Line}
-use Rattle.plain_screen.specs.Screen.{Screen, numbered}
-use Rattle.plain_screen.specs.Plan.{IsSameButNumber, ArePartners}
-use Rattle.plain_screen.specs.Touched.{counterpart, is_same_but_number, begins_logical, onto_logical, by_logical_lines, lines_in, first_of, is_untouched, partners_in, partners_of, if_valid, valid_partner, valid_partners}
+use Rattle.plain_screen.specs.Screen.{Screen, numbered, restyled}
+use Rattle.plain_screen.specs.Plan.{IsSameButNumber, CanBeTaken, ArePartners, restyle_of}
+use Rattle.plain_screen.specs.Touched.{counterpart, is_same_but_number, is_same_text, begins_logical, onto_logical, by_logical_lines, lines_in, first_of, are_alike, partners_in, partners_of, TouchesNoOthers, if_valid, valid_partner, valid_partners}
 use Rattle.plain_screen.proofs.callers.SameLemmas.{is_same_line-Decides}
 
 -- ---- the same but for numbers
@@ -26,6 +26,13 @@ IsSameButNumber-test : (line other : Line) → is_same_but_number line other ≡
 IsSameButNumber-test line other same number =
     let zero_alike = (is_same_line-Decides (numbered line.ln 0 line) (numbered other.ln 0 other)).0 same in
     renumbered line number ∙ ap (λ (l : Line). numbered l.ln number l) zero_alike ∙ sym (renumbered other number)
+
+-- by the tests a line may be taken over
+CanBeTaken-same : (line other : Line) → is_same_but_number line other ≡ true → CanBeTaken true line other
+CanBeTaken-same line other same = IsSameButNumber-test line other same
+
+CanBeTaken-text : (line other : Line) → is_same_text line other ≡ true → CanBeTaken false line other
+CanBeTaken-text line other same = IsSameButNumber-test (restyled (restyle_of other) line) other same
 
 -- ---- the logical lines of a layout
 
@@ -114,140 +121,140 @@ counterpart-rises touched old new index later other next room before inside one 
 
 -- ---- the partners
 
-ArePartners-lower : (screen : Screen) (low from : ℕ) (partners : List (Option ℕ)) (lines : List Line) → low ≤ from →
+ArePartners-lower : (screen : Screen) (low from : ℕ) (partners : List (Option (ℕ × Bool))) (lines : List Line) → low ≤ from →
     ArePartners screen from partners lines → ArePartners screen low partners lines
 ArePartners-lower screen low from partners [] lower are = tt
 ArePartners-lower screen low from [] (line ∷ lines) lower are = tt
 ArePartners-lower screen low from (None ∷ partners) (line ∷ lines) lower are = ArePartners-lower screen low from partners lines lower are
-ArePartners-lower screen low from (Some old ∷ partners) (line ∷ lines) lower are = (let le = are.0 in omega arith, are.1, are.2)
+ArePartners-lower screen low from (Some (old, same) ∷ partners) (line ∷ lines) lower are = (let le = are.0 in omega arith, are.1, are.2)
 
--- the lines that are valid on the screen from an index on are the same as these, but for their numbers
-abbrev AreShown : Screen → ℕ → List Line → Type 0
-AreShown screen old [] = Unit {0}
-AreShown screen old (line ∷ lines) =
-    ((shown : Line) → slice_get screen old ≡ Some (Some shown) → IsSameButNumber shown line) × AreShown screen (old + 1) lines
+-- the lines that are valid on the screen from an index on may be taken over for these
+abbrev AreShown : Bool → Screen → ℕ → List Line → Type 0
+AreShown same screen old [] = Unit {0}
+AreShown same screen old (line ∷ lines) =
+    ((shown : Line) → slice_get screen old ≡ Some (Some shown) → CanBeTaken same shown line) × AreShown same screen (old + 1) lines
 
-partners-kept : (screen : Screen) (from old : ℕ) (group lines : List Line) (partners : List (Option ℕ)) → from ≤ old → AreShown screen old group →
-    ArePartners screen (old + length group) partners lines →
-    ArePartners screen from (map (valid_partner screen) (map (λ (at, line). Some at) (enumerate_from old group)) ++ partners) (group ++ lines)
-partners-kept screen from old [] lines partners le shown rest = ArePartners-lower screen from (old + 0) partners lines (omega arith) rest
-partners-kept screen from old (line ∷ group) lines partners le shown rest =
+-- the partners of a logical line with a counterpart whose first line has this index
+abbrev with_partners : ℕ → Bool → List Line → List (Option (ℕ × Bool))
+with_partners old same lines = map (λ (at, line). Some (at, same)) (enumerate_from old lines)
+
+partners-taken : (screen : Screen) (same : Bool) (from old : ℕ) (group lines : List Line) (partners : List (Option (ℕ × Bool))) → from ≤ old →
+    AreShown same screen old group → ArePartners screen (old + length group) partners lines →
+    ArePartners screen from (map (valid_partner screen) (with_partners old same group) ++ partners) (group ++ lines)
+partners-taken screen same from old [] lines partners le shown rest = ArePartners-lower screen from (old + 0) partners lines (omega arith) rest
+partners-taken screen same from old (line ∷ group) lines partners le shown rest =
     let sum : old + suc (length group) ≡ old + 1 + length group = omega arith in
     by (slice_get screen old) refl
-    (partners-kept screen (old + 1) (old + 1) group lines partners (omega arith) shown.1
+    (partners-taken screen same (old + 1) (old + 1) group lines partners (omega arith) shown.1
     (subst (λ (n : ℕ). ArePartners screen n partners lines) sum rest))
   where
     by : (o : Option (Option Line)) → slice_get screen old ≡ o →
-        ArePartners screen (old + 1) (map (valid_partner screen) (map (λ (at, line). Some at) (enumerate_from (old + 1) group)) ++ partners) (group ++ lines) →
+        ArePartners screen (old + 1) (map (valid_partner screen) (with_partners (old + 1) same group) ++ partners) (group ++ lines) →
         ArePartners screen from
-        (if_valid o (Some old) ∷ (map (valid_partner screen) (map (λ (at, line). Some at) (enumerate_from (old + 1) group)) ++ partners))
-        (line ∷ (group ++ lines))
+        (if_valid o (Some (old, same)) ∷ (map (valid_partner screen) (with_partners (old + 1) same group) ++ partners)) (line ∷ (group ++ lines))
     by None is rest = ArePartners-lower screen from (old + 1) _ (group ++ lines) (omega arith) rest
     by (Some None) is rest = ArePartners-lower screen from (old + 1) _ (group ++ lines) (omega arith) rest
-    by (Some (Some found)) is rest = (le, record { shown = found; is = is; same = shown.0 found is }, rest)
+    by (Some (Some found)) is rest = (le, record { shown = found; is = is; can = shown.0 found is }, rest)
 
-partners-none : (screen : Screen) (from : ℕ) (group lines : List Line) (partners : List (Option ℕ)) → ArePartners screen from partners lines →
+partners-none : (screen : Screen) (from : ℕ) (group lines : List Line) (partners : List (Option (ℕ × Bool))) → ArePartners screen from partners lines →
     ArePartners screen from (map (valid_partner screen) (map (λ line. None) group) ++ partners) (group ++ lines)
 partners-none screen from [] lines partners rest = rest
 partners-none screen from (line ∷ group) lines partners rest = partners-none screen from group lines partners rest
 
--- the lines of an untouched logical line
-AreShown-untouched : (screen : Screen) (before : List Line) (old : ℕ) (lines group : List Line) →
+-- the lines of a counterpart, by a test that tells that they may be taken over
+AreShown-by : (same : Bool) (test : Line → Line → Bool) → ((line other : Line) → test line other ≡ true → CanBeTaken same line other) →
+    (screen : Screen) (before : List Line) (old : ℕ) (lines group : List Line) →
     ((i : ℕ) (line : Line) → slice_get screen i ≡ Some (Some line) → slice_get before i ≡ Some line) →
-    ((k : ℕ) → k < length lines → slice_get before (old + k) ≡ slice_get lines k) → pointwise is_same_but_number lines group ≡ true →
-    AreShown screen old group
-AreShown-untouched screen before old lines [] shows there same = tt
-AreShown-untouched screen before old [] (line ∷ group) shows there same = absurd cc
-AreShown-untouched screen before old (first ∷ lines) (line ∷ group) shows there same =
+    ((k : ℕ) → k < length lines → slice_get before (old + k) ≡ slice_get lines k) → pointwise test lines group ≡ true →
+    AreShown same screen old group
+AreShown-by same test tells screen before old lines [] shows there alike = tt
+AreShown-by same test tells screen before old [] (line ∷ group) shows there alike = absurd cc
+AreShown-by same test tells screen before old (first ∷ lines) (line ∷ group) shows there alike =
     let start : old + 0 ≡ old = omega arith in
-    let here : slice_get before old ≡ Some first = ap (slice_get before) (sym start) ∙ there 0 (omega arith) in (
+    let here : slice_get before old ≡ Some first = ap (slice_get before) (sym start) ∙ there 0 (omega arith) in
+    let both = and_parts (test first line) (pointwise test lines group) alike in (
       λ shown is.
           let is_first : shown ≡ first = ap (λ o. unwrap_or o shown) (sym (shows old shown is) ∙ here) in
-          subst (λ (l : Line). IsSameButNumber l line) (sym is_first) (IsSameButNumber-test first line (and-left _ _ same)),
-      AreShown-untouched screen before (old + 1) lines group shows
-          (λ k lt. let sum : old + 1 + k ≡ old + suc k = omega arith in ap (slice_get before) sum ∙ there (suc k) (omega arith)) (and-right _ _ same),
+          subst (λ (l : Line). CanBeTaken same l line) (sym is_first) (tells first line both.0),
+      AreShown-by same test tells screen before (old + 1) lines group shows
+          (λ k lt. let sum : old + 1 + k ≡ old + suc k = omega arith in ap (slice_get before) sum ∙ there (suc k) (omega arith)) both.1,
     )
-  where
-    and-left : (a b : Bool) → (a && b) ≡ true → a ≡ true
-    and-left true b both = refl
-    and-left false b both = both
 
-    and-right : (a b : Bool) → (a && b) ≡ true → b ≡ true
-    and-right true b both = both
-    and-right false b both = absurd (true≢false (sym both))
+-- by the test of what is the same where that holds, and by that of the texts else
+AreShown-counterpart : (screen : Screen) (before : List Line) (old : ℕ) (lines group : List Line) (same : Bool) →
+    pointwise is_same_but_number lines group ≡ same → pointwise is_same_text lines group ≡ true →
+    ((i : ℕ) (line : Line) → slice_get screen i ≡ Some (Some line) → slice_get before i ≡ Some line) →
+    ((k : ℕ) → k < length lines → slice_get before (old + k) ≡ slice_get lines k) → AreShown same screen old group
+AreShown-counterpart screen before old lines group true alike texts shows there =
+    AreShown-by true is_same_but_number CanBeTaken-same screen before old lines group shows there alike
+AreShown-counterpart screen before old lines group false alike texts shows there =
+    AreShown-by false is_same_text CanBeTaken-text screen before old lines group shows there texts
 
-module _ (screen : Screen) (touched : Run) (before : List Line) (new : ℕ)
-    (room : touched.start + new ≤ length (by_logical_lines before) + touched.end)
+module _ (screen : Screen) (touched : Run) (before after : List Line) (no_others : TouchesNoOthers touched before after)
     (shows : (i : ℕ) (line : Line) → slice_get screen i ≡ Some (Some line) → slice_get before i ≡ Some line) where
   -- the counterpart of a logical line
   abbrev other_of : ℕ → Option ℕ
-  other_of index = counterpart touched (length (by_logical_lines before)) new index
+  other_of index = counterpart touched (length (by_logical_lines before)) (length (by_logical_lines after)) index
 
-  abbrev partners_from : ℕ → List (List Line) → List (Option ℕ)
+  abbrev partners_from : ℕ → List (List Line) → List (Option (ℕ × Bool))
   partners_from index groups = flat_map (λ (i, lines). partners_in (by_logical_lines before) (other_of i) lines) (enumerate_from index groups)
 
   -- the counterparts of the logical lines from this index on begin at or after an old line
   abbrev BeginFrom : ℕ → ℕ → Type 0
-  BeginFrom index from = (later other : ℕ) → index ≤ later → later < new → other_of later ≡ Some other → from ≤ first_of (by_logical_lines before) other
+  BeginFrom index from =
+      (later other : ℕ) → index ≤ later → later < length (by_logical_lines after) → other_of later ≡ Some other → from ≤ first_of (by_logical_lines before) other
 
-  partners-rest : (index from : ℕ) (groups : List (List Line)) → index + length groups ≡ new → BeginFrom index from →
-      ArePartners screen from
-      (map (valid_partner screen) (partners_from index groups)) (lines_in groups)
-  partners-rest index from [] sum begin = tt
-  partners-rest index from (group ∷ groups) sum begin =
-      subst (λ (partners : List (Option ℕ)). ArePartners screen from partners (group ++ lines_in groups))
+  partners-rest : (index from : ℕ) (groups : List (List Line)) → index + length groups ≡ length (by_logical_lines after) →
+      ((k : ℕ) → slice_get (by_logical_lines after) (index + k) ≡ slice_get groups k) → BeginFrom index from →
+      ArePartners screen from (map (valid_partner screen) (partners_from index groups)) (lines_in groups)
+  partners-rest index from [] sum there begin = tt
+  partners-rest index from (group ∷ groups) sum there begin =
+      subst (λ (partners : List (Option (ℕ × Bool))). ArePartners screen from partners (group ++ lines_in groups))
       (sym (map-append (valid_partner screen) (partners_in (by_logical_lines before) (other_of index) group) (partners_from (index + 1) groups)))
-      (by (other_of index) refl (λ next begins. partners-rest (index + 1) next groups (omega arith) begins))
+      (by (other_of index) refl
+      (λ next begins. partners-rest (index + 1) next groups (omega arith)
+      (λ k. let onward : index + 1 + k ≡ index + suc k = omega arith in ap (slice_get (by_logical_lines after)) onward ∙ there (suc k)) begins))
     where
-      onward : BeginFrom (index + 1) from
-      onward later other le lt is = begin later other (omega arith) lt is
+      Rest : Type 0
+      Rest = (next : ℕ) → BeginFrom (index + 1) next → ArePartners screen next (map (valid_partner screen) (partners_from (index + 1) groups)) (lines_in groups)
 
-      none : ((next : ℕ) → BeginFrom (index + 1) next → ArePartners screen next (map (valid_partner screen) (partners_from (index + 1) groups)) (lines_in groups)) →
-          ArePartners screen from (map (valid_partner screen) (map (λ line. None) group) ++ map (valid_partner screen) (partners_from (index + 1) groups)) (group ++ lines_in groups)
-      none rest = partners-none screen from group (lines_in groups) (map (valid_partner screen) (partners_from (index + 1) groups)) (rest from onward)
-
-      by_test : (other : ℕ) (was : List Line) (b : Bool) → other_of index ≡ Some other → slice_get (by_logical_lines before) other ≡ Some was →
-          pointwise is_same_but_number was group ≡ b →
-          ((next : ℕ) → BeginFrom (index + 1) next → ArePartners screen next (map (valid_partner screen) (partners_from (index + 1) groups)) (lines_in groups)) →
-          ArePartners screen from
-          (map (valid_partner screen) (if b then map (λ (old, line). Some old) (enumerate_from (first_of (by_logical_lines before) other) group) else map (λ line. None) group) ++
-          map (valid_partner screen) (partners_from (index + 1) groups)) (group ++ lines_in groups)
-      by_test other was false is there same rest = none rest
-      by_test other was true is there same rest =
-          let long : length was ≡ length group = as_long is_same_but_number was group same in
-          let first = first_of (by_logical_lines before) other in
-          partners-kept screen from first group (lines_in groups) (map (valid_partner screen) (partners_from (index + 1) groups))
-          (begin index other (omega arith) (omega arith) is)
-          (AreShown-untouched screen before first was group shows
-          (λ k lt. ap (λ ls. slice_get ls (first + k)) (sym (lines_in-by_logical_lines before)) ∙ get-lines_in (by_logical_lines before) other k was there lt) same)
-          (rest (first + length group)
-          (λ later next le lt found.
-          let rises = counterpart-rises touched (length (by_logical_lines before)) new index later other next room (omega arith) lt is found in
-          omega (arith, first_of-after (by_logical_lines before) other next was there rises, long)))
+      here : slice_get (by_logical_lines after) index ≡ Some group
+      here = let start : index ≡ index + 0 = omega arith in ap (slice_get (by_logical_lines after)) start ∙ there 0
 
       by_group : (other : ℕ) (was : Option (List Line)) → other_of index ≡ Some other → slice_get (by_logical_lines before) other ≡ was →
-          ((next : ℕ) → BeginFrom (index + 1) next → ArePartners screen next (map (valid_partner screen) (partners_from (index + 1) groups)) (lines_in groups)) →
+          are_alike is_same_text was group ≡ true → Rest →
           ArePartners screen from
-          (map (valid_partner screen)
-          (if is_untouched group was then map (λ (old, line). Some old) (enumerate_from (first_of (by_logical_lines before) other) group) else map (λ line. None) group) ++
+          (map (valid_partner screen) (with_partners (first_of (by_logical_lines before) other) (are_alike is_same_but_number was group) group) ++
           map (valid_partner screen) (partners_from (index + 1) groups)) (group ++ lines_in groups)
-      by_group other None is there rest = none rest
-      by_group other (Some was) is there rest = by_test other was (pointwise is_same_but_number was group) is there refl rest
+      by_group other None is at texts rest = absurd cc
+      by_group other (Some was) is at texts rest =
+          let long : length was ≡ length group = as_long is_same_text was group texts in
+          let first = first_of (by_logical_lines before) other in
+          partners-taken screen (pointwise is_same_but_number was group) from first group (lines_in groups)
+          (map (valid_partner screen) (partners_from (index + 1) groups)) (begin index other (omega arith) (omega arith) is)
+          (AreShown-counterpart screen before first was group (pointwise is_same_but_number was group) refl texts shows
+          (λ k lt. ap (λ ls. slice_get ls (first + k)) (sym (lines_in-by_logical_lines before)) ∙ get-lines_in (by_logical_lines before) other k was at lt))
+          (rest (first + length group)
+          (λ later next le lt found.
+          let rises =
+          counterpart-rises touched (length (by_logical_lines before)) (length (by_logical_lines after)) index later other next no_others.room (omega arith) lt is found in
+          omega (arith, first_of-after (by_logical_lines before) other next was at rises, long)))
 
-      by : (o : Option ℕ) → other_of index ≡ o →
-          ((next : ℕ) → BeginFrom (index + 1) next → ArePartners screen next (map (valid_partner screen) (partners_from (index + 1) groups)) (lines_in groups)) →
+      by : (o : Option ℕ) → other_of index ≡ o → Rest →
           ArePartners screen from
           (map (valid_partner screen) (partners_in (by_logical_lines before) o group) ++ map (valid_partner screen) (partners_from (index + 1) groups))
           (group ++ lines_in groups)
-      by None is rest = none rest
-      by (Some other) is rest = by_group other (slice_get (by_logical_lines before) other) is refl rest
+      by None is rest =
+          partners-none screen from group (lines_in groups) (map (valid_partner screen) (partners_from (index + 1) groups))
+          (rest from (λ later other le lt found. begin later other (omega arith) lt found))
+      by (Some other) is rest =
+          by_group other (slice_get (by_logical_lines before) other) is refl (no_others.texts index other group here is) rest
 
 -- THE PARTNERS of the lines of a layout, those that are valid on a screen that shows the lines before, are partners that rise
-pub ArePartners-partners_of : (screen : Screen) (touched : Run) (before after : List Line) →
-    touched.start + length (by_logical_lines after) ≤ length (by_logical_lines before) + touched.end →
+pub ArePartners-partners_of : (screen : Screen) (touched : Run) (before after : List Line) → TouchesNoOthers touched before after →
     ((i : ℕ) (line : Line) → slice_get screen i ≡ Some (Some line) → slice_get before i ≡ Some line) →
     ArePartners screen 0 (valid_partners screen (partners_of touched before after)) after
-ArePartners-partners_of screen touched before after room shows =
+ArePartners-partners_of screen touched before after no_others shows =
     subst (ArePartners screen 0 (valid_partners screen (partners_of touched before after))) (lines_in-by_logical_lines after)
-    (partners-rest screen touched before (length (by_logical_lines after)) room shows 0 0 (by_logical_lines after) (omega arith)
-    (λ later other le lt is. omega arith))
+    (partners-rest screen touched before after no_others shows 0 0 (by_logical_lines after) (omega arith)
+    (λ k. let start : 0 + k ≡ k = omega arith in ap (slice_get (by_logical_lines after)) start) (λ later other le lt is. omega arith))
