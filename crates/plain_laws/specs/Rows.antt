@@ -109,7 +109,7 @@ pub record Plans : Type 0 where
       Ins (numbered_line 1 [] (0 ∷ []) ∷ []) ∷ []
   pub mixed : update_plan (record { start = 0; end = 2 }) (record { start = 0; end = 0 })
       (numbered_line 1 (codes "a") [] ∷ numbered_line 2 (codes "b") [] ∷ numbered_line 3 (codes "c") [] ∷ numbered_line 4 (codes "d") [] ∷ [])
-      (Some 0 ∷ None ∷ None ∷ Some 2 ∷ []) ≡
+      (Some (0, true) ∷ None ∷ None ∷ Some (2, true) ∷ []) ≡
       Copy 1 (Some 1) ∷ Ins (numbered_line 2 (codes "b") [] ∷ []) ∷ Invalidate 1 ∷ Skip 1 ∷ Copy 1 (Some 4) ∷ []
 
 -- an input is cut after each LF, and a last piece counts where it is not empty

@@ -12,7 +12,7 @@ pub fn gaps_have_lines()
     ensures { GapsHaveLines }
 {}
 
-/// The screen after a plan is the layout wherever the plan keeps or sends.
+/// The screen after a plan is the layout wherever the plan keeps, restyles or sends.
 pub fn plans_keep()
     ensures { PlansKeep }
 {}
@@ -22,7 +22,7 @@ pub fn partners_stay()
     ensures { PartnersStay }
 {}
 
-/// A plan sends what is to be sent, and nothing outside the window and the request.
+/// A plan tells of lines of the window and the request alone: all of a line that was not there, and the carets and styles of one that was.
 pub fn plans_send()
     ensures { PlansSend }
 {}

@@ -6,7 +6,7 @@ use Rattle.plain_laws.proofs.view_laws.partners_stay.Goals as goal
 pub returns : goal.returns
 returns c = record {
   partners = ArePartners-partners_of;
-  plan = λ screen touched window request before after room shows numbers.
+  plan = λ screen touched window request before after no_others shows numbers.
       screen_after-update_plan screen window request 1 after (valid_partners screen (partners_of touched before after))
-      (ArePartners-partners_of screen touched before after room shows) numbers;
+      (ArePartners-partners_of screen touched before after no_others shows) numbers;
 }
