@@ -13,7 +13,7 @@ pub trait Object {
     ghost use Rattle.xi_plain.specs.declared.ask.Query.{Query};
     ghost use Rattle.xi_plain.specs.declared.reply.Reply.{Reply};
     ghost use Rattle.xi_plain.specs.declared.reply.Answer.{Answer};
-    ghost use Rattle.xi_plain.specs.Reply.{has_entry};
+    ghost use Rattle.xi_plain.specs.Reply.{has_entry, SaysLength};
     ghost use Rattle.xi_plain.specs.Room.{Begins, AddsEntryIf};
 
     /// The entries that it made, from the first.
@@ -67,6 +67,10 @@ pub trait Object {
     /// A call makes one entry, of its caller, exactly where the reply says so, and otherwise none.
     ghost one_entry: { (a : Self) (before : List Entry) (caller : ℕ) (ask : Ask) (reply : Reply) (after : List Entry)
         → serves a before caller ask reply after → AddsEntryIf (has_entry reply) before caller after };
+
+    /// An answer says how long the journal is that it is given by, unless memory was wanting.
+    ghost says_length: { (a : Self) (log : List Entry) (caller : ℕ) (query : Query) (answer : Answer)
+        → answers a log caller query answer → SaysLength (length log) answer };
 
     ghost short: { (a : Self) → length (journal a) < 2 ^ 63 };
 }
