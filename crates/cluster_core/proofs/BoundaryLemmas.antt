@@ -18,7 +18,7 @@ abbrev ends_after : Rule → ℕ → List ℕ → List ℕ → List ℕ
 ends_after rule at before cs = ends_from at (map encode_utf8_all (cut rule before cs []))
 
 -- the characters of cs in reverse, and then `before`
-abbrev onto : List ℕ → List ℕ → List ℕ
+abbrev pub onto : List ℕ → List ℕ → List ℕ
 onto [] before = before
 onto (c ∷ cs) before = onto cs (c ∷ before)
 
@@ -43,7 +43,7 @@ ends_from-attach false at c (piece ∷ pieces) last =
     omega (arith, length-append (encode_utf8 c) (encode_utf8_all piece)) in
     ap (λ n. n ∷ ends_from n (map encode_utf8_all pieces)) long
 
-cut_nonempty : (rule : Rule) (before cs : List ℕ) (c : ℕ) → cut rule before (c ∷ cs) [] ≡ [] → ⊥
+pub cut_nonempty : (rule : Rule) (before cs : List ℕ) (c : ℕ) → cut rule before (c ∷ cs) [] ≡ [] → ⊥
 unfolding cut
 cut_nonempty rule before cs c none = attached (rule (c ∷ before) (cs ++ [])) (cut rule (c ∷ before) cs []) none
   where
@@ -115,15 +115,15 @@ module _ (rule : Rule) (stops : (before : List ℕ) → rule before [] ≡ true)
       (rw (ends_after-step at before (d ∷ front ++ back) c)
       (later_too (rule (c ∷ before) (d ∷ front ++ back)) next _ _ (end_from_break next (c ∷ before) front back d breaks)))
 
-abbrev cluster_rule : Rule
+abbrev pub cluster_rule : Rule
 cluster_rule = is_grapheme_break true
 
-cluster_rule-stops : (before : List ℕ) → cluster_rule before [] ≡ true
+pub cluster_rule-stops : (before : List ℕ) → cluster_rule before [] ≡ true
 unfolding is_grapheme_break
 cluster_rule-stops [] = refl
 cluster_rule-stops (c ∷ before) = refl
 
-onto-reverse : (cs before : List ℕ) → onto cs (reverse before) ≡ reverse (before ++ cs)
+pub onto-reverse : (cs before : List ℕ) → onto cs (reverse before) ≡ reverse (before ++ cs)
 onto-reverse [] before = ap reverse (sym (append-nil before))
 onto-reverse (c ∷ cs) before =
     ap (onto cs) (sym (reverse-append before (c ∷ []))) ∙ onto-reverse cs (before ++ c ∷ []) ∙ ap reverse (append_assoc before (c ∷ []) cs)

@@ -25,7 +25,7 @@ encodes-concat : (pieces : List (List ℕ)) → encode_utf8_all (concat pieces) 
 encodes-concat [] = refl
 encodes-concat (piece ∷ pieces) = encodes-append piece (concat pieces) ∙ ap (λ bs. encode_utf8_all piece ++ bs) (encodes-concat pieces)
 
-chars-encoded : (pieces : List (List ℕ)) → IsUtf8 (concat (map encode_utf8_all pieces)) → map chars (map encode_utf8_all pieces) ≡ pieces
+pub chars-encoded : (pieces : List (List ℕ)) → IsUtf8 (concat (map encode_utf8_all pieces)) → map chars (map encode_utf8_all pieces) ≡ pieces
 chars-encoded [] u = refl
 chars-encoded (piece ∷ pieces) u =
     let front = encode_utf8_all piece in
