@@ -16,9 +16,9 @@ use Rattle.plain_text.proofs.callers.PlaceLemmas.{drop-place}
 use Rattle.plain_text.proofs.callers.ListLemmas.{count_by-yes, count_by-no}
 use Rattle.plain_text.specs.Lines.{logical_lines}
 use Rattle.plain_screen.specs.declared.piece.Piece.{Piece}
-use Rattle.plain_screen.specs.View.{RiseTo, AreEnds, pieces_of_line, pieces_from, ArePieces, whole_lines, layout_line_of}
+use Rattle.plain_screen.specs.View.{RiseTo, AreEnds, pieces_of_line, pieces_from, ArePieces, whole_lines, layout_line_of, start_of}
 use Rattle.plain_screen.proofs.callers.ViewLemmas.{concat-logical_lines, IsLayoutLineOf-layout_line_of}
-use Rattle.plain_view.specs.Viewed.{begins_of, start_of}
+use Rattle.plain_view.specs.Viewed.{begins_of}
 
 -- ---- the pieces rise
 

@@ -1,9 +1,8 @@
 -- A text with the pieces that it is cut into, and where a gap stands in them.
-use Rattle.std.specs.Prelude.{◌≡◌, ℕ, ◌-◌, List, drop, map, slice_get, unwrap_or}
-use Rattle.std.specs.Option.{option_map}
+use Rattle.std.specs.Prelude.{◌≡◌, ℕ, ◌-◌, List, drop, map}
 use Rattle.plain_text.specs.Text.{place_of}
 use Rattle.plain_screen.specs.declared.piece.Piece.{Piece}
-use Rattle.plain_screen.specs.View.{ArePieces, layout_line_of}
+use Rattle.plain_screen.specs.View.{ArePieces, layout_line_of, start_of}
 
 -- what a view holds
 pub record Viewed : Type 0 where
@@ -18,10 +17,6 @@ begins_of text pieces = map (λ piece. place_of text piece.start) pieces
 pub record IsKept (text : List ℕ) (pieces : List Piece) (begins : List ℕ) : Type 0 where
   pub sound : ArePieces text pieces
   pub kept : begins ≡ begins_of text pieces
-
--- the gap at which a layout line starts; 0 where there is no such line
-abbrev pub start_of : List Piece → ℕ → ℕ
-start_of pieces line = unwrap_or (option_map (λ piece. piece.start) (slice_get pieces line)) 0
 
 -- THE BYTE COLUMN of a gap: how many bytes stand between the start of its layout line and the gap
 abbrev pub byte_column_of : List ℕ → List Piece → ℕ → ℕ

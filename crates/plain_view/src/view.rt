@@ -1,12 +1,12 @@
-ghost use Rattle.std.specs.Prelude.{◌≡◌, ◌<◌, ◌≤◌, length, drop, IfOk};
+ghost use Rattle.std.specs.Prelude.{◌≡◌, ◌<◌, Some, length, drop, slice_get, IfOk};
 ghost use Rattle.std.specs.Str.{chars};
-ghost use Rattle.plain_screen.specs.View.{ArePieces, layout_line_of, whole_lines};
-ghost use Rattle.plain_view.specs.Viewed.{byte_column_of, start_of};
+ghost use Rattle.plain_screen.specs.View.{ArePieces, extent_of, layout_line_of, line_under, start_of, whole_lines};
+ghost use Rattle.plain_view.specs.Viewed.{byte_column_of};
 
 use crate::begins::begins;
 use crate::pieces::whole_pieces;
 use plain_screen::{Piece, TextView};
-use plain_text::{List, NoMemory, Offsets, Text, place_in, split_at_gap};
+use plain_text::{List, NoMemory, Offsets, Run, Text, place_in, split_at_gap};
 use std::alloc::Global;
 use std::marker::Model;
 
@@ -72,17 +72,50 @@ impl PlainView {
         }
     }
 
-    // The layout line of a gap.
-    fn line_of(&self, gap: u64) -> u64
-        ensures line { result ≡ layout_line_of self.now.pieces gap }
-        ensures inside { result < length self.now.pieces }
-        ensures by_then { start_of self.now.pieces result ≤ gap }
+    // The piece with this index, which is there.
+    fn piece_at(&self, line: u64) -> Piece
+        requires { line < length self.now.pieces }
+        ensures { slice_get self.now.pieces line ≡ Some result }
     {
-        let count = self
-            .pieces
-            .as_slice()
-            .partition_point(|piece| piece.start <= gap);
-        count as u64 - 1
+        match self.line(line) {
+            Some(piece) => piece,
+            None => unreachable!(),
+        }
+    }
+
+    // The gap where the logical line of a layout line starts. This looks at the pieces before it.
+    fn start_under(&self, line: u64) -> u64
+        requires inside { line < length self.now.pieces }
+        requires sound { ArePieces self.now.text self.now.pieces }
+        ensures { result ≡ (extent_of (line_under self.now.text self.now.pieces line)).start }
+    {
+        let mut at = line;
+        loop {
+            let piece = self.piece_at(at);
+            if piece.ln.is_some() {
+                return piece.start;
+            }
+            at -= 1;
+        }
+    }
+
+    // The gap where that logical line ends. This looks at the pieces after it.
+    fn end_under(&self, line: u64) -> u64
+        requires { line < length self.now.pieces }
+        ensures { result ≡ (extent_of (line_under self.now.text self.now.pieces line)).end }
+    {
+        let lines = self.lines();
+        let mut end = self.piece_at(line).end;
+        let mut at = line + 1;
+        while at < lines {
+            let piece = self.piece_at(at);
+            if piece.ln.is_some() {
+                return end;
+            }
+            end = piece.end;
+            at += 1;
+        }
+        end
     }
 
     // The gap where a line starts, and the text from there on.
@@ -108,6 +141,23 @@ impl TextView for PlainView {
 
     fn line(&self, i: u64) -> Option<Piece> {
         self.pieces.get(i as usize).copied()
+    }
+
+    fn line_of(&self, gap: u64) -> u64 {
+        let count = self
+            .pieces
+            .as_slice()
+            .partition_point(|piece| piece.start <= gap);
+        count as u64 - 1
+    }
+
+    // This looks at the pieces of the logical line.
+    fn logical_of(&self, line: u64) -> Run {
+        let _lines = self.lines();
+        Run {
+            start: self.start_under(line),
+            end: self.end_under(line),
+        }
     }
 
     fn text(&self, alloc: Global, from: u64, to: u64) -> Result<Text, NoMemory> {

@@ -3,7 +3,7 @@ use Rattle.std.specs.Str.{chars}
 use Rattle.plain_text.specs.Text.{place_of}
 use Rattle.plain_screen.specs.declared.piece.Piece.{Piece}
 use Rattle.plain_text.proofs.callers.TextLemmas.{IsCharBoundary-place}
-use Rattle.plain_view.specs.Viewed.{start_of}
+use Rattle.plain_screen.specs.View.{start_of}
 use Rattle.plain_view.proofs.PieceLemmas.{begin_is, chars-from_gap, start_of-get}
 use Rattle.plain_view.proofs.view.PlainView.from_line.Goals as goal
 

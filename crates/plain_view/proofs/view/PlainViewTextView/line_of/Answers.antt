@@ -3,7 +3,7 @@ use Rattle.std.specs.List.{count_by}
 use Rattle.std.proofs.lemmas.List.Sorted.{IsPartitionPoint-from_clause, IsPartitionedBy-leb}
 use Rattle.plain_screen.specs.View.{layout_line_of}
 use Rattle.plain_view.proofs.PieceLemmas.{RiseWithin-pieces, IsNonDecreasingBy-rise, count_by-parted, found-some, layout_line_of-there}
-use Rattle.plain_view.proofs.view.PlainView.line_of.Goals as goal
+use Rattle.plain_view.proofs.view.PlainViewTextView.line_of.Goals as goal
 
 pub overflow_sub-result : goal.overflow_sub-result
 overflow_sub-result c =
@@ -30,7 +30,3 @@ returns-clause-line c =
 pub returns-clause-inside : goal.returns-clause-inside
 returns-clause-inside c =
     rw (returns-clause-line c, ← c.self.view_is) (layout_line_of-there c.self.inside.text c.self.inside.pieces c.args.gap c.self.invariant.sound).0
-
-pub returns-clause-by_then : goal.returns-clause-by_then
-returns-clause-by_then c =
-    rw (returns-clause-line c, ← c.self.view_is) (layout_line_of-there c.self.inside.text c.self.inside.pieces c.args.gap c.self.invariant.sound).1
