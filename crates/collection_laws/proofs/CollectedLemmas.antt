@@ -16,7 +16,7 @@ use Rattle.collection_laws.specs.Left.{is_kept, edits_group, last_edit, settled_
 use Rattle.collection_laws.proofs.ListLemmas.{sifted, sifted-yes, sifted-no, map-map-same, rising_same}
 use Rattle.collection_laws.proofs.DroppedLemmas.{IsOurs, all_ours}
 use Rattle.collection_laws.proofs.SettledLemmas.{last_edit-le, edits-last_edit, le-last_edit, settled_rev-after, settled_rev-by, settled_rev-none, settled_rev-last, has-settled_deletions, IsRising-settled_deletions, Passes, list_all-settled_deletions, drop-left, head-left, revision_at-after, revision_at-settled, revision_at-unsettled, undone-left}
-use Rattle.collection_laws.proofs.ShownLemmas.{no_zero, kept-inserted, kept-deleted, inserted-left, deleted-left}
+use Rattle.collection_laws.proofs.ShownLemmas.{HasFloor-formed, no_zero, kept-inserted, kept-deleted, inserted-left, deleted-left}
 use Rattle.collection_laws.proofs.LaterLemmas.{map-range_same}
 
 not_any : (p : ℕ → Bool) (xs : List ℕ) → list_any p xs ≡ not (list_all (λ x. not (p x)) xs)
@@ -325,11 +325,11 @@ module _ (history : History) (floor : ℕ) (groups : List ℕ) (forgets : MayFor
       (settled_deletions history tagged.deleted))
       (ap (undone left.revisions) (head-left history within) ∙ undone-left history within (head history) within) ∙
       ap₂ (λ a b. a || b)
-      (inserted-left history forgets.formed tagged ours (λ g. has next.collected g && has set_now g)
+      (inserted-left history (HasFloor-formed history forgets.formed) tagged ours.by (λ g. has next.collected g && has set_now g)
       (and_right (has next.collected 0) (has set_now 0) (no_zero history (head history) forgets.formed))
       (λ collected. and_right (has next.collected (group_of history.revisions tagged.inserted)) _ (kept-inserted history tagged kept collected)))
       (not_any (λ rev. lasts (group_of left.revisions rev)) (settled_deletions history tagged.deleted) ∙
-      ap not (deleted-left history forgets.formed tagged ours (λ _. false) (λ g. not (lasts g)) (λ n m _ _. refl)
+      ap not (deleted-left history (HasFloor-formed history forgets.formed) tagged ours.by (λ _. false) (λ g. not (lasts g)) (λ n m _ _. refl)
       (AllByRecursion-weaker (λ rev. is_collected history rev ≡ true → is_undone history.revisions (head history) rev ≡ true)
       (λ rev. is_collected history rev ≡ true → not (lasts (group_of history.revisions rev)) ≡ true)
       (λ rev stays collected. ap not (and_right (has next.collected (group_of history.revisions rev)) _ (ap not (stays collected)))) tagged.deleted

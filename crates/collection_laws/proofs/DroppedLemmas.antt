@@ -105,10 +105,10 @@ all_ours history forgets =
     )
 
 -- a character was loaded, or inserted by an edit
-pub by_edit : (history : History) (tagged : Tagged) → IsOurs history tagged → 0 < tagged.inserted →
+pub by_edit : (history : History) (tagged : Tagged) → IsByEdits history.revisions tagged → 0 < tagged.inserted →
     is_edit (revision_at history.revisions tagged.inserted) ≡ true
-by_edit history tagged ours later =
-    elim (or_cases (tagged.inserted == 0) (is_edit (revision_at history.revisions tagged.inserted)) ours.by.inserted) [
+by_edit history tagged by later =
+    elim (or_cases (tagged.inserted == 0) (is_edit (revision_at history.revisions tagged.inserted)) by.inserted) [
       | inl none ↦ absurd (omega (arith, later, eqb-true tagged.inserted 0 none))
       | inr is ↦ is
     ]
@@ -120,7 +120,7 @@ dropped_is_old history tagged formed ours dropped =
     elim (or_cases (is_collected history tagged.inserted && is_undone history.revisions (head history) tagged.inserted) (list_any lasts tagged.deleted) dropped) [
       | inl inserted ↦
           elim (cases_lt 0 tagged.inserted) [
-            | inl later ↦ edit_by_floor history tagged.inserted formed (by_edit history tagged ours later) (and_parts _ _ inserted).0
+            | inl later ↦ edit_by_floor history tagged.inserted formed (by_edit history tagged ours.by later) (and_parts _ _ inserted).0
             | inr loaded ↦ omega (arith, loaded)
           ]
       | inr deleted ↦ deletion tagged.deleted ours.by.deleted ours.first deleted
@@ -177,7 +177,7 @@ module _ (history : History) (forgets : MayForget history) (base : ℕ) (low : h
       first later = at xs ours.1 (guarded.0 is)
         where
           is : is_edit (revision_at history.revisions x.inserted) ≡ true
-          is = by_edit history x ours.0 (omega (arith, later))
+          is = by_edit history x ours.0.by (omega (arith, later))
 
           from : history.floor ≤ base_of history.revisions x.inserted
           from = base_from_floor history x.inserted forgets.formed (omega (arith, later, low)) is

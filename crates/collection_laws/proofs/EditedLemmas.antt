@@ -1,33 +1,27 @@
 -- What is left after an edit is the edit of what was left.
-use Rattle.std.proofs.Common.{◌≡◌, ℕ, zero, suc, ◌+◌, ◌-◌, ◌<◌, ◌≤◌, Bool, true, false, not, ◌&&◌, ◌||◌, if◌then◌else◌, nat_lt, nat_le, ◌==◌, min, List, [], ◌∷◌, ◌++◌, length, map, take, drop, filter, refl, ap, ap₂, sym, ◌∙◌, arith, append_assoc, length-append, length-drop, length-take-le}
-use Rattle.std.specs.List.{AllByRecursion, list_any, suffix_len, prefix_len, before_first, after_last}
-use Rattle.std.proofs.lemmas.Bool.{both_ways, eqb-true, lt-ltb, ltb-true}
+use Rattle.std.proofs.Common.{◌≡◌, ℕ, zero, suc, ◌+◌, ◌-◌, ◌<◌, Bool, true, false, not, if◌then◌else◌, nat_lt, nat_le, ◌==◌, min, List, [], ◌∷◌, ◌++◌, length, map, take, drop, filter, refl, ap, ap₂, sym, ◌∙◌, arith, append_assoc, length-append, length-drop, length-take-le}
+use Rattle.std.specs.List.{AllByRecursion, suffix_len, prefix_len, before_first, after_last}
+use Rattle.std.proofs.lemmas.Bool.{ltb-true}
 use Rattle.std.proofs.lemmas.Bool.Decides.{nat_tests}
 use Rattle.std.proofs.lemmas.List.{length-map, map-append, take-map, drop-map, take-append-drop}
 use Rattle.std.proofs.lemmas.List.Elements.{filter-append}
-use Rattle.std.proofs.lemmas.List.Folds.{list_any-append}
 use Rattle.std.proofs.lemmas.List.Sums.{suffix_len-le-length}
-use Rattle.std.proofs.Math.Bool.{or-false}
 use Rattle.std.proofs.Math.Seq.{take-append-add, drop-append-add}
-use Rattle.plain_text.specs.Numbers.{has, IsRising}
 use Rattle.plain_text.specs.Woven.{woven}
-use Rattle.plain_text.proofs.callers.ListLemmas.{AllByRecursion-append, AllByRecursion-weaker, AllByRecursion-take, at-woven, woven_same}
-use Rattle.plain_edits.specs.History.{Tagged, inserted_by, Revision, edit, History, head, edit_group, edit_priority, priority_of, is_undone, is_visible, visible_at, IsTaggedBy}
+use Rattle.plain_text.proofs.callers.ListLemmas.{AllByRecursion-weaker, AllByRecursion-take, at-woven, woven_same}
+use Rattle.plain_edits.specs.History.{Tagged, inserted_by, Revision, edit, History, head, edit_priority, priority_of, is_visible, visible_at, IsTaggedBy}
 use Rattle.plain_edits.specs.Place.{eldest, is_by, goes_right, left_in_run}
 use Rattle.plain_edits.specs.Edits.{PlainEdit, with_deletion, edited}
-use Rattle.plain_edits.specs.Collection.{is_collected}
 use Rattle.plain_edits.specs.Blocks.{block_at, older_len, put_behind, block_after}
-use Rattle.plain_edits.specs.HistorySteps.{edits, MayEdit}
-use Rattle.plain_edits.proofs.callers.HistoryLemmas.{revision_at-push}
+use Rattle.plain_edits.specs.HistorySteps.{MayEdit}
 use Rattle.plain_edits.proofs.callers.BlockLemmas.{characters-edited}
-use Rattle.plain_edits.proofs.callers.CollectionLemmas.{keeps-after_step}
 use Rattle.collection_laws.specs.MayForget.{MayForget}
-use Rattle.collection_laws.specs.Left.{is_kept, settled_rev, settled_deletions, settled, left_of}
-use Rattle.collection_laws.proofs.ListLemmas.{all_both, run, run_passes, sifted, sifted-yes, Goes, block-sifted, run-sifted, run-map, prefix_len-map, woven-map, AllByRecursion-drop, AllByRecursion-block, AllByRecursion-filter, AreApart-block, rising_same}
+use Rattle.collection_laws.specs.Left.{is_kept, settled_rev, settled, left_of}
+use Rattle.collection_laws.proofs.ListLemmas.{all_both, run, run_passes, sifted, sifted-yes, Goes, block-sifted, run-sifted, run-map, prefix_len-map, woven-map, AllByRecursion-drop, AllByRecursion-block, AllByRecursion-filter, AreApart-block}
 use Rattle.collection_laws.proofs.DroppedLemmas.{IsOurs, all_ours, later_is_kept, shown_is_kept, AreApart-dropped}
-use Rattle.collection_laws.proofs.SettledLemmas.{settled_deletions-le, settled_rev-after, has-settled_deletions, IsRising-settled_deletions, head-left, revision_at-after}
-use Rattle.collection_laws.proofs.ShownLemmas.{nat_le-left, goes-shown, visible_at-left}
-use Rattle.collection_laws.proofs.LaterLemmas.{settled_rev-later, settled-later, revisions-later, is_dropped-later, sifted-later}
+use Rattle.collection_laws.proofs.SettledLemmas.{settled_rev-after, head-left, revision_at-after}
+use Rattle.collection_laws.proofs.ShownLemmas.{HasFloor-formed, nat_le-left, goes-shown, visible_at-left}
+use Rattle.collection_laws.proofs.LaterLemmas.{is_kept-deleted, is_kept-new, is_kept-old, leaves-edit, settled-deleted, settled-later, settled-new, revisions-later, sifted-later}
 
 -- ---- the characters of a run that stay left of an insertion
 
@@ -108,13 +102,6 @@ put_behind-past : {X : Type 0} (front xs new : List X) (n : ℕ) → put_behind 
 put_behind-past front xs new n =
     ap₂ (λ ys zs. ys ++ (new ++ zs)) (take-append-add front xs n) (drop-append-add front xs n) ∙ append_assoc front (take n xs) (new ++ drop n xs)
 
--- ---- numbers that rise
-
-IsRising-push : (top n : ℕ) (numbers : List ℕ) → AllByRecursion (λ m. m ≤ top) numbers → top < n → IsRising numbers → IsRising (numbers ++ n ∷ [])
-IsRising-push top n [] below above up = (tt, tt)
-IsRising-push top n (m ∷ numbers) below above up =
-    (AllByRecursion-append (λ k. m < k) numbers (n ∷ []) up.0 (omega (arith, below.0), tt), IsRising-push top n numbers below.1 above up.1)
-
 lt_not_le : (a n : ℕ) → nat_lt a n ≡ not (nat_le n a)
 lt_not_le a n = grind (arith, nat_tests)
 
@@ -148,12 +135,8 @@ module _ (history : History) (e : PlainEdit) (forgets : MayForget history) (may 
   past : history.floor < new_rev
   past = omega (arith, forgets.formed.floor)
 
-  group_of-new : is_collected next new_rev ≡ false
-  group_of-new = ap (λ r. has history.collected (edit_group r)) (revision_at-push history.revisions made) ∙ may.is_open
-
   kept-old : (tagged : Tagged) → IsTaggedBy (head history) tagged → k_next tagged ≡ k tagged
-  kept-old tagged is =
-      ap not (is_dropped-later history made next.characters forgets.formed.floor (keeps-after_step history (edits e) may) tagged is)
+  kept-old tagged is = is_kept-old history e.base e.group e.priority e.author next.characters forgets.formed.floor may.is_open tagged is
 
   settled-old : (tagged : Tagged) → IsTaggedBy (head history) tagged → s_next tagged ≡ s tagged
   settled-old tagged is = settled-later history made next.characters forgets.formed.floor tagged is
@@ -163,50 +146,8 @@ module _ (history : History) (e : PlainEdit) (forgets : MayForget history) (may 
   sifted-new [] = refl
   sifted-new (c ∷ text) =
       sifted-yes k_next s_next (inserted_by new_rev c) (map (inserted_by new_rev) text)
-      (ap (λ b. not (b && is_undone next.revisions (head next) new_rev || false)) group_of-new) ∙
-      ap₂ (λ n xs. record { character = c; inserted = n; deleted = [] } ∷ xs) (settled_rev-after next new_rev past) (sifted-new text)
-
-  -- one more deletion, settled
-  settled_deletions-push : (deleted : List ℕ) → AllByRecursion (λ rev. rev ≤ head history) deleted →
-      settled_deletions next (deleted ++ new_rev ∷ []) ≡ settled_deletions history deleted ++ new_rev ∷ []
-  settled_deletions-push deleted each =
-      rising_same (settled_deletions next (deleted ++ new_rev ∷ [])) (settled_deletions history deleted ++ new_rev ∷ [])
-      (IsRising-settled_deletions next (deleted ++ new_rev ∷ []))
-      (IsRising-push (head history) new_rev (settled_deletions history deleted) (settled_deletions-le history deleted forgets.formed.floor each)
-      (omega arith) (IsRising-settled_deletions history deleted)) same
-    where
-      some : (revs : List ℕ) → AllByRecursion (λ rev. rev ≤ head history) revs → (n : ℕ) →
-          list_any (λ rev. settled_rev next rev == n) revs ≡ list_any (λ rev. settled_rev history rev == n) revs
-      some [] below n = refl
-      some (rev ∷ revs) below n =
-          ap₂ (λ m b. m == n || b) (settled_rev-later history made next.characters forgets.formed.floor rev below.0) (some revs below.1 n)
-
-      join : (a b c : Bool) → (c ≡ true → a ≡ true) → (a && (b || (c || false))) ≡ ((a && b) || (c || false))
-      join true b c up = refl
-      join false b true up = absurd (both_ways false refl (up refl))
-      join false b false up = refl
-
-      same : (n : ℕ) → has (settled_deletions next (deleted ++ new_rev ∷ [])) n ≡ has (settled_deletions history deleted ++ new_rev ∷ []) n
-      same n =
-          has-settled_deletions next (deleted ++ new_rev ∷ []) n ∙
-          ap (λ b. nat_lt 0 n && b) (list_any-append (λ rev. settled_rev next rev == n) deleted (new_rev ∷ []) ∙
-          ap₂ (λ a m. a || (m == n || false)) (some deleted each n) (settled_rev-after next new_rev past)) ∙
-          join (nat_lt 0 n) (list_any (λ rev. settled_rev history rev == n) deleted) (new_rev == n)
-          (λ is. lt-ltb 0 n (omega (arith, eqb-true new_rev n is))) ∙
-          sym (list_any-append (λ m. m == n) (settled_deletions history deleted) (new_rev ∷ []) ∙
-          ap (λ b. b || (new_rev == n || false)) (has-settled_deletions history deleted n))
-
-  kept-deleted : (tagged : Tagged) → IsTaggedBy (head history) tagged → k_next (with_deletion new_rev tagged) ≡ k tagged
-  kept-deleted tagged is =
-      ap (λ b. not (gone || b)) (list_any-append lasts tagged.deleted (new_rev ∷ []) ∙
-      ap (λ b. list_any lasts tagged.deleted || (b && not (is_undone next.revisions (head next) new_rev) || false)) group_of-new ∙
-      or-false (list_any lasts tagged.deleted)) ∙ kept-old tagged is
-    where
-      lasts : ℕ → Bool
-      lasts rev = is_collected next rev && not (is_undone next.revisions (head next) rev)
-
-      gone : Bool
-      gone = is_collected next tagged.inserted && is_undone next.revisions (head next) tagged.inserted
+      (is_kept-new history e.base e.group e.priority e.author next.characters forgets.formed.floor may.is_open c) ∙
+      ap₂ (λ x xs. x ∷ xs) (settled-new history e.base e.group e.priority e.author next.characters forgets.formed.floor may.is_open c) (sifted-new text)
 
   -- a character that the base shows
   sifted-shown : (index : ℕ) (tagged : Tagged) → IsTaggedBy (head history) tagged → k tagged ≡ true →
@@ -218,10 +159,9 @@ module _ (history : History) (e : PlainEdit) (forgets : MayForget history) (may 
           (if b then s tagged else with_deletion new_rev (s tagged)) ∷ []
       by true = sifted-yes k_next s_next tagged [] (kept-old tagged is ∙ kept) ∙ ap (λ t. t ∷ []) (settled-old tagged is)
       by false =
-          sifted-yes k_next s_next (with_deletion new_rev tagged) [] (kept-deleted tagged is ∙ kept) ∙
-          ap₂ (λ n ns. record { character = tagged.character; inserted = n; deleted = ns } ∷ [])
-          (settled_rev-later history made next.characters forgets.formed.floor tagged.inserted is.inserted)
-          (settled_deletions-push tagged.deleted is.deleted)
+          sifted-yes k_next s_next (with_deletion new_rev tagged) []
+          (is_kept-deleted history e.base e.group e.priority e.author next.characters forgets.formed.floor may.is_open tagged is ∙ kept) ∙
+          ap (λ t. t ∷ []) (settled-deleted history e.base e.group e.priority e.author next.characters forgets.formed.floor may.is_open tagged is)
 
   -- ---- one block
 
@@ -233,7 +173,7 @@ module _ (history : History) (e : PlainEdit) (forgets : MayForget history) (may 
     stays = λ later. later_is_kept history tagged forgets.formed ours (omega (arith, may.reached, ltb-true e.base tagged.inserted later));
     alike = λ _.
         lt_not_le e.base (settled_rev history tagged.inserted) ∙
-        ap not (nat_le-left history forgets.formed tagged ours e.base may.reached) ∙ sym (lt_not_le e.base tagged.inserted);
+        ap not (nat_le-left history (HasFloor-formed history forgets.formed) tagged ours.by e.base may.reached) ∙ sym (lt_not_le e.base tagged.inserted);
   }
 
   module _ (gap : ℕ) where
@@ -342,7 +282,8 @@ module _ (history : History) (e : PlainEdit) (forgets : MayForget history) (may 
         cut ∙ put_behind-past older newer new stays_left) ∙
         sifted-append k_next s_next older (put_behind stays_left new newer) ∙
         ap₂ (λ xs ys. xs ++ ys)
-        (sifted-later history made next.characters forgets.formed.floor (keeps-after_step history (edits e) may) older
+        (sifted-later history made next.characters forgets.formed.floor
+        (leaves-edit history e.base e.group e.priority e.author next.characters forgets.formed.floor may.is_open) older
         (AllByRecursion-take (IsTaggedBy (head history)) (older_len e.base blk) blk
         (AllByRecursion-weaker (IsOurs history) (IsTaggedBy (head history)) (λ t ours. ours.tags) blk ours-blk)))
         sifted-put ∙

@@ -95,7 +95,7 @@ module _ (history : History) (forgets : MayForget history) where
       inserted : ((0 < settled_rev history tagged.inserted) ⊎ (settled_rev history tagged.inserted ≤ 0)) → ((0 < tagged.inserted) ⊎ (tagged.inserted ≤ 0)) →
           (settled_rev history tagged.inserted == 0 || is_edit (revision_at left.revisions (settled_rev history tagged.inserted))) ≡ true
       inserted (inl some) (inl later) =
-          or_right (settled_rev history tagged.inserted == 0) _ (settled_by_edit tagged.inserted (by_edit history tagged ours later) some)
+          or_right (settled_rev history tagged.inserted == 0) _ (settled_by_edit tagged.inserted (by_edit history tagged ours.by later) some)
       inserted (inl some) (inr loaded) = absurd (omega (arith, some, settled_rev-loaded tagged.inserted loaded))
       inserted (inr none) loaded = or_left _ _ (eq-eqb (settled_rev history tagged.inserted) 0 (omega (arith, none)))
 
@@ -117,7 +117,7 @@ module _ (history : History) (forgets : MayForget history) where
     where
       inserted : 0 < settled_rev history tagged.inserted → ((0 < tagged.inserted) ⊎ (tagged.inserted ≤ 0)) →
           is_collected left (settled_rev history tagged.inserted) ≡ false
-      inserted some (inl later) = settled-open tagged.inserted (by_edit history tagged ours later) some
+      inserted some (inl later) = settled-open tagged.inserted (by_edit history tagged ours.by later) some
       inserted some (inr loaded) = absurd (omega (arith, some, settled_rev-loaded tagged.inserted loaded))
 
   IsUncollected-kept : (tagged : Tagged) → IsUncollected left tagged → is_dropped left tagged ≡ false

@@ -365,9 +365,10 @@ pub record IsForgotten (history : History) (rev : ℕ) : Type 0 where
   pub none : settled_rev history rev ≡ 0
   pub old : rev ≤ history.floor
 
-pub settles : (history : History) (rev : ℕ) → IsWellFormed history → is_edit (revision_at history.revisions rev) ≡ true →
-    (StaysAs history rev) ⊎ (IsForgotten history rev)
-settles history rev formed is =
+pub settles_by : (history : History) (rev : ℕ) → history.floor ≤ head history →
+    (is_edit (revision_at history.revisions rev) ≡ true → is_collected history rev ≡ true → rev ≤ history.floor) →
+    is_edit (revision_at history.revisions rev) ≡ true → (StaysAs history rev) ⊎ (IsForgotten history rev)
+settles_by history rev low over is =
     elim (cases_lt history.floor rev) [
       | inl past ↦
           let same = settled_rev-after history rev past in
@@ -376,16 +377,16 @@ settles history rev formed is =
             some = omega (arith, same, past);
             is =
                 ap (λ n. is_edit (revision_at (left_of history).revisions n)) same ∙
-                ap is_edit (revision_at-after history formed.floor rev past) ∙ is;
+                ap is_edit (revision_at-after history low rev past) ∙ is;
             group =
-                ap (group_of (left_of history).revisions) same ∙ ap edit_group (revision_at-after history formed.floor rev past);
+                ap (group_of (left_of history).revisions) same ∙ ap edit_group (revision_at-after history low rev past);
             beside = inl same;
           })
       | inr below ↦ by below (is_collected history rev) refl
     ]
   where
     later_is_open : history.floor < rev → (b : Bool) → is_collected history rev ≡ b → is_collected history rev ≡ false
-    later_is_open past true collected = absurd (omega (arith, past, edit_by_floor history rev formed is collected))
+    later_is_open past true collected = absurd (omega (arith, past, over is collected))
     later_is_open past false other = other
 
     by : rev ≤ history.floor → (b : Bool) → is_collected history rev ≡ b → (StaysAs history rev) ⊎ (IsForgotten history rev)
@@ -417,13 +418,17 @@ settles history rev formed is =
           some = omega (arith, some, settled_as);
           is =
               ap (λ n. is_edit (revision_at (left_of history).revisions n)) settled_as ∙
-              ap is_edit (revision_at-settled history formed.floor last some within itself);
+              ap is_edit (revision_at-settled history low last some within itself);
           group =
               ap (group_of (left_of history).revisions) settled_as ∙
-              ap edit_group (revision_at-settled history formed.floor last some within itself) ∙ same_group;
+              ap edit_group (revision_at-settled history low last some within itself) ∙ same_group;
           beside = inr (omega (arith, settled_as, within), below);
         })
       where
         positive : (n : ℕ) → is_edit (revision_at history.revisions n) ≡ true → 0 < n
         positive zero is_one = absurd (both_ways false refl is_one)
         positive (suc n) is_one = omega arith
+
+pub settles : (history : History) (rev : ℕ) → IsWellFormed history → is_edit (revision_at history.revisions rev) ≡ true →
+    (StaysAs history rev) ⊎ (IsForgotten history rev)
+settles history rev formed is = settles_by history rev formed.floor (edit_by_floor history rev formed) is

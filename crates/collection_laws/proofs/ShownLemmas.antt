@@ -10,13 +10,13 @@ use Rattle.plain_text.proofs.callers.ListLemmas.{AllByRecursion-take, AllByRecur
 use Rattle.plain_edits.specs.History.{Tagged, Revision, edit, undo, History, head, revision_at, group_of, undone_after, undone, is_undone, is_visible, visible_at, text_at}
 use Rattle.plain_edits.specs.Collection.{IsAtRest, is_collected, kept}
 use Rattle.plain_edits.specs.Change.{passes_at, change_keeps, change_adds, block}
-use Rattle.plain_edits.specs.HistorySteps.{is_edit, HasRisingSet, IsWellFormed}
+use Rattle.plain_edits.specs.HistorySteps.{is_edit, HasRisingSet, IsByEdits, IsWellFormed}
 use Rattle.plain_edits.proofs.callers.CollectionLemmas.{all_has}
 use Rattle.collection_laws.specs.MayForget.{MayForget}
 use Rattle.collection_laws.specs.Left.{is_kept, settled_rev, settled_deletions, settled, left_of}
 use Rattle.collection_laws.proofs.ListLemmas.{all_both, Goes, filter-sifted, block-sifted, passes_at-map, AllByRecursion-block, AllByRecursion-filter}
-use Rattle.collection_laws.proofs.DroppedLemmas.{IsOurs, all_ours, by_edit, shown_is_kept}
-use Rattle.collection_laws.proofs.SettledLemmas.{settled_rev-none, Passes, list_all-settled_deletions, undone-left, StaysAs, IsForgotten, settles}
+use Rattle.collection_laws.proofs.DroppedLemmas.{IsOurs, all_ours, by_edit, edit_by_floor, shown_is_kept}
+use Rattle.collection_laws.proofs.SettledLemmas.{settled_rev-none, Passes, list_all-settled_deletions, undone-left, StaysAs, IsForgotten, settles_by}
 
 -- an undone set rises, without group 0
 sets-after : (groups : List ℕ) (revisions : List Revision) → AllByRecursion HasRisingSet revisions → HasRisingSet (undo groups) →
@@ -31,6 +31,19 @@ HasRisingSet-undone history at formed =
 
 pub no_zero : (history : History) (at : ℕ) → IsWellFormed history → has (undone history.revisions at) 0 ≡ false
 no_zero history at formed = (HasRisingSet-undone history at formed).1
+
+-- the floor of a history: it is by the head, no edit of a collected group is after it, and nothing that is undone has group 0
+pub record HasFloor (history : History) : Type 0 where
+  pub floor : history.floor ≤ head history
+  pub over : (rev : ℕ) → is_edit (revision_at history.revisions rev) ≡ true → is_collected history rev ≡ true → rev ≤ history.floor
+  pub loaded : (at : ℕ) → has (undone history.revisions at) 0 ≡ false
+
+pub HasFloor-formed : (history : History) → IsWellFormed history → HasFloor history
+HasFloor-formed history formed = record {
+  floor = formed.floor;
+  over = λ rev is collected. edit_by_floor history rev formed is collected;
+  loaded = λ at. no_zero history at formed;
+}
 
 -- whether a collected group is undone is the same from the floor to the head
 pub undone-at_rest : (history : History) (at rev : ℕ) → IsWellFormed history → history.floor ≤ at → at ≤ head history →
@@ -71,14 +84,14 @@ module _ (history : History) (tagged : Tagged) (is : is_kept history tagged ≡ 
 
 -- ---- tests of a character's groups, in what is left
 
-module _ (history : History) (formed : IsWellFormed history) (tagged : Tagged) (ours : IsOurs history tagged) where
+module _ (history : History) (past : HasFloor history) (tagged : Tagged) (edits : IsByEdits history.revisions tagged) where
   -- a test of the insertion's group, which fails for the loaded text and where the insertion is forgotten
   pub inserted-left : (test : ℕ → Bool) → test 0 ≡ false →
       (is_collected history tagged.inserted ≡ true → test (group_of history.revisions tagged.inserted) ≡ false) →
       test (group_of (left_of history).revisions (settled_rev history tagged.inserted)) ≡ test (group_of history.revisions tagged.inserted)
   inserted-left test zero_fails forgotten_fails =
       elim (cases_lt 0 tagged.inserted) [
-        | inl later ↦ by (settles history tagged.inserted formed (by_edit history tagged ours later))
+        | inl later ↦ by (settles_by history tagged.inserted past.floor (past.over tagged.inserted) (by_edit history tagged edits later))
         | inr loaded ↦
             let none : tagged.inserted ≡ 0 = omega (arith, loaded) in
             ap (λ n. test (group_of (left_of history).revisions (settled_rev history n))) none ∙
@@ -96,7 +109,7 @@ module _ (history : History) (formed : IsWellFormed history) (tagged : Tagged) (
   pub nat_le-left : (at : ℕ) → history.floor ≤ at → nat_le (settled_rev history tagged.inserted) at ≡ nat_le tagged.inserted at
   nat_le-left at low =
       elim (cases_lt 0 tagged.inserted) [
-        | inl later ↦ by (settles history tagged.inserted formed (by_edit history tagged ours later))
+        | inl later ↦ by (settles_by history tagged.inserted past.floor (past.over tagged.inserted) (by_edit history tagged edits later))
         | inr loaded ↦
             let none : tagged.inserted ≡ 0 = omega (arith, loaded) in
             ap (λ n. nat_le (settled_rev history n) at) none ∙
@@ -129,9 +142,9 @@ module _ (history : History) (formed : IsWellFormed history) (tagged : Tagged) (
       (AllByRecursion-weaker
       (λ rev. (is_edit (revision_at history.revisions rev) ≡ true) × (is_collected history rev ≡ true → test (group_of history.revisions rev) ≡ true))
       (Passes history (λ rev. late rev || test (group_of history.revisions rev)) (λ rev. late rev || test (group_of (left_of history).revisions rev)))
-      (λ rev both. by rev both.1 (settles history rev formed both.0)) tagged.deleted
+      (λ rev both. by rev both.1 (settles_by history rev past.floor (past.over rev) both.0)) tagged.deleted
       (all_both (λ rev. is_edit (revision_at history.revisions rev) ≡ true)
-      (λ rev. is_collected history rev ≡ true → test (group_of history.revisions rev) ≡ true) tagged.deleted ours.by.deleted passing))
+      (λ rev. is_collected history rev ≡ true → test (group_of history.revisions rev) ≡ true) tagged.deleted edits.deleted passing))
     where
       by : (rev : ℕ) → (is_collected history rev ≡ true → test (group_of history.revisions rev) ≡ true) →
           (StaysAs history rev) ⊎ (IsForgotten history rev) →
@@ -145,22 +158,23 @@ module _ (history : History) (formed : IsWellFormed history) (tagged : Tagged) (
       by rev passes (inr goes) = inr (goes.none, or_right (late rev) (test (group_of history.revisions rev)) (passes goes.is))
 
   -- WHAT IS VISIBLE in what is left
-  pub is_visible-left : (at : ℕ) → is_kept history tagged ≡ true → history.floor ≤ at → at ≤ head history →
+  pub is_visible-left : (at : ℕ) → is_kept history tagged ≡ true → history.floor ≤ at →
+      ((rev : ℕ) → is_collected history rev ≡ true → is_undone history.revisions at rev ≡ is_undone history.revisions (head history) rev) →
       is_visible (left_of history).revisions at (settled history tagged) ≡ is_visible history.revisions at tagged
-  is_visible-left at is low high =
+  is_visible-left at is low rests =
       ap (λ set. nat_le (settled_rev history tagged.inserted) at &&
       not (has set (group_of (left_of history).revisions (settled_rev history tagged.inserted))) &&
       list_all (λ rev. nat_lt at rev || has set (group_of (left_of history).revisions rev)) (settled_deletions history tagged.deleted))
-      (undone-left history formed.floor at low) ∙
+      (undone-left history past.floor at low) ∙
       ap₂ (λ a b. a && b)
       (ap₂ (λ a b. a && not b) (nat_le-left at low)
-      (inserted-left (has (undone history.revisions at)) (no_zero history at formed)
-      (λ collected. undone-at_rest history at tagged.inserted formed low high collected ∙ kept-inserted history tagged is collected)))
+      (inserted-left (has (undone history.revisions at)) (past.loaded at)
+      (λ collected. rests tagged.inserted collected ∙ kept-inserted history tagged is collected)))
       (deleted-left (nat_lt at) (has (undone history.revisions at))
       (λ n m below under. le-ltb at n (omega (arith, below, low)) ∙ sym (le-ltb at m (omega (arith, under, low))))
       (AllByRecursion-weaker (λ rev. is_collected history rev ≡ true → is_undone history.revisions (head history) rev ≡ true)
       (λ rev. is_collected history rev ≡ true → is_undone history.revisions at rev ≡ true)
-      (λ rev stays collected. undone-at_rest history at rev formed low high collected ∙ stays collected) tagged.deleted
+      (λ rev stays collected. rests rev collected ∙ stays collected) tagged.deleted
       (kept-deleted history tagged is)))
 
 -- ---- each law of texts
@@ -173,7 +187,9 @@ module _ (history : History) (forgets : MayForget history) where
       (Goes (is_kept history) (settled history) (is_visible history.revisions rev) (is_visible (left_of history).revisions rev))
       (λ tagged ours. record {
         stays = shown_is_kept history tagged rev ours low high;
-        alike = λ is. is_visible-left history forgets.formed tagged ours rev is low high;
+        alike = λ is.
+            is_visible-left history (HasFloor-formed history forgets.formed) tagged ours.by rev is low
+            (λ r collected. undone-at_rest history rev r forgets.formed low high collected);
       }) history.characters (all_ours history forgets)
 
   pub visible_at-left : (rev : ℕ) → history.floor ≤ rev → rev ≤ head history →
@@ -198,7 +214,9 @@ module _ (history : History) (forgets : MayForget history) where
       (AllByRecursion-weaker
       (λ x. (IsOurs history x) × (is_visible history.revisions from x ≡ true))
       (λ x. is_visible (left_of history).revisions to (settled history x) ≡ is_visible history.revisions to x)
-      (λ x both. is_visible-left history forgets.formed x both.0 to (shown_is_kept history x from both.0 low high both.1) to_low to_high)
+      (λ x both.
+      is_visible-left history (HasFloor-formed history forgets.formed) x both.0.by to (shown_is_kept history x from both.0 low high both.1) to_low
+      (λ r collected. undone-at_rest history to r forgets.formed to_low to_high collected))
       (visible_at history from) (AllByRecursion-filter (IsOurs history) (is_visible history.revisions from) history.characters (all_ours history forgets)))
 
   pub change_adds-left : (from to gap : ℕ) → history.floor ≤ from → from ≤ head history → history.floor ≤ to → to ≤ head history →
