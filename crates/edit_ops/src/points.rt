@@ -6,9 +6,7 @@ ghost use Rattle.edit_ops.specs.Inner.{gaps_within};
 ghost use Rattle.edit_ops.specs.Points.{gap_of_point, line_around, word_around};
 
 use crate::editing::sum;
-use movement_core::{
-    last_gap, line_at, line_text, outward_left, piece_at, run_left, run_right, text_end,
-};
+use movement_core::{last_gap, line_text, outward_left, piece_at, run_left, run_right, text_end};
 use plain_screen::TextView;
 use plain_text::{NoMemory, Region};
 use std::alloc::Global;
@@ -85,7 +83,7 @@ pub(crate) fn line_region<T: TextView>(
     ensures value { IfOk result (λ line. line ≡ line_around (T.text_of view.now) gap) }
     ensures inside { IfOk result (λ line. greater_end line ≤ length (T.text_of view.now)) }
 {
-    let own = line_text(alloc, view, line_at(view, gap))?;
+    let own = line_text(alloc, view, view.line_of(gap))?;
     let end = sum(own.start, own.text.char_count())?;
     Ok(Region {
         anchor: own.start,

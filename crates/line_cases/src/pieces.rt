@@ -3,7 +3,7 @@
 ghost use Rattle.std.specs.Prelude.{[], ◌∷◌, Some};
 
 use plain_screen::{Piece, TextView};
-use plain_text::{NoMemory, Text, TryClone};
+use plain_text::{NoMemory, Run, Text, TryClone};
 use std::alloc::Global;
 use std::cmp::Ordering;
 
@@ -28,6 +28,14 @@ impl TextView for NoText {
             end: 0,
             ln: Some(1),
         })
+    }
+
+    fn line_of(&self, _gap: u64) -> u64 {
+        0
+    }
+
+    fn logical_of(&self, _line: u64) -> Run {
+        Run { start: 0, end: 0 }
     }
 
     fn text(&self, alloc: Global, _from: u64, _to: u64) -> Result<Text, NoMemory> {

@@ -8,6 +8,7 @@ use Rattle.std.proofs.lemmas.List.Elements.{Contains-append_cases, Contains-appe
 use Rattle.plain_screen.specs.declared.piece.Piece.{Piece}
 use Rattle.plain_screen.specs.View.{ArePieces, LogicalLine, layout_line_of}
 use Rattle.plain_screen.proofs.callers.ViewLemmas.{IsLayoutLineOf-layout_line_of}
+use Rattle.plain_screen.proofs.callers.OwnLemmas.{get_piece, layout_line_of-start, start_of-get}
 use Rattle.cluster_core.specs.Boundaries.{clusters_in, ends_from}
 use Rattle.cluster_core.specs.Columns.{column_after, columns_between}
 use Rattle.cluster_core.specs.Walk.{ClusterAt, counted_anew, placed}
@@ -17,8 +18,8 @@ use Rattle.movement_core.specs.Lines.{StartAtPlaces, above, below, belongs_to, c
 use Rattle.movement_core.specs.declared.lines.LineText.{LineText}
 use Rattle.movement_core.specs.Inner.{fitting, items_past}
 use Rattle.movement_core.proofs.PlaceLemmas.{AreParts, ends_from-append, ends_from-le, ends_from-rises, first, first_or_later, greatest_place-is, later, least_place-is, low-le, none_in, place-from_line, place-in_line}
-use Rattle.movement_core.proofs.LawLemmas.{IsInLine-place, columns_between-none, greatest_place-is_place, layout_line_of-start, start-is_place_too, start_of-get}
-use Rattle.movement_core.proofs.LineLemmas.{get_piece, under-ahead, under-own, under-parts, under-same}
+use Rattle.movement_core.proofs.LawLemmas.{IsInLine-place, columns_between-none, greatest_place-is_place, start-is_place_too}
+use Rattle.movement_core.proofs.LineLemmas.{under-ahead, under-own, under-parts, under-same}
 use Rattle.movement_core.proofs.BoundaryLemmas.{place-inside}
 
 -- ---- what a walk gives after one of the ends

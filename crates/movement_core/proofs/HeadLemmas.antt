@@ -7,9 +7,8 @@ use Rattle.std.proofs.lemmas.List.{length-map, take_all}
 use Rattle.plain_text.specs.Lines.{logical_lines}
 use Rattle.plain_screen.specs.declared.piece.Piece.{Piece}
 use Rattle.plain_screen.specs.View.{AreEnds, ArePieces, pieces_of_line, pieces_from}
-use Rattle.plain_screen.proofs.callers.ViewLemmas.{concat-logical_lines}
-use Rattle.movement_core.proofs.LawLemmas.{lines_of}
-use Rattle.movement_core.proofs.LineLemmas.{EndAt-ends, own-rest, slice_get-back, slice_get-front, the_first}
+use Rattle.plain_screen.proofs.callers.ViewLemmas.{concat-logical_lines, lines_of}
+use Rattle.plain_screen.proofs.callers.OwnLemmas.{EndAt-ends, own-rest, slice_get-back, slice_get-front, the_first}
 
 -- the pieces of lines whose first number is this are cut somewhere
 abbrev AreCut : List (List ℕ × List ℕ) → Type 0

@@ -1,17 +1,17 @@
 -- The laws of motions.
-use Rattle.std.proofs.Common.{◌≡◌, ◌≢◌, ◌⊎◌, inl, inr, ⊎_elim, ℕ, zero, suc, ◌+◌, ◌-◌, ◌<◌, ◌≤◌, Bool, true, false, List, [], ◌∷◌, ◌++◌, reverse, length, take, drop, Option, Some, None, refl, sym, ap, subst, ◌∙◌, arith, map}
-use Rattle.std.specs.Prelude.{min, max, nat_lt, nat_le, ◌==◌, ◌&&◌, ◌||◌, if◌then◌else◌, unwrap_or, slice_get, slice_range}
-use Rattle.std.specs.List.{AllByRecursion, Contains, concat, find, flat_map, fold, onto_first}
+use Rattle.std.proofs.Common.{◌≡◌, ◌≢◌, ◌⊎◌, inl, inr, ⊎_elim, ℕ, zero, suc, ◌+◌, ◌-◌, ◌<◌, ◌≤◌, Bool, true, false, List, [], ◌∷◌, reverse, length, take, drop, Some, None, refl, sym, ap, subst, ◌∙◌, arith}
+use Rattle.std.specs.Prelude.{min, max, nat_lt, nat_le, ◌==◌, ◌&&◌, ◌||◌, if◌then◌else◌, unwrap_or, slice_range}
+use Rattle.std.specs.List.{Contains, concat, find, flat_map, fold}
 use Rattle.std.specs.Str.{all_scalars}
 use Rattle.std.proofs.lemmas.Bool.{and_from, and_parts, cases_Bool, cases_lt, eq-eqb, eqb-true, le-leb, leb-true, lt-ltb, ltb-true, ne_eqb}
 use Rattle.std.proofs.lemmas.List.{reverse-append, reverse-reverse}
 use Rattle.std.proofs.lemmas.List.Elements.{Contains-append_cases}
-use Rattle.std.proofs.lemmas.Option.{slice_get_cases}
 use Rattle.plain_text.specs.Lines.{logical_lines}
 use Rattle.plain_text.specs.declared.selection.Region.{Region}
 use Rattle.plain_screen.specs.declared.piece.Piece.{Piece}
-use Rattle.plain_screen.specs.View.{RiseTo, AreEnds, ArePieces, layout_line_of, logical_line_of, pieces_of_line, pieces_from}
-use Rattle.plain_screen.proofs.callers.ViewLemmas.{concat-logical_lines, IsLayoutLineOf-layout_line_of, IsLayoutLineOf-only}
+use Rattle.plain_screen.specs.View.{ArePieces, layout_line_of, logical_line_of}
+use Rattle.plain_screen.proofs.callers.ViewLemmas.{IsLayoutLineOf-layout_line_of, concat-logical_lines}
+use Rattle.plain_screen.proofs.callers.OwnLemmas.{layout_line_of-start}
 use Rattle.xi_plain.specs.declared.motion.Motion.{Motion}
 use Rattle.xi_plain.specs.declared.motion.Motion.TheVariants.{Left, Right, Up, Down, WordLeft, WordRight, LineStart, LineEnd, TextStart, TextEnd}
 use Rattle.selection_core.specs.Selection.{greater_end, is_caret, lesser_end}
@@ -167,99 +167,6 @@ StandsAtPlaces-moved tab text pieces motion extend region scalars stands =
     record { anchor = IsPlace-if text extend region.anchor _ stands.anchor caret; caret = caret }
 
 -- ---- where layout lines start
-
--- each piece starts after the one before, and the first not before `low`
-abbrev pub StartsFrom : ℕ → List Piece → Type 0
-StartsFrom low [] = Unit {0}
-StartsFrom low (piece ∷ pieces) = (low ≤ piece.start) × StartsFrom (piece.start + 1) pieces
-
-pub StartsFrom-lower : (low from : ℕ) (pieces : List Piece) → low ≤ from → StartsFrom from pieces → StartsFrom low pieces
-StartsFrom-lower low from [] lower starts = tt
-StartsFrom-lower low from (piece ∷ pieces) lower starts = (let le = starts.0 in omega arith, starts.1)
-
-StartsFrom-line : (low start len : ℕ) (ln : Option ℕ) (from : ℕ) (ends : List ℕ) (rest : List Piece) → low ≤ start + from → RiseTo len from ends →
-    StartsFrom (start + len) rest → StartsFrom low (pieces_of_line start ln from ends ++ rest)
-StartsFrom-line low start len ln from [] rest le rise starts = StartsFrom-lower low (start + len) rest (omega arith) starts
-StartsFrom-line low start len ln from (end ∷ ends) rest le rise starts =
-    let lt = rise.0 in (le, StartsFrom-line (start + from + 1) start len None end ends rest (omega arith) rise.1 starts)
-
-abbrev pub lines_of : List (List ℕ × List ℕ) → List (List ℕ)
-lines_of cuts = map (λ (line, ends). line) cuts
-
--- no line but the last is empty
-abbrev pub AreEnded : List (List ℕ) → Type 0
-AreEnded [] = Unit {0}
-AreEnded (line ∷ []) = Unit {0}
-AreEnded (line ∷ next ∷ lines) = (0 < length line) × AreEnded (next ∷ lines)
-
-pub AreEnded-logical_lines : (text : List ℕ) → AreEnded (logical_lines text)
-AreEnded-logical_lines [] = tt
-AreEnded-logical_lines (c ∷ text) = by (c == 10) (logical_lines text) (AreEnded-logical_lines text)
-  where
-    by : (b : Bool) (lines : List (List ℕ)) → AreEnded lines → AreEnded (if b then (c ∷ []) ∷ lines else onto_first c lines)
-    by true [] ended = tt
-    by true (line ∷ lines) ended = (omega arith, ended)
-    by false [] ended = tt
-    by false (line ∷ []) ended = tt
-    by false (line ∷ next ∷ lines) ended = (omega arith, ended.1)
-
-pub StartsFrom-cuts : (number start : ℕ) (cuts : List (List ℕ × List ℕ)) → AreEnded (lines_of cuts) →
-    AllByRecursion (λ (line, ends). AreEnds (length line) ends) cuts → StartsFrom start (pieces_from number start cuts)
-StartsFrom-cuts number start [] ended are = tt
-StartsFrom-cuts number start (([], ends) ∷ []) ended are =
-    let At : List ℕ → Type 0 = λ es. StartsFrom start (pieces_of_line start (Some number) 0 es ++ []) in
-    subst At (sym are.0) (omega arith, tt)
-StartsFrom-cuts number start ((c ∷ line, ends) ∷ []) ended are =
-    StartsFrom-line start start (length (c ∷ line)) (Some number) 0 ends [] (omega arith) are.0 tt
-StartsFrom-cuts number start (([], ends) ∷ next ∷ cuts) ended are = absurd (let lt = ended.0 in omega arith)
-StartsFrom-cuts number start ((c ∷ line, ends) ∷ next ∷ cuts) ended are =
-    StartsFrom-line start start (length (c ∷ line)) (Some number) 0 ends (pieces_from (number + 1) (start + length (c ∷ line)) (next ∷ cuts))
-    (omega arith) are.0 (StartsFrom-cuts (number + 1) (start + length (c ∷ line)) (next ∷ cuts) ended.1 are.1)
-
-pub StartsFrom-pieces : (text : List ℕ) (pieces : List Piece) → ArePieces text pieces → StartsFrom 0 pieces
-StartsFrom-pieces text pieces are =
-    let ended : AreEnded (lines_of are.cuts) = subst AreEnded (sym are.lines) (AreEnded-logical_lines text) in
-    subst (StartsFrom 0) (sym are.is) (StartsFrom-cuts 1 0 are.cuts ended are.ends)
-
--- a later piece starts after an earlier one
-pub starts_after : (low i : ℕ) (pieces : List Piece) (piece : Piece) → StartsFrom low pieces → slice_get pieces i ≡ Some piece → low ≤ piece.start
-starts_after low i [] piece starts is = absurd cc
-starts_after low zero (first ∷ pieces) piece starts is =
-    let same : first ≡ piece = ap (λ o. unwrap_or o first) is in subst (λ (p : Piece). low ≤ p.start) same starts.0
-starts_after low (suc i) (first ∷ pieces) piece starts is =
-    let le = starts.0 in let more = starts_after (first.start + 1) i pieces piece starts.1 is in omega arith
-
-pub starts-rise : (low i j : ℕ) (pieces : List Piece) (piece other : Piece) → StartsFrom low pieces → i < j → slice_get pieces i ≡ Some piece →
-    slice_get pieces j ≡ Some other → piece.start < other.start
-starts-rise low i j [] piece other starts lt is too = absurd cc
-starts-rise low zero zero (first ∷ pieces) piece other starts lt is too = absurd (omega arith)
-starts-rise low zero (suc j) (first ∷ pieces) piece other starts lt is too =
-    let same : first ≡ piece = ap (λ o. unwrap_or o first) is in
-    let more = starts_after (first.start + 1) j pieces other starts.1 too in
-    subst (λ (p : Piece). p.start < other.start) same (omega arith)
-starts-rise low (suc i) zero (first ∷ pieces) piece other starts lt is too = absurd (omega arith)
-starts-rise low (suc i) (suc j) (first ∷ pieces) piece other starts lt is too =
-    starts-rise (first.start + 1) i j pieces piece other starts.1 (omega arith) is too
-
-pub start_of-get : (pieces : List Piece) (i : ℕ) (piece : Piece) → slice_get pieces i ≡ Some piece → start_of pieces i ≡ piece.start
-start_of-get [] i piece is = absurd cc
-start_of-get (first ∷ pieces) zero piece is = ap (λ o. (unwrap_or o first).start) is
-start_of-get (first ∷ pieces) (suc i) piece is = start_of-get pieces i piece is
-
--- THE START OF A LAYOUT LINE belongs to it
-pub layout_line_of-start : (text : List ℕ) (pieces : List Piece) (line : ℕ) → ArePieces text pieces → line < length pieces →
-    layout_line_of pieces (start_of pieces line) ≡ line
-layout_line_of-start text pieces line are inside = elim (slice_get_cases pieces line).1 [
-  | inl found ↦
-      let start = start_of-get pieces line found.0 found.2 in
-      IsLayoutLineOf-only pieces (start_of pieces line) _ line (IsLayoutLineOf-layout_line_of text pieces (start_of pieces line) are) (record {
-        inside = inside;
-        by_then = λ piece is. let same = start_of-get pieces line piece is in omega arith;
-        last = λ later piece past is.
-            let lt = starts-rise 0 line later pieces found.0 piece (StartsFrom-pieces text pieces are) past found.2 is in omega arith;
-      })
-  | inr outside ↦ absurd (let past = outside.0 in omega arith)
-]
 
 pub start-is_place_too : (text : List ℕ) (pieces : List Piece) (line : ℕ) → StartAtPlaces text pieces → IsPlace text (start_of pieces line)
 start-is_place_too text [] line starts = start-is_place text

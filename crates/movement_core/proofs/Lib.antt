@@ -2,7 +2,6 @@ pub mod PlaceLemmas
 pub mod ByteLemmas
 pub mod LawLemmas
 pub mod LineLemmas
-pub mod ExtentLemmas
 pub mod HeadLemmas
 pub mod BoundaryLemmas
 pub mod FitLemmas

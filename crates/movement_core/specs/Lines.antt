@@ -1,16 +1,12 @@
 -- Caret places of a layout line, and their columns.
-use Rattle.std.specs.Prelude.{◌≡◌, ℕ, ◌≤◌, ◌+◌, ◌-◌, ◌==◌, ◌&&◌, Bool, nat_le, if◌then◌else◌, List, length, slice_get, unwrap_or}
+use Rattle.std.specs.Prelude.{◌≡◌, ℕ, ◌≤◌, ◌+◌, ◌-◌, ◌==◌, ◌&&◌, Bool, nat_le, if◌then◌else◌, List, length}
 use Rattle.std.specs.List.{AllByRecursion}
-use Rattle.std.specs.Option.{option_map}
 use Rattle.plain_screen.specs.declared.piece.Piece.{Piece}
 use Rattle.plain_screen.specs.View.{LogicalLine, layout_line_of, logical_line_of}
+pub use Rattle.plain_screen.specs.View.{line_under, start_of}
 use Rattle.cluster_core.specs.Columns.{columns_between}
 use Rattle.movement_core.specs.declared.lines.LineText.{LineText}
 use Rattle.movement_core.specs.Places.{IsPlace, least_place, greatest_place}
-
--- the gap at which a layout line starts; 0 where there is no such line
-abbrev pub start_of : List Piece → ℕ → ℕ
-start_of pieces line = unwrap_or (option_map (λ piece. piece.start) (slice_get pieces line)) 0
 
 -- every piece starts at a boundary of the text
 abbrev pub StartAtPlaces : List ℕ → List Piece → Type 0
@@ -19,10 +15,6 @@ StartAtPlaces text pieces = AllByRecursion (λ piece. IsPlace text piece.start) 
 -- whether a gap belongs to a layout line; the boundaries that do are its CARET PLACES
 abbrev pub belongs_to : List Piece → ℕ → ℕ → Bool
 belongs_to pieces line gap = layout_line_of pieces gap == line
-
--- the logical line that a layout line is of
-abbrev pub line_under : List ℕ → List Piece → ℕ → LogicalLine
-line_under text pieces line = logical_line_of text (start_of pieces line)
 
 -- a line that is held is this logical line
 pub record IsTextOf (line : LogicalLine) (held : LineText) : Type 0 where

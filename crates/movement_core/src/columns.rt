@@ -6,7 +6,7 @@ ghost use Rattle.cluster_core.specs.Walk.{counted_anew, placed, walk_left, walk_
 ghost use Rattle.movement_core.specs.Lines.{StartAtPlaces, above, below, column_of, line_end, line_start, place_at_column};
 ghost use Rattle.movement_core.specs.Inner.{fitting, items_past};
 
-use crate::lines::{last_gap, line_at, line_text, piece_at, text_end};
+use crate::lines::{last_gap, line_text, piece_at, text_end};
 use crate::places::outward_left;
 use cluster_core::{Walk, columns_between};
 use plain_screen::TextView;
@@ -18,7 +18,7 @@ pub fn column_of<T: TextView>(alloc: Global, view: &T, gap: u64, tab: u32) -> Re
     requires { all_scalars (T.text_of view.now) ≡ true }
     ensures { IfOk result (λ column. column ≡ column_of tab (T.text_of view.now) (T.pieces_of view.now) gap) }
 {
-    let line = line_at(view, gap);
+    let line = view.line_of(gap);
     let own = line_text(alloc, view, line)?;
     let start = piece_at(view, line).start;
     let from = start - own.start;
@@ -125,7 +125,7 @@ pub(crate) fn above<T: TextView>(
     requires starts { StartAtPlaces (T.text_of view.now) (T.pieces_of view.now) }
     ensures { IfOk result (λ place. place ≡ above tab (T.text_of view.now) (T.pieces_of view.now) column gap) }
 {
-    let line = line_at(view, gap);
+    let line = view.line_of(gap);
     if line == 0 {
         return Ok(0);
     }
@@ -145,7 +145,7 @@ pub(crate) fn below<T: TextView>(
     ensures { IfOk result (λ place. place ≡ below tab (T.text_of view.now) (T.pieces_of view.now) column gap) }
 {
     let lines = view.lines();
-    let line = line_at(view, gap);
+    let line = view.line_of(gap);
     if line + 1 == lines {
         return Ok(text_end(view));
     }

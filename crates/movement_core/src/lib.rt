@@ -3,11 +3,12 @@
 //! A contract sees a view as its text and the list of its pieces, and a selection as the list of its regions. A target is the least or
 //! the greatest boundary of the whole text that passes a test: [`laws`] says what that comes to, and [`rows`] gives it in small cases.
 //! [`moved`] gives exactly the selection of the definition, and [`moved_region`] the region. What other commands ask of a view is handed
-//! out too: [`text_end`], [`piece_at`], [`line_at`], [`last_gap`], [`line_text`], [`column_of`], [`outward_left`], [`run_left`] and
+//! out too: [`text_end`], [`piece_at`], [`last_gap`], [`line_text`], [`column_of`], [`outward_left`], [`run_left`] and
 //! [`run_right`].
 //!
-//! For each region a motion searches the pieces, and reads the logical lines in which the caret stands and to which it goes. A motion by
-//! words reads at most twice the characters that it passes over, and one logical line. Nothing asks a view for its whole text.
+//! For each region a motion asks the view for the lines of a gap, and reads the logical lines in which the caret stands and to which it
+//! goes. A motion by words reads at most twice the characters that it passes over, and one logical line. Nothing walks over pieces, and
+//! nothing asks a view for its whole text.
 #![tactic(auto)]
 
 mod columns;
@@ -19,7 +20,7 @@ pub mod rows;
 mod words;
 
 pub use columns::column_of;
-pub use lines::{LineText, last_gap, line_at, line_text, piece_at, text_end};
+pub use lines::{LineText, last_gap, line_text, piece_at, text_end};
 pub use moves::{moved, moved_region};
 pub use places::outward_left;
 pub use words::{run_left, run_right};

@@ -10,7 +10,7 @@ ghost use Rattle.movement_core.specs.Inner.{moves_caret, placed_region};
 ghost use Rattle.movement_core.specs.Motions.{goal_of, region_after, regions_after};
 
 use crate::columns::{above, below, column_of, line_end, line_start};
-use crate::lines::{line_at, text_end};
+use crate::lines::text_end;
 use crate::places::{left_of, right_of};
 use crate::words::{word_left, word_right};
 use selection_core::Selection;
@@ -107,7 +107,7 @@ fn to_line_start<T: TextView>(view: &T, gap: u64) -> u64
     requires starts { StartAtPlaces (T.text_of view.now) (T.pieces_of view.now) }
     ensures { result ≡ line_start (T.text_of view.now) (T.pieces_of view.now) (layout_line_of (T.pieces_of view.now) gap) }
 {
-    let line = line_at(view, gap);
+    let line = view.line_of(gap);
     line_start(view, line)
 }
 
@@ -118,7 +118,7 @@ fn to_line_end<T: TextView>(alloc: Global, view: &T, gap: u64) -> Result<u64, No
     ensures { IfOk result (λ place. place
         ≡ line_end (T.text_of view.now) (T.pieces_of view.now) (layout_line_of (T.pieces_of view.now) gap)) }
 {
-    let line = line_at(view, gap);
+    let line = view.line_of(gap);
     line_end(alloc, view, line)
 }
 
@@ -177,9 +177,9 @@ fn down<T: TextView>(
 
 /// The region after a motion; a command that deletes takes its caret.
 ///
-/// This searches the pieces of the view, and reads the logical lines in which the caret stands and to which it goes; a motion by words
-/// reads at most twice the characters that it passes over, and one logical line. `tab` is the tab width in columns. Want of memory is
-/// its only error.
+/// This asks the view for the lines of a gap, and reads the logical lines in which the caret stands and to which it goes; a motion by
+/// words reads at most twice the characters that it passes over, and one logical line. `tab` is the tab width in columns. Want of memory
+/// is its only error.
 pub fn moved_region<T: TextView>(
     alloc: Global,
     view: &T,

@@ -4,7 +4,7 @@ ghost use Rattle.plain_text.specs.Text.{gap_at};
 ghost use Rattle.movement_core.specs.Places.{IsGreatestPlace, left_of, outward_left, outward_right, right_of};
 ghost use Rattle.movement_core.specs.Inner.{IsGapUpTo, IsNextGap};
 
-use crate::lines::{line_at, line_text, text_end};
+use crate::lines::{line_text, text_end};
 use cluster_core::{next, prev};
 use plain_screen::TextView;
 use plain_text::{NoMemory, Text};
@@ -58,7 +58,7 @@ pub fn outward_left<T: TextView>(alloc: Global, view: &T, gap: u64) -> Result<u6
     ensures value { IfOk result (λ place. place ≡ outward_left (T.text_of view.now) gap) }
     ensures greatest { IfOk result (IsGreatestPlace (λ place. nat_le place gap) (T.text_of view.now)) }
 {
-    let own = line_text(alloc, view, line_at(view, gap))?;
+    let own = line_text(alloc, view, view.line_of(gap))?;
     Ok(own.start + boundary_up_to(&own.text, gap - own.start))
 }
 
@@ -71,7 +71,7 @@ pub(crate) fn right_of<T: TextView>(alloc: Global, view: &T, gap: u64) -> Result
     if gap == text_end(view) {
         return Ok(gap);
     }
-    let own = line_text(alloc, view, line_at(view, gap))?;
+    let own = line_text(alloc, view, view.line_of(gap))?;
     Ok(own.start + boundary_past(&own.text, gap - own.start))
 }
 

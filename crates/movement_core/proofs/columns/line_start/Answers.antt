@@ -1,6 +1,6 @@
 use Rattle.std.proofs.Common.{sym, ◌∙◌}
 use Rattle.movement_core.proofs.FitLemmas.{line_start-is}
-use Rattle.movement_core.proofs.LawLemmas.{start_of-get}
+use Rattle.plain_screen.proofs.callers.OwnLemmas.{start_of-get}
 use Rattle.movement_core.proofs.LineLemmas.{IsLastGap-some}
 use Rattle.movement_core.proofs.columns.line_start.Goals as goal
 

@@ -1,5 +1,5 @@
 use Rattle.std.proofs.Common.{arith}
-use Rattle.movement_core.proofs.LineLemmas.{end-last, pieces-some}
+use Rattle.plain_screen.proofs.callers.OwnLemmas.{end-last, pieces-some}
 use Rattle.movement_core.proofs.lines.text_end.Goals as goal
 
 pub overflow_sub-lines : goal.overflow_sub-lines

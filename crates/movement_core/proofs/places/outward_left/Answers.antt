@@ -3,20 +3,20 @@ use Rattle.movement_core.proofs.places.outward_left.Goals as goal
 
 pub overflow_sub-gap : goal.overflow_sub-gap
 overflow_sub-gap g c =
-    held-start-le (g.T.TextView.text_of c.args.view.now) (g.T.TextView.pieces_of c.args.view.now) c.args.gap c.line_at.ensures.sound c.requires.characters
-    c.line_at.result c.line_at.ensures.line _ c.in_ok-own.ensures
+    held-start-le (g.T.TextView.text_of c.args.view.now) (g.T.TextView.pieces_of c.args.view.now) c.args.gap c.line_of.ensures.sound c.requires.characters
+    c.line_of.result c.line_of.ensures.line _ c.in_ok-own.ensures
 
 pub boundary_up_to-requires : goal.boundary_up_to-requires
 boundary_up_to-requires g c =
-    held-end-le (g.T.TextView.text_of c.args.view.now) (g.T.TextView.pieces_of c.args.view.now) c.args.gap c.line_at.ensures.sound c.requires.characters
-    c.line_at.result c.line_at.ensures.line _ c.in_ok-own.ensures c.requires.inside
+    held-end-le (g.T.TextView.text_of c.args.view.now) (g.T.TextView.pieces_of c.args.view.now) c.args.gap c.line_of.ensures.sound c.requires.characters
+    c.line_of.result c.line_of.ensures.line _ c.in_ok-own.ensures c.requires.inside
 
 pub returns-clause-value : goal.returns-clause-value
 returns-clause-value g c =
-    held-outward (g.T.TextView.text_of c.args.view.now) (g.T.TextView.pieces_of c.args.view.now) c.args.gap c.line_at.ensures.sound c.requires.characters
-    c.line_at.result c.line_at.ensures.line _ c.in_ok-own.ensures c.boundary_up_to.result c.requires.inside c.boundary_up_to.ensures
+    held-outward (g.T.TextView.text_of c.args.view.now) (g.T.TextView.pieces_of c.args.view.now) c.args.gap c.line_of.ensures.sound c.requires.characters
+    c.line_of.result c.line_of.ensures.line _ c.in_ok-own.ensures c.boundary_up_to.result c.requires.inside c.boundary_up_to.ensures
 
 pub returns-clause-greatest : goal.returns-clause-greatest
 returns-clause-greatest g c =
-    held-greatest (g.T.TextView.text_of c.args.view.now) (g.T.TextView.pieces_of c.args.view.now) c.args.gap c.line_at.ensures.sound c.requires.characters
-    c.line_at.result c.line_at.ensures.line _ c.in_ok-own.ensures c.boundary_up_to.result c.requires.inside c.boundary_up_to.ensures
+    held-greatest (g.T.TextView.text_of c.args.view.now) (g.T.TextView.pieces_of c.args.view.now) c.args.gap c.line_of.ensures.sound c.requires.characters
+    c.line_of.result c.line_of.ensures.line _ c.in_ok-own.ensures c.boundary_up_to.result c.requires.inside c.boundary_up_to.ensures

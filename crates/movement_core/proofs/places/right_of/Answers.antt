@@ -7,25 +7,25 @@ returns-then-gap-text_end g c = right_of-end (g.T.TextView.text_of c.args.view.n
 
 pub overflow_sub-gap : goal.overflow_sub-gap
 overflow_sub-gap g c =
-    held-start-le (g.T.TextView.text_of c.args.view.now) (g.T.TextView.pieces_of c.args.view.now) c.args.gap c.line_at.ensures.sound c.requires.characters
-    c.line_at.result c.line_at.ensures.line _ c.in_ok-own.ensures
+    held-start-le (g.T.TextView.text_of c.args.view.now) (g.T.TextView.pieces_of c.args.view.now) c.args.gap c.line_of.ensures.sound c.requires.characters
+    c.line_of.result c.line_of.ensures.line _ c.in_ok-own.ensures
 
 pub boundary_past-requires : goal.boundary_past-requires
 boundary_past-requires g c =
     let le = c.requires.inside in
-    held-end-lt (g.T.TextView.text_of c.args.view.now) (g.T.TextView.pieces_of c.args.view.now) c.args.gap c.line_at.ensures.sound c.requires.characters
-    c.line_at.result c.line_at.ensures.line _ c.in_ok-own.ensures (omega (arith, c.if-gap-text_end.false, c.text_end.ensures))
+    held-end-lt (g.T.TextView.text_of c.args.view.now) (g.T.TextView.pieces_of c.args.view.now) c.args.gap c.line_of.ensures.sound c.requires.characters
+    c.line_of.result c.line_of.ensures.line _ c.in_ok-own.ensures (omega (arith, c.if-gap-text_end.false, c.text_end.ensures))
 
 pub overflow_add-result : goal.overflow_add-result
 overflow_add-result g c =
     let fits =
-    held-fits (g.T.TextView.text_of c.args.view.now) (g.T.TextView.pieces_of c.args.view.now) c.args.gap c.line_at.ensures.sound c.requires.characters
-    c.line_at.result c.line_at.ensures.line _ c.in_ok-own.ensures c.boundary_past.result c.boundary_past.ensures.inside in
+    held-fits (g.T.TextView.text_of c.args.view.now) (g.T.TextView.pieces_of c.args.view.now) c.args.gap c.line_of.ensures.sound c.requires.characters
+    c.line_of.result c.line_of.ensures.line _ c.in_ok-own.ensures c.boundary_past.result c.boundary_past.ensures.inside in
     let bound = c.text_end.type_inv in
     omega (arith, c.text_end.ensures)
 
 pub returns : goal.returns
 returns g c =
     let le = c.requires.inside in
-    held-right (g.T.TextView.text_of c.args.view.now) (g.T.TextView.pieces_of c.args.view.now) c.args.gap c.line_at.ensures.sound c.requires.characters
-    c.line_at.result c.line_at.ensures.line _ c.in_ok-own.ensures c.boundary_past.result (omega (arith, c.if-gap-text_end.false, c.text_end.ensures)) c.boundary_past.ensures
+    held-right (g.T.TextView.text_of c.args.view.now) (g.T.TextView.pieces_of c.args.view.now) c.args.gap c.line_of.ensures.sound c.requires.characters
+    c.line_of.result c.line_of.ensures.line _ c.in_ok-own.ensures c.boundary_past.result (omega (arith, c.if-gap-text_end.false, c.text_end.ensures)) c.boundary_past.ensures
