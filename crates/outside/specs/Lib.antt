@@ -4,6 +4,7 @@ pub mod Source
 pub mod Sink
 pub mod Schedule
 pub mod MemSource
+pub mod CalmSink
 pub mod MemSink
 pub mod Shelf
 pub mod MemShelf

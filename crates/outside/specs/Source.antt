@@ -24,21 +24,22 @@ IsPiece (Got n) room = (0 < n) × (n ≤ room)
 IsPiece End room = Unit {0}
 IsPiece Failed room = Unit {0}
 
--- the count of faults after an answer: one more where the call failed
-abbrev pub faults_after : Pulled → ℕ → ℕ
-faults_after (Got n) faults = faults
-faults_after End faults = faults
-faults_after Failed faults = counted faults
+-- the count of failed calls after an answer: one more where the call failed
+abbrev pub failures_after : Pulled → ℕ → ℕ
+failures_after (Got n) failures = failures
+failures_after End failures = failures
+failures_after Failed failures = counted failures
 
 -- the buffer with the first n of these bytes at its front
 abbrev pub filled : List ℕ → List ℕ → ℕ → List ℕ
 filled buf bytes n = take n bytes ++ drop n buf
 
--- what a source tells of itself: the bytes that it has left, where it tells them, and its faults
+-- what a source tells of itself: the bytes that it has left, where it tells them, its faults, and how often it answered `Failed`
 pub record SourceState : Type 0 where
   pub left : Option (List ℕ)
   pub faults : ℕ
+  pub failures : ℕ
 
 -- the same, put together from what each of them is for the source
-abbrev pub source_state : {S : Type 0} → (S → Option (List ℕ)) → (S → ℕ) → S → SourceState
-source_state left faults source = record { left = left source; faults = faults source }
+abbrev pub source_state : {S : Type 0} → (S → Option (List ℕ)) → (S → ℕ) → (S → ℕ) → S → SourceState
+source_state left faults failures source = record { left = left source; faults = faults source; failures = failures source }

@@ -1,5 +1,5 @@
 ghost use Rattle.std.specs.Prelude.{◌≡◌, ℕ, ◌^◌, ◌<◌, ◌≤◌, ◌++◌, Some, min, length, take, drop, [], IfSome};
-ghost use Rattle.outside.specs.Source.{Gives, IsPiece, pulled, filled};
+ghost use Rattle.outside.specs.Source.{Gives, IsPiece, pulled, filled, failures_after};
 ghost use Rattle.outside.specs.MemSource.{got};
 ghost use Rattle.outside.specs.Faults.{Rose};
 
@@ -42,6 +42,8 @@ impl Source for CalmSource {
     ghost left = { λ s. Some s };
 
     ghost faults = { λ _. 0 };
+
+    ghost failures = { λ _. 0 };
 
     /// Gives as much as there is room for.
     fn read(&mut self, buf: &mut [u8]) -> Pulled

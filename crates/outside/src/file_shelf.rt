@@ -4,7 +4,7 @@ ghost use Rattle.outside.specs.Shelf.{IsRisingByPath, TellsOf, bytes_of, files_a
 ghost use Rattle.outside.specs.Faults.{Rose};
 
 use crate::file_fault::FileFault;
-use crate::reading::read_file;
+use crate::reading::read_found;
 use crate::saving::save;
 use crate::shelf::{Shelf, Shelved, Stored};
 use plain_text::{List, Text};
@@ -41,7 +41,9 @@ impl<R: Files> Shelf for FileShelf<R> {
         ensures faults_fit { self.new.faults < 2 ^ 64 }
     {
         let faults = self.faults;
-        match read_file(&self.files, alloc, path.as_str()) {
+        let path = path.as_str();
+        let found = self.files.metadata(path);
+        match read_found(&self.files, alloc, path, found) {
             Ok(Some(bytes)) => Shelved::Held(List::from_vec(bytes)),
             Ok(None) => Shelved::Absent,
             Err(FileFault::NoMemory) => Shelved::NoMemory,

@@ -1,7 +1,8 @@
-ghost use Rattle.std.specs.Prelude.{◌≡◌, ℕ, ◌^◌, ◌<◌, ◌≤◌, Some, min, length, take, [], IfSome, IsTrue};
+ghost use Rattle.std.specs.Prelude.{◌≡◌, ◌↔◌, ℕ, ◌^◌, ◌<◌, ◌≤◌, Some, min, length, take, [], IfSome, IsSome, IsTrue};
 ghost use Rattle.std.specs.Option.{option_map};
 ghost use Rattle.outside.specs.Sink.{Gains, IsPart, pushed, failures_after};
-ghost use Rattle.outside.specs.MemSink.{answer};
+ghost use Rattle.outside.specs.CalmSink.{KeepsUnlessRefused};
+ghost use Rattle.outside.specs.MemSink.{answer, kept_by};
 ghost use Rattle.outside.specs.Schedule.{schedule_of, is_due, next};
 ghost use Rattle.outside.specs.Faults.{Rose};
 
@@ -13,7 +14,7 @@ use std::marker::Model;
 
 /// A sink in memory which takes small pieces, and fails at the calls that it is told to.
 ///
-/// Where it finds no memory to keep a piece, it takes the piece and from then on tells nothing.
+/// Where it is refused memory to keep a piece, it takes the piece, counts that, and from then on tells nothing.
 #[derive(Drop)]
 pub struct MemSink {
     sink: CalmSink,
@@ -27,7 +28,7 @@ impl Model for MemSink {
 
     ghost Value = { Store };
 
-    ghost view = { λ s. record { held = s.sink; greatest = s.greatest; schedule = s.schedule } };
+    ghost view = { λ s. record { held = s.sink.held; refused = s.sink.refused; greatest = s.greatest; schedule = s.schedule } };
 
     ghost invariant = { λ s. 0 < s.greatest };
 }
@@ -38,6 +39,7 @@ impl MemSink {
     pub fn new(alloc: Global, greatest: usize, failing: Vec<u64>) -> Self
         requires { 0 < greatest }
         ensures held { result.held ≡ Some [] }
+        ensures refused { result.refused ≡ 0 }
         ensures greatest { result.greatest ≡ greatest }
         ensures schedule { result.schedule ≡ schedule_of failing.items }
     {
@@ -67,6 +69,14 @@ impl MemSink {
         sink.into_bytes()
     }
 
+    /// How often it was refused memory to keep a piece. It tells what it holds while that is 0.
+    pub fn refused(&self) -> u64
+        ensures count { result ≡ self.now.refused }
+        ensures tells { (result ≡ 0) ↔ IsSome self.now.held }
+    {
+        self.sink.refused()
+    }
+
     /// How many calls were made. The count stands still at the end of `u64`.
     pub fn calls(&self) -> u64
         ensures { result ≡ self.now.schedule.calls }
@@ -93,7 +103,8 @@ impl Sink for MemSink {
         requires { 0 < length piece.now }
         ensures answer { result ≡ answer self.old (length piece.now) }
         ensures gains { Gains self.old.held self.new.held (pushed result piece.now) }
-        ensures kept { IsTrue (is_due self.old.schedule) → self.new.held ≡ self.old.held }
+        ensures keeps { KeepsUnlessRefused (kept_by self.old) (kept_by self.new) (pushed result piece.now) }
+        ensures due { IsTrue (is_due self.old.schedule) → kept_by self.new ≡ kept_by self.old }
         ensures greatest { self.new.greatest ≡ self.old.greatest }
         ensures schedule { self.new.schedule ≡ next self.old.schedule }
         ensures part { IsPart result (length piece.now) }

@@ -1,5 +1,5 @@
 ghost use Rattle.std.specs.Prelude.{◌≡◌, ℕ, ◌^◌, ◌<◌, ◌≤◌, ◌++◌, Some, min, length, take, drop, [], IfSome};
-ghost use Rattle.outside.specs.Source.{Gives, IsPiece, pulled, filled};
+ghost use Rattle.outside.specs.Source.{Gives, IsPiece, pulled, filled, failures_after};
 ghost use Rattle.outside.specs.MemSource.{given_len, answer, stock_after};
 ghost use Rattle.outside.specs.Schedule.{schedule_of};
 ghost use Rattle.outside.specs.Faults.{Rose};
@@ -70,6 +70,8 @@ impl Source for MemSource {
     ghost left = { λ s. Some s.left };
 
     ghost faults = { λ s. s.schedule.faults };
+
+    ghost failures = { λ s. s.schedule.faults };
 
     fn read(&mut self, buf: &mut [u8]) -> Pulled
         requires { 0 < length buf.old }

@@ -1,4 +1,6 @@
-ghost use Rattle.std.specs.Prelude.{◌≡◌, ◌↔◌, IfOk, IfSome, OnOk, IsOk};
+ghost use Rattle.std.specs.Prelude.{◌≡◌, ◌↔◌, None, Ok, IfOk, IfSome, OnOk};
+ghost use Rattle.std.specs.Result.{IsErrAnd};
+ghost use Rattle.std.specs.IoError.{error_kind};
 ghost use Rattle.std.specs.Io.KnownBytes.{Consumes, IsAtEnd};
 ghost use Rattle.std.specs.Fs.{file_type, IsFile};
 
@@ -15,23 +17,36 @@ const READS: u64 = 1 << 32;
 /// How many bytes one read asks for.
 const PIECE: usize = 1 << 16;
 
-/// The bytes of a file; `None` where it is missing.
-pub(crate) fn read_file<R: Files>(
+/// The bytes of a file, by what was found where it was looked up; `None` where there was no such file.
+pub(crate) fn read_found<R: Files>(
     files: &R,
     alloc: Global,
     path: &str,
-) -> Result<Option<Vec<u8>>, FileFault> {
-    let Some(found) = ordinary(files.metadata(path))? else {
-        return Ok(None);
-    };
+    found: io::Result<Metadata>,
+) -> Result<Option<Vec<u8>>, FileFault>
+    ensures absent { (result ≡ Ok None) ↔ IsErrAnd found (λ e. error_kind e ≡ ErrorKind.NotFound) }
+{
+    match ordinary(found)? {
+        Some(known) => Ok(Some(read_file(files, alloc, path, known.len() as usize)?)),
+        None => Ok(None),
+    }
+}
+
+/// The bytes of a file that is there.
+fn read_file<R: Files>(
+    files: &R,
+    alloc: Global,
+    path: &str,
+    expected: usize,
+) -> Result<Vec<u8>, FileFault> {
     let mut file = OpenOptions::new().read(true).open(files, path)?;
-    let bytes = read_whole(&mut file, alloc, found.len() as usize)?;
-    Ok(Some(bytes))
+    read_whole(&mut file, alloc, expected)
 }
 
 /// What is known of an ordinary file; `None` where nothing is there. All else that is there is a fault.
 pub(crate) fn ordinary(found: io::Result<Metadata>) -> Result<Option<Metadata>, FileFault>
-    ensures { IfOk result (λ known. IfSome known (λ metadata. IsFile (file_type metadata))) }
+    ensures missing { (result ≡ Ok None) ↔ IsErrAnd found (λ e. error_kind e ≡ ErrorKind.NotFound) }
+    ensures file { IfOk result (λ known. IfSome known (λ metadata. IsFile (file_type metadata))) }
 {
     match found {
         Ok(found) if found.is_file() => Ok(Some(found)),

@@ -1,4 +1,5 @@
-ghost use Rattle.std.specs.Prelude.{◌≡◌, length, take, IfOk, IfSome};
+ghost use Rattle.std.specs.Prelude.{◌≡◌, length, take, IfOk, IfSome, OnOk};
+ghost use Rattle.std.specs.Io.KnownBytes.{Appends};
 ghost use Rattle.std.specs.Fs.{file_type, IsFile};
 
 use crate::file_fault::FileFault;
@@ -49,8 +50,8 @@ pub(crate) fn save<R: Files>(
     let folder = OpenOptions::new()
         .read(true)
         .open(files, folder_of(target.path.as_str()))?;
-    let draft = new_draft(files, alloc, &target)?;
-    replace(files, draft, &target, bytes)?;
+    let mut draft = new_draft(files, alloc, &target)?;
+    replace(files, &mut draft, &target, bytes)?;
     Ok(folder.sync_all()?)
 }
 
@@ -137,18 +138,20 @@ fn new_draft<R: Files>(
 /// Fills the new file and puts it in the target's place. Where a step fails, the new file is removed.
 fn replace<R: Files>(
     files: &R,
-    draft: Draft<R::File>,
+    draft: &mut Draft<R::File>,
     target: &Target,
     bytes: &[u8],
-) -> io::Result<()> {
-    let Draft { path, mut file } = draft;
-    let filled = fill(files, &mut file, path.as_str(), target, bytes);
+) -> io::Result<()>
+    ensures { OnOk result (Appends (R.File.contents draft.old.file) (R.File.contents draft.new.file) bytes.now) }
+{
+    let path = draft.path.as_str();
+    let filled = fill(files, &mut draft.file, path, target, bytes);
     let replaced = match filled {
-        Ok(()) => files.rename(path.as_str(), target.path.as_str()),
+        Ok(()) => files.rename(path, target.path.as_str()),
         Err(error) => Err(error),
     };
     if replaced.is_err() {
-        let _ = files.remove_file(path.as_str());
+        let _ = files.remove_file(path);
     }
     replaced
 }
@@ -160,7 +163,9 @@ fn fill<R: Files>(
     path: &str,
     target: &Target,
     bytes: &[u8],
-) -> io::Result<()> {
+) -> io::Result<()>
+    ensures { OnOk result (Appends (R.File.contents file.old) (R.File.contents file.new) bytes.now) }
+{
     file.write_all(bytes)?;
     if let Some(old) = &target.old {
         keep_access(files, file, path, old)?;

@@ -1,5 +1,5 @@
 ghost use Rattle.std.specs.Prelude.{◌≡◌, ℕ, ◌^◌, ◌<◌, ◌≤◌, List, Option, length, IfSome, []};
-ghost use Rattle.outside.specs.Source.{Gives, IsPiece, pulled};
+ghost use Rattle.outside.specs.Source.{Gives, IsPiece, pulled, failures_after};
 ghost use Rattle.outside.specs.Faults.{Rose};
 
 /// What a call of a source answers.
@@ -21,6 +21,9 @@ pub trait Source {
     /// The faults so far. The count stands still at the end of `u64`.
     ghost faults: { Self → ℕ };
 
+    /// How often it answered `Failed` so far. The count stands still at the end of `u64`.
+    ghost failures: { Self → ℕ };
+
     /// Gives the first bytes that are left. It may give fewer than there is room for, and may wait for them.
     fn read(&mut self, buf: &mut [u8]) -> Pulled
         requires { 0 < length buf.old }
@@ -29,5 +32,7 @@ pub trait Source {
         ensures end { result ≡ Pulled.End → IfSome (left self.old) (λ bytes. bytes ≡ []) }
         ensures faults_stay { faults self.old ≤ faults self.new }
         ensures faults_fit { faults self.new < 2 ^ 64 }
-        ensures failed { result ≡ Pulled.Failed → Rose (faults self.old) (faults self.new) };
+        ensures failed { result ≡ Pulled.Failed → Rose (faults self.old) (faults self.new) }
+        ensures failures { failures self.new ≡ failures_after result (failures self.old) }
+        ensures failures_fit { failures self.new < 2 ^ 64 };
 }

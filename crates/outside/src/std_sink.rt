@@ -1,6 +1,7 @@
-ghost use Rattle.std.specs.Prelude.{◌≡◌, ℕ, ◌^◌, ◌<◌, ◌≤◌, None, length};
+ghost use Rattle.std.specs.Prelude.{◌≡◌, ◌≢◌, ℕ, ◌^◌, ◌<◌, ◌≤◌, None, length, IfErr};
 ghost use Rattle.std.specs.Io.KnownBytes.{Appends, WriteAppends};
 ghost use Rattle.std.specs.Io.{WritesAtMost};
+ghost use Rattle.std.specs.IoError.{error_kind};
 ghost use Rattle.outside.specs.Sink.{Gains, IsPart, pushed, failures_after};
 ghost use Rattle.outside.specs.Faults.{Rose};
 
@@ -54,10 +55,11 @@ impl<W: Write> Sink for StdSink<W> {
     }
 }
 
-/// Writes once, and again after each interruption.
+/// Writes once, and again after each interruption. More of them than are borne are another error.
 fn write_again<W: Write>(writer: &mut W, piece: &[u8]) -> io::Result<usize>
     ensures bound { WritesAtMost result piece.now }
     ensures bytes { WriteAppends (W.contents writer.old) (W.contents writer.new) result piece.now }
+    ensures retried { IfErr result (λ e. error_kind e ≢ ErrorKind.Interrupted) }
 {
     for _ in 0..RETRIES {
         match writer.write(piece) {
@@ -65,5 +67,5 @@ fn write_again<W: Write>(writer: &mut W, piece: &[u8]) -> io::Result<usize>
             outcome => return outcome,
         }
     }
-    writer.write(piece)
+    Err(io::Error::from(ErrorKind::Other))
 }

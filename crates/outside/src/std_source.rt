@@ -1,14 +1,15 @@
-ghost use Rattle.std.specs.Prelude.{◌≡◌, ℕ, ◌^◌, ◌<◌, ◌≤◌, None, length, IfSome, []};
+ghost use Rattle.std.specs.Prelude.{◌≡◌, ◌≢◌, ℕ, ◌^◌, ◌<◌, ◌≤◌, None, length, IfSome, IfErr, []};
 ghost use Rattle.std.specs.Io.KnownBytes.{Consumes, IsAtEnd, ReadConsumes};
 ghost use Rattle.std.specs.Io.{ReadsAtMost};
-ghost use Rattle.outside.specs.Source.{Gives, IsPiece, pulled, faults_after};
+ghost use Rattle.std.specs.IoError.{error_kind};
+ghost use Rattle.outside.specs.Source.{Gives, IsPiece, pulled, failures_after};
 ghost use Rattle.outside.specs.Faults.{Rose};
 
 use crate::source::{Pulled, Source};
 use std::io;
 use std::io::{ErrorKind, Read};
 
-/// How often one call of a source or a sink asks again after an interruption, before that counts as a fault.
+/// How often one call of a source or a sink asks, where each time it is interrupted, before that counts as a fault.
 pub(crate) const RETRIES: u64 = 1 << 32;
 
 /// A source over a reader, as standard input. It tells no bytes.
@@ -32,6 +33,8 @@ impl<R: Read> Source for StdSource<R> {
 
     ghost faults = { λ s. s.faults };
 
+    ghost failures = { λ s. s.faults };
+
     /// Gives what the reader gives. An interruption is no fault: the reader is asked again.
     fn read(&mut self, buf: &mut [u8]) -> Pulled
         requires { 0 < length buf.old }
@@ -39,7 +42,7 @@ impl<R: Read> Source for StdSource<R> {
         ensures read { Consumes (R.remaining self.old.reader) (R.remaining self.new.reader)
             (pulled result buf.new) }
         ensures end { result ≡ Pulled.End → IsAtEnd (R.remaining self.new.reader) }
-        ensures faults { self.new.faults ≡ faults_after result self.old.faults }
+        ensures faults { self.new.faults ≡ failures_after result self.old.faults }
         ensures faults_stay { self.old.faults ≤ self.new.faults }
         ensures faults_fit { self.new.faults < 2 ^ 64 }
     {
@@ -55,10 +58,11 @@ impl<R: Read> Source for StdSource<R> {
     }
 }
 
-/// Reads once, and again after each interruption.
+/// Reads once, and again after each interruption. More of them than are borne are another error.
 fn read_again<R: Read>(reader: &mut R, buf: &mut [u8]) -> io::Result<usize>
     ensures bound { ReadsAtMost result buf.new }
     ensures bytes { ReadConsumes (R.remaining reader.old) (R.remaining reader.new) result buf.new }
+    ensures retried { IfErr result (λ e. error_kind e ≢ ErrorKind.Interrupted) }
 {
     for _ in 0..RETRIES {
         match reader.read(buf) {
@@ -66,5 +70,5 @@ fn read_again<R: Read>(reader: &mut R, buf: &mut [u8]) -> io::Result<usize>
             outcome => return outcome,
         }
     }
-    reader.read(buf)
+    Err(io::Error::from(ErrorKind::Other))
 }

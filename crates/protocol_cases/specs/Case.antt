@@ -19,12 +19,12 @@ abbrev pub source_of : Script → Stock
 source_of script = record { left = script.input.bytes; greatest = script.input.piece; schedule = schedule_of script.input.failing }
 
 abbrev pub sink_from : Script → Store
-sink_from script = record { held = Some []; greatest = script.output.piece; schedule = schedule_of script.output.failing }
+sink_from script = record { held = Some []; refused = 0; greatest = script.output.piece; schedule = schedule_of script.output.failing }
 
 -- what a source and a sink in memory tell
 abbrev pub outside_in_memory : Stock → Store → Outside
 outside_in_memory source sink = record {
-  source = record { left = Some source.left; faults = source.schedule.faults };
+  source = record { left = Some source.left; faults = source.schedule.faults; failures = source.schedule.faults };
   sink = record { held = sink.held; faults = sink.schedule.faults; failures = sink.schedule.faults };
 }
 

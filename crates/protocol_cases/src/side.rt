@@ -86,6 +86,7 @@ impl Side {
     /// A sink whose calls go as it is said, and the bytes that it is to take.
     pub fn into_sink(self, alloc: Global) -> (MemSink, Vec<u8>)
         ensures held { result.0.held ≡ Some [] }
+        ensures refused { result.0.refused ≡ 0 }
         ensures piece { result.0.greatest ≡ self.piece }
         ensures schedule { result.0.schedule ≡ schedule_of self.failing }
         ensures bytes { result.1.items ≡ self.bytes }

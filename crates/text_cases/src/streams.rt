@@ -25,6 +25,7 @@ fn all_moves(source: &mut CalmSource, sink: &mut CalmSink) -> bool {
     moves(source, sink, Pulled::Got(2), b"ab")
         && moves(source, sink, Pulled::Got(1), b"abc")
         && moves(source, sink, Pulled::End, b"abc")
+        && sink.refused() == 0
 }
 
 fn calm_ones_move(alloc: Global) -> bool {
@@ -90,6 +91,7 @@ fn takes_by_its_writes(sink: &mut MemSink) -> bool {
         && takes(sink, b"d", Pushed::Took(1), b"abcd")
         && sink.calls() == 4
         && sink.faults() == 2
+        && sink.refused() == 0
 }
 
 fn small_sink_takes(alloc: Global) -> bool {

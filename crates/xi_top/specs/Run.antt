@@ -16,9 +16,9 @@ pub record Outside : Type 0 where
   pub sink : SinkState
 
 -- the same of a source and a sink, put together from what each number is for them
-abbrev pub outside_of : {S K : Type 0} → (S → Option (List ℕ)) → (S → ℕ) → (K → Option (List ℕ)) → (K → ℕ) → (K → ℕ) → S → K → Outside
-outside_of left source_faults held sink_faults failures source sink =
-    record { source = source_state left source_faults source; sink = sink_state held sink_faults failures sink }
+abbrev pub outside_of : {S K : Type 0} → (S → Option (List ℕ)) → (S → ℕ) → (S → ℕ) → (K → Option (List ℕ)) → (K → ℕ) → (K → ℕ) → S → K → Outside
+outside_of left source_faults source_failures held sink_faults sink_failures source sink =
+    record { source = source_state left source_faults source_failures source; sink = sink_state held sink_faults sink_failures sink }
 
 -- what they tell before a run and after it
 pub record Passage : Type 0 where
@@ -26,10 +26,10 @@ pub record Passage : Type 0 where
   pub after : Outside
 
 -- the same of a source and a sink before and after, put together in the same way
-abbrev pub passage_of : {S K : Type 0} → (S → Option (List ℕ)) → (S → ℕ) → (K → Option (List ℕ)) → (K → ℕ) → (K → ℕ) → S → S → K → K → Passage
-passage_of left source_faults held sink_faults failures source_before source_after sink_before sink_after = record {
-  before = outside_of left source_faults held sink_faults failures source_before sink_before;
-  after = outside_of left source_faults held sink_faults failures source_after sink_after;
+abbrev pub passage_of : {S K : Type 0} → (S → Option (List ℕ)) → (S → ℕ) → (S → ℕ) → (K → Option (List ℕ)) → (K → ℕ) → (K → ℕ) → S → S → K → K → Passage
+passage_of left source_faults source_failures held sink_faults sink_failures source_before source_after sink_before sink_after = record {
+  before = outside_of left source_faults source_failures held sink_faults sink_failures source_before sink_before;
+  after = outside_of left source_faults source_failures held sink_faults sink_failures source_after sink_after;
 }
 
 -- the source's count rose, where the run ended for that

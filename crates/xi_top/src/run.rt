@@ -33,16 +33,16 @@ pub fn xi_main<S: Source, K: Sink>(
     sink: K,
 ) -> Report<K>
     ensures alone { IsAlone words.now → RunsAlone
-        (passage_of S.left S.faults K.held K.faults K.failures source.old source.new sink result.sink)
+        (passage_of S.left S.faults S.failures K.held K.faults K.failures source.old source.new sink result.sink)
         result.journal.items result.status }
     ensures causes { IsAlone words.now → HasCauses
-        (passage_of S.left S.faults K.held K.faults K.failures source.old source.new sink result.sink)
+        (passage_of S.left S.faults S.failures K.held K.faults K.failures source.old source.new sink result.sink)
         result.journal.items result.status }
     ensures writes { IsAlone words.now → IsWrittenByCount
         (sink_state K.held K.faults K.failures sink) (sink_state K.held K.faults K.failures result.sink)
         result.journal.items result.status }
     ensures complete { IsAlone words.now → IsCalm
-        (passage_of S.left S.faults K.held K.faults K.failures source.old source.new sink result.sink)
+        (passage_of S.left S.faults S.failures K.held K.faults K.failures source.old source.new sink result.sink)
         → EndsWell result.status }
     ensures other { (IsAlone words.now → ⊥)
         → (result.journal.items ≡ []) × (result.sink ≡ sink) × (source.new ≡ source.old) }
@@ -77,16 +77,16 @@ fn is_alone_word(word: &Text) -> bool
 /// the input has fewer than 2^40 lines of fewer than 2^24 bytes each, the status is 0, or 3 for want of memory.
 pub fn run_alone<S: Source, K: Sink>(alloc: Global, source: &mut S, sink: K) -> Report<K>
     ensures headline { RunsAlone
-        (passage_of S.left S.faults K.held K.faults K.failures source.old source.new sink result.sink)
+        (passage_of S.left S.faults S.failures K.held K.faults K.failures source.old source.new sink result.sink)
         result.journal.items result.status }
     ensures causes { HasCauses
-        (passage_of S.left S.faults K.held K.faults K.failures source.old source.new sink result.sink)
+        (passage_of S.left S.faults S.failures K.held K.faults K.failures source.old source.new sink result.sink)
         result.journal.items result.status }
     ensures writes { IsWrittenByCount
         (sink_state K.held K.faults K.failures sink) (sink_state K.held K.faults K.failures result.sink)
         result.journal.items result.status }
     ensures complete { IsCalm
-        (passage_of S.left S.faults K.held K.faults K.failures source.old source.new sink result.sink)
+        (passage_of S.left S.faults S.failures K.held K.faults K.failures source.old source.new sink result.sink)
         → EndsWell result.status }
 {
     run(alloc, source, sink)
@@ -94,7 +94,7 @@ pub fn run_alone<S: Source, K: Sink>(alloc: Global, source: &mut S, sink: K) -> 
 
 fn run<S: Source, K: Sink>(alloc: Global, source: &mut S, sink: K) -> Report<K>
     ensures { RunsAlone
-        (passage_of S.left S.faults K.held K.faults K.failures source.old source.new sink result.sink)
+        (passage_of S.left S.faults S.failures K.held K.faults K.failures source.old source.new sink result.sink)
         result.journal.items result.status }
 {
     match Core::make(alloc, sink) {

@@ -21,7 +21,7 @@ pub fn serve<S: Source, K: Sink>(
 ) -> Result<(), Ending>
     requires serving { IsServing core.old }
     requires empty { journal_of core.old ≡ [] }
-    ensures { IsServed (source_state S.left S.faults) (sink_state K.held K.faults K.failures)
+    ensures { IsServed (source_state S.left S.faults S.failures) (sink_state K.held K.faults K.failures)
         source.old source.new core.old core.new result }
 {
     let mut buffer = [0; BUFFER];

@@ -8,5 +8,5 @@ returns c =
     let sink = c.into_sink-sink.result.0 in
     judged c.args.script source sink c.made-run.result c.deref.result.now c.in_ok-verdict.verdict
     (λ t. record { left = c.into_source.ensures.left t; greatest = c.into_source.ensures.piece t; schedule = c.into_source.ensures.schedule t })
-    (λ t. record { held = c.into_sink-sink.ensures.held t; greatest = c.into_sink-sink.ensures.piece t; schedule = c.into_sink-sink.ensures.schedule t })
+    (λ t. record { held = c.into_sink-sink.ensures.held t; refused = c.into_sink-sink.ensures.refused t; greatest = c.into_sink-sink.ensures.piece t; schedule = c.into_sink-sink.ensures.schedule t })
     (c.deref.ensures.value ∙ c.into_sink-sink.ensures.bytes) c.made-run.ensures c.in_ok-verdict.ensures

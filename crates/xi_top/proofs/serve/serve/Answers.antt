@@ -34,7 +34,7 @@ returns-in-Failed g c =
 pub returns-in-End : goal.returns-in-End
 returns-in-End g c =
     let left = g.S.Source.left in
-    let tell_source = source_state g.S.Source.left g.S.Source.faults in
+    let tell_source = source_state g.S.Source.left g.S.Source.faults g.S.Source.failures in
     let tell = sink_state g.K.Sink.held g.K.Sink.faults g.K.Sink.failures in
     let held = c.loop-intake.invariant in
     let finishes = c.finish.ensures (tell (sink_of c.args.core.now)) held.served.0 held.served.2 in
@@ -53,7 +53,7 @@ returns-in-End g c =
 pub returns-in_err-feed-in-Got : goal.returns-in_err-feed-in-Got
 returns-in_err-feed-in-Got g c =
     let left = g.S.Source.left in
-    let tell_source = source_state g.S.Source.left g.S.Source.faults in
+    let tell_source = source_state g.S.Source.left g.S.Source.faults g.S.Source.failures in
     let tell = sink_state g.K.Sink.held g.K.Sink.faults g.K.Sink.failures in
     let held = c.loop-intake.invariant in
     let chunk = take c.in-Got.n c.read.new.buf in
