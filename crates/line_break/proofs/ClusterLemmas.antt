@@ -3,14 +3,16 @@ use Rattle.std.proofs.Common.{◌≡◌, ℕ, ◌<◌, true, List, [], ◌∷◌
 use Rattle.std.specs.Prelude.{encode_utf8, encode_utf8_all}
 use Rattle.std.specs.List.{concat}
 use Rattle.std.specs.Str.{all_scalars, chars, IsUtf8}
+use Rattle.std.proofs.lemmas.List.Folds.{concat-append}
 use Rattle.std.proofs.lemmas.Str.{chars_from_encodes, encodes-chars, IsUtf8-past_char}
 use Rattle.unicode_segmentation.specs.Grapheme.{is_grapheme_break}
 use Rattle.unicode_segmentation.specs.Segments.{cut, segments}
 use Rattle.unicode_segmentation.proofs.SegmentsLemmas.{AllPieces, segments_nonempty, concat-segments}
 use Rattle.unicode_segmentation.proofs.TextLemmas.{IsUtf8-before}
 use Rattle.cluster_core.specs.Boundaries.{clusters_in}
-use Rattle.cluster_core.proofs.ForCallers.{concat-clusters}
+use Rattle.cluster_core.proofs.ForCallers.{concat-clusters, clusters-parted}
 use Rattle.line_break.proofs.EndLemmas.{NoneEmpty}
+use Rattle.line_break.proofs.TailLemmas.{StandsApart}
 
 utf8-of : (line : List ℕ) → all_scalars line ≡ true → IsUtf8 (encode_utf8_all line)
 utf8-of line scalars = (line, (scalars, refl))
@@ -46,3 +48,12 @@ clusters-some line scalars =
     none_empty (cut (is_grapheme_break true) [] (chars bytes) [])
     (subst IsUtf8 (sym (concat-segments (is_grapheme_break true) bytes (utf8-of line scalars))) (utf8-of line scalars))
     (segments_nonempty (is_grapheme_break true) bytes)
+
+-- a cluster is no lone LF behind a CR
+pub clusters-apart : (line : List ℕ) → all_scalars line ≡ true → (front these : List (List ℕ)) (cluster : List ℕ) (back : List (List ℕ)) →
+    clusters_in line ≡ front ++ (these ++ cluster ∷ back) → StandsApart (concat these) cluster
+clusters-apart line scalars front these cluster back parts before return feed =
+    clusters-parted line scalars (front ++ these) (cluster ∷ back) (parts ∙ sym (append_assoc front these (cluster ∷ back)))
+    (concat front ++ before) (concat back)
+    (concat-append front these ∙ ap (λ t. concat front ++ t) return ∙ sym (append_assoc (concat front) before (13 ∷ [])))
+    (ap (λ c. c ++ concat back) feed)

@@ -11,7 +11,7 @@ use Rattle.cluster_core.specs.Boundaries.{clusters_in}
 use Rattle.cluster_core.specs.Columns.{tab_stop, column_after, clipped, columns_between}
 use Rattle.line_break.specs.Breaks.{shown_len, piece_columns}
 use Rattle.line_break.specs.Inner.{solid_len}
-use Rattle.line_break.proofs.TailLemmas.{shown_len-none, shown_len-some, solid_len-none, solid_len-some}
+use Rattle.line_break.proofs.TailLemmas.{StandsApart, shown_len-none, shown_len-some, solid_len-none, solid_len-some}
 
 -- ---- columns never fall along a line
 
@@ -47,14 +47,14 @@ pub fold-push : (tab column : ℕ) (front : List (List ℕ)) (cluster : List ℕ
 fold-push tab column [] cluster = refl
 fold-push tab column (first ∷ front) cluster = fold-push tab (column_after tab column first) front cluster
 
-fold-append : (tab column : ℕ) (front back : List (List ℕ)) →
+pub fold-append : (tab column : ℕ) (front back : List (List ℕ)) →
     fold (column_after tab) column (front ++ back) ≡ fold (column_after tab) (fold (column_after tab) column front) back
 fold-append tab column [] back = refl
 fold-append tab column (cluster ∷ front) back = fold-append tab (column_after tab column cluster) front back
 
 -- ---- what stands between two gaps
 
-clipped-append : (from to at : ℕ) (front back : List (List ℕ)) →
+pub clipped-append : (from to at : ℕ) (front back : List (List ℕ)) →
     clipped from to at (front ++ back) ≡ clipped from to at front ++ clipped from to (at + length (concat front)) back
 clipped-append from to at [] back = let same : at ≡ at + 0 = omega arith in ap (λ n. clipped from to n back) same
 clipped-append from to at (cluster ∷ front) back =
@@ -75,7 +75,7 @@ clipped-before tab column from to at (cluster ∷ clusters) before =
     clipped-before tab column from to (at + length cluster) clusters (omega arith)
 
 -- nor do those past the second
-clipped-past : (tab column from to at : ℕ) (clusters : List (List ℕ)) → to ≤ at → fold (column_after tab) column (clipped from to at clusters) ≡ column
+pub clipped-past : (tab column from to at : ℕ) (clusters : List (List ℕ)) → to ≤ at → fold (column_after tab) column (clipped from to at clusters) ≡ column
 clipped-past tab column from to at [] past = refl
 clipped-past tab column from to at (cluster ∷ clusters) past =
     let none : to - at - (from - at) ≡ 0 = omega arith in
@@ -164,12 +164,12 @@ module _ (tab : ℕ) (line : List ℕ) (front : List (List ℕ)) where
           omega (arith, ap length joined, length-append (concat these) cluster) in
           ap (slice_range line (length (concat front))) (sym long) ∙ piece-is (these ++ cluster ∷ []) back more ∙ joined
 
-      pub columns-blank : 0 < length cluster → shown_len cluster ≡ 0 →
+      pub columns-blank : 0 < length cluster → StandsApart (concat these) cluster → shown_len cluster ≡ 0 →
           piece_columns tab line (length (concat front)) (length (concat front) + length (concat these) + length cluster)
           ≡ columns_between tab line (length (concat front)) (length (concat front) + solid_len (concat these))
-      columns-blank some none =
+      columns-blank some apart none =
           ap (λ t. columns_between tab line (length (concat front)) (length (concat front) + shown_len t)) piece ∙
-          ap (λ n. columns_between tab line (length (concat front)) (length (concat front) + n)) (shown_len-none (concat these) cluster some none)
+          ap (λ n. columns_between tab line (length (concat front)) (length (concat front) + n)) (shown_len-none (concat these) cluster some apart none)
 
       pub columns-shown : 0 < shown_len cluster → shown_len cluster ≤ length cluster →
           piece_columns tab line (length (concat front)) (length (concat front) + length (concat these) + length cluster)

@@ -4,5 +4,6 @@ mod EndLemmas
 mod ClusterLemmas
 mod TestLemmas
 mod PieceLemmas
+mod LineEndLemmas
 mod LookLemmas
 pub mod ForCallers

@@ -20,10 +20,10 @@ use Rattle.line_break.specs.Inner.{solid_len, breaks_first, IsTail, StandsAt, Is
 use Rattle.line_break.specs.declared.tail.Tail.{Tail}
 use Rattle.line_break.specs.declared.line.Place.{Place}
 use Rattle.line_break.specs.declared.line.Look.{Look}
-use Rattle.line_break.proofs.ClusterLemmas.{clusters-whole, clusters-some}
+use Rattle.line_break.proofs.ClusterLemmas.{clusters-whole, clusters-some, clusters-apart}
 use Rattle.line_break.proofs.ColumnLemmas.{fold-push, columns-least, columns-none, columns-blank, columns-shown, solid-blank, solid-shown, piece-is}
 use Rattle.line_break.proofs.EndLemmas.{NoneEmpty, filter-no, ahead-is}
-use Rattle.line_break.proofs.TailLemmas.{solid_len-le, shown-le-solid, shown_is_solid, solid_len-none, solid_len-some, shown_len-none, shown_len-some}
+use Rattle.line_break.proofs.TailLemmas.{StandsApart, solid_len-le, shown-le-solid, shown_is_solid, solid_len-none, solid_len-some, shown_len-none, shown_len-some}
 
 -- ---- the columns of a part of a cluster
 
@@ -243,7 +243,7 @@ module _ (width tab : ℕ) (line : List ℕ) (scalars : all_scalars line ≡ tru
       let own : shown_len item.cluster ≡ 0 = sym is.shown ∙ zero_shown in
       none zero_shown ∙ s.solid ∙
       sym (subst (λ n. piece_columns tab line n (n + length (concat s.these) + length item.cluster) ≡ columns_between tab line n (n + solid_len (concat s.these)))
-      s.gap (columns-blank tab line s.front whole s.these cut_here.rest item.cluster parts some_cluster own)) ∙
+      s.gap (columns-blank tab line s.front whole s.these cut_here.rest item.cluster parts some_cluster (clusters-apart line scalars s.front s.these item.cluster cut_here.rest parts) own)) ∙
       ap (piece_columns tab line start) (sym end_is))
       (cases_lt 0 tail.shown)
 
@@ -417,7 +417,9 @@ module _ (width tab : ℕ) (line : List ℕ) (scalars : all_scalars line ≡ tru
       let again : clusters_in line ≡ front ++ (these ++ (more ++ back)) =
       parts ∙ ap (λ cs. front ++ (these ++ cs)) (sym (append_assoc since (cluster ∷ []) back)) in
       let end : from + length (concat these) + length (concat since) + length cluster ≡ from + length (concat these) + length (concat more) = omega arith in
-      let shown : 0 < shown_len (concat more) = subst (λ t. 0 < shown_len t) (sym joined) (shows since cluster pos solid) in
+      let apart : StandsApart (concat since) cluster =
+      clusters-apart line scalars (front ++ these) since cluster back (parts ∙ sym (append_assoc front these (since ++ cluster ∷ back))) in
+      let shown : 0 < shown_len (concat more) = subst (λ t. 0 < shown_len t) (sym joined) (shows since cluster pos apart solid) in
       let still : 0 < solid_len (concat more) = subst (λ t. 0 < solid_len t) (sym joined) (solids since cluster solid) in
       let fails : fits width tab line from (from + length (concat these) + length (concat since) + length cluster) ≡ false =
       ap (fits width tab line from) end ∙ not_fit more back again (omega arith) shown in
@@ -425,10 +427,10 @@ module _ (width tab : ℕ) (line : List ℕ) (scalars : all_scalars line ≡ tru
       ap (λ n. filter (fits width tab line from) (ends_from n back)) end ∙
       none_fit more back again (omega arith) still full.1
     where
-      shows : (since : List (List ℕ)) (cluster : List ℕ) → 0 < length cluster → 0 < solid_len (concat since) → 0 < shown_len (concat since ++ cluster)
-      shows since cluster pos solid = ⊎_elim
+      shows : (since : List (List ℕ)) (cluster : List ℕ) → 0 < length cluster → StandsApart (concat since) cluster → 0 < solid_len (concat since) → 0 < shown_len (concat since ++ cluster)
+      shows since cluster pos apart solid = ⊎_elim
           (λ shown. let is = shown_len-some (concat since) cluster pos shown in omega arith)
-          (λ ge. let none : shown_len cluster ≡ 0 = omega arith in let is = shown_len-none (concat since) cluster pos none in omega arith)
+          (λ ge. let none : shown_len cluster ≡ 0 = omega arith in let is = shown_len-none (concat since) cluster pos apart none in omega arith)
           (cases_lt 0 (shown_len cluster))
 
       solids : (since : List (List ℕ)) (cluster : List ℕ) → 0 < solid_len (concat since) → 0 < solid_len (concat since ++ cluster)

@@ -1,12 +1,12 @@
 -- Lemmas on the end of a text: what stands before its LF and its trailing blanks.
-use Rattle.std.proofs.Common.{◌≡◌, ◌⊎◌, inl, inr, ℕ, ◌+◌, ◌-◌, ◌<◌, ◌≤◌, ◌==◌, ◌||◌, Bool, true, false, cond, List, [], ◌∷◌, ◌++◌, length, reverse, refl, sym, ap, subst, ◌∙◌, arith, length-append}
+use Rattle.std.proofs.Common.{◌≡◌, ◌⊎◌, inl, inr, ℕ, ◌+◌, ◌-◌, ◌<◌, ◌≤◌, ◌==◌, ◌||◌, Bool, true, false, cond, List, [], ◌∷◌, ◌++◌, length, reverse, refl, sym, ap, ap₂, subst, ◌∙◌, arith, length-append}
 use Rattle.std.specs.List.{prefix_len}
-use Rattle.std.proofs.lemmas.List.{reverse-append, length-reverse}
+use Rattle.std.proofs.lemmas.List.{reverse-append, reverse-reverse, length-reverse}
 use Rattle.std.proofs.lemmas.List.Sums.{prefix_len-le-length}
-use Rattle.std.proofs.lemmas.Bool.{cases_Bool as bool_cases}
+use Rattle.std.proofs.lemmas.Bool.{cases_Bool as bool_cases, eqb-true}
 use Rattle.std.proofs.lemmas.Bool.Decides.{nat_tests}
-use Rattle.line_break.specs.Breaks.{is_blank, is_breaking, past_line_end, past_blanks, shown_len}
-use Rattle.line_break.specs.Inner.{solid_len, breaks_first}
+use Rattle.line_break.specs.Breaks.{is_blank, is_breaking, past_return, past_line_end, past_blanks, shown_len}
+use Rattle.line_break.specs.Inner.{solid_len, ended_len, breaks_first}
 
 -- ---- characters that are read from the back
 
@@ -43,26 +43,65 @@ past_blanks-some (c ∷ front) back some = by (past_blanks-some front back) (boo
         let all = past_blanks-solid c (front ++ back) solid in
         omega (arith, length-append front back)
 
-past_line_end-append : (front back : List ℕ) → 0 < length front → past_line_end (front ++ back) ≡ past_line_end front ++ back
-past_line_end-append [] back some = absurd (omega arith)
-past_line_end-append (c ∷ front) back some = by (c == 10)
+-- the first is no lone LF before a CR
+abbrev ReadsApart : List ℕ → List ℕ → Type 0
+ReadsApart front back = (rest : List ℕ) → front ≡ 10 ∷ [] → back ≡ 13 ∷ rest → ⊥
+
+past_return-append : (front back : List ℕ) → 0 < length front → past_return (front ++ back) ≡ past_return front ++ back
+past_return-append [] back some = absurd (omega arith)
+past_return-append (c ∷ front) back some = by (c == 13)
   where
     by : (b : Bool) → cond b (front ++ back) (c ∷ front ++ back) ≡ cond b front (c ∷ front) ++ back
     by true = refl
     by false = refl
 
--- without an LF there is no less
+-- what is left past a CR is left as it is where no CR stands first
+pub past_return-other : (text : List ℕ) → ((rest : List ℕ) → text ≡ 13 ∷ rest → ⊥) → past_return text ≡ text
+past_return-other [] other = refl
+past_return-other (c ∷ text) other = by (bool_cases (c == 13))
+  where
+    by : (c == 13 ≡ true) ⊎ (c == 13 ≡ false) → past_return (c ∷ text) ≡ c ∷ text
+    by (inl return) = absurd (other text (ap (λ d. d ∷ text) (eqb-true c 13 return)))
+    by (inr another) = ap (λ b. cond b text (c ∷ text)) another
+
+past_line_end-append : (front back : List ℕ) → 0 < length front → ReadsApart front back → past_line_end (front ++ back) ≡ past_line_end front ++ back
+past_line_end-append [] back some apart = absurd (omega arith)
+past_line_end-append (c ∷ front) back some apart = by (bool_cases (c == 10)) front refl
+  where
+    by : (c == 10 ≡ true) ⊎ (c == 10 ≡ false) → (rest : List ℕ) → front ≡ rest → past_line_end (c ∷ rest ++ back) ≡ past_line_end (c ∷ rest) ++ back
+    by (inr another) rest is =
+        ap (λ b. cond b (past_return (rest ++ back)) (c ∷ rest ++ back)) another ∙
+        sym (ap (λ b. cond b (past_return rest) (c ∷ rest) ++ back) another)
+    by (inl feed) [] is =
+        let lone : c ∷ front ≡ 10 ∷ [] = ap₂ (λ (d : ℕ) (ds : List ℕ). d ∷ ds) (eqb-true c 10 feed) is in
+        ap (λ b. cond b (past_return back) (c ∷ back)) feed ∙ past_return-other back (λ rest return. apart rest lone return) ∙
+        sym (ap (λ b. cond b [] (c ∷ []) ++ back) feed)
+    by (inl feed) (d ∷ rest) is =
+        ap (λ b. cond b (past_return (d ∷ rest ++ back)) (c ∷ d ∷ rest ++ back)) feed ∙
+        past_return-append (d ∷ rest) back (omega arith) ∙
+        sym (ap (λ b. cond b (past_return (d ∷ rest)) (c ∷ d ∷ rest) ++ back) feed)
+
+past_return-le : (text : List ℕ) → length (past_return text) ≤ length text
+past_return-le [] = omega arith
+past_return-le (c ∷ text) = by (c == 13)
+  where
+    by : (b : Bool) → length (cond b text (c ∷ text)) ≤ length (c ∷ text)
+    by true = omega arith
+    by false = omega arith
+
+feed_blank : (c : ℕ) → c == 10 ≡ true → is_blank c ≡ true → ⊥
+feed_blank c feed blank = grind (arith, nat_tests)
+
+-- without the line end there is no more
 past_line_end-le : (text : List ℕ) → past_blanks (past_line_end text) ≤ past_blanks text
 past_line_end-le [] = omega arith
 past_line_end-le (c ∷ text) = by (bool_cases (c == 10)) (bool_cases (is_blank c))
   where
     by : (c == 10 ≡ true) ⊎ (c == 10 ≡ false) → (is_blank c ≡ true) ⊎ (is_blank c ≡ false) → past_blanks (past_line_end (c ∷ text)) ≤ past_blanks (c ∷ text)
-    by (inl feed) (inl blank) = rw feed (let own = past_blanks-blank c text blank in omega arith)
-    by (inl feed) (inr solid) = rw feed (let own = past_blanks-solid c text solid in omega arith)
+    by (inl feed) (inl blank) = absurd (feed_blank c feed blank)
+    by (inl feed) (inr solid) =
+        rw feed (let own = past_blanks-solid c text solid in omega (arith, past_return-le text))
     by (inr other) both = rw other (omega arith)
-
-feed_blank : (c : ℕ) → c == 10 ≡ true → is_blank c ≡ true → ⊥
-feed_blank c feed blank = grind (arith, nat_tests)
 
 -- where the first character is a blank it is no LF
 past_line_end-blank : (text : List ℕ) → past_blanks text < length text → past_line_end text ≡ text
@@ -70,7 +109,7 @@ past_line_end-blank [] less = refl
 past_line_end-blank (c ∷ text) less = by (bool_cases (c == 10)) (bool_cases (is_blank c))
   where
     by : (c == 10 ≡ true) ⊎ (c == 10 ≡ false) → (is_blank c ≡ true) ⊎ (is_blank c ≡ false) → past_line_end (c ∷ text) ≡ c ∷ text
-    by (inr other) both = ap (λ b. cond b text (c ∷ text)) other
+    by (inr other) both = ap (λ b. cond b (past_return text) (c ∷ text)) other
     by (inl feed) (inr solid) = let own = past_blanks-solid c text solid in absurd (omega arith)
     by (inl feed) (inl blank) = absurd (feed_blank c feed blank)
 
@@ -93,17 +132,31 @@ solid_len-some front back some =
     ap past_blanks (reverse-append front back) ∙ past_blanks-some (reverse back) (reverse front) some ∙
     ap (λ n. n + solid_len back) (length-reverse front)
 
-shown_len-append : (front back : List ℕ) → 0 < length back → shown_len (front ++ back) ≡ past_blanks (past_line_end (reverse back) ++ reverse front)
-shown_len-append front back some =
-    ap (λ text. past_blanks (past_line_end text)) (reverse-append front back) ∙
-    ap past_blanks (past_line_end-append (reverse back) (reverse front) (omega (arith, length-reverse back)))
+-- the back is no lone LF behind a CR
+abbrev pub StandsApart : List ℕ → List ℕ → Type 0
+StandsApart front back = (before : List ℕ) → front ≡ before ++ 13 ∷ [] → back ≡ 10 ∷ [] → ⊥
 
-pub shown_len-none : (front back : List ℕ) → 0 < length back → shown_len back ≡ 0 → shown_len (front ++ back) ≡ solid_len front
-shown_len-none front back some none = shown_len-append front back some ∙ past_blanks-none (past_line_end (reverse back)) (reverse front) none
+reads_apart : (front back : List ℕ) → StandsApart front back → ReadsApart (reverse back) (reverse front)
+reads_apart front back apart rest feed return =
+    apart (reverse rest) (sym (reverse-reverse front) ∙ ap reverse return ∙ reverse-append (13 ∷ []) rest)
+    (sym (reverse-reverse back) ∙ ap reverse feed)
+
+shown_apart : (front back : List ℕ) → 0 < shown_len back → StandsApart front back
+shown_apart front back shown before return feed = let none : shown_len back ≡ 0 = ap shown_len feed in absurd (omega arith)
+
+shown_len-append : (front back : List ℕ) → 0 < length back → StandsApart front back →
+    shown_len (front ++ back) ≡ past_blanks (past_line_end (reverse back) ++ reverse front)
+shown_len-append front back some apart =
+    ap (λ text. past_blanks (past_line_end text)) (reverse-append front back) ∙
+    ap past_blanks (past_line_end-append (reverse back) (reverse front) (omega (arith, length-reverse back)) (reads_apart front back apart))
+
+pub shown_len-none : (front back : List ℕ) → 0 < length back → StandsApart front back → shown_len back ≡ 0 → shown_len (front ++ back) ≡ solid_len front
+shown_len-none front back some apart none =
+    shown_len-append front back some apart ∙ past_blanks-none (past_line_end (reverse back)) (reverse front) none
 
 pub shown_len-some : (front back : List ℕ) → 0 < length back → 0 < shown_len back → shown_len (front ++ back) ≡ length front + shown_len back
 shown_len-some front back some shown =
-    shown_len-append front back some ∙ past_blanks-some (past_line_end (reverse back)) (reverse front) shown ∙
+    shown_len-append front back some (shown_apart front back shown) ∙ past_blanks-some (past_line_end (reverse back)) (reverse front) shown ∙
     ap (λ n. n + shown_len back) (length-reverse front)
 
 -- ---- one character more
@@ -120,20 +173,27 @@ solid_len-push text c = ap past_blanks (push text c) ∙ by (bool_cases (is_blan
         past_blanks-solid c (reverse text) solid ∙ ap (λ n. n + 1) (length-reverse text) ∙
         sym (ap (λ b. cond b (solid_len text) (length text + 1)) solid)
 
-pub shown_len-push : (text : List ℕ) (c : ℕ) → shown_len (text ++ c ∷ []) ≡ cond (is_blank c || c == 10) (solid_len text) (length text + 1)
-shown_len-push text c = ap (λ t. past_blanks (past_line_end t)) (push text c) ∙ by (bool_cases (c == 10)) (bool_cases (is_blank c))
-  where
-    Wanted : Bool → Bool → Type 0
-    Wanted feed blank = past_blanks (cond feed (reverse text) (c ∷ reverse text)) ≡ cond (blank || feed) (solid_len text) (length text + 1)
+blanks-push : (text : List ℕ) (c : ℕ) → past_blanks (c ∷ reverse text) ≡ cond (is_blank c) (solid_len text) (length text + 1)
+blanks-push text c = ap past_blanks (sym (push text c)) ∙ solid_len-push text c
 
-    by : (c == 10 ≡ true) ⊎ (c == 10 ≡ false) → (is_blank c ≡ true) ⊎ (is_blank c ≡ false) → Wanted (c == 10) (is_blank c)
-    by (inl feed) (inl blank) = subst (λ f. Wanted f (is_blank c)) (sym feed) (subst (Wanted true) (sym blank) refl)
-    by (inl feed) (inr solid) = subst (λ f. Wanted f (is_blank c)) (sym feed) (subst (Wanted true) (sym solid) refl)
-    by (inr other) (inl blank) =
-        subst (λ f. Wanted f (is_blank c)) (sym other) (subst (Wanted false) (sym blank) (past_blanks-blank c (reverse text) blank))
-    by (inr other) (inr solid) =
-        subst (λ f. Wanted f (is_blank c)) (sym other)
-        (subst (Wanted false) (sym solid) (past_blanks-solid c (reverse text) solid ∙ ap (λ n. n + 1) (length-reverse text)))
+pub ended_len-push : (text : List ℕ) (c : ℕ) → ended_len (text ++ c ∷ []) ≡ cond (is_blank c || c == 13) (solid_len text) (length text + 1)
+ended_len-push text c = ap (λ t. past_blanks (past_return t)) (push text c) ∙ by (c == 13) (is_blank c) (blanks-push text c)
+  where
+    by : (return blank : Bool) → past_blanks (c ∷ reverse text) ≡ cond blank (solid_len text) (length text + 1) →
+        past_blanks (cond return (reverse text) (c ∷ reverse text)) ≡ cond (blank || return) (solid_len text) (length text + 1)
+    by true true is = refl
+    by true false is = refl
+    by false true is = is
+    by false false is = is
+
+pub shown_len-push : (text : List ℕ) (c : ℕ) →
+    shown_len (text ++ c ∷ []) ≡ cond (c == 10) (ended_len text) (cond (is_blank c) (solid_len text) (length text + 1))
+shown_len-push text c = ap (λ t. past_blanks (past_line_end t)) (push text c) ∙ by (c == 10)
+  where
+    by : (feed : Bool) → past_blanks (cond feed (past_return (reverse text)) (c ∷ reverse text))
+        ≡ cond feed (ended_len text) (cond (is_blank c) (solid_len text) (length text + 1))
+    by true = refl
+    by false = blanks-push text c
 
 pub breaks_first-push : (text : List ℕ) (c : ℕ) → breaks_first (reverse (text ++ c ∷ [])) ≡ is_breaking c
 breaks_first-push text c = ap breaks_first (push text c)

@@ -13,16 +13,22 @@ cluster_ends line = ends_from 0 (clusters_in line)
 abbrev pub is_blank : ℕ → Bool
 is_blank c = c == 32 || c == 9
 
--- what stands before the end of a line, where the characters are read from the back: an LF that stands first is left out
+-- these characters without a CR that stands first
+abbrev pub past_return : List ℕ → List ℕ
+past_return [] = []
+past_return (c ∷ text) = if c == 13 then text else c ∷ text
+
+-- what stands before the end of a line, where the characters are read from the back: an LF that stands first is left out, and then a CR
+-- that stands first behind it
 abbrev pub past_line_end : List ℕ → List ℕ
 past_line_end [] = []
-past_line_end (c ∷ text) = if c == 10 then text else c ∷ text
+past_line_end (c ∷ text) = if c == 10 then past_return text else c ∷ text
 
 -- how many characters stand before the blanks that come first, where they are read from the back
 abbrev pub past_blanks : List ℕ → ℕ
 past_blanks text = length text - prefix_len is_blank text
 
--- how many characters of a piece count: those before its LF, and then before its trailing spaces and tabs
+-- how many characters of a piece count: those before its line end, and then before its trailing spaces and tabs
 abbrev pub shown_len : List ℕ → ℕ
 shown_len piece = past_blanks (past_line_end (reverse piece))
 

@@ -8,7 +8,7 @@ use Rattle.cluster_core.specs.Boundaries.{clusters_in, ends_from}
 use Rattle.cluster_core.specs.Columns.{column_after, columns_between}
 use Rattle.cluster_core.specs.Walk.{ClusterAt, placed, walk_left, walk_tab}
 use Rattle.cluster_core.specs.declared.walk.Walk.{Walk}
-use Rattle.line_break.specs.Breaks.{is_breaking, is_candidate, past_blanks, shown_len, fits, piece_end}
+use Rattle.line_break.specs.Breaks.{is_breaking, is_candidate, past_return, past_blanks, shown_len, fits, piece_end}
 use Rattle.line_break.specs.declared.tail.Tail.{Tail}
 use Rattle.line_break.specs.declared.line.Place.{Place}
 use Rattle.line_break.specs.declared.line.Look.{Look}
@@ -16,6 +16,10 @@ use Rattle.line_break.specs.declared.line.Look.{Look}
 -- how many characters stand before the trailing blanks of a text
 abbrev pub solid_len : List ℕ → ℕ
 solid_len text = past_blanks (reverse text)
+
+-- how many of its characters would be shown if an LF came next
+abbrev pub ended_len : List ℕ → ℕ
+ended_len text = past_blanks (past_return (reverse text))
 
 -- a line may be broken after the first of these characters
 abbrev pub breaks_first : List ℕ → Bool
@@ -26,6 +30,7 @@ breaks_first (c ∷ text) = is_breaking c
 pub record IsTail (text : List ℕ) (tail : Tail) : Type 0 where
   pub len : tail.len ≡ length text
   pub solid : tail.solid ≡ solid_len text
+  pub ended : tail.ended ≡ ended_len text
   pub shown : tail.shown ≡ shown_len text
   pub breaks : tail.breaks ≡ breaks_first (reverse text)
 

@@ -1,9 +1,10 @@
 -- Laws of wrapping, of all lines and texts.
-use Rattle.std.specs.Prelude.{◌≡◌, ◌⊎◌, ℕ, ◌<◌, ◌≤◌, true, List, length}
+use Rattle.std.specs.Prelude.{◌≡◌, ◌⊎◌, ℕ, ◌<◌, ◌≤◌, true, List, [], ◌∷◌, ◌++◌, length}
 use Rattle.std.specs.List.{concat}
 use Rattle.std.specs.Str.{all_scalars}
 use Rattle.plain_screen.specs.View.{ArePieces}
 use Rattle.line_break.specs.Breaks.{breaks_of, piece_columns}
+use Rattle.line_break.specs.LineEnds.{IsLineEnd, EachClusterFits}
 use Rattle.line_break.specs.Pieces.{cut_at, EachPiece, wrapped_pieces}
 use Rattle.line_break.specs.Test.{AreBreaks, IsEndPast, IsLeast}
 
@@ -21,3 +22,9 @@ pub record PiecesMakeTheLine : Type 0 where
 -- the pieces of a text for a width are pieces of that text
 pub record WrappedPiecesArePieces : Type 0 where
   pub are : (width tab : ℕ) (text : List ℕ) → all_scalars text ≡ true → ArePieces text (wrapped_pieces width tab text)
+
+-- a line end takes no room: where each cluster fits the width, the line with it has the same pieces, but that the last one has it too
+pub record LineEndTakesNoRoom : Type 0 where
+  pub same : (width tab : ℕ) (line end ends : List ℕ) → all_scalars line ≡ true → (0 < width → EachClusterFits width tab line) →
+      IsLineEnd line end → breaks_of width tab line ≡ ends ++ length line ∷ [] →
+      breaks_of width tab (line ++ end) ≡ ends ++ length (line ++ end) ∷ []

@@ -9,7 +9,9 @@ pub(crate) struct Tail {
     pub len: u64,
     /// The length without trailing spaces and tabs.
     pub solid: u64,
-    /// The length without an LF, and then without trailing spaces and tabs.
+    /// What would be shown if an LF came next: the length without a CR at the end, and then without trailing spaces and tabs.
+    pub ended: u64,
+    /// The length without the line end, and then without trailing spaces and tabs.
     pub shown: u64,
     /// A line may be broken after the last character.
     pub breaks: bool,
@@ -25,10 +27,12 @@ impl Tail {
     {
         let len = self.len + 1;
         let blank = is_blank(c);
+        let solid = stays(blank, self.solid, len);
         Tail {
             len,
-            solid: stays(blank, self.solid, len),
-            shown: stays(blank || c == '\n', self.solid, len),
+            solid,
+            ended: stays(blank || c == '\r', self.solid, len),
+            shown: stays(c == '\n', self.ended, solid),
             breaks: blank || c == '-',
         }
     }
@@ -41,6 +45,7 @@ pub(crate) fn tail_of(cluster: &str) -> Tail
     let mut tail = Tail {
         len: 0,
         solid: 0,
+        ended: 0,
         shown: 0,
         breaks: false,
     };
