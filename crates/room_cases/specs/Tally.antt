@@ -1,9 +1,12 @@
 -- Laws of an object that has a journal and nothing else.
 use Rattle.std.specs.Prelude.{◌≡◌, ℕ, ◌<◌, ◌≤◌, ◌^◌, Bool, true, false, List, [], ◌∷◌, ◌++◌, length}
 use Rattle.xi_plain.specs.declared.entry.Entry.{Entry}
+use Rattle.xi_plain.specs.declared.reply.Answer.{Answer}
+use Rattle.xi_plain.specs.declared.reply.Answer.TheVariants.{Nothing}
+use Rattle.xi_plain.specs.Reply.{SaysLength}
 use Rattle.xi_plain.specs.Room.{AddsEntryIf, Begins}
 use native.Mathlib.Omega.{arith}
-use mathlib.Core.Path.{sym, ap, ◌∙◌}
+use mathlib.Core.Path.{sym, ap, ◌∙◌, subst, refl}
 use mathlib.Core.List.{append-nil, append_assoc}
 
 -- a journal begins with itself
@@ -22,3 +25,7 @@ short_of xs len cap ok small = let same = ok.0 in let less = ok.1 in omega arith
 pub onward_of : (made : Bool) (before : List Entry) (caller : ℕ) (after : List Entry) → AddsEntryIf made before caller after → Begins before after
 onward_of true before caller after adds = (adds.0 ∷ [], adds.1)
 onward_of false before caller after adds = ([], adds ∙ sym (append-nil before))
+
+-- that there is nothing says how long the journal is
+pub says_it : (len : ℕ) (answer : Answer) → answer ≡ Nothing len → SaysLength len answer
+says_it len answer is = subst (SaysLength len) (sym is) refl

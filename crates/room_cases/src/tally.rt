@@ -40,7 +40,7 @@ impl Object for Tally {
     ghost use Rattle.xi_plain.specs.Reply.{has_entry};
     ghost use Rattle.xi_plain.specs.Room.{AddsEntryIf, Begins};
     ghost use Rattle.xi_plain.specs.declared.reply.Answer.TheVariants.{Nothing};
-    ghost use Rattle.room_cases.specs.Tally.{begins_same, begins_on, short_of};
+    ghost use Rattle.room_cases.specs.Tally.{begins_same, begins_on, says_it, short_of};
 
     ghost journal = { λ t. t.entries.items };
 
@@ -71,6 +71,8 @@ impl Object for Tally {
     ghost legal_on = { λ a b log grown lawful. tt };
 
     ghost one_entry = { λ a before caller ask reply after served. served };
+
+    ghost says_length = { λ a log caller query answer answered. says_it (length log) answer answered };
 
     ghost short = { λ a. short_of a.entries.items a.entries.len a.entries.cap a.entries.ok a.entries.small };
 
