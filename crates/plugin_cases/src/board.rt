@@ -78,9 +78,8 @@ impl Board {
 
 impl Object for Board {
     ghost use Rattle.std.specs.Prelude.{ℕ, ◌≡◌, List, length};
-    ghost use Rattle.xi_plain.specs.Reply.{has_entry};
+    ghost use Rattle.xi_plain.specs.Reply.{has_entry, SaysLength};
     ghost use Rattle.xi_plain.specs.Room.{AddsEntryIf, Begins};
-    ghost use Rattle.plugin_session.specs.Call.{SaysLength};
     ghost use Rattle.plugin_cases.specs.Board.{begins_same, begins_on, short_of};
 
     ghost journal = { λ b. b.entries.items };
@@ -112,6 +111,8 @@ impl Object for Board {
     ghost legal_on = { λ a b log grown lawful. tt };
 
     ghost one_entry = { λ a before caller ask reply after served. served };
+
+    ghost says_length = { λ a log caller query answer answered. answered };
 
     ghost short = { λ a. short_of a.entries.items a.entries.len a.entries.cap a.entries.ok a.entries.small };
 

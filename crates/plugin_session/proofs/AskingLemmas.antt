@@ -1,5 +1,5 @@
 -- The lines of a turn, asked one by one.
-use Rattle.std.proofs.Common.{◌≡◌, ℕ, ◌+◌, ◌≤◌, Bool, List, [], ◌∷◌, ◌++◌, length, refl, ap, sym, ◌∙◌, subst, arith}
+use Rattle.std.proofs.Common.{◌≡◌, ◌≢◌, ℕ, ◌+◌, ◌≤◌, Bool, List, [], ◌∷◌, ◌++◌, length, refl, ap, sym, ◌∙◌, subst, arith}
 use Rattle.std.specs.Prelude.{take}
 use Rattle.std.proofs.lemmas.List.{append_assoc, append-nil, take-take}
 use Rattle.xi_plain.specs.declared.reply.Reply.{Reply}
@@ -10,7 +10,7 @@ use Rattle.plugin_session.specs.declared.asking.Met.TheVariants.{All, Closed, No
 use Rattle.plugin_session.specs.declared.asking.Step.{Step}
 use Rattle.plugin_session.specs.declared.asking.Step.TheVariants.{Goes, Stops}
 use Rattle.plugin_session.specs.declared.noted.Noted.TheVariants.{Asked}
-use Rattle.plugin_session.specs.Call.{Call, answer_of, answers_of, line_ask}
+use Rattle.plugin_session.specs.Call.{Call, answer_in, answer_of, answers_of, line_ask}
 use Rattle.plugin_session.specs.Visit.{AreAsked}
 use Rattle.plugin_session.specs.Asking.{step_after, MetsEnd, WereAsked}
 use Rattle.plugin_session.proofs.CallLemmas.{answers_of-append}
@@ -18,6 +18,14 @@ use Rattle.plugin_session.proofs.CallLemmas.{answers_of-append}
 -- the call that asked a line
 abbrev pub line_call : ℕ → List ℕ → Reply → Call
 line_call at line given = record { at = at; noted = Asked (line_ask line) given }
+
+-- a text with something in it is one answer, and an empty one none
+pub in_some : (text : List ℕ) → text ≢ [] → answer_in text ≡ text ∷ []
+in_some [] some = absurd (some refl)
+in_some (char ∷ text) some = refl
+
+pub in_none : (text : List ℕ) → text ≡ [] → answer_in text ≡ []
+in_none text is = ap answer_in is
 
 -- the end that a step has
 abbrev met_in : Step → Met
@@ -74,9 +82,13 @@ next_kept kept next line reply.Closed is = absurd cc
 next_kept kept next line reply.NoMemory is = absurd cc
 
 -- which are one more at most
+in_small : (text : List ℕ) → length (answer_in text) ≤ 1
+in_small [] = omega arith
+in_small (char ∷ text) = omega arith
+
 pub next_small : (kept next : ℕ) (given : Reply) → step_after kept given ≡ Goes next → next ≤ kept + 1
-next_small kept next (reply.Taken text) is = let same : kept + 1 ≡ next = cc in omega (arith, same)
-next_small kept next (reply.Refused text) is = let same : kept + 1 ≡ next = cc in omega (arith, same)
+next_small kept next (reply.Taken text) is = let same : kept + length (answer_in text) ≡ next = cc in omega (arith, same, in_small text)
+next_small kept next (reply.Refused text) is = let same : kept + length (answer_in text) ≡ next = cc in omega (arith, same, in_small text)
 next_small kept next reply.SinkFault is = let same : kept ≡ next = cc in omega (arith, same)
 next_small kept next reply.Closed is = absurd cc
 next_small kept next reply.NoMemory is = absurd cc

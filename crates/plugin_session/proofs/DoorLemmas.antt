@@ -44,7 +44,7 @@ abbrev Adds : Bool → ℕ → List Entry → List Entry → Type 0
 Adds made caller before after =
     (more : List Entry) × (after ≡ before ++ more) × (length more ≡ (if made then 1 else 0)) × (entries_of caller more ≡ more)
 
-own_entry : (caller : ℕ) (entry : Entry) → entry.caller ≡ caller → entries_of caller (entry ∷ []) ≡ entry ∷ []
+pub own_entry : (caller : ℕ) (entry : Entry) → entry.caller ≡ caller → entries_of caller (entry ∷ []) ≡ entry ∷ []
 own_entry caller entry is =
     let own : (entry.caller == caller) ≡ true = grind (arith, nat_tests, is) in
     ap (λ b. if b then entry ∷ [] else []) own

@@ -175,5 +175,6 @@ over_is_whole caller visit visits (is, are) over =
     let port = port_of caller visits in (
       lacks_append (calls_of visits) visit.calls (visits_lack_none caller visits are is.0)
           (visit_lacks_none port.begun port.caller port.place port.answers visit.calls visit.turns visit.after is.1 (ap is_fair over)),
+      over,
       visit_over port.begun port.caller port.place port.answers visit.calls visit.turns visit.after is.1 over,
     )

@@ -1,20 +1,16 @@
 -- A DOOR TO AN OBJECT that its caller alone uses.
 use Rattle.std.proofs.Common.{ap, sym, ◌∙◌, subst}
 use Rattle.std.proofs.lemmas.List.{append_assoc, append-nil}
-use Rattle.std.specs.Prelude.{◌≡◌, ℕ, ◌<◌, List, [], ◌∷◌, ◌++◌, length}
+use Rattle.std.specs.Prelude.{◌≡◌, ℕ, ◌<◌, List, [], ◌∷◌, ◌++◌}
 use Rattle.std.specs.List.{AllByRecursion}
 use Rattle.xi_plain.specs.declared.entry.Entry.{Entry}
 use Rattle.xi_plain.specs.declared.ask.Ask.{Ask}
-use Rattle.xi_plain.specs.declared.ask.Query.{Query}
-use Rattle.xi_plain.specs.declared.reply.Answer.{Answer}
-use Rattle.plugin_session.specs.Call.{IsPluginAsk, SaysLength}
+use Rattle.plugin_session.specs.Call.{IsPluginAsk}
 
--- the caller is one of plugins, which may ask what plugins ask, and each answer says how long the journal is
-pub record IsReady {O : Type 0} (fits : O → ℕ → Ask → Type 0) (answers : O → List Entry → ℕ → Query → Answer → Type 0) (caller : ℕ) (object : O) : Type 0 where
+-- the caller is one of plugins, which may ask what plugins ask
+pub record IsReady {O : Type 0} (fits : O → ℕ → Ask → Type 0) (caller : ℕ) (object : O) : Type 0 where
   pub plugin : 0 < caller
   pub asks : (ask : Ask) → IsPluginAsk ask → fits object caller ask
-  pub lengths : (journal : List Entry) (asker : ℕ) (query : Query) (answer : Answer) → answers object journal asker query answer
-      → SaysLength (length journal) answer
 
 -- each new entry is the caller's
 abbrev pub OnlyAdds : ℕ → List Entry → List Entry → Type 0

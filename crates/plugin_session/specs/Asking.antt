@@ -1,5 +1,5 @@
 -- How the lines of a turn are asked, in two parts: the lines, and the end. Private functions alone speak of it.
-use Rattle.std.specs.Prelude.{◌≡◌, ℕ, ◌+◌, Bool, List, [], ◌++◌}
+use Rattle.std.specs.Prelude.{◌≡◌, ℕ, ◌+◌, Bool, List, [], ◌++◌, length}
 use Rattle.xi_plain.specs.declared.reply.Reply.{Reply}
 use Rattle.xi_plain.specs.declared.reply.Reply.TheVariants as reply
 use Rattle.plugin_session.specs.declared.after.After.{After}
@@ -8,13 +8,13 @@ use Rattle.plugin_session.specs.declared.asking.Met.{Met}
 use Rattle.plugin_session.specs.declared.asking.Met.TheVariants.{All, Closed, NoMemory}
 use Rattle.plugin_session.specs.declared.asking.Step.{Step}
 use Rattle.plugin_session.specs.declared.asking.Step.TheVariants.{Goes, Stops}
-use Rattle.plugin_session.specs.Call.{Call}
+use Rattle.plugin_session.specs.Call.{Call, answer_in}
 use Rattle.plugin_session.specs.Visit.{AreAsked, EndsShort}
 
 -- what a reply to a line comes to, where so many answers were kept before
 abbrev pub step_after : ℕ → Reply → Step
-step_after kept (reply.Taken text) = Goes (kept + 1)
-step_after kept (reply.Refused text) = Goes (kept + 1)
+step_after kept (reply.Taken text) = Goes (kept + length (answer_in text))
+step_after kept (reply.Refused text) = Goes (kept + length (answer_in text))
 step_after kept reply.SinkFault = Goes kept
 step_after kept reply.Closed = Stops Closed
 step_after kept reply.NoMemory = Stops NoMemory

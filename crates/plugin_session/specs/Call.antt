@@ -8,7 +8,6 @@ use Rattle.xi_plain.specs.declared.ask.Query.{Query}
 use Rattle.xi_plain.specs.declared.reply.Reply.{Reply}
 use Rattle.xi_plain.specs.declared.reply.Reply.TheVariants.{Taken, Refused}
 use Rattle.xi_plain.specs.declared.reply.Answer.{Answer}
-use Rattle.xi_plain.specs.declared.reply.Answer.TheVariants.{Notices, Nothing, NoMemory}
 use Rattle.xi_plain.specs.Reply.{has_entry}
 use Rattle.xi_plain.specs.Room.{Begins}
 use Rattle.xi_plain.specs.Journal.{entries_of}
@@ -22,12 +21,6 @@ IsPluginAsk (FrontLine line) = ⊥
 IsPluginAsk (PluginLine line) = Unit {0}
 IsPluginAsk PluginEnd = Unit {0}
 IsPluginAsk CloseDown = ⊥
-
--- the answer says how long the journal is, unless memory was wanting
-abbrev pub SaysLength : ℕ → Answer → Type 0
-SaysLength len (Notices lines next over) = next ≡ len
-SaysLength len (Nothing said) = said ≡ len
-SaysLength len NoMemory = Unit {0}
 
 -- a call, and how long the journal was when it was served
 pub record Call : Type 0 where
@@ -52,10 +45,16 @@ abbrev pub entries_at : List Entry → List Call → List Entry
 entries_at journal [] = []
 entries_at journal (call ∷ calls) = take (made call.noted) (drop call.at journal) ++ entries_at journal calls
 
--- the answers to the lines that were asked, in their order: to a line whose entry was not sent, and to one that was not served, there is none
+-- the answer that a text is: an empty one is none
+abbrev pub answer_in : List ℕ → List (List ℕ)
+answer_in [] = []
+answer_in (char ∷ text) = (char ∷ text) ∷ []
+
+-- the answers to the lines that were asked, in their order: there is none to a line without an id, to one whose entry was not sent, and to one
+-- that was not served
 abbrev pub answer_of : Noted → List (List ℕ)
-answer_of (Asked (PluginLine line) (Taken answer)) = answer ∷ []
-answer_of (Asked (PluginLine line) (Refused answer)) = answer ∷ []
+answer_of (Asked (PluginLine line) (Taken text)) = answer_in text
+answer_of (Asked (PluginLine line) (Refused text)) = answer_in text
 answer_of other = []
 
 abbrev pub answers_of : List Call → List (List ℕ)

@@ -210,8 +210,10 @@ abbrev pub IsDone : List Turned → Type 0
 IsDone [] = ⊥
 IsDone (turn ∷ turns) = turn.done ≡ true
 
--- TURNS ARE WHOLE where memory was wanting for no call, and the last turn was done, was given `shutdown`, or met `Closed`
+-- TURNS ARE WHOLE where memory was wanting for no call, the session did not end for want of it, and the last turn was done, was given
+-- `shutdown`, or met `Closed`
 abbrev pub IsWhole : List Visit → Type 0
 IsWhole [] = ⊥
 IsWhole (visit ∷ visits) =
-    AllByRecursion (λ call. lacks_memory call.noted ≡ false) (calls_of (visit ∷ visits)) × (IsDone visit.turns ⊎ SaysOver visit.calls)
+    AllByRecursion (λ call. lacks_memory call.noted ≡ false) (calls_of (visit ∷ visits)) × (visit.after ≡ after.Over)
+    × (IsDone visit.turns ⊎ SaysOver visit.calls)

@@ -12,9 +12,9 @@ pub struct AloneDoor<'a, O> {
 }
 
 impl<'a, O: Object> AloneDoor<'a, O> {
-    /// The caller's door, where it is one of plugins that may ask what plugins ask, and the object's answers say how long its journal is.
+    /// The caller's door, where it is one of plugins, which may ask what plugins ask.
     pub fn new(object: &'a mut O, caller: u32) -> AloneDoor<'a, O>
-        requires { IsReady O.fits O.answers caller object.old }
+        requires { IsReady O.fits caller object.old }
         ensures object { result.object.now ≡ object.old }
         ensures same_reference { result.object.ghost_name ≡ object.entry.ghost_name }
         ensures caller { result.caller ≡ caller }
@@ -40,7 +40,7 @@ impl<O: Object> Door for AloneDoor<'_, O> {
 
     ghost later = { λ d e. O.grown d.object.now e.object.now × (e.object.ghost_name ≡ d.object.ghost_name) × (e.caller ≡ d.caller) × OnlyAdds d.caller (O.journal d.object.now) (O.journal e.object.now) };
 
-    ghost ready = { λ d. IsReady O.fits O.answers d.caller d.object.now };
+    ghost ready = { λ d. IsReady O.fits d.caller d.object.now };
 
     ghost told = { λ d. None };
 

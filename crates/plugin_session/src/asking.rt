@@ -2,8 +2,9 @@
 ghost use Rattle.std.specs.Prelude.{ℕ, ◌≡◌, [], ◌∷◌, ◌+◌, ◌≤◌, ◌<◌, ◌++◌, length, take, drop, vec_len, List, true};
 ghost use Rattle.xi_plain.specs.declared.ask.Query.TheVariants.{Notices};
 ghost use Rattle.xi_plain.specs.declared.reply.Reply.{Reply};
+ghost use Rattle.xi_plain.specs.Reply.{SaysLength};
 ghost use Rattle.plugin_session.specs.declared.noted.Noted.TheVariants.{Asked, Looked};
-ghost use Rattle.plugin_session.specs.Call.{Call, IsPluginAsk, Used, SaysLength, answer_of, answers_of, line_ask};
+ghost use Rattle.plugin_session.specs.Call.{Call, IsPluginAsk, Used, answer_in, answer_of, answers_of, line_ask};
 ghost use Rattle.plugin_session.specs.Visit.{AreAsked, EndsShort, after_end};
 ghost use Rattle.plugin_session.specs.declared.asking.Met.TheVariants.{All};
 ghost use Rattle.plugin_session.specs.declared.after.After.TheVariants as after;
@@ -55,6 +56,21 @@ pub(crate) fn look<D: Door>(door: &mut D, place: u64) -> Answer
     door.look(Query::Notices { from: place })
 }
 
+// Puts a text, where it is an answer, at the end of those so far, in the place of a line that was asked. So many are kept then.
+fn put_text(text: Text, lines: &mut Vec<Text>, kept: usize) -> usize
+    requires { kept < vec_len lines.old }
+    ensures count { result ≡ kept + length (answer_in text) }
+    ensures kept { take (kept + length (answer_in text)) lines.new.items ≡ take kept lines.old.items ++ answer_in text }
+    ensures rest { (at : ℕ) → kept < at → drop at lines.new.items ≡ drop at lines.old.items }
+    ensures length { vec_len lines.new ≡ vec_len lines.old }
+{
+    if text.is_empty() {
+        return kept;
+    }
+    lines[kept] = text;
+    kept + 1
+}
+
 // Puts an answer, where there is one, at the end of those so far, in the place of a line that was asked.
 fn put(reply: Reply, lines: &mut Vec<Text>, kept: usize) -> Step
     requires { kept < vec_len lines.old }
@@ -64,10 +80,7 @@ fn put(reply: Reply, lines: &mut Vec<Text>, kept: usize) -> Step
     ensures length { vec_len lines.new ≡ vec_len lines.old }
 {
     match reply {
-        Reply::Taken(answer) | Reply::Refused(answer) => {
-            lines[kept] = answer;
-            Step::Goes(kept + 1)
-        }
+        Reply::Taken(text) | Reply::Refused(text) => Step::Goes(put_text(text, lines, kept)),
         Reply::SinkFault => Step::Goes(kept),
         Reply::Closed => Step::Stops(Met::Closed),
         Reply::NoMemory => Step::Stops(Met::NoMemory),

@@ -1,8 +1,9 @@
 ghost use Rattle.std.specs.Prelude.{◌≡◌, [], ◌∷◌, ◌≤◌, length};
+ghost use Rattle.xi_plain.specs.Reply.{SaysLength};
 ghost use Rattle.xi_plain.specs.Room.{asked_from};
 ghost use Rattle.plugin_session.specs.declared.noted.Noted.TheVariants.{Asked, Looked};
 ghost use Rattle.plugin_session.specs.Turn.{TellsMore};
-ghost use Rattle.plugin_session.specs.Call.{IsPluginAsk, IsAskServed, IsLookServed, SaysLength};
+ghost use Rattle.plugin_session.specs.Call.{IsPluginAsk, IsAskServed, IsLookServed};
 
 use xi_plain::{Answer, Ask, Query, Reply};
 

@@ -171,7 +171,7 @@ fn visit_later<D: Door, P: Plugin>(
 }
 
 // Whether the session is over.
-fn is_last(after: After) -> bool
+pub(crate) fn is_last(after: After) -> bool
     ensures { result ≡ not (goes_on after) }
 {
     matches!(after, After::Over | After::NoMemory)

@@ -4,8 +4,6 @@ use Rattle.plugin_session.proofs.alone.AloneDoorDoor.enter.Goals as goal
 pub returns-clause-ready : goal.returns-clause-ready
 returns-clause-ready g c =
     let object = c.args.self.now.object.now in
-    let grown = c.serve.ensures.grown in
-    ready_on g.O.Object.fits g.O.Object.answers c.args.self.now.caller object c.serve.new.self
-    (λ ask fits. g.met.O.Object.fits_on object c.serve.new.self c.args.self.now.caller ask grown fits)
-    (λ log who query answer answered. g.met.O.Object.answers_on object c.serve.new.self log who query answer grown answered)
+    ready_on g.O.Object.fits c.args.self.now.caller object c.serve.new.self
+    (λ ask fits. g.met.O.Object.fits_on object c.serve.new.self c.args.self.now.caller ask c.serve.ensures.grown fits)
     c.requires.ready
