@@ -68,8 +68,30 @@ fn blanks_and_ends_of_lines_stay_with_their_piece(rt: HostRuntime) {
     let alloc = rt.alloc();
     assert!(rt; end_at(alloc, "abcde\n", 5, &[6]));
     assert!(rt; end_at(alloc, "abcde \n", 5, &[7]));
-    assert!(rt; end_at(alloc, "abcde\r\n", 5, &[5, 7]));
+    assert!(rt; end_at(alloc, "abcde\r\n", 5, &[7]));
     assert!(rt; end_at(alloc, "aa     bb", 3, &[7, 9]));
+}
+
+#[test]
+fn a_return_before_a_feed_takes_no_room(rt: HostRuntime) {
+    let alloc = rt.alloc();
+    assert!(rt; end_at(alloc, "ab   \r\n", 2, &[7]));
+    assert!(rt; end_at(alloc, "a\t\r\n", 1, &[4]));
+    assert!(rt; end_at(alloc, "\u{4E2D}\r\n", 2, &[3]));
+    assert!(rt; end_at(alloc, "\u{4E2D}\r\n", 1, &[1, 3]));
+    assert!(rt; end_at(alloc, "\r\n", 1, &[2]));
+    assert!(rt; end_at(alloc, "abc\r\n", 0, &[5]));
+}
+
+#[test]
+fn another_return_is_a_column(rt: HostRuntime) {
+    let alloc = rt.alloc();
+    assert!(rt; end_at(alloc, "abcde\r", 5, &[5, 6]));
+    assert!(rt; end_at(alloc, "\r", 1, &[1]));
+    assert!(rt; end_at(alloc, "ab\rcd\n", 5, &[6]));
+    assert!(rt; end_at(alloc, "ab\rcd\n", 4, &[4, 6]));
+    assert!(rt; end_at(alloc, "\r \n", 1, &[3]));
+    assert!(rt; end_at(alloc, "\r\r\n", 1, &[3]));
 }
 
 #[test]
