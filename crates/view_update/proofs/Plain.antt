@@ -6,16 +6,17 @@ use Rattle.std.proofs.lemmas.Int.{ints}
 use Rattle.json.proofs.Printed.Utf8.{IsUtf8-are_ascii}
 use Rattle.plain_screen.specs.declared.screen.Triple.{Triple}
 use Rattle.plain_screen.specs.declared.screen.Line.{Line}
+use Rattle.plain_screen.specs.declared.screen.Restyle.{Restyle}
 use Rattle.plain_screen.specs.declared.screen.Op.{Op}
-use Rattle.plain_screen.specs.declared.screen.Op.TheVariants.{Copy, Skip, Invalidate, Ins}
+use Rattle.plain_screen.specs.declared.screen.Op.TheVariants.{Copy, Skip, Invalidate, Ins, Update as Restyling}
 use Rattle.plain_screen.specs.declared.screen.Update.{Update}
 use Rattle.serde_json.specs.Data.{Data, number, object, Members, no_members, member, depth, members_depth}
 use Rattle.serde_json.specs.Find.{of_integer}
 use Rattle.serde_json.specs.Written.{has_float, members_have_float}
 use Rattle.json_rpc.specs.Proper.{IsProper, HasProper, IsBelow}
 use Rattle.json_rpc.specs.Response.{text_data, note_data}
-use Rattle.view_update.specs.Written.{count_data, list_data, triple_items, after_ln, line_data, op_members, op_data, ops_data, update_params}
-use Rattle.view_update.specs.Fair.{IsCount, IsLn, IsFairTriple, IsFairLine, IsFairOp, IsFairUpdate}
+use Rattle.view_update.specs.Written.{count_data, list_data, triple_items, after_ln, line_data, restyle_data, op_members, op_data, ops_data, update_params}
+use Rattle.view_update.specs.Fair.{IsCount, IsLn, IsFairTriple, IsFairLine, IsFairRestyle, IsFairOp, IsFairUpdate}
 use Rattle.view_update.specs.Notes.{scroll_params, alert_params}
 
 -- a proper value with no float, nested at most n deep
@@ -106,6 +107,12 @@ IsPlain-line line h =
     (ArePlain-member 1 (codes "cursor") _ _ (IsUtf8-are_ascii _ refl) (IsBelow-after_ln (codes "cursor") line.ln styles (refl, (refl, (refl, tt)))) (IsPlain-numbers line.cursor h.cursor)
     (ArePlain-after_ln 1 line.ln styles h.ln (refl, (refl, tt)) (ArePlain-styles line h)))
 
+IsPlain-restyle : (restyle : Restyle) → IsFairRestyle restyle → IsPlain 2 (restyle_data restyle)
+IsPlain-restyle restyle h =
+    IsPlain-object 1 _
+    (ArePlain-member 1 (codes "cursor") _ _ (IsUtf8-are_ascii _ refl) (refl, tt) (IsPlain-numbers restyle.cursor h.cursor)
+    (ArePlain-member 1 (codes "styles") _ _ (IsUtf8-are_ascii _ refl) tt (IsPlain-list 0 _ (EachPlain-triples 0 restyle.styles h.styles)) (ArePlain-none 1)))
+
 ArePlain-op_members : (n k : ℕ) (op : List ℕ) → IsCount k → IsUtf8 op → ArePlain n (op_members k op)
 ArePlain-op_members n k op h name =
     ArePlain-member n (codes "n") _ _ (IsUtf8-are_ascii _ refl) (refl, tt) (IsPlain-count n k h)
@@ -119,6 +126,12 @@ IsPlain-op (Ins lines) h =
     IsPlain-object 3 _
     (ArePlain-member 3 (codes "lines") _ _ (IsUtf8-are_ascii _ refl) (refl, (refl, tt)) (IsPlain-list 2 _ (EachPlain-map 2 line_data IsFairLine IsPlain-line lines h.1))
     (ArePlain-op_members 3 (length lines) (codes "ins") h.0 (IsUtf8-are_ascii _ refl)))
+IsPlain-op (Restyling ln restyles) h =
+    let members : Members = op_members (length restyles) (codes "update") in
+    IsPlain-object 3 _
+    (ArePlain-member 3 (codes "lines") _ _ (IsUtf8-are_ascii _ refl) (IsBelow-after_ln (codes "lines") ln members (refl, (refl, (refl, tt))))
+    (IsPlain-list 2 _ (EachPlain-map 2 restyle_data IsFairRestyle IsPlain-restyle restyles h.2))
+    (ArePlain-after_ln 3 ln members h.1 (refl, (refl, tt)) (ArePlain-op_members 3 (length restyles) (codes "update") h.0 (IsUtf8-are_ascii _ refl))))
 
 IsPlain-ops : (update : Update) → AllByRecursion IsFairOp update.ops → IsPlain 6 (ops_data update)
 IsPlain-ops update all =

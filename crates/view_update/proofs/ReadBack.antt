@@ -7,17 +7,18 @@ use Rattle.std.proofs.lemmas.Str.{chars-encodes}
 use Rattle.std.proofs.lemmas.Int.{ints}
 use Rattle.plain_screen.specs.declared.screen.Triple.{Triple}
 use Rattle.plain_screen.specs.declared.screen.Line.{Line}
+use Rattle.plain_screen.specs.declared.screen.Restyle.{Restyle}
 use Rattle.plain_screen.specs.declared.screen.Op.{Op}
-use Rattle.plain_screen.specs.declared.screen.Op.TheVariants.{Copy, Skip, Invalidate, Ins}
+use Rattle.plain_screen.specs.declared.screen.Op.TheVariants.{Copy, Skip, Invalidate, Ins, Update as Restyling}
 use Rattle.plain_screen.specs.declared.screen.Update.{Update}
 use Rattle.serde_json.specs.Data.{Data, number}
 use Rattle.serde_json.specs.Find.{of_integer}
 use Rattle.serde_json.specs.View.{items_of}
 use Rattle.json_rpc.specs.Response.{text_data}
-use Rattle.view_update.specs.Written.{count_data, triple_items, line_data, op_data, ops_data, update_params}
-use Rattle.view_update.specs.Reading.{as_count, as_offset, as_chars, each_as, triple_from, triples_of, line_from, read_line_data, ins_from, read_op, update_from, read_update, view_update_from, read_params, scroll_from, read_scroll}
+use Rattle.view_update.specs.Written.{count_data, triple_items, line_data, restyle_data, op_data, ops_data, update_params}
+use Rattle.view_update.specs.Reading.{as_count, as_offset, as_chars, each_as, triple_from, triples_of, line_from, read_line_data, restyle_from, read_restyle_data, ins_from, restyling_from, read_op, update_from, read_update, view_update_from, read_params, scroll_from, read_scroll}
 use Rattle.view_update.specs.Notes.{scroll_params}
-use Rattle.view_update.specs.Fair.{IsCount, IsFairTriple, IsFairLine, IsFairOp, IsFairUpdate}
+use Rattle.view_update.specs.Fair.{IsCount, IsFairTriple, IsFairLine, IsFairRestyle, IsFairOp, IsFairUpdate}
 
 pub as_chars-text_data : (text : List ℕ) → all_scalars text ≡ true → as_chars (text_data text) ≡ Some text
 as_chars-text_data text h = ap Some (chars-encodes text h)
@@ -57,6 +58,15 @@ read_line_data-parts cursor (Some n) styles text h k m =
 pub read_line_data-line_data : (line : Line) → IsFairLine line → read_line_data (line_data line) ≡ Some line
 read_line_data-line_data line h = read_line_data-parts line.cursor line.ln line.styles line.text h.cursor h.styles h.text
 
+pub read_restyle_data-restyle_data : (restyle : Restyle) → IsFairRestyle restyle → read_restyle_data (restyle_data restyle) ≡ Some restyle
+read_restyle_data-restyle_data restyle h =
+    let cs = each_as-counts restyle.cursor h.cursor in let ss = triples_of-triple_items restyle.styles h.styles in
+    λ i. restyle_from (cs i) (ss i)
+
+restyling_from-restyles : (ln : Option ℕ) (restyles : List Restyle) →
+    restyling_from (Some (length restyles)) (Some ln) (Some restyles) ≡ Some (Restyling ln restyles)
+restyling_from-restyles ln restyles = ap (λ b. cond b (Some (Restyling ln restyles)) None) (eq-eqb (length restyles) (length restyles) refl)
+
 ins_from-lines : (lines : List Line) → ins_from (Some (length lines)) (Some lines) ≡ Some (Ins lines)
 ins_from-lines lines = ap (λ b. cond b (Some (Ins lines)) None) (eq-eqb (length lines) (length lines) refl)
 
@@ -68,6 +78,14 @@ read_op-op_data (Invalidate n) h = refl
 read_op-op_data (Ins lines) h =
     ap (ins_from (Some (length lines))) (each_as-map read_line_data line_data IsFairLine read_line_data-line_data lines h.1)
     ∙ ins_from-lines lines
+read_op-op_data (Restyling None restyles) h =
+    ap (restyling_from (Some (length restyles)) (Some None))
+    (each_as-map read_restyle_data restyle_data IsFairRestyle read_restyle_data-restyle_data restyles h.2)
+    ∙ restyling_from-restyles None restyles
+read_op-op_data (Restyling (Some ln) restyles) h =
+    ap (restyling_from (Some (length restyles)) (Some (Some ln)))
+    (each_as-map read_restyle_data restyle_data IsFairRestyle read_restyle_data-restyle_data restyles h.2)
+    ∙ restyling_from-restyles (Some ln) restyles
 
 pub read_update-ops_data : (update : Update) → AllByRecursion IsFairOp update.ops → read_update (ops_data update) ≡ Some update
 read_update-ops_data update all = ap (λ ops. update_from ops (Some update.pristine)) (each_as-map read_op op_data IsFairOp read_op-op_data update.ops all)

@@ -4,8 +4,9 @@ use Rattle.std.specs.List.{AllByRecursion}
 use Rattle.std.specs.Str.{all_scalars}
 use Rattle.plain_screen.specs.declared.screen.Triple.{Triple}
 use Rattle.plain_screen.specs.declared.screen.Line.{Line}
+use Rattle.plain_screen.specs.declared.screen.Restyle.{Restyle}
 use Rattle.plain_screen.specs.declared.screen.Op.{Op}
-use Rattle.plain_screen.specs.declared.screen.Op.TheVariants.{Copy, Skip, Invalidate, Ins}
+use Rattle.plain_screen.specs.declared.screen.Op.TheVariants.{Copy, Skip, Invalidate, Ins, Update as Restyling}
 use Rattle.plain_screen.specs.declared.screen.Update.{Update}
 
 -- a number of at most 64 bits
@@ -31,12 +32,18 @@ pub record IsFairLine (line : Line) : Type 0 where
   pub cursor : AllByRecursion IsCount line.cursor
   pub styles : AllByRecursion IsFairTriple line.styles
 
+-- what becomes of an old line: the offsets of its carets and its styles are in range
+pub record IsFairRestyle (restyle : Restyle) : Type 0 where
+  pub cursor : AllByRecursion IsCount restyle.cursor
+  pub styles : AllByRecursion IsFairTriple restyle.styles
+
 -- an operation: its numbers are in range, and its lines are fair and no more than 64 bits count
 abbrev pub IsFairOp : Op → Type 0
 IsFairOp (Copy n ln) = IsCount n × IsLn ln
 IsFairOp (Skip n) = IsCount n
 IsFairOp (Invalidate n) = IsCount n
 IsFairOp (Ins lines) = IsCount (length lines) × AllByRecursion IsFairLine lines
+IsFairOp (Restyling ln restyles) = IsCount (length restyles) × IsLn ln × AllByRecursion IsFairRestyle restyles
 
 -- an update, and the id of the view that it is for: a text of Unicode
 pub record IsFairUpdate (view : List ℕ) (update : Update) : Type 0 where

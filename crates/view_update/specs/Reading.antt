@@ -6,8 +6,9 @@ use Rattle.xi_plain.specs.declared.command.Id.{Id}
 use Rattle.xi_plain.specs.declared.command.Id.TheVariants.{NoId, Num, Word}
 use Rattle.plain_screen.specs.declared.screen.Triple.{Triple}
 use Rattle.plain_screen.specs.declared.screen.Line.{Line}
+use Rattle.plain_screen.specs.declared.screen.Restyle.{Restyle}
 use Rattle.plain_screen.specs.declared.screen.Op.{Op}
-use Rattle.plain_screen.specs.declared.screen.Op.TheVariants.{Copy, Skip, Invalidate, Ins}
+use Rattle.plain_screen.specs.declared.screen.Op.TheVariants.{Copy, Skip, Invalidate, Ins, Update as Restyling}
 use Rattle.plain_screen.specs.declared.screen.Update.{Update}
 use Rattle.serde_json.specs.Data.{Data, Items, no_items, item}
 use Rattle.serde_json.specs.Find.{get, as_bool, as_number, as_str, as_array, as_u64, as_i64}
@@ -75,6 +76,15 @@ read_line_data d =
     line_from (member_as (list_as as_count) (codes "cursor") d) (if_present as_count (get (codes "ln") d))
     (member_as as_styles (codes "styles") d) (member_as as_chars (codes "text") d)
 
+-- what becomes of an old line, of these members
+abbrev pub restyle_from : Option (List ℕ) → Option (List Triple) → Option Restyle
+restyle_from (Some cursor) (Some styles) = Some (record { cursor = cursor; styles = styles })
+restyle_from cursor styles = None
+
+-- what becomes of an old line, as a value says
+abbrev pub read_restyle_data : Data → Option Restyle
+read_restyle_data d = restyle_from (member_as (list_as as_count) (codes "cursor") d) (member_as as_styles (codes "styles") d)
+
 -- ---- an operation
 
 -- a copy of so many lines, which are numbered from `ln` on where it is there
@@ -87,6 +97,11 @@ abbrev pub ins_from : Option ℕ → Option (List Line) → Option Op
 ins_from (Some n) (Some lines) = if n == length lines then Some (Ins lines) else None
 ins_from n lines = None
 
+-- an update of old lines, of which there have to be n, and which are numbered from `ln` on where it is there
+abbrev pub restyling_from : Option ℕ → Option (Option ℕ) → Option (List Restyle) → Option Op
+restyling_from (Some n) (Some ln) (Some restyles) = if n == length restyles then Some (Restyling ln restyles) else None
+restyling_from n ln restyles = None
+
 -- the operation of this name, of n lines, with the other members of the value
 abbrev pub op_named : List ℕ → Option ℕ → Data → Option Op
 op_named name n d =
@@ -94,7 +109,9 @@ op_named name n d =
     else (if bytes_eq name (codes "skip") then option_map Skip n
     else (if bytes_eq name (codes "invalidate") then option_map Invalidate n
     else (if bytes_eq name (codes "ins") then ins_from n (member_as (list_as read_line_data) (codes "lines") d)
-    else None)))
+    else (if bytes_eq name (codes "update")
+    then restyling_from n (if_present as_count (get (codes "ln") d)) (member_as (list_as read_restyle_data) (codes "lines") d)
+    else None))))
 
 -- the operation that a value is
 abbrev pub read_op : Data → Option Op

@@ -2,8 +2,9 @@
 use Rattle.std.specs.Prelude.{ℕ, List, [], ◌∷◌, length, map, codes, Option, Some, None}
 use Rattle.plain_screen.specs.declared.screen.Triple.{Triple}
 use Rattle.plain_screen.specs.declared.screen.Line.{Line}
+use Rattle.plain_screen.specs.declared.screen.Restyle.{Restyle}
 use Rattle.plain_screen.specs.declared.screen.Op.{Op}
-use Rattle.plain_screen.specs.declared.screen.Op.TheVariants.{Copy, Skip, Invalidate, Ins}
+use Rattle.plain_screen.specs.declared.screen.Op.TheVariants.{Copy, Skip, Invalidate, Ins, Update as Restyling}
 use Rattle.plain_screen.specs.declared.screen.Update.{Update}
 use Rattle.serde_json.specs.Data.{Data, unsigned, boolean, number, string, array, object, Members, no_members, member}
 use Rattle.serde_json.specs.Find.{of_integer}
@@ -36,6 +37,12 @@ line_data line =
     (member (codes "styles") (list_data (triple_items line.styles))
     (member (codes "text") (text_data line.text) no_members))))
 
+-- what becomes of an old line: the offsets of its carets, and its styles
+abbrev pub restyle_data : Restyle → Data
+restyle_data restyle =
+    object (member (codes "cursor") (list_data (map count_data restyle.cursor))
+    (member (codes "styles") (list_data (triple_items restyle.styles)) no_members))
+
 -- the last two members of an operation: of how many lines it speaks, and its name, in ASCII
 abbrev pub op_members : ℕ → List ℕ → Members
 op_members n op = member (codes "n") (count_data n) (member (codes "op") (string op) no_members)
@@ -46,6 +53,8 @@ op_data (Copy n ln) = object (after_ln ln (op_members n (codes "copy")))
 op_data (Skip n) = object (op_members n (codes "skip"))
 op_data (Invalidate n) = object (op_members n (codes "invalidate"))
 op_data (Ins lines) = object (member (codes "lines") (list_data (map line_data lines)) (op_members (length lines) (codes "ins")))
+op_data (Restyling ln restyles) =
+    object (member (codes "lines") (list_data (map restyle_data restyles)) (after_ln ln (op_members (length restyles) (codes "update"))))
 
 -- the operations, and whether the text is the one loaded or last saved
 abbrev pub ops_data : Update → Data

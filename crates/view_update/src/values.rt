@@ -4,12 +4,12 @@ ghost use Rattle.std.specs.Str.{all_scalars};
 ghost use Rattle.serde_json.specs.View.{view, members_view};
 ghost use Rattle.json_rpc.specs.Proper.{IsBelow};
 ghost use Rattle.json_rpc.specs.Response.{text_data};
-ghost use Rattle.view_update.specs.Written.{count_data, list_data, triple_items, op_members, after_ln, line_data, op_data, ops_data, update_params};
+ghost use Rattle.view_update.specs.Written.{count_data, list_data, triple_items, op_members, after_ln, line_data, restyle_data, op_data, ops_data, update_params};
 ghost use Rattle.view_update.specs.Notes.{scroll_params, alert_params};
-ghost use Rattle.view_update.specs.Fair.{IsCount, IsLn, IsFairTriple, IsFairLine, IsFairOp, IsFairUpdate};
+ghost use Rattle.view_update.specs.Fair.{IsCount, IsLn, IsFairTriple, IsFairLine, IsFairRestyle, IsFairOp, IsFairUpdate};
 
 use json_rpc::{pair, text_value};
-use plain_screen::{Line, Op, Triple, Update};
+use plain_screen::{Line, Op, Restyle, Triple, Update};
 use plain_text::{NoMemory, Text};
 use serde_json::{Map, Value, json, put};
 use std::alloc::Global;
@@ -70,6 +70,7 @@ fn op_value(alloc: Global, op: &Op) -> Result<Value, NoMemory>
         Op::Skip { n } => Ok(Value::Object(op_members(alloc, *n, "skip")?)),
         Op::Invalidate { n } => Ok(Value::Object(op_members(alloc, *n, "invalidate")?)),
         Op::Ins { lines } => ins_value(alloc, lines.as_slice()),
+        Op::Update { ln, lines } => restyling_value(alloc, *ln, lines.as_slice()),
     }
 }
 
@@ -88,6 +89,16 @@ fn ins_value(alloc: Global, lines: &[Line]) -> Result<Value, NoMemory>
 {
     let mut members = op_members(alloc, lines.len() as u64, "ins")?;
     put(&mut members, alloc, "lines", lines_value(alloc, lines)?)?;
+    Ok(Value::Object(members))
+}
+
+fn restyling_value(alloc: Global, ln: Option<u64>, lines: &[Restyle]) -> Result<Value, NoMemory>
+    ensures value { IfOk result (λ value. view value ≡ op_data (Op.Update ln lines.now)) }
+    ensures fair { IfOk result (λ _. IsFairOp (Op.Update ln lines.now)) }
+{
+    let mut members = op_members(alloc, lines.len() as u64, "update")?;
+    put_ln(&mut members, alloc, ln)?;
+    put(&mut members, alloc, "lines", restyles_value(alloc, lines)?)?;
     Ok(Value::Object(members))
 }
 
@@ -123,6 +134,29 @@ fn line_value(alloc: Global, line: &Line) -> Result<Value, NoMemory>
     put(&mut members, alloc, "styles", styles)?;
     put_ln(&mut members, alloc, line.ln)?;
     let cursor = offsets_value(alloc, line.cursor.as_slice())?;
+    put(&mut members, alloc, "cursor", cursor)?;
+    Ok(Value::Object(members))
+}
+
+fn restyles_value(alloc: Global, restyles: &[Restyle]) -> Result<Value, NoMemory>
+    ensures value { IfOk result (λ value. view value ≡ list_data (map restyle_data restyles.now)) }
+    ensures fair { IfOk result (λ _. AllByRecursion IsFairRestyle restyles.now) }
+{
+    let mut made = Vec::with_capacity(alloc, restyles.len())?;
+    for restyle in restyles {
+        made.push(restyle_value(alloc, restyle)?)?;
+    }
+    Ok(Value::Array(made))
+}
+
+fn restyle_value(alloc: Global, restyle: &Restyle) -> Result<Value, NoMemory>
+    ensures value { IfOk result (λ value. view value ≡ restyle_data restyle.now) }
+    ensures fair { IfOk result (λ _. IsFairRestyle restyle.now) }
+{
+    let mut members = Map::new(alloc);
+    let styles = styles_value(alloc, restyle.styles.as_slice())?;
+    put(&mut members, alloc, "styles", styles)?;
+    let cursor = offsets_value(alloc, restyle.cursor.as_slice())?;
     put(&mut members, alloc, "cursor", cursor)?;
     Ok(Value::Object(members))
 }
