@@ -5,6 +5,7 @@ input are commands, and a line of keys alone types no LF.
     printf 'one\\ntwo' | python3 examples/front_end.py CORE             prints the screen, with the caret as | and what is selected in brackets
     printf 'one\\ntwo' | python3 examples/front_end.py CORE 40          wraps the lines at 40 columns
     printf 'one\\ntwo' | python3 examples/front_end.py CORE --script    prints the session, as a script of protocol_cases
+    python3 -m doctest examples/front_end.py                          takes updates made by hand, with operations that the core does not send yet
 """
 import json, queue, re, subprocess, sys, threading
 
@@ -20,7 +21,6 @@ KEYS = {
 }
 KEY = re.compile("(" + "|".join(map(re.escape, KEYS)) + ")")
 
-core = subprocess.Popen([sys.argv[1], "alone"], stdin=subprocess.PIPE, stdout=subprocess.PIPE)
 sent, got, screen, answers = [], [], [], queue.Queue()
 
 
@@ -34,21 +34,37 @@ def request(method, params):
     return answer["result"]
 
 
-def copied(lines, ln):
-    """The lines that a `copy` takes over: where it has an `ln`, those that have a number are numbered from it on."""
+def taken(lines, ln):
+    """Old lines that an operation takes over: where it has an `ln`, those that have a number are numbered from it on."""
     for line in lines:
         if line is not None and "ln" in line and ln is not None: line, ln = {**line, "ln": ln}, ln + 1
         yield line
 
 
+def restyled(lines, restyles):
+    """Old lines with new carets and styles; one that is not valid stays so."""
+    return [line and {**line, **restyle} for line, restyle in zip(lines, restyles)]
+
+
 def after(old, ops):
-    """The screen after an update: None is a line that is not valid."""
+    """The screen after an update: None is a line that is not valid.
+
+    >>> line = lambda text, ln, *cursor: {"cursor": [*cursor], "ln": ln, "styles": [], "text": text}
+    >>> old = [line("a|b", 1, 2), line("cd", 2), None, line("e", 4), line("f", 5)]
+    >>> ops = [{"lines": [{"cursor": [], "styles": []}, {"cursor": [1], "styles": [0, 2, 0]}, {"cursor": [], "styles": []}], "ln": 7, "n": 3, "op": "update"}]
+    >>> ops += [{"n": 1, "op": "skip"}, {"ln": 9, "n": 1, "op": "copy"}, {"n": 1, "op": "invalidate"}, {"lines": [line("g", 11)], "n": 1, "op": "ins"}]
+    >>> [it and (it["ln"], it["text"], it["cursor"], it["styles"]) for it in after(old, ops)]
+    [(7, 'a|b', [], []), (8, 'cd', [1], [0, 2, 0]), None, (9, 'f', [], []), None, (11, 'g', [], [])]
+    >>> after([line("a", 1, 0), None], [{"lines": [{"cursor": [1], "styles": []}], "n": 1, "op": "update"}])
+    [{'cursor': [1], 'ln': 1, 'styles': [], 'text': 'a'}]
+    """
     new, at = [], 0
     for op in ops:
         if op["op"] == "ins": new += op["lines"]
         if op["op"] == "invalidate": new += [None] * op["n"]
-        if op["op"] == "copy": new += copied(old[at : at + op["n"]], op.get("ln"))
-        if op["op"] in ("copy", "skip"): at += op["n"]
+        if op["op"] == "copy": new += taken(old[at : at + op["n"]], op.get("ln"))
+        if op["op"] == "update": new += taken(restyled(old[at : at + op["n"]], op["lines"]), op.get("ln"))
+        if op["op"] in ("copy", "update", "skip"): at += op["n"]
     return new
 
 
@@ -72,19 +88,26 @@ def read():
     answers.put(None)
 
 
-threading.Thread(target=read, daemon=True).start()
-for width in filter(str.isdigit, sys.argv[2:]): request("modify_user_config", {"domain": "general", "changes": {"wrap_width": int(width)}})
-view, clipboard = request("new_view", {}), ""
-for line in sys.stdin:
-    typed = [part for part in KEY.split(line) if part]
-    if typed[0] in KEYS and all(part in KEYS for part in typed[:-1]) and typed[-1] == "\n": typed.pop()
-    for part in typed:
-        method = KEYS.get(part, "insert")
-        chars = clipboard if method == "paste" else part
-        members = {"params": {"chars": chars}} if method in ("insert", "paste") else {}
-        result = request("edit", {"view_id": view, "method": method, **members})
-        if method in ("copy", "cut"): clipboard = result
-core.stdin.close()
-while answers.get() is not None: pass
-for line in [] if "--script" in sys.argv else screen: print(f"{line.get('ln', ''):4}  {shown(line)}" if line else "      -")
-for line, lines in zip(sent, got if "--script" in sys.argv else []): print("> " + line, *("< " + it for it in lines), sep="\n")
+def main():
+    """Types the input, and prints the screen then, or the session."""
+    global core
+    core = subprocess.Popen([sys.argv[1], "alone"], stdin=subprocess.PIPE, stdout=subprocess.PIPE)
+    threading.Thread(target=read, daemon=True).start()
+    for width in filter(str.isdigit, sys.argv[2:]): request("modify_user_config", {"domain": "general", "changes": {"wrap_width": int(width)}})
+    view, clipboard = request("new_view", {}), ""
+    for line in sys.stdin:
+        typed = [part for part in KEY.split(line) if part]
+        if typed[0] in KEYS and all(part in KEYS for part in typed[:-1]) and typed[-1] == "\n": typed.pop()
+        for part in typed:
+            method = KEYS.get(part, "insert")
+            chars = clipboard if method == "paste" else part
+            members = {"params": {"chars": chars}} if method in ("insert", "paste") else {}
+            result = request("edit", {"view_id": view, "method": method, **members})
+            if method in ("copy", "cut"): clipboard = result
+    core.stdin.close()
+    while answers.get() is not None: pass
+    for line in [] if "--script" in sys.argv else screen: print(f"{line.get('ln', ''):4}  {shown(line)}" if line else "      -")
+    for line, lines in zip(sent, got if "--script" in sys.argv else []): print("> " + line, *("< " + it for it in lines), sep="\n")
+
+
+if __name__ == "__main__": main()
