@@ -4,7 +4,7 @@ use Rattle.std.specs.Prelude.{if◌then◌else◌, not}
 use Rattle.std.proofs.lemmas.List.{drop-drop}
 use Rattle.plain_screen.specs.declared.screen.Line.{Line}
 use Rattle.plain_screen.specs.declared.screen.Op.{Op}
-use Rattle.plain_screen.specs.declared.screen.Op.TheVariants.{Copy, Skip, Invalidate, Ins}
+use Rattle.plain_screen.specs.declared.screen.Op.TheVariants.{Copy, Skip, Invalidate, Ins, Update}
 use Rattle.plain_screen.specs.Plan.{onto_ops}
 use Rattle.plain_screen.proofs.callers.PlanLemmas.{plan_from, plan_from-line}
 use Rattle.doc_layout.specs.declared.asked.Asked.{Asked}
@@ -31,11 +31,13 @@ onto_ops-other true line other (Copy n ln ∷ ops) = refl
 onto_ops-other true line other (Skip n ∷ ops) = refl
 onto_ops-other true line other (Invalidate n ∷ ops) = refl
 onto_ops-other true line other (Ins lines ∷ ops) = refl
+onto_ops-other true line other (Update ln restyles ∷ ops) = refl
 onto_ops-other false line other [] = refl
 onto_ops-other false line other (Copy n ln ∷ ops) = refl
 onto_ops-other false line other (Skip n ∷ ops) = refl
 onto_ops-other false line other (Invalidate n ∷ ops) = refl
 onto_ops-other false line other (Ins lines ∷ ops) = refl
+onto_ops-other false line other (Update ln restyles ∷ ops) = refl
 
 module _ (asked : Asked) where
   abbrev plan_at : ℕ → List Line → List Op
