@@ -86,6 +86,7 @@ fn updated(alloc: Global, update: Option<&Update>) -> anyhow::Result<String> {
             Op::Skip { n } => write!(said, " skip {n}")?,
             Op::Invalidate { n } => write!(said, " invalidate {n}")?,
             Op::Ins { lines } => write!(said, " ins {}", lines.len())?,
+            Op::Update { ln: _, lines } => write!(said, " update {}", lines.len())?,
         }
     }
     Ok(said)

@@ -1,7 +1,7 @@
 //! Texts, and copies of plain values.
 
 use plain_edits::{Added, Delta, El, UnitDelta};
-use plain_screen::{Line, Op, Triple, Update};
+use plain_screen::{Line, Op, Restyle, Triple, Update};
 use plain_text::{List, NoMemory, Region, Run, Sel, Text, TryClone};
 use std::alloc::Global;
 use xi_plain::{Act, Command, EditAct, Entry, Id, Notice, ShelfNote};
@@ -160,6 +160,17 @@ fn line(alloc: Global) -> Result<Line, NoMemory> {
     })
 }
 
+fn restyling(alloc: Global) -> Result<Op, NoMemory> {
+    let Line {
+        text: _,
+        ln,
+        cursor,
+        styles,
+    } = line(alloc)?;
+    let lines = one(alloc, Restyle { cursor, styles })?;
+    Ok(Op::Update { ln, lines })
+}
+
 fn insertion(alloc: Global) -> Result<Op, NoMemory> {
     let lines = one(alloc, line(alloc)?)?;
     Ok(Op::Ins { lines })
@@ -170,6 +181,7 @@ fn update(alloc: Global) -> Result<Update, NoMemory> {
     let mut ops = two(alloc, Op::Copy { n: 1, ln: Some(2) }, insertion(alloc)?)?;
     ops.push(Op::Skip { n: 3 })?;
     ops.push(Op::Invalidate { n: 4 })?;
+    ops.push(restyling(alloc)?)?;
     Ok(Update {
         ops,
         pristine: true,

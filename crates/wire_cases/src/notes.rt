@@ -1,6 +1,6 @@
 //! Notes to a front end, as they are printed.
 
-use plain_screen::{Line, Op, Triple, Update};
+use plain_screen::{Line, Op, Restyle, Triple, Update};
 use plain_text::{List, NoMemory, Text};
 use std::alloc::Global;
 use view_update::{write_alert, write_scroll, write_update};
@@ -81,7 +81,40 @@ fn two_lines(alloc: Global) -> Result<List<Line>, NoMemory> {
     Ok(lines)
 }
 
-/// An update with each operation.
+/// An update of one old line, with these carets and styles.
+fn restyling(
+    alloc: Global,
+    ln: Option<u64>,
+    cursor: &[u64],
+    styles: &[Triple],
+) -> Result<Op, NoMemory> {
+    let Line {
+        text: _,
+        ln,
+        cursor,
+        styles,
+    } = line(alloc, "", ln, cursor, styles)?;
+    let mut lines = List::new(alloc);
+    lines.push(Restyle { cursor, styles })?;
+    Ok(Op::Update { ln, lines })
+}
+
+/// Updates of old lines: with a number, without one, and of none.
+fn restylings(alloc: Global) -> Result<Update, NoMemory> {
+    let mut ops = List::new(alloc);
+    ops.push(restyling(alloc, Some(18446744073709551615), &[1, 4], &STYLES)?)?;
+    ops.push(restyling(alloc, None, &[], &[])?)?;
+    ops.push(Op::Update {
+        ln: Some(1),
+        lines: List::new(alloc),
+    })?;
+    Ok(Update {
+        ops,
+        pristine: true,
+    })
+}
+
+/// An update with each operation that counts or adds lines.
 fn each_operation(alloc: Global) -> Result<Update, NoMemory> {
     let lines = two_lines(alloc)?;
     let mut ops = counts(alloc)?;
@@ -123,6 +156,9 @@ const OPENING: &str =
 const EACH_OPERATION: &str =
     "{\"method\":\"update\",\"params\":{\"update\":{\"ops\":[{\"ln\":7,\"n\":4,\"op\":\"copy\"},{\"n\":1,\"op\":\"copy\"},{\"n\":2,\"op\":\"skip\"},{\"n\":18446744073709551615,\"op\":\"invalidate\"},{\"lines\":[{\"cursor\":[1,4],\"ln\":12,\"styles\":[0,3,0,-2,1,18446744073709551615,-9223372036854775808,0,2],\"text\":\"abc\\n\"},{\"cursor\":[],\"styles\":[],\"text\":\"d\"}],\"n\":2,\"op\":\"ins\"},{\"lines\":[],\"n\":0,\"op\":\"ins\"}],\"pristine\":false},\"view_id\":\"view-id-20\"}}\n";
 
+const RESTYLINGS: &str =
+    "{\"method\":\"update\",\"params\":{\"update\":{\"ops\":[{\"lines\":[{\"cursor\":[1,4],\"styles\":[0,3,0,-2,1,18446744073709551615,-9223372036854775808,0,2]}],\"ln\":18446744073709551615,\"n\":1,\"op\":\"update\"},{\"lines\":[{\"cursor\":[],\"styles\":[]}],\"n\":1,\"op\":\"update\"},{\"lines\":[],\"ln\":1,\"n\":0,\"op\":\"update\"}],\"pristine\":true},\"view_id\":\"view-id-1\"}}\n";
+
 const ODD_TEXT: &str =
     "{\"method\":\"update\",\"params\":{\"update\":{\"ops\":[{\"lines\":[{\"cursor\":[],\"styles\":[],\"text\":\"\\\"\\\\/\\t\\u0001\\u001f\u{7f}\u{e9}\u{2028}\u{1f600}\\r\\n\"}],\"n\":1,\"op\":\"ins\"}],\"pristine\":false},\"view_id\":\"\\n\"}}\n";
 
@@ -137,6 +173,7 @@ fn an_update_is_its_note(rt: HostRuntime) {
         )
     );
     assert!(rt; is(written(alloc, "\n", odd_text(alloc)), ODD_TEXT));
+    assert!(rt; is(written(alloc, "view-id-1", restylings(alloc)), RESTYLINGS));
 }
 
 /// The line of a scroll in a view.
