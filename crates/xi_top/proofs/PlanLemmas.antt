@@ -5,7 +5,7 @@ use Rattle.std.proofs.lemmas.Bool.{cases_eq}
 use Rattle.plain_text.specs.declared.run.Run.{Run}
 use Rattle.plain_screen.specs.declared.screen.Line.{Line}
 use Rattle.plain_screen.specs.declared.screen.Op.{Op}
-use Rattle.plain_screen.specs.declared.screen.Op.TheVariants.{Copy, Skip, Invalidate, Ins}
+use Rattle.plain_screen.specs.declared.screen.Op.TheVariants.{Copy, Skip, Invalidate, Ins, Update}
 use Rattle.plain_screen.specs.Plan.{is_within, onto_ops}
 use Rattle.plain_screen.proofs.callers.PlanLemmas.{plan_from, plan_from-line}
 use Rattle.xi_top.specs.Shows.{SendsWithin}
@@ -23,6 +23,7 @@ module _ (window request : Run) where
   sends-onto_left index (Copy n ln ∷ ops) sends = sends
   sends-onto_left index (Skip n ∷ ops) sends = sends
   sends-onto_left index (Ins lines ∷ ops) sends = sends
+  sends-onto_left index (Update ln restyles ∷ ops) sends = sends
   sends-onto_left index (Invalidate n ∷ ops) sends =
       let At : ℕ → Type 0 = λ at. Sends at ops in
       let same : index + 1 + n ≡ index + (1 + n) = omega arith in
@@ -41,6 +42,7 @@ module _ (window request : Run) where
   sends-onto_sent index line (Copy n ln ∷ ops) here sends = (one_line index 0 here (λ at above below. absurd (omega arith)), sends)
   sends-onto_sent index line (Skip n ∷ ops) here sends = (one_line index 0 here (λ at above below. absurd (omega arith)), sends)
   sends-onto_sent index line (Invalidate n ∷ ops) here sends = (one_line index 0 here (λ at above below. absurd (omega arith)), sends)
+  sends-onto_sent index line (Update ln restyles ∷ ops) here sends = (one_line index 0 here (λ at above below. absurd (omega arith)), sends)
   sends-onto_sent index line (Ins lines ∷ ops) here sends =
       let At : ℕ → Type 0 = λ at. Sends at ops in
       let same : index + 1 + length lines ≡ index + suc (length lines) = omega arith in

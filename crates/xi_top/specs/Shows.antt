@@ -7,7 +7,7 @@ use Rattle.xi_plain.specs.declared.command.Act.{Act}
 use Rattle.xi_plain.specs.declared.command.Act.TheVariants.{Edit}
 use Rattle.xi_plain.specs.declared.entry.Entry.{Entry}
 use Rattle.plain_screen.specs.declared.screen.Op.{Op}
-use Rattle.plain_screen.specs.declared.screen.Op.TheVariants.{Copy, Skip, Invalidate, Ins}
+use Rattle.plain_screen.specs.declared.screen.Op.TheVariants.{Copy, Skip, Invalidate, Ins, Update}
 use Rattle.plain_screen.specs.Screen.{Screen, screen_after}
 use Rattle.plain_screen.specs.Plan.{is_within}
 use Rattle.plain_text.specs.InputLines.{lines_of}
@@ -59,7 +59,7 @@ IsShown request document (Some screen) = IsScreenOf screen document.window reque
 abbrev pub AreShown : (List ℕ → Run) → List OpenView → List ℕ → Type 0
 AreShown requests views bytes = AllByRecursion (λ view. IsShown (requests view.id) view.document (rebuilt view.id bytes)) views
 
--- each line that the operations send is in the window or requested; the first of them makes the line with this index
+-- each line that the operations send or restyle is in the window or requested; the first of them makes the line with this index
 abbrev pub SendsWithin : Run → Run → ℕ → List Op → Type 0
 SendsWithin window request index [] = ⊤
 SendsWithin window request index (Copy n ln ∷ ops) = SendsWithin window request (index + n) ops
@@ -68,6 +68,9 @@ SendsWithin window request index (Invalidate n ∷ ops) = SendsWithin window req
 SendsWithin window request index (Ins lines ∷ ops) =
     ((at : ℕ) → index ≤ at → at < index + length lines → (is_within window at || is_within request at) ≡ true) ×
     SendsWithin window request (index + length lines) ops
+SendsWithin window request index (Update ln restyles ∷ ops) =
+    ((at : ℕ) → index ≤ at → at < index + length restyles → (is_within window at || is_within request at) ≡ true) ×
+    SendsWithin window request (index + length restyles) ops
 
 -- the operations are of a view that is open, and send lines of its window or of the request alone
 abbrev pub SendsTo : Run → Option OpenView → List Op → Type 0
