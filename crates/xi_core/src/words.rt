@@ -1,4 +1,7 @@
-ghost use Rattle.std.specs.Prelude.{◌≡◌, ◌↔◌, [], ◌∷◌, IsTrue, IfOk, codes};
+ghost use Rattle.std.specs.Prelude.{◌≡◌, ◌↔◌, [], ◌∷◌, map, IsTrue, IfOk, codes};
+ghost use Rattle.std.specs.IntoIter.{into_iter_items};
+ghost use Rattle.xi_top.specs.Run.{IsAlone};
+ghost use Rattle.xi_core.specs.Words.{word_of};
 
 use plain_text::{List, NoMemory, Text, Texts};
 use std::alloc::Global;
@@ -10,54 +13,8 @@ use std::{env, io};
 pub enum Invocation {
     Help,
     Version,
-    Run,
-}
-
-/// The words after the program's name; one empty word where they can't be read as text.
-pub fn words<R: Env + AllocGlobal>(rt: &R) -> Result<Texts, NoMemory> {
-    match env::args(rt) {
-        Ok(args) => after_name(rt.alloc(), args),
-        Err(error) if error.kind() == io::ErrorKind::InvalidData => one_empty(rt.alloc()),
-        Err(_) => Err(NoMemory),
-    }
-}
-
-fn after_name(alloc: Global, args: env::Args) -> Result<Texts, NoMemory> {
-    let mut words = List::new(alloc);
-    for word in args.skip(1) {
-        words.push(Text::from_string(word))?;
-    }
-    Ok(words)
-}
-
-fn one_empty(alloc: Global) -> Result<Texts, NoMemory>
-    ensures { IfOk result (λ words. words ≡ [] ∷ []) }
-{
-    let mut words = List::new(alloc);
-    words.push(Text::new(alloc))?;
-    Ok(words)
-}
-
-/// Whether the only word asks for help or for the version.
-pub fn invocation_of(words: &[Text]) -> Invocation
-    ensures help { (result ≡ Invocation.Help) ↔ (words.now ≡ codes "--help" ∷ []) }
-    ensures version { (result ≡ Invocation.Version) ↔ (words.now ≡ codes "--version" ∷ []) }
-{
-    match words {
-        [word] if is_help(word) => Invocation::Help,
-        [word] if is_version(word) => Invocation::Version,
-        _ => Invocation::Run,
-    }
-}
-
-fn is_help(word: &Text) -> bool
-    ensures { IsTrue result ↔ (word.now ≡ codes "--help") }
-{
-    word.as_str() == "--help"
-}
-
-fn is_version(word: &Text) -> bool
-    ensures { IsTrue result ↔ (word.now ≡ codes "--version") }
-{
-    word.as_str() == "--version"
+    /// The run that serves one front end.
+    Alone,
+    /// The words are no form.
+    Misused,
 }

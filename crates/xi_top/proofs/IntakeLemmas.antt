@@ -1,5 +1,5 @@
 -- Lemmas on a run between two bytes: how each step goes on or stops.
-use Rattle.std.proofs.Common.{◌≡◌, ◌≢◌, ℕ, ◌+◌, ◌<◌, ◌≤◌, true, false, List, [], ◌∷◌, ◌++◌, length, take, map, Option, Some, None, Ok, Err, refl, ap, sym, ◌∙◌, subst, append_assoc, append-nil, length-append, arith}
+use Rattle.std.proofs.Common.{◌≡◌, ◌≢◌, ℕ, ◌+◌, ◌<◌, ◌≤◌, inl, inr, true, false, List, [], ◌∷◌, ◌++◌, length, take, map, Option, Some, None, Ok, Err, refl, ap, sym, ◌∙◌, subst, append_assoc, append-nil, length-append, arith}
 use Rattle.std.proofs.lemmas.List.{map-append}
 use Rattle.std.specs.Prelude.{IfSome, Bool, ◌&&◌, unwrap_or}
 use Rattle.std.specs.Result.{IsErrAnd}
@@ -24,10 +24,10 @@ use Rattle.xi_top.proofs.ClosedLemmas.{shows_closed}
 use Rattle.xi_top.specs.declared.ending.Ending.{Ending}
 use Rattle.xi_top.specs.declared.ending.Ending.TheVariants.{NoMemory, SourceFault, SinkFault, TooMany, TooLong}
 use Rattle.xi_top.specs.Ending.{Outcome, most_lines, too_long}
-use Rattle.xi_top.specs.Lines.{IsShort, IsNextTooLong, AreSoMany, HoldsLines}
+use Rattle.xi_top.specs.Lines.{IsShort, IsWithinLimit, IsNextTooLong, AreSoMany, HoldsLines}
 use Rattle.xi_top.specs.Written.{AreSent, IsSent, IsCutOff}
 use Rattle.xi_top.specs.Run.{HasFailedIf}
-use Rattle.xi_top.specs.InnerRun.{Begun, IsWhole, HasTaken, IsNoSourceFault, Stops, GoesOn, Finishes, Enters, FailsBy, KeepsBytes, Counts, EndsLine, HasNoEnd}
+use Rattle.xi_top.specs.InnerRun.{Begun, IsSmall, IsWhole, HasTaken, IsNoSourceFault, Stops, GoesOn, Finishes, Enters, FailsBy, KeepsBytes, Counts, EndsLine, HasNoEnd}
 use Rattle.xi_top.proofs.LineLemmas.{ended_lines-more, unended-more, ended_lines-begin, unended-begin, lines_of-first, concat-first}
 
 -- how a run ended where `?` handed on why
@@ -94,11 +94,34 @@ sent_whole tell start core whole = record {
   shows = shows_closed core whole.serving;
 }
 
+-- what holds of some lines and of one more
+each_append : (P : List ℕ → Type 0) (lines : List (List ℕ)) (line : List ℕ) → AllByRecursion P lines → P line → AllByRecursion P (lines ++ line ∷ [])
+each_append P [] line each here = (here, tt)
+each_append P (first ∷ lines) line each here = (each.0, each_append P lines line each.1 here)
+
+-- lines are within the limits of a run
+AreWithin : List (List ℕ) → Type 0
+AreWithin lines = AllByRecursion IsWithinLimit lines × (length lines ≤ most_lines)
+
+-- so is one line more, where there were fewer
+within_more : (lines : List (List ℕ)) (line : List ℕ) → AllByRecursion IsWithinLimit lines → length lines < most_lines → IsWithinLimit line →
+    AreWithin (lines ++ line ∷ [])
+unfolding AreWithin
+within_more lines line each fewer here = (each_append IsWithinLimit lines line each here, omega (arith, fewer, length-append lines (line ∷ [])))
+
+-- a line that LF ends is within the limit, where it is not too long with it
+within_ended : (begun bytes line : List ℕ) → EndsLine bytes → line ≡ begun ++ bytes → length line ≤ too_long → IsWithinLimit line
+within_ended begun bytes line (front, is, none) same fits =
+    let whole : line ≡ (begun ++ front) ++ 10 ∷ [] = same ∙ ap (λ b. begun ++ b) is ∙ sym (append_assoc begun front (10 ∷ [])) in
+    (begun ++ front, omega (arith, fits, ap length whole, length-append (begun ++ front) (10 ∷ [])), inr whole)
+
 -- the first lines of an input, where these bytes were taken after the last LF of them, or more lines
 holds_first : (outcome : Outcome) (front extra left : List ℕ) (asked : List Command) → asked ≡ map command_of (ended_lines [] front) →
+    AreWithin (ended_lines [] front) →
     AreSoMany outcome (front ++ extra) left (ended_lines [] front) (ended_lines (unended [] front) (extra ++ left) ++ last_line (unended [] (front ++ (extra ++ left)))) →
     HoldsLines outcome (front ++ extra) left asked
-holds_first outcome front extra left asked is many = record {
+unfolding AreWithin
+holds_first outcome front extra left asked is within many = record {
   lines = ended_lines [] front;
   later = ended_lines (unended [] front) (extra ++ left) ++ last_line (unended [] (front ++ (extra ++ left)));
   rest = unended [] front ++ extra;
@@ -106,9 +129,15 @@ holds_first outcome front extra left asked is many = record {
   whole = concat-first front extra;
   asked = is;
   so_many = many;
+  within = within.0;
+  few = within.1;
 }
 
 module _ {K : Type 0} (tell : K → SinkState) (start : SinkState) where
+  within_taken : (taken : List ℕ) (core : Core K) (begun : Begun) → HasTaken tell start taken core begun → AreWithin (ended_lines [] taken)
+  unfolding AreWithin
+  within_taken taken core begun at = (at.within, omega (arith, at.few, at.counted))
+
   whole_sent : (old new : Core K) (command : Command) → IsWhole tell start old → AddsSentEntry tell old new command → IsWhole tell start new
   whole_sent old new command whole adds =
       let At : List ℕ → Type 0 = λ gained. Gains start.held (tell (sink_of new)).held gained in
@@ -146,7 +175,7 @@ module _ {K : Type 0} (tell : K → SinkState) (start : SinkState) where
         room = at.whole.serving.room;
         lines =
             holds_front (Err SourceFault) taken left (journal_of core) (legal_open (journal_of core) at.whole.serving.sent)
-            (subst At (append-nil taken) (holds_first (Err SourceFault) taken [] left (commands (journal_of core)) at.asked many));
+            (subst At (append-nil taken) (holds_first (Err SourceFault) taken [] left (commands (journal_of core)) at.asked (within_taken taken core begun at) many));
         written = sent_whole tell start core at.whole;
         legal = legal_open (journal_of core) at.whole.serving.sent;
         stays = at.whole.stays;
@@ -154,12 +183,12 @@ module _ {K : Type 0} (tell : K → SinkState) (start : SinkState) where
 
   -- there was no memory, and these are the first lines
   stops_memory : (front extra left : List ℕ) (core : Core K) → IsWhole tell start core → commands (journal_of core) ≡ map command_of (ended_lines [] front) →
-      Stops tell start (front ++ extra) left core (Err NoMemory)
-  stops_memory front extra left core whole asked = record {
+      AreWithin (ended_lines [] front) → Stops tell start (front ++ extra) left core (Err NoMemory)
+  stops_memory front extra left core whole asked within = record {
     room = whole.serving.room;
     lines =
         holds_front (Err NoMemory) (front ++ extra) left (journal_of core) (legal_open (journal_of core) whole.serving.sent)
-        (holds_first (Err NoMemory) front extra left (commands (journal_of core)) asked tt);
+        (holds_first (Err NoMemory) front extra left (commands (journal_of core)) asked within tt);
     written = sent_whole tell start core whole;
     legal = legal_open (journal_of core) whole.serving.sent;
     stays = whole.stays;
@@ -208,25 +237,32 @@ module _ {K : Type 0} (tell : K → SinkState) (start : SinkState) where
     one_more : ended_lines [] (taken ++ bytes) ≡ ended_lines [] taken ++ line ∷ []
     one_more = ended_lines-more taken bytes ends ∙ ap (λ l. ended_lines [] taken ++ l ∷ []) same_line
 
+    here_within : length line ≤ too_long → IsWithinLimit line
+    here_within fits = within_ended begun.bytes bytes line ends is fits
+
+    within_one_more : length line ≤ too_long → begun.count < most_lines → AreWithin (ended_lines [] (taken ++ bytes))
+    within_one_more fits fewer =
+        subst AreWithin (sym one_more) (within_more (ended_lines [] taken) line at.within (omega (arith, fewer, at.counted)) (here_within fits))
+
     -- it was not taken
-    pub stops_line : (ending : Ending) → FailsBy tell old new (command_of line) ending → (left : List ℕ) →
-        Stops tell start (taken ++ bytes) left new (Err ending)
-    stops_line SinkFault (n, adds) left =
+    pub stops_line : (ending : Ending) → length line ≤ too_long → begun.count < most_lines → FailsBy tell old new (command_of line) ending →
+        (left : List ℕ) → Stops tell start (taken ++ bytes) left new (Err ending)
+    stops_line SinkFault fits fewer (n, adds) left =
         let At : List ℕ → Type 0 = λ all. HoldsLines (Err SinkFault) all left (commands (journal_of new)) in
         let asked : commands (journal_of new) ≡ map command_of (ended_lines [] (taken ++ bytes)) =
         commands_push (journal_of old) (journal_of new) line (ended_lines [] taken) false at.asked adds.entry ∙ ap (map command_of) (sym one_more) in
         stops_sink (taken ++ bytes) left line old new n at.whole adds
-        (subst At (append-nil (taken ++ bytes)) (holds_first (Err SinkFault) (taken ++ bytes) [] left (commands (journal_of new)) asked tt))
-    stops_line NoMemory same left =
-        stops_memory taken bytes left new (whole_same old new at.whole same) (ap commands same.journal ∙ at.asked)
-    stops_line SourceFault fails left = absurd fails
-    stops_line TooMany fails left = absurd fails
-    stops_line TooLong fails left = absurd fails
+        (subst At (append-nil (taken ++ bytes)) (holds_first (Err SinkFault) (taken ++ bytes) [] left (commands (journal_of new)) asked (within_one_more fits fewer) tt))
+    stops_line NoMemory fits fewer same left =
+        stops_memory taken bytes left new (whole_same old new at.whole same) (ap commands same.journal ∙ at.asked) (within_taken taken old begun at)
+    stops_line SourceFault fits fewer fails left = absurd fails
+    stops_line TooMany fits fewer fails left = absurd fails
+    stops_line TooLong fits fewer fails left = absurd fails
 
     -- or it was
-    pub takes_line : (next : Begun) → length line ≤ too_long → AddsSentEntry tell old new (command_of line) → next.bytes ≡ [] →
-        next.count ≡ begun.count + 1 → HasTaken tell start (taken ++ bytes) new next
-    takes_line next fits adds none one =
+    pub takes_line : (next : Begun) → length line ≤ too_long → begun.count < most_lines → AddsSentEntry tell old new (command_of line) →
+        next.bytes ≡ [] → next.count ≡ begun.count + 1 → HasTaken tell start (taken ++ bytes) new next
+    takes_line next fits fewer adds none one =
         let count : length (ended_lines [] (taken ++ bytes)) ≡ length (ended_lines [] taken) + 1 =
         ap length one_more ∙ length-append (ended_lines [] taken) (line ∷ []) in
         record {
@@ -235,18 +271,16 @@ module _ {K : Type 0} (tell : K → SinkState) (start : SinkState) where
               commands_push (journal_of old) (journal_of new) line (ended_lines [] taken) true at.asked adds.entry ∙
               ap (map command_of) (sym one_more);
           rest = none ∙ sym (unended-more taken bytes ends);
-          short = subst (AllByRecursion IsShort) (sym one_more) (each_append (ended_lines [] taken) at.short fits);
+          short = subst (AllByRecursion IsShort) (sym one_more) (each_append IsShort (ended_lines [] taken) line at.short fits);
+          within = subst (AllByRecursion IsWithinLimit) (sym one_more) (each_append IsWithinLimit (ended_lines [] taken) line at.within (here_within fits));
           counted = omega (arith, one, count, at.counted);
+          few = omega (arith, one, fewer);
         }
-      where
-        each_append : (lines : List (List ℕ)) → AllByRecursion IsShort lines → IsShort line → AllByRecursion IsShort (lines ++ line ∷ [])
-        each_append [] each here = (here, tt)
-        each_append (l ∷ lines) each here = (each.0, each_append lines each.1 here)
 
   -- there was no memory for its bytes
   pub stops_no_room : (taken bytes : List ℕ) (core : Core K) (begun : Begun) → HasTaken tell start taken core begun → (left : List ℕ) →
       Stops tell start (taken ++ bytes) left core (Err NoMemory)
-  stops_no_room taken bytes core begun at left = stops_memory taken bytes left core at.whole at.asked
+  stops_no_room taken bytes core begun at left = stops_memory taken bytes left core at.whole at.asked (within_taken taken core begun at)
 
   -- a line is too long: these first bytes of it have no LF
   stops_too_long : (taken bytes more left : List ℕ) (core : Core K) (begun : Begun) → HasTaken tell start taken core begun → HasNoEnd bytes →
@@ -265,7 +299,7 @@ module _ {K : Type 0} (tell : K → SinkState) (start : SinkState) where
         room = at.whole.serving.room;
         lines =
             holds_front (Err TooLong) (taken ++ (bytes ++ more)) left (journal_of core) (legal_open (journal_of core) at.whole.serving.sent)
-            (holds_first (Err TooLong) taken (bytes ++ more) left (commands (journal_of core)) at.asked next);
+            (holds_first (Err TooLong) taken (bytes ++ more) left (commands (journal_of core)) at.asked (within_taken taken core begun at) next);
         written = sent_whole tell start core at.whole;
         legal = legal_open (journal_of core) at.whole.serving.sent;
         stays = at.whole.stays;
@@ -295,7 +329,7 @@ module _ {K : Type 0} (tell : K → SinkState) (start : SinkState) where
         room = at.whole.serving.room;
         lines =
             holds_front (Err TooMany) taken left (journal_of core) (legal_open (journal_of core) at.whole.serving.sent)
-            (subst At (append-nil taken) (holds_first (Err TooMany) taken [] left (commands (journal_of core)) at.asked (sym at.counted ∙ full)));
+            (subst At (append-nil taken) (holds_first (Err TooMany) taken [] left (commands (journal_of core)) at.asked (within_taken taken core begun at) (sym at.counted ∙ full)));
         written = sent_whole tell start core at.whole;
         legal = legal_open (journal_of core) at.whole.serving.sent;
         stays = at.whole.stays;
@@ -320,7 +354,9 @@ module _ {K : Type 0} (tell : K → SinkState) (start : SinkState) where
         asked = at.asked ∙ ap (map command_of) (sym same);
         rest = kept.joined ∙ ap (λ b. b ++ bytes) at.rest ∙ sym (unended-begin taken bytes none);
         short = subst (AllByRecursion IsShort) (sym same) at.short;
+        within = subst (AllByRecursion IsWithinLimit) (sym same) at.within;
         counted = kept.count ∙ at.counted ∙ ap length (sym same);
+        few = omega (arith, at.few, kept.count);
       }
   goes_begin taken bytes core begun next (Err NoMemory) none at kept = (tt, λ left. stops_no_room taken bytes core begun at left)
   goes_begin taken bytes core begun next (Err TooLong) none at kept =
@@ -361,6 +397,8 @@ module _ {K : Type 0} (tell : K → SinkState) (start : SinkState) where
           whole = ap (λ t. t ++ later) held.whole ∙ append_assoc (concat held.lines) held.rest later;
           asked = held.asked;
           so_many = many_later ending taken later left held.lines held.later inside held.so_many;
+          within = held.within;
+          few = held.few;
         };
         written = stops.written;
         legal = stops.legal;
@@ -378,9 +416,10 @@ module _ {K : Type 0} (tell : K → SinkState) (start : SinkState) where
 
   -- ---- the input's end
 
-  holds_all : (outcome : Outcome) (taken : List ℕ) (asked : List Command) → asked ≡ map command_of (lines_of taken) → AreSoMany outcome taken [] (lines_of taken) [] →
-      HoldsLines outcome taken [] asked
-  holds_all outcome taken asked is many = record {
+  holds_all : (outcome : Outcome) (taken : List ℕ) (asked : List Command) → asked ≡ map command_of (lines_of taken) → AreWithin (lines_of taken) →
+      AreSoMany outcome taken [] (lines_of taken) [] → HoldsLines outcome taken [] asked
+  unfolding AreWithin
+  holds_all outcome taken asked is within many = record {
     lines = lines_of taken;
     later = [];
     rest = [];
@@ -388,15 +427,17 @@ module _ {K : Type 0} (tell : K → SinkState) (start : SinkState) where
     whole = sym (append-nil (concat (lines_of taken)) ∙ concat-lines_of taken);
     asked = is;
     so_many = many;
+    within = within.0;
+    few = within.1;
   }
 
   stops_finished : (taken : List ℕ) (core : Core K) → IsWhole tell start core → commands (journal_of core) ≡ map command_of (lines_of taken) →
-      Stops tell start taken [] core (Ok tt)
-  stops_finished taken core whole asked = record {
+      AreWithin (lines_of taken) → Stops tell start taken [] core (Ok tt)
+  stops_finished taken core whole asked within = record {
     room = whole.serving.room;
     lines =
         holds_front (Ok tt) taken [] (journal_of core) (legal_open (journal_of core) whole.serving.sent)
-        (holds_all (Ok tt) taken (commands (journal_of core)) asked (refl, refl));
+        (holds_all (Ok tt) taken (commands (journal_of core)) asked within (refl, refl));
     written = sent_whole tell start core whole;
     legal = legal_open (journal_of core) whole.serving.sent;
     stays = whole.stays;
@@ -407,7 +448,7 @@ module _ {K : Type 0} (tell : K → SinkState) (start : SinkState) where
   finish_empty taken core begun at none =
       let all : lines_of taken ≡ ended_lines [] taken =
       ap (λ rest. ended_lines [] taken ++ last_line rest) (sym at.rest ∙ none) ∙ append-nil (ended_lines [] taken) in
-      (tt, stops_finished taken core at.whole (at.asked ∙ ap (map command_of) (sym all)))
+      (tt, stops_finished taken core at.whole (at.asked ∙ ap (map command_of) (sym all)) (subst AreWithin (sym all) (within_taken taken core begun at)))
 
   last_line-some : (bytes : List ℕ) → bytes ≢ [] → last_line bytes ≡ bytes ∷ []
   last_line-some [] some = absurd (some refl)
@@ -418,30 +459,36 @@ module _ {K : Type 0} (tell : K → SinkState) (start : SinkState) where
   all_lines taken begun is some =
       ap (λ rest. ended_lines [] taken ++ last_line rest) (sym is) ∙ ap (λ last. ended_lines [] taken ++ last) (last_line-some begun.bytes some)
 
-  pub finish_last : (taken : List ℕ) (old new : Core K) (begun : Begun) (outcome : Outcome) → HasTaken tell start taken old begun → begun.bytes ≢ [] →
-      Enters tell old new (command_of begun.bytes) outcome → Finishes tell start taken new outcome
-  finish_last taken old new begun (Ok done) at some adds = (
+  within_all : (taken : List ℕ) (core : Core K) (begun : Begun) → HasTaken tell start taken core begun → IsSmall begun → begun.bytes ≢ [] →
+      AreWithin (lines_of taken)
+  within_all taken core begun at small some =
+      subst AreWithin (sym (all_lines taken begun at.rest some))
+      (within_more (ended_lines [] taken) begun.bytes at.within (omega (arith, small.few, at.counted)) (begun.bytes, small.room, inl refl))
+
+  pub finish_last : (taken : List ℕ) (old new : Core K) (begun : Begun) (outcome : Outcome) → HasTaken tell start taken old begun → IsSmall begun →
+      begun.bytes ≢ [] → Enters tell old new (command_of begun.bytes) outcome → Finishes tell start taken new outcome
+  finish_last taken old new begun (Ok done) at small some adds = (
     tt,
     stops_finished taken new (whole_sent old new (command_of begun.bytes) at.whole adds)
         (commands_push (journal_of old) (journal_of new) begun.bytes (ended_lines [] taken) true at.asked adds.entry ∙
-        ap (map command_of) (sym (all_lines taken begun at.rest some))),
+        ap (map command_of) (sym (all_lines taken begun at.rest some))) (within_all taken old begun at small some),
   )
-  finish_last taken old new begun (Err SinkFault) at some (n, adds) = (
+  finish_last taken old new begun (Err SinkFault) at small some (n, adds) = (
     tt,
     stops_sink taken [] begun.bytes old new n at.whole adds
         (holds_all (Err SinkFault) taken (commands (journal_of new))
         (commands_push (journal_of old) (journal_of new) begun.bytes (ended_lines [] taken) false at.asked adds.entry ∙
-        ap (map command_of) (sym (all_lines taken begun at.rest some))) tt),
+        ap (map command_of) (sym (all_lines taken begun at.rest some))) (within_all taken old begun at small some) tt),
   )
-  finish_last taken old new begun (Err NoMemory) at some same =
+  finish_last taken old new begun (Err NoMemory) at small some same =
       let At : List ℕ → Type 0 = λ bytes. Stops tell start bytes [] new (Err NoMemory) in (
         tt,
         subst At (append-nil taken)
-            (stops_memory taken [] [] new (whole_same old new at.whole same) (ap commands same.journal ∙ at.asked)),
+            (stops_memory taken [] [] new (whole_same old new at.whole same) (ap commands same.journal ∙ at.asked) (within_taken taken old begun at)),
       )
-  finish_last taken old new begun (Err SourceFault) at some fails = absurd fails
-  finish_last taken old new begun (Err TooMany) at some fails = absurd fails
-  finish_last taken old new begun (Err TooLong) at some fails = absurd fails
+  finish_last taken old new begun (Err SourceFault) at small some fails = absurd fails
+  finish_last taken old new begun (Err TooMany) at small some fails = absurd fails
+  finish_last taken old new begun (Err TooLong) at small some fails = absurd fails
 
 -- ---- the run's start and its source
 
@@ -455,7 +502,9 @@ at_first tell core begun serving empty none zero_of =
       asked = ap commands empty;
       rest = none;
       short = tt;
+      within = tt;
       counted = zero_of;
+      few = omega (arith, zero_of);
     }
 
 -- what fails to enter a line is not the source

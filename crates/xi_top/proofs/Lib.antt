@@ -16,5 +16,6 @@ pub mod LineLemmas
 pub mod IntakeLemmas
 pub mod CalmLemmas
 pub mod RunLemmas
+pub mod ReadLemmas
 pub mod RowLemmas
 pub mod ForCallers

@@ -1,67 +1,25 @@
--- What private functions say: where a run stands between two bytes, and how it stops.
-use Rattle.std.specs.Prelude.{◌≡◌, ℕ, ◌+◌, ◌*◌, ◌<◌, ◌≤◌, List, [], ◌∷◌, ◌++◌, length, map, IfSome, Ok, Err, ⊤}
+-- What private functions say: how a run goes on within the bytes of a read, and how it stops.
+use Rattle.std.specs.Prelude.{◌≡◌, ℕ, ◌+◌, ◌*◌, ◌<◌, ◌≤◌, List, [], ◌∷◌, ◌++◌, length, IfSome, Ok, Err, ⊤}
 use Rattle.std.specs.List.{AllByRecursion}
 use Rattle.xi_plain.specs.declared.command.Command.{Command}
-use Rattle.plain_text.specs.InputLines.{ended_lines, unended}
-use Rattle.front_wire.specs.Front.{command_of}
+use Rattle.outside.specs.Faults.{counted}
 use Rattle.outside.specs.Source.{SourceState, Gives}
-use Rattle.outside.specs.Sink.{SinkState, Gains}
+use Rattle.outside.specs.Sink.{SinkState}
 use Rattle.xi_top.specs.declared.session.Core.{Core}
-use Rattle.xi_plain.specs.Journal.{closing_entry, commands, front_entries, IsLegal}
-use Rattle.xi_top.specs.Session.{first_session, written}
-use Rattle.xi_top.specs.Core.{IsServing, HasRoom, AddsSentEntry, AddsUnsentEntry, ChangesNothing, journal_of, sink_of}
+use Rattle.xi_top.specs.Core.{IsServing, AddsSentEntry, AddsUnsentEntry, ChangesNothing, sink_of}
+use Rattle.xi_top.specs.declared.step.Run.{Run}
+use Rattle.xi_top.specs.declared.step.Stepped.{Stepped}
+use Rattle.xi_top.specs.declared.step.Stepped.TheVariants.{Goes, Ends}
 use Rattle.xi_top.specs.declared.ending.Ending.{Ending}
 use Rattle.xi_top.specs.declared.ending.Ending.TheVariants.{NoMemory, SourceFault, SinkFault, TooMany, TooLong}
-use Rattle.xi_top.specs.declared.feed.Intake.{Intake}
 use Rattle.xi_top.specs.Ending.{Outcome, most_lines, too_long}
-use Rattle.xi_top.specs.Lines.{IsShort, HoldsLines}
-use Rattle.xi_top.specs.Written.{IsWritten}
-use Rattle.xi_top.specs.Run.{HasFailedIf}
-
--- what stands after the last LF, and how many lines were taken
-pub record Begun : Type 0 where
-  pub bytes : List ℕ
-  pub count : ℕ
-
-abbrev pub begun_of : Intake → Begun
-begun_of intake = record { bytes = intake.begun.items; count = intake.taken }
-
--- the line that was begun is not too long, and fewer lines were taken than a run takes
-pub record IsSmall (begun : Begun) : Type 0 where
-  pub room : length begun.bytes < too_long
-  pub few : begun.count < most_lines
+use Rattle.xi_top.specs.Run.{Outside, HasFailedIf}
+pub use Rattle.xi_top.specs.Step.{Begun, begun_of, IsSmall, IsWhole, HasTaken, HasAnswered, IsNoSourceFault, Stops, Finishes, run_sink}
+use Rattle.xi_top.specs.InTime.{Moment, IsAnswered, AreMoments, IsLastRead}
 
 -- a number that rises with each byte that is taken
 abbrev pub weight : Begun → ℕ
 weight begun = 16_777_216 * begun.count + length begun.bytes
-
--- all entries were sent, and the sink gained their pieces
-pub record IsWhole {K : Type 0} (tell : K → SinkState) (start : SinkState) (core : Core K) : Type 0 where
-  pub serving : IsServing core
-  pub gains : Gains start.held (tell (sink_of core)).held (written first_session (journal_of core))
-  pub stays : start.faults ≤ (tell (sink_of core)).faults
-  pub failures : (tell (sink_of core)).failures ≡ start.failures
-
--- these bytes were taken: each line that LF ended in them is an entry, whose piece the sink gained, and none is too long
-pub record HasTaken {K : Type 0} (tell : K → SinkState) (start : SinkState) (taken : List ℕ) (core : Core K) (begun : Begun) : Type 0 where
-  pub whole : IsWhole tell start core
-  pub asked : commands (journal_of core) ≡ map command_of (ended_lines [] taken)
-  pub rest : begun.bytes ≡ unended [] taken
-  pub short : AllByRecursion IsShort (ended_lines [] taken)
-  pub counted : begun.count ≡ length (ended_lines [] taken)
-
--- it was not the source that failed
-abbrev pub IsNoSourceFault : Outcome → Type 0
-IsNoSourceFault (Err SourceFault) = ⊥
-IsNoSourceFault outcome = ⊤
-
--- the run stopped after these bytes were taken, where those are left
-pub record Stops {K : Type 0} (tell : K → SinkState) (start : SinkState) (taken left : List ℕ) (core : Core K) (outcome : Outcome) : Type 0 where
-  pub room : HasRoom core
-  pub lines : HoldsLines outcome taken left (commands (front_entries (journal_of core)))
-  pub written : IsWritten outcome start (tell (sink_of core)) (journal_of core ++ closing_entry ∷ [])
-  pub legal : IsLegal 0 (journal_of core ++ closing_entry ∷ [])
-  pub stays : start.faults ≤ (tell (sink_of core)).faults
 
 -- the run goes on after these bytes, or it stopped, whatever is left
 abbrev pub GoesOn : {K : Type 0} → (K → SinkState) → SinkState → List ℕ → Core K → Begun → Outcome → Type 0
@@ -69,15 +27,20 @@ GoesOn tell start taken core begun (Ok done) = HasTaken tell start taken core be
 GoesOn tell start taken core begun (Err ending) =
     IsNoSourceFault (Err ending) × ((more : List ℕ) → Stops tell start taken more core (Err ending))
 
--- the run stopped at its input's end, or just before
-abbrev pub Finishes : {K : Type 0} → (K → SinkState) → SinkState → List ℕ → Core K → Outcome → Type 0
-Finishes tell start taken core outcome = IsNoSourceFault outcome × Stops tell start taken [] core outcome
-
 -- a run that goes on takes lines, has room for the line that it began, and weighs more by the bytes that it took
 pub record IsFed {K : Type 0} (core : Core K) (old new : Begun) (bytes : List ℕ) : Type 0 where
   pub serving : IsServing core
   pub small : IsSmall new
   pub heavier : weight old + length bytes ≤ weight new
+
+-- a run that goes on weighs more
+abbrev pub IsHeavier : {K : Type 0} → Run K → Run K → Type 0
+IsHeavier old new = weight (begun_of old.intake) < weight (begun_of new.intake)
+
+-- what a step comes to whose bytes were taken so
+abbrev pub step_after : Outcome → Stepped
+step_after (Ok done) = Goes
+step_after (Err ending) = Ends (Err ending)
 
 -- why a line was not taken
 abbrev pub FailsBy : {K : Type 0} → (K → SinkState) → Core K → Core K → Command → Ending → Type 0
@@ -120,6 +83,31 @@ EndsLine bytes = (front : List ℕ) × (bytes ≡ front ++ 10 ∷ []) × AllByRe
 abbrev pub HasNoEnd : List ℕ → Type 0
 HasNoEnd bytes = AllByRecursion (λ b. b ≡ 10 → ⊥) bytes
 
+-- how often the source failed, by how the run ended
+abbrev pub FailsOnceIf : Outcome → SourceState → SourceState → Type 0
+FailsOnceIf (Err SourceFault) before after = after.failures ≡ counted before.failures
+FailsOnceIf outcome before after = after.failures ≡ before.failures
+
+-- the moments of a run so far, the latest first
+pub record IsInTime (start : Outside) (latest : Moment) : Type 0 where
+  pub earlier : List Moment
+  pub one_a_read : AreMoments start (latest ∷ earlier)
+  pub answered : AllByRecursion (IsAnswered start) (latest ∷ earlier)
+
+-- what a source and a sink tell, put together
+abbrev pub both_tell : SourceState → SinkState → Outside
+both_tell source sink = record { source = source; sink = sink }
+
+-- a run so far: what it took, and its moments, of which the latest is now
+pub record IsSoFar {S K : Type 0} (tell_source : S → SourceState) (tell : K → SinkState) (start : SinkState) (before now : S) (run : Run K) : Type 0 where
+  pub taken : List ℕ
+  pub answered : HasAnswered tell start taken run
+  pub gives : Gives (tell_source before).left (tell_source now).left taken
+  pub stays : (tell_source before).faults ≤ (tell_source now).faults
+  pub failures : (tell_source now).failures ≡ (tell_source before).failures
+  pub in_time : IsInTime (both_tell (tell_source before) start)
+      (record { taken = taken; outside = both_tell (tell_source now) (tell (run_sink run)) })
+
 -- a source was served from here to where the run stopped
 pub record IsServed {S K : Type 0} (tell_source : S → SourceState) (tell : K → SinkState) (before after : S) (old new : Core K) (outcome : Outcome) : Type 0 where
   pub taken : List ℕ
@@ -129,3 +117,7 @@ pub record IsServed {S K : Type 0} (tell_source : S → SourceState) (tell : K �
   pub stops : Stops tell (tell (sink_of old)) taken left new outcome
   pub source_failed : HasFailedIf outcome (tell_source before) (tell_source after)
   pub stays : (tell_source before).faults ≤ (tell_source after).faults
+  pub source_failures : FailsOnceIf outcome (tell_source before) (tell_source after)
+  pub latest : Moment
+  pub in_time : IsInTime (both_tell (tell_source before) (tell (sink_of old))) latest
+  pub last : IsLastRead latest (tell_source after)

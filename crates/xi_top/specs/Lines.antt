@@ -1,5 +1,5 @@
 -- Which lines of the input became entries.
-use Rattle.std.specs.Prelude.{◌≡◌, ℕ, ◌≤◌, List, [], ◌++◌, length, map, Ok, Err, ⊤}
+use Rattle.std.specs.Prelude.{◌≡◌, ℕ, ◌<◌, ◌≤◌, List, [], ◌∷◌, ◌++◌, length, map, Ok, Err, ⊤, ◌⊎◌}
 use Rattle.std.specs.List.{AllByRecursion, concat}
 use Rattle.xi_plain.specs.declared.command.Command.{Command}
 use Rattle.plain_text.specs.InputLines.{ended_lines, unended, lines_of}
@@ -10,6 +10,10 @@ use Rattle.xi_top.specs.Ending.{Outcome, most_lines, too_long}
 -- a line with its LF that is not too long
 abbrev pub IsShort : List ℕ → Type 0
 IsShort line = length line ≤ too_long
+
+-- a line is a text of fewer bytes than no line may have, with an LF behind it or without one
+abbrev pub IsWithinLimit : List ℕ → Type 0
+IsWithinLimit line = (text : List ℕ) × (length text < too_long) × ((line ≡ text) ⊎ (line ≡ text ++ 10 ∷ []))
 
 -- the next line after these is the first that is too long: among some first bytes of those that were taken LF ended these lines, none of
 -- them too long, and after the last LF stand as many bytes as no line may have
@@ -32,7 +36,7 @@ AreSoMany (Err TooLong) taken left lines later = IsNextTooLong taken lines
 AreSoMany outcome taken left lines later = ⊤
 
 -- THE LINES: the commands are those of some first lines of the input, which is what was taken and what is left; all bytes of these lines
--- were taken
+-- were taken, none of them is too long, and they are no more than a run takes
 pub record HoldsLines (outcome : Outcome) (taken left : List ℕ) (commands : List Command) : Type 0 where
   pub lines : List (List ℕ)
   pub later : List (List ℕ)
@@ -41,3 +45,5 @@ pub record HoldsLines (outcome : Outcome) (taken left : List ℕ) (commands : Li
   pub whole : taken ≡ concat lines ++ rest
   pub asked : commands ≡ map command_of lines
   pub so_many : AreSoMany outcome taken left lines later
+  pub within : AllByRecursion IsWithinLimit lines
+  pub few : length lines ≤ most_lines

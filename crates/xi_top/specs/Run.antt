@@ -1,5 +1,5 @@
 -- THE RUN: what a run of the core with a source and a sink comes to.
-use Rattle.std.specs.Prelude.{◌≡◌, ℕ, ◌+◌, ◌≤◌, codes, List, [], ◌∷◌, ◌++◌, length, Option, Err, IfSome, ⊤, ◌⊎◌}
+use Rattle.std.specs.Prelude.{◌≡◌, ℕ, ◌+◌, ◌-◌, ◌^◌, ◌<◌, ◌≤◌, codes, List, [], ◌∷◌, ◌++◌, length, Option, Err, IfSome, ⊤, ◌⊎◌}
 use Rattle.xi_plain.specs.declared.entry.Entry.{Entry}
 use Rattle.outside.specs.Faults.{Rose}
 use Rattle.outside.specs.Source.{SourceState, source_state, Gives}
@@ -70,6 +70,12 @@ pub record HasCauses (passage : Passage) (journal : List Entry) (status : ℕ) :
   pub source_fault : status ≡ 4 → Rose passage.before.source.faults passage.after.source.faults
   pub sink_fault : status ≡ 5 → Rose passage.before.sink.faults passage.after.sink.faults
   pub too_many : status ≡ 6 → length journal ≡ most_lines + 1
+
+-- WHETHER A READ FAILED, by the number of failed reads alone: it ends as it began with every status but 4, and one higher with 4, where
+-- it ends below its last value
+pub record IsReadByCount (before after : SourceState) (status : ℕ) : Type 0 where
+  pub others : (status ≡ 4 → ⊥) → after.failures ≡ before.failures
+  pub failed : status ≡ 4 → after.failures < 2 ^ 64 - 1 → after.failures ≡ before.failures + 1
 
 -- the words are the one word `alone`
 abbrev pub IsAlone : List (List ℕ) → Type 0

@@ -114,7 +114,8 @@ impl Intake {
 
     /// Enters what stands after the last LF, where it is not empty, at the input's end.
     pub fn finish<K: Sink>(&self, alloc: Global, core: &mut Core<K>) -> Result<(), Ending>
-        requires { IsServing core.old }
+        requires serving { IsServing core.old }
+        requires small { IsSmall (begun_of self.now) }
         ensures { (start : SinkState) (taken : List ℕ)
             → HasTaken (sink_state K.held K.faults K.failures) start taken core.old (begun_of self.now)
             → Finishes (sink_state K.held K.faults K.failures) start taken core.new result }

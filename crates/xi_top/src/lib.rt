@@ -21,8 +21,11 @@ pub mod rows;
 mod run;
 mod serve;
 mod session;
+mod step;
 mod write;
 
+pub use ending::Ending;
 pub use run::{Report, run_alone, xi_main};
 pub use session::{Core, Entered};
+pub use step::{Run, Stepped};
 pub use xi_plain::Entry;

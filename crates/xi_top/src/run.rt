@@ -1,13 +1,15 @@
 ghost use Rattle.std.specs.Prelude.{◌≡◌, ◌↔◌, [], IsTrue, codes};
+ghost use Rattle.outside.specs.Source.{source_state};
 ghost use Rattle.outside.specs.Sink.{sink_state};
 ghost use Rattle.xi_top.specs.Ending.{status_of};
-ghost use Rattle.xi_top.specs.Run.{HasCauses, IsAlone, RunsAlone, passage_of};
+ghost use Rattle.xi_top.specs.Run.{HasCauses, IsAlone, IsReadByCount, RunsAlone, passage_of};
+ghost use Rattle.xi_top.specs.InTime.{AnswersInTime};
 ghost use Rattle.xi_top.specs.Written.{IsWrittenByCount};
 ghost use Rattle.xi_top.specs.Calm.{IsCalm, EndsWell};
 
 use crate::ending::Ending;
 use crate::serve::serve;
-use crate::session::Core;
+use crate::step::Run;
 use outside::{Sink, Source};
 use plain_text::Text;
 use std::alloc::Global;
@@ -41,6 +43,12 @@ pub fn xi_main<S: Source, K: Sink>(
     ensures writes { IsAlone words.now → IsWrittenByCount
         (sink_state K.held K.faults K.failures sink) (sink_state K.held K.faults K.failures result.sink)
         result.journal.items result.status }
+    ensures reads { IsAlone words.now → IsReadByCount
+        (source_state S.left S.faults S.failures source.old) (source_state S.left S.faults S.failures source.new)
+        result.status }
+    ensures in_time { IsAlone words.now → AnswersInTime
+        (passage_of S.left S.faults S.failures K.held K.faults K.failures source.old source.new sink result.sink)
+        result.journal.items }
     ensures complete { IsAlone words.now → IsCalm
         (passage_of S.left S.faults S.failures K.held K.faults K.failures source.old source.new sink result.sink)
         → EndsWell result.status }
@@ -85,6 +93,12 @@ pub fn run_alone<S: Source, K: Sink>(alloc: Global, source: &mut S, sink: K) -> 
     ensures writes { IsWrittenByCount
         (sink_state K.held K.faults K.failures sink) (sink_state K.held K.faults K.failures result.sink)
         result.journal.items result.status }
+    ensures reads { IsReadByCount
+        (source_state S.left S.faults S.failures source.old) (source_state S.left S.faults S.failures source.new)
+        result.status }
+    ensures in_time { AnswersInTime
+        (passage_of S.left S.faults S.failures K.held K.faults K.failures source.old source.new sink result.sink)
+        result.journal.items }
     ensures complete { IsCalm
         (passage_of S.left S.faults S.failures K.held K.faults K.failures source.old source.new sink result.sink)
         → EndsWell result.status }
@@ -93,15 +107,20 @@ pub fn run_alone<S: Source, K: Sink>(alloc: Global, source: &mut S, sink: K) -> 
 }
 
 fn run<S: Source, K: Sink>(alloc: Global, source: &mut S, sink: K) -> Report<K>
-    ensures { RunsAlone
+    ensures alone { RunsAlone
         (passage_of S.left S.faults S.failures K.held K.faults K.failures source.old source.new sink result.sink)
         result.journal.items result.status }
+    ensures reads { IsReadByCount
+        (source_state S.left S.faults S.failures source.old) (source_state S.left S.faults S.failures source.new)
+        result.status }
+    ensures in_time { AnswersInTime
+        (passage_of S.left S.faults S.failures K.held K.faults K.failures source.old source.new sink result.sink)
+        result.journal.items }
 {
-    match Core::make(alloc, sink) {
-        Ok(mut core) => {
-            let outcome = serve(alloc, source, &mut core);
-            core.close_down();
-            let (journal, sink) = core.into_parts();
+    match Run::make(alloc, sink) {
+        Ok(mut run) => {
+            let outcome = serve(alloc, source, &mut run);
+            let (journal, sink) = run.close();
             Report {
                 status: status_of(outcome),
                 journal,

@@ -69,7 +69,7 @@ impl<K: Sink> Core<K> {
         }
     }
 
-    /// Takes a line of the front end, with or without its LF: writes its piece, in one write where the sink takes it whole.
+    /// Takes a line of the front end, with or without its LF, and writes its piece.
     pub fn enter(&mut self, alloc: Global, line: &[u8]) -> Entered
         requires { IsServing self.old }
         ensures sent { result ≡ Entered.Taken

@@ -3,10 +3,10 @@ use Rattle.xi_top.proofs.RunLemmas.{HasCauses-run, IsWrittenByCount-run}
 use Rattle.xi_top.proofs.run.run_alone.Goals as goal
 
 pub returns-clause-causes : goal.returns-clause-causes
-returns-clause-causes g c = HasCauses-run _ _ _ c.run.ensures
+returns-clause-causes g c = HasCauses-run _ _ _ c.run.ensures.alone
 
 pub returns-clause-writes : goal.returns-clause-writes
-returns-clause-writes g c = IsWrittenByCount-run _ _ _ c.run.ensures
+returns-clause-writes g c = IsWrittenByCount-run _ _ _ c.run.ensures.alone
 
 pub returns-clause-complete : goal.returns-clause-complete
-returns-clause-complete g c = EndsWell-calm _ _ _ c.run.ensures
+returns-clause-complete g c = EndsWell-calm _ _ _ c.run.ensures.alone

@@ -20,5 +20,5 @@ returns g c = λ start taken at.
     let begun = c.args.self.now.begun in
     let Entered : List ℕ → Type 0 = λ line. Enters tell c.args.core.now c.enter.new.core (command_of line) c.enter.result in
     let some : begun.items ≢ [] = λ nil. grind (arith, nat_tests, c.if-is_empty.false, c.is_empty.ensures, begun.ok.0, ap length nil) in
-    finish_last tell start taken c.args.core.now c.enter.new.core (begun_of c.args.self.now) c.enter.result at some
+    finish_last tell start taken c.args.core.now c.enter.new.core (begun_of c.args.self.now) c.enter.result at c.requires.small some
     (subst Entered c.deref.ensures.value c.enter.ensures)

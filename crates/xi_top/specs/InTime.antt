@@ -1,0 +1,63 @@
+-- EACH LINE IS ANSWERED BEFORE THE NEXT READ: the moments of a run, one before each read of its source.
+use Rattle.std.specs.Prelude.{◌≡◌, ℕ, true, List, [], ◌∷◌, ◌++◌, length, map, ⊤}
+use Rattle.std.specs.List.{AllByRecursion}
+use Rattle.plain_text.specs.InputLines.{ended_lines}
+use Rattle.front_wire.specs.Front.{command_of}
+use Rattle.outside.specs.declared.source.Pulled.{Pulled}
+use Rattle.outside.specs.declared.source.Pulled.TheVariants.{Got}
+use Rattle.outside.specs.Source.{SourceState, Gives}
+use Rattle.outside.specs.Sink.{Gains}
+use Rattle.xi_plain.specs.declared.command.Command.{Command}
+use Rattle.xi_plain.specs.declared.entry.Entry.{Entry}
+use Rattle.xi_top.specs.Session.{first_session, written}
+use Rattle.xi_top.specs.Core.{front_entry}
+use Rattle.xi_top.specs.Run.{Outside, Passage, IsNoRun}
+use Rattle.xi_top.specs.Step.{AsksOnce}
+
+-- the bytes that were taken by a moment, and what the source and the sink tell at it
+pub record Moment : Type 0 where
+  pub taken : List ℕ
+  pub outside : Outside
+
+-- the entries of commands that were answered
+abbrev pub sent_entries : List Command → List Entry
+sent_entries commands = map (λ command. front_entry command true) commands
+
+-- NOTHING THAT IS WHOLE WAITS: what was taken is what the source gave since the run began, and what the sink gained since then is the
+-- pieces of exactly the lines that LF ended in it; and no call failed
+pub record IsAnswered (start : Outside) (moment : Moment) : Type 0 where
+  pub gives : Gives start.source.left moment.outside.source.left moment.taken
+  pub gains : Gains start.sink.held moment.outside.sink.held
+      (written first_session (sent_entries (map command_of (ended_lines [] moment.taken))))
+  pub no_read_failed : moment.outside.source.failures ≡ start.source.failures
+  pub no_write_failed : moment.outside.sink.failures ≡ start.sink.failures
+
+-- one read lies between two moments
+pub record IsNext (moment next : Moment) : Type 0 where
+  pub given : List ℕ
+  pub asked : AsksOnce moment.outside.source next.outside.source (Got (length given)) given
+  pub taken : next.taken ≡ moment.taken ++ given
+
+-- the moments of a run that began so, the latest first: at the eldest nothing was taken, and one read lies between each two
+abbrev pub AreMoments : Outside → List Moment → Type 0
+AreMoments start [] = ⊤
+AreMoments start (moment ∷ []) = moment ≡ record { taken = []; outside = start }
+AreMoments start (moment ∷ before ∷ moments) = IsNext before moment × AreMoments start (before ∷ moments)
+
+-- one read more, which ended the run
+pub record IsLastRead (moment : Moment) (after : SourceState) : Type 0 where
+  pub answer : Pulled
+  pub given : List ℕ
+  pub asked : AsksOnce moment.outside.source after answer given
+
+-- the latest of the moments is before the last read; there is none only where nothing was taken, written or entered
+abbrev pub EndsAfter : List Moment → Passage → List Entry → Type 0
+EndsAfter [] passage journal = IsNoRun passage journal
+EndsAfter (moment ∷ moments) passage journal = IsLastRead moment passage.after.source
+
+-- THE RUN ANSWERS IN TIME: it has moments, one before each read, and at each of them nothing that is whole waits
+pub record AnswersInTime (passage : Passage) (journal : List Entry) : Type 0 where
+  pub moments : List Moment
+  pub one_a_read : AreMoments passage.before moments
+  pub answered : AllByRecursion (IsAnswered passage.before) moments
+  pub last : EndsAfter moments passage journal
