@@ -1,3 +1,4 @@
 pub mod RopeLemmas
 pub mod EditLemmas
 pub mod ForCallers
+pub mod ScalarLemmas

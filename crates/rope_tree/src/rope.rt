@@ -1,6 +1,6 @@
-ghost use Rattle.std.specs.Prelude.{◌≡◌, ◌+◌, ◌-◌, ◌^◌, ◌<◌, ◌≤◌, ◌++◌, [], length, take, drop, IfOk};
+ghost use Rattle.std.specs.Prelude.{◌≡◌, ◌+◌, ◌-◌, ◌^◌, ◌<◌, ◌≤◌, ◌++◌, [], length, take, drop, true, IfOk};
 ghost use Rattle.std.specs.List.{flat_map};
-ghost use Rattle.std.specs.Str.{chars};
+ghost use Rattle.std.specs.Str.{all_scalars, chars};
 ghost use Rattle.plain_text.specs.Text.{byte_len};
 ghost use Rattle.rope_node.specs.Node.{text_of};
 ghost use Rattle.shared_tree.specs.Replaced.{replaced};
@@ -19,12 +19,15 @@ pub struct Rope {
 }
 
 impl Model for Rope {
-    ghost use Rattle.std.specs.Prelude.{ℕ, List};
+    ghost use Rattle.std.specs.Prelude.{◌≡◌, ℕ, List, true};
+    ghost use Rattle.std.specs.Str.{all_scalars};
     ghost use Rattle.rope_node.specs.Node.{text_of};
 
     ghost Value = { List ℕ };
 
     ghost view = { λ rope. text_of rope.node };
+
+    ghost invariant = { λ rope. all_scalars (text_of rope.node) ≡ true };
 }
 
 impl Rope {
@@ -32,23 +35,22 @@ impl Rope {
     pub fn of_text(alloc: Global, text: &Text) -> Result<Rope, NoMemory>
         ensures { IfOk result (λ rope. rope ≡ text.now) }
     {
-        Ok(Rope {
-            node: node_of(alloc, text)?,
-        })
+        let node = node_of(alloc, text)?;
+        Ok(Rope { node })
     }
 
     /// The same rope, which shares all with this one, in O(1).
     pub fn copy(&self, alloc: Global) -> Result<Rope, NoMemory>
         ensures { IfOk result (λ made. made ≡ self.now) }
     {
-        Ok(Rope {
-            node: self.node.copy(alloc)?,
-        })
+        let node = self.node.copy(alloc)?;
+        Ok(Rope { node })
     }
 
-    /// How many characters, in O(1).
+    /// How many characters, in O(1). Each is a scalar value.
     pub fn len(&self) -> u64
-        ensures { result ≡ length self.now }
+        ensures count { result ≡ length self.now }
+        ensures characters { all_scalars self.now ≡ true }
     {
         self.node.tree().len()
     }
@@ -105,8 +107,9 @@ impl Rope {
         requires { to ≤ length self.now }
         ensures { IfOk result (λ made. made ≡ take to self.now) }
     {
+        let made = self.node.tree().front(alloc, to)?;
         Ok(Rope {
-            node: Node::of_tree(self.node.tree().front(alloc, to)?),
+            node: Node::of_tree(made),
         })
     }
 
@@ -115,8 +118,9 @@ impl Rope {
         requires { from ≤ length self.now }
         ensures { IfOk result (λ made. made ≡ drop from self.now) }
     {
+        let made = self.node.tree().back(alloc, from)?;
         Ok(Rope {
-            node: Node::of_tree(self.node.tree().back(alloc, from)?),
+            node: Node::of_tree(made),
         })
     }
 
@@ -162,8 +166,10 @@ fn between(alloc: Global, tree: &Tree<Chunk>, from: u64, to: u64) -> Result<Text
 
 /// The leaf of a short text, or the leaves of a longer one.
 fn node_of(alloc: Global, text: &Text) -> Result<Node, NoMemory>
-    ensures { IfOk result (λ node. text_of node ≡ text.now) }
+    ensures made { IfOk result (λ node. text_of node ≡ text.now) }
+    ensures characters { all_scalars text.now ≡ true }
 {
+    let _characters = text.as_str();
     if text.byte_len() <= 1024 {
         return Node::leaf(alloc, text.copy(alloc)?);
     }

@@ -17,7 +17,7 @@ returns-clause-read c = λ history stands.
 pub returns-clause-edit : goal.returns-clause-edit
 returns-clause-edit c =
     IsEdit-since c.args.engine.now c.args.rev c.in_ok-units.units c.requires c.in_ok-units.ensures.since c.in_ok-text.text c.in_ok-text.ensures.text
-    (omega (arith, c.len-shown.type_inv, c.len-shown.ensures, ap length c.head_rope.ensures.shown))
+    (omega (arith, c.len-shown.type_inv, c.len-shown.ensures.count, ap length c.head_rope.ensures.shown))
 
 pub returns-clause-leads : goal.returns-clause-leads
 returns-clause-leads c = length_after-since c.args.engine.now c.args.rev c.in_ok-units.units c.requires c.in_ok-units.ensures.since

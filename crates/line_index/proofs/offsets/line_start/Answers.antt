@@ -6,4 +6,4 @@ pub returns-in-Some : goal.returns-in-Some
 returns-in-Some c = line_start-converted c.args.text.now c.args.index c.in-Some.gap c.in-Some.ensures.some
 
 pub returns-in-None : goal.returns-in-None
-returns-in-None c = c.len.ensures ∙ line_start-past c.args.text.now c.args.index c.in-None.ensures.none
+returns-in-None c = c.len.ensures.count ∙ line_start-past c.args.text.now c.args.index c.in-None.ensures.none
