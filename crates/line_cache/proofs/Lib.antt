@@ -1,0 +1,5 @@
+mod RangeLemmas
+mod StepLemmas
+mod StayLemmas
+mod PlanLemmas
+mod LawLemmas

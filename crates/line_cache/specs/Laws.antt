@@ -1,0 +1,26 @@
+-- Laws that tie runs to lists.
+use Rattle.std.specs.Prelude.{◌≡◌, ℕ, Bool, List, length, Option, Some}
+use Rattle.std.specs.List.{zip}
+use Rattle.plain_text.specs.declared.run.Run.{Run}
+use Rattle.plain_screen.specs.declared.screen.Line.{Line}
+use Rattle.plain_screen.specs.Plan.{with_standings, joined_ops, ops_for, update_plan, ArePartners, AreNumberedFrom}
+use Rattle.plain_screen.specs.Screen.{Screen, screen_after}
+use Rattle.line_cache.specs.Mirror.{valid_lines}
+use Rattle.line_cache.specs.Standings.{standings}
+use Rattle.line_cache.specs.Steps.{standings_of, shown_by}
+use Rattle.line_cache.specs.declared.step.Step.{Step}
+
+-- how lines stand needs no lines: the rule gives each line its standing, and an update says what these standings say
+pub record StandingsNeedNoLines : Type 0 where
+  pub apart : (window request : Run) (index : ℕ) (partners : List (Option (ℕ × Bool))) (lines : List Line) → length partners ≡ length lines →
+      with_standings window request index partners lines ≡ zip (standings window request index partners) lines
+  pub update : (window request : Run) (partners : List (Option (ℕ × Bool))) (lines : List Line) → length partners ≡ length lines →
+      update_plan window request lines partners ≡ joined_ops (ops_for 0 (zip (standings window request 0 partners) lines))
+
+-- after an update a front end's screen has the lines that the plan shows: where partners are partners, and lines are numbered as a
+-- layout's are, the operations of the standings that the plan says make of the screen one on which these lines are valid, and no others
+pub record MirrorsAreScreens : Type 0 where
+  pub after : (screen : Screen) (window request : Run) (number : ℕ) (lines : List Line) (partners : List (Option (ℕ × Bool))) (plan : List Step) →
+      length partners ≡ length lines → ArePartners screen 0 partners lines → AreNumberedFrom number lines →
+      standings_of plan ≡ standings window request 0 partners →
+      (shown : Screen) × (screen_after screen (update_plan window request lines partners) ≡ Some shown) × (valid_lines shown ≡ shown_by plan)

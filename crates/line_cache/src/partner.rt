@@ -1,0 +1,92 @@
+ghost use Rattle.std.specs.Prelude.{◌≡◌, ℕ, ◌+◌, ◌-◌, ◌^◌, ◌<◌, ◌≤◌, cond, length, Some, None};
+ghost use Rattle.subset_runs.specs.Subset.{contains};
+ghost use Rattle.line_cache.specs.Stays.{AreStays, if_true, partner_by};
+ghost use Rattle.line_cache.specs.Ahead.{EndsPast, FitsNumbers, moved_by};
+
+use crate::stay::Stay;
+use subset_runs::{Stretch, Subset};
+
+/// The partner of a line, where it has one that is valid, and how many lines from there on go on so, one after the other.
+#[derive(Clone, Copy)]
+pub(crate) struct Part {
+    pub n: u64,
+    pub partner: Option<(u64, bool)>,
+}
+
+/// The partners of the first of `most` lines, the first of which has the index `at`.
+pub(crate) fn partner_from(lines: &Subset, stays: &[Stay], at: u64, most: u64) -> Part
+    requires some { 0 < most }
+    requires room { at + most < 2 ^ 64 }
+    requires partners { AreStays (length lines.now) (at + most) stays.now }
+    requires ahead { EndsPast at stays.now }
+    ensures some { 0 < result.n }
+    ensures within { result.n ≤ most }
+    ensures partners { (k : ℕ) → k < result.n → if_true lines.now (partner_by stays.now (at + k)) ≡ moved_by k result.partner }
+{
+    match stays.first() {
+        None => Part {
+            n: most,
+            partner: None,
+        },
+        Some(stay) => partner_in(lines, *stay, at, most),
+    }
+}
+
+/// The same, where the line stands before the end of this run.
+fn partner_in(lines: &Subset, stay: Stay, at: u64, most: u64) -> Part
+    requires some { 0 < most }
+    requires ahead { at < stay.new + stay.n }
+    requires old { stay.old + stay.n ≤ length lines.now }
+    requires new { stay.new + stay.n ≤ at + most }
+    requires room { at + most < 2 ^ 64 }
+    ensures some { 0 < result.n }
+    ensures within { result.n ≤ most }
+    ensures before { at < stay.new → (result.partner ≡ None) × (at + result.n ≤ stay.new) }
+    ensures inside { stay.new ≤ at → (at + result.n ≤ stay.new + stay.n)
+        × ((k : ℕ) → k < result.n → if_true lines.now (Some (stay.old + (at - stay.new) + k, stay.same)) ≡ moved_by k result.partner) }
+{
+    if at < stay.new {
+        return Part {
+            n: stay.new - at,
+            partner: None,
+        };
+    }
+    let _old_lines = lines.len();
+    let old = stay.old + (at - stay.new);
+    let front = stretch_from(lines, old);
+    Part {
+        n: front.len.min(stay.new + stay.n - at),
+        partner: if_member(front.member, old, stay.same),
+    }
+}
+
+fn if_member(member: bool, old: u64, same: bool) -> Option<(u64, bool)>
+    ensures { result ≡ cond member (Some (old, same)) None }
+{
+    if member { Some((old, same)) } else { None }
+}
+
+/// The old lines from one on that are all valid, or all not.
+fn stretch_from(lines: &Subset, old: u64) -> Stretch
+    requires { old < length lines.now }
+    ensures some { 0 < result.len }
+    ensures same { (k : ℕ) → k < result.len → contains lines.now (old + k) ≡ result.member }
+{
+    let mut walk = lines.walk();
+    walk.skip(old);
+    walk.front()
+}
+
+/// The runs that end behind a line.
+pub(crate) fn rest_past(stays: &[Stay], at: u64) -> &[Stay]
+    requires { FitsNumbers stays.now }
+    ensures ahead { EndsPast at result.now }
+    ensures partners { (index : ℕ) → at ≤ index → partner_by result.now index ≡ partner_by stays.now index }
+    ensures stays { (count total : ℕ) → AreStays count total stays.now → AreStays count total result.now }
+{
+    let mut rest = stays;
+    while !rest.is_empty() && rest[0].new + rest[0].n <= at {
+        rest = &rest[1..];
+    }
+    rest
+}
