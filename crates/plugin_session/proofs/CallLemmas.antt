@@ -9,16 +9,10 @@ use Rattle.xi_plain.specs.declared.reply.Reply.{Reply}
 use Rattle.xi_plain.specs.declared.reply.Answer.{Answer}
 use Rattle.xi_plain.specs.Room.{Begins}
 use Rattle.xi_plain.specs.Journal.{entries_of}
+use Rattle.plugin_session.specs.Seat.{Begins-trans}
 use Rattle.plugin_session.specs.declared.noted.Noted.{Noted}
 use Rattle.plugin_session.specs.declared.noted.Noted.TheVariants.{Asked, Looked}
 use Rattle.plugin_session.specs.Call.{Call, made, end_of, entries_at, answer_of, answers_of, IsServedBy, Stand, Went}
-
--- a journal begins with itself, and with the beginning of a beginning
-pub Begins-same : (a : List Entry) → Begins a a
-Begins-same a = ([], sym (append-nil a))
-
-pub Begins-trans : (a b c : List Entry) → Begins a b → Begins b c → Begins a c
-Begins-trans a b c (more, is) (further, then) = (more ++ further, then ∙ ap (λ x. x ++ further) is ∙ append_assoc a more further)
 
 -- a journal is as long as its beginning at least
 pub Begins-length : (a b : List Entry) → Begins a b → length a ≤ length b

@@ -4,6 +4,9 @@ mod CallLemmas
 mod DoorLemmas
 mod PortLemmas
 mod SessionLemmas
+mod ShortLemmas
 mod StartLemmas
+mod SeatLemmas
 mod VisitLemmas
 mod WholeLemmas
+mod WorkerLemmas

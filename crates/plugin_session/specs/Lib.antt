@@ -5,3 +5,8 @@ pub mod Visit
 pub mod Asking
 pub mod Port
 pub mod Alone
+pub mod Seat
+pub mod Visiting
+pub mod Worker
+pub mod Hired
+pub mod Short

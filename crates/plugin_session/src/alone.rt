@@ -67,7 +67,7 @@ impl<O: Object> Door for AloneDoor<'_, O> {
 
     ghost answers_on = { λ a b log caller query answer later. O.answers_on a.object.now b.object.now log caller query answer later.0 };
 
-    ghost legal_now = { λ a. O.legal_now a.object.now };
+    ghost legal_now = { λ a ready. O.legal_now a.object.now };
 
     ghost legal_on = { λ a b log later. O.legal_on a.object.now b.object.now log later.0 };
 

@@ -78,7 +78,8 @@ pub trait Door {
     ghost answers_on: { (a b : Self) (log : List Entry) (caller : ℕ) (query : Query) (answer : Answer)
         → later a b → answers b log caller query answer → answers a log caller query answer };
 
-    ghost legal_now: { (a : Self) → legal a (journal a) };
+    /// What was seen from a door where its caller may ask is a journal that can be.
+    ghost legal_now: { (a : Self) → ready a → legal a (journal a) };
 
     ghost legal_on: { (a b : Self) (log : List Entry) → later a b → legal b log → legal a log };
 
