@@ -1,7 +1,5 @@
-ghost use Rattle.std.specs.Prelude.{◌≡◌, ◌↔◌, [], ◌∷◌, map, IsTrue, IfOk, codes};
-ghost use Rattle.std.specs.IntoIter.{into_iter_items};
-ghost use Rattle.xi_top.specs.Run.{IsAlone};
-ghost use Rattle.xi_core.specs.Words.{word_of};
+ghost use Rattle.std.specs.Prelude.{◌≡◌, ◌↔◌, [], ◌∷◌, IsTrue, IfOk, codes};
+ghost use Rattle.xi_core.specs.Words.{AsksFor};
 
 use plain_text::{List, NoMemory, Text, Texts};
 use std::alloc::Global;
@@ -13,8 +11,63 @@ use std::{env, io};
 pub enum Invocation {
     Help,
     Version,
-    /// The run that serves one front end.
+    /// A run that serves one front end.
     Alone,
-    /// The words are no form.
+    /// They are no form.
     Misused,
+}
+
+/// The words after the program's name, one text each; one empty word where they can't be read as text.
+pub fn words<R: Env + AllocGlobal>(rt: &R) -> Result<Texts, NoMemory> {
+    match env::args(rt) {
+        Ok(args) => after_name(rt.alloc(), args),
+        Err(error) if error.kind() == io::ErrorKind::InvalidData => one_empty(rt.alloc()),
+        Err(_) => Err(NoMemory),
+    }
+}
+
+fn after_name(alloc: Global, args: env::Args) -> Result<Texts, NoMemory> {
+    let mut words = List::new(alloc);
+    for word in args.skip(1) {
+        words.push(Text::from_string(word))?;
+    }
+    Ok(words)
+}
+
+fn one_empty(alloc: Global) -> Result<Texts, NoMemory>
+    ensures { IfOk result (λ words. words ≡ [] ∷ []) }
+{
+    let mut words = List::new(alloc);
+    words.push(Text::new(alloc))?;
+    Ok(words)
+}
+
+/// What the words ask for: each form is one word.
+pub fn invocation_of(words: &[Text]) -> Invocation
+    ensures { AsksFor words.now result }
+{
+    match words {
+        [word] if is_help(word) => Invocation::Help,
+        [word] if is_version(word) => Invocation::Version,
+        [word] if is_alone(word) => Invocation::Alone,
+        _ => Invocation::Misused,
+    }
+}
+
+fn is_help(word: &Text) -> bool
+    ensures { IsTrue result ↔ (word.now ≡ codes "--help") }
+{
+    word.as_str() == "--help"
+}
+
+fn is_version(word: &Text) -> bool
+    ensures { IsTrue result ↔ (word.now ≡ codes "--version") }
+{
+    word.as_str() == "--version"
+}
+
+fn is_alone(word: &Text) -> bool
+    ensures { IsTrue result ↔ (word.now ≡ codes "alone") }
+{
+    word.as_str() == "alone"
 }

@@ -1,0 +1,60 @@
+ghost use Rattle.std.specs.Prelude.{◌≡◌, ◌≢◌};
+ghost use Rattle.std.specs.Process.{exit_status};
+ghost use Rattle.xi_top.specs.Run.{IsAlone};
+ghost use Rattle.xi_core.specs.Words.{EndsFor, EndsForSome, EndsWith};
+
+use crate::texts::{Stream, stream_of, text_of};
+use crate::words::{Invocation, invocation_of, words};
+use outside::{StdSink, StdSource};
+use plain_text::Text;
+use std::process::ExitCode;
+use xi_top::xi_main;
+
+/// Does what the words of the process ask, and gives the status that it ends with.
+pub fn status(rt: &HostRuntime) -> ExitCode
+    ensures { EndsForSome (exit_status result) }
+{
+    match words(rt) {
+        Ok(words) => answered(rt, words.as_slice()),
+        Err(_) => ExitCode::from(3),
+    }
+}
+
+/// Does what these words ask.
+fn answered(rt: &HostRuntime, words: &[Text]) -> ExitCode
+    ensures { EndsFor words.now (exit_status result) }
+{
+    let invocation = invocation_of(words);
+    match invocation {
+        Invocation::Alone => run(rt, words),
+        _ => told(rt, invocation),
+    }
+}
+
+/// Says what the program says of itself.
+fn told(rt: &HostRuntime, invocation: Invocation) -> ExitCode
+    requires { invocation ≢ Invocation.Alone }
+    ensures { EndsWith invocation (exit_status result) }
+{
+    let text = text_of(invocation);
+    match stream_of(invocation) {
+        Stream::Output => match println!(rt; "{text}") {
+            Ok(()) => ExitCode::SUCCESS,
+            Err(_) => ExitCode::from(5),
+        },
+        Stream::Error => {
+            let _ = eprintln!(rt; "{text}");
+            ExitCode::from(2)
+        }
+    }
+}
+
+/// The run over the standard streams: its status is the report's.
+fn run(rt: &HostRuntime, words: &[Text]) -> ExitCode
+    requires { IsAlone words.now }
+    ensures { EndsWith Invocation.Alone (exit_status result) }
+{
+    let mut source = StdSource::new(rt.stdin());
+    let report = xi_main(rt.alloc(), words, &mut source, StdSink::new(rt.stdout()));
+    ExitCode::from(report.status)
+}

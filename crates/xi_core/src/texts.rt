@@ -1,0 +1,43 @@
+ghost use Rattle.std.specs.Prelude.{◌≡◌, ◌↔◌};
+ghost use Rattle.xi_core.specs.Words.{text_of};
+
+use crate::words::Invocation;
+
+const VERSION: &str = "xi_core 0.1.0";
+
+const USAGE: &str = "usage: xi_core alone";
+
+const HELP: &str = "usage: xi_core alone
+
+Serves one front end: reads its JSON lines from standard input, and answers on standard output.
+Ends with status 0 at the input's end; 2 for other words; 3 where memory runs out; 4 and 5 where
+the input or the output failed; 6 after 2^40 lines; 7 for a line of 2^24 bytes without LF.";
+
+/// Where a text goes.
+#[derive(Clone, Copy)]
+pub enum Stream {
+    Output,
+    Error,
+}
+
+/// What the program says of itself.
+pub fn text_of(invocation: Invocation) -> &'static str
+    ensures { result.now ≡ text_of invocation }
+{
+    match invocation {
+        Invocation::Help => HELP,
+        Invocation::Version => VERSION,
+        Invocation::Alone => "",
+        Invocation::Misused => USAGE,
+    }
+}
+
+/// Where it says that: what was asked for goes to standard output, what was not to standard error.
+pub fn stream_of(invocation: Invocation) -> Stream
+    ensures { (result ≡ Stream.Error) ↔ (invocation ≡ Invocation.Misused) }
+{
+    match invocation {
+        Invocation::Misused => Stream::Error,
+        _ => Stream::Output,
+    }
+}
