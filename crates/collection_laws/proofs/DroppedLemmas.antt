@@ -38,7 +38,7 @@ list_all_there p (suc n) (y ∷ xs) x there all = list_all_there p n xs x there 
 -- ---- edits, before and after the floor
 
 -- an edit after the floor is one of its group there
-edit_after : (revisions : List Revision) (floor rev : ℕ) → floor < rev → is_edit (revision_at revisions rev) ≡ true →
+pub edit_after : (revisions : List Revision) (floor rev : ℕ) → floor < rev → is_edit (revision_at revisions rev) ≡ true →
     list_any (is_edit_of (group_of revisions rev)) (drop floor revisions) ≡ true
 edit_after revisions floor zero past is = absurd (both_ways false refl is)
 edit_after revisions floor (suc n) past is = by (slice_get revisions n) refl is

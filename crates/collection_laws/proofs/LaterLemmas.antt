@@ -1,5 +1,5 @@
 -- What is left after an undo is the undo of what was left: a later revision changes nothing of what was settled.
-use Rattle.std.proofs.Common.{◌≡◌, ℕ, zero, suc, ◌+◌, ◌<◌, ◌≤◌, Bool, true, false, not, ◌&&◌, ◌||◌, if◌then◌else◌, nat_lt, ◌==◌, List, [], ◌∷◌, ◌++◌, length, map, drop, filter, fold, refl, ap, ap₂, sym, ◌∙◌, arith, append_assoc, length-append}
+use Rattle.std.proofs.Common.{◌≡◌, ℕ, zero, suc, ◌+◌, ◌<◌, ◌≤◌, Bool, true, false, cond, not, ◌&&◌, ◌||◌, if◌then◌else◌, nat_lt, ◌==◌, List, [], ◌∷◌, ◌++◌, length, map, drop, filter, fold, refl, ap, ap₂, sym, ◌∙◌, arith, append_assoc, length-append}
 use Rattle.std.specs.List.{AllByRecursion, list_any, range_with_len}
 use Rattle.std.proofs.lemmas.Bool.{both_ways, eqb-true, lt-ltb}
 use Rattle.std.proofs.lemmas.List.{drop-append-le}
@@ -200,6 +200,18 @@ module _ (history : History) (base group priority author : ℕ) (characters : Li
       ap₂ (λ n ns. record { character = tagged.character; inserted = n; deleted = ns })
       (settled_rev-later history made characters within tagged.inserted is.inserted)
       (settled_deletions-push tagged.deleted is.deleted)
+
+  -- a new character that the same edit deletes
+  pub is_kept-new_deleted : (c : ℕ) → is_kept next (with_deletion new_rev (inserted_by new_rev c)) ≡ true
+  is_kept-new_deleted c =
+      ap (λ b. not (b && is_undone next.revisions (head next) new_rev || (b && not (is_undone next.revisions (head next) new_rev) || false)))
+      is_collected-new
+
+  pub settled-new_deleted : (c : ℕ) → settled next (with_deletion new_rev (inserted_by new_rev c)) ≡ with_deletion new_rev (inserted_by new_rev c)
+  settled-new_deleted c =
+      ap (λ n. record { character = c; inserted = n; deleted = fold with_number [] (filter (nat_lt 0) (n ∷ [])) })
+      (settled_rev-after next new_rev past) ∙
+      ap (λ b. record { character = c; inserted = new_rev; deleted = fold with_number [] (cond b (new_rev ∷ []) []) }) (lt-ltb 0 new_rev (omega arith))
 
 -- THE UNDO STEP goes along
 pub left_of-undid_by : (history : History) (groups : List ℕ) (within : history.floor ≤ head history) → IsSound history →

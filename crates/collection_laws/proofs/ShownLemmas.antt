@@ -25,9 +25,11 @@ sets-after groups [] sets is = is
 sets-after groups (edit base group priority author ∷ revisions) sets is = sets-after groups revisions sets.1 is
 sets-after groups (undo set ∷ revisions) sets is = sets-after set revisions sets.1 sets.0
 
+pub HasRisingSet-undone_by : (revisions : List Revision) (at : ℕ) → AllByRecursion HasRisingSet revisions → HasRisingSet (undo (undone revisions at))
+HasRisingSet-undone_by revisions at sets = sets-after [] (take at revisions) (AllByRecursion-take HasRisingSet at revisions sets) (tt, refl)
+
 pub HasRisingSet-undone : (history : History) (at : ℕ) → IsWellFormed history → HasRisingSet (undo (undone history.revisions at))
-HasRisingSet-undone history at formed =
-    sets-after [] (take at history.revisions) (AllByRecursion-take HasRisingSet at history.revisions formed.sets) (tt, refl)
+HasRisingSet-undone history at formed = HasRisingSet-undone_by history.revisions at formed.sets
 
 pub no_zero : (history : History) (at : ℕ) → IsWellFormed history → has (undone history.revisions at) 0 ≡ false
 no_zero history at formed = (HasRisingSet-undone history at formed).1

@@ -9,5 +9,6 @@ pub mod SettledLemmas
 pub mod UpToFloorLemmas
 pub mod CharacterLemmas
 pub mod RecordLemmas
+pub mod UntilLemmas
 pub mod TextLemmas
 pub mod ForCallers

@@ -60,13 +60,13 @@ collected-fold : (h : History) (steps : List RevStep) → (fold after_revision h
 collected-fold h [] = refl
 collected-fold h (r ∷ steps) = collected-fold (after_revision h r) steps ∙ collected-after h r
 
-sound-fold : (h : History) (steps : List RevStep) → IsSound h → IsSound (fold after_revision h steps)
+pub sound-fold : (h : History) (steps : List RevStep) → IsSound h → IsSound (fold after_revision h steps)
 sound-fold h [] sound = sound
 sound-fold h (r ∷ steps) sound = sound-fold (after_revision h r) steps (sound-after h r sound)
 
 -- ---- parts of the records
 
-AreKept-drop : (h : History) (records : List RevRecord) (i : ℕ) → AreKept h records → AreKept (until_record h records i) (drop i records)
+pub AreKept-drop : (h : History) (records : List RevRecord) (i : ℕ) → AreKept h records → AreKept (until_record h records i) (drop i records)
 AreKept-drop h records zero kept = kept
 AreKept-drop h [] (suc i) kept = tt
 AreKept-drop h (r ∷ records) (suc i) kept = AreKept-drop (after_revision h r.step) records i kept.2
@@ -80,7 +80,7 @@ AreKept-append : (h : History) (records more : List RevRecord) → AreKept h rec
 AreKept-append h [] more kept rest = rest
 AreKept-append h (r ∷ records) more kept rest = (kept.0, kept.1, AreKept-append (after_revision h r.step) records more kept.2 rest)
 
-until_all : (h : History) (records : List RevRecord) (i : ℕ) → fold after_revision (until_record h records i) (steps_of (drop i records)) ≡ fold after_revision h (steps_of records)
+pub until_all : (h : History) (records : List RevRecord) (i : ℕ) → fold after_revision (until_record h records i) (steps_of (drop i records)) ≡ fold after_revision h (steps_of records)
 until_all h records i =
     ap (λ steps. fold after_revision (until_record h records i) steps) (steps_of-drop_all records i) ∙
     sym (fold-append after_revision h (take i (steps_of records)) (drop i (steps_of records))) ∙
@@ -196,6 +196,7 @@ pub holds_loaded : (len : ℕ) → HoldsRevisions (settled_loaded len) [] (repli
 holds_loaded len = record {
   parts = record { rising = tt; uncollected = tt; lengths = tt; ends = tt; apart = apart_loaded len };
   sound = loaded_sound len;
+  at_floor = refl;
   kept = tt;
   numbers = omega arith;
   dead = sym (none_hidden (settled_history (settled_loaded len)) len refl);
@@ -252,7 +253,7 @@ module _ (settled : Settled) (records : List RevRecord) (sound : IsSound (settle
   abbrev then_of : ℕ → History
   then_of i = until_record start records i
 
-  head-then_of : (i : ℕ) → i ≤ length records → head (then_of i) ≡ settled.floor + i
+  pub head-then_of : (i : ℕ) → i ≤ length records → head (then_of i) ≡ settled.floor + i
   head-then_of i le = omega (arith, head-fold start (take i (steps_of records)), length-take-steps, head-settled settled)
     where
       length-take-steps : length (take i (steps_of records)) ≡ i
@@ -386,13 +387,13 @@ module _ (settled : Settled) (records : List RevRecord) (parts : AreSettled sett
 
 -- ---- the next revision
 
-steps_of-push : (records : List RevRecord) (newest : RevRecord) (settled : Settled) →
+pub steps_of-push : (records : List RevRecord) (newest : RevRecord) (settled : Settled) →
     history_of settled (steps_of (records ++ newest ∷ [])) ≡ after_revision (history_of settled (steps_of records)) newest.step
 steps_of-push records newest settled =
     ap (λ steps. history_of settled steps) (map-append (λ r. r.step) records (newest ∷ [])) ∙
     fold-append after_revision (settled_history settled) (steps_of records) (newest.step ∷ [])
 
-clean-push : (revisions : List Revision) (last : Revision) (floor : ℕ) → floor ≤ length revisions → is_clean revisions floor ≡ true → is_based_from floor last ≡ true →
+pub clean-push : (revisions : List Revision) (last : Revision) (floor : ℕ) → floor ≤ length revisions → is_clean revisions floor ≡ true → is_based_from floor last ≡ true →
     is_clean (revisions ++ last ∷ []) floor ≡ true
 clean-push revisions last floor within clean from =
     ap (list_all (is_based_from floor)) (drop-append-le floor revisions (last ∷ []) within) ∙ more (drop floor revisions) clean
@@ -403,7 +404,7 @@ clean-push revisions last floor within clean from =
         let parts = and_parts (is_based_from floor r) (list_all (is_based_from floor) rs) all in
         and_from (is_based_from floor r) (list_all (is_based_from floor) (rs ++ last ∷ [])) parts.0 (more rs parts.1)
 
-HoldsRevisions-push : (settled : Settled) (records : List RevRecord) (newest : RevRecord) (gone dead : List Bool) (first more : Firsts) (groups after : List ℕ) →
+pub HoldsRevisions-push : (settled : Settled) (records : List RevRecord) (newest : RevRecord) (gone dead : List Bool) (first more : Firsts) (groups after : List ℕ) →
     HoldsRevisions settled records gone first groups → head (history_of settled (steps_of records)) < 2 ^ 63 - 1 →
     Follows (history_of settled (steps_of records)) newest.step → newest.turned ≡ turned_by (history_of settled (steps_of records)) newest.step →
     dead ≡ dead_now (after_revision (history_of settled (steps_of records)) newest.step) →
@@ -416,6 +417,7 @@ HoldsRevisions-push : (settled : Settled) (records : List RevRecord) (newest : R
 HoldsRevisions-push settled records newest gone dead first more groups after was has_number next turned_is dead_is first_edits groups_are rising sets clean free = record {
   parts = was.parts;
   sound = was.sound;
+  at_floor = was.at_floor;
   kept = AreKept-append (settled_history settled) records (newest ∷ []) was.kept (next, turned_is, tt);
   numbers = omega (arith, has_number, head-history_of settled records, length-append records (newest ∷ []));
   dead = dead_is ∙ ap dead_now (sym (steps_of-push records newest settled));
@@ -433,14 +435,14 @@ pub record IsPushed (settled : Settled) (records : List RevRecord) (dead : List 
   pub history : history_of settled (steps_of records) ≡ after
 
 -- the first edits after one more edit, where the kept ones are known group by group
-AreFirstEdits-edit : (h : History) (e : RevEdit) (first more : Firsts) → AreFirstEdits h.revisions first →
+pub AreFirstEdits-edit : (h : History) (e : RevEdit) (first more : Firsts) → AreFirstEdits h.revisions first →
     ((group : ℕ) → rev_of more.groups more.revs group ≡ first_after (rev_of first.groups first.revs group) e.group (head h + 1) group) →
     AreFirstEdits (after_edit h e).revisions more
 AreFirstEdits-edit h e first more are made = λ group.
     rw (made group) (IsFirstEdit-edit h e group (rev_of first.groups first.revs group) (are group))
 
 -- one more revision for which it holds
-all-push : (P : Revision → Type 0) (revisions : List Revision) (last : Revision) → AllByRecursion P revisions → P last → AllByRecursion P (revisions ++ last ∷ [])
+pub all-push : (P : Revision → Type 0) (revisions : List Revision) (last : Revision) → AllByRecursion P revisions → P last → AllByRecursion P (revisions ++ last ∷ [])
 all-push P revisions last all is = AllByRecursion-append P revisions (last ∷ []) all (is, tt)
 
 -- a set that may be undone does not have group 0
@@ -552,6 +554,7 @@ holds_settled settled new records gone dead first firsts groups more collected h
     record {
       parts = parts;
       sound = rw (head-settled new) (settled_sound new parts);
+      at_floor = undone_is ∙ ap (λ (s : Settled). s.undone) (sym is);
       kept = tt;
       numbers = omega (arith, holds.numbers, ap (λ (s : Settled). s.floor) is, head-history_of settled records);
       dead =

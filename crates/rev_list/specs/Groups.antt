@@ -4,6 +4,8 @@ use Rattle.std.specs.List.{list_any}
 use Rattle.plain_edits.specs.History.{Revision}
 use Rattle.plain_edits.specs.Edits.{is_edit_of}
 use Rattle.rev_list.specs.declared.settled.SettledGroup.{SettledGroup}
+use Rattle.rev_list.specs.declared.step.RevStep.{RevStep}
+use Rattle.rev_list.specs.declared.step.RevStep.TheVariants.{Edit, Undo}
 
 -- whether the group has an edit by the revision; the loaded text is of group 0
 abbrev pub has_edit_by : List Revision → ℕ → ℕ → Bool
@@ -38,6 +40,11 @@ first_after found own next group = or_else found (if own == group then Some next
 abbrev pub first_with : Option ℕ → List SettledGroup → ℕ → Option ℕ
 first_with found [] group = found
 first_with found (g ∷ groups) group = first_with (first_after found g.group g.last group) groups group
+
+-- the first edit of a group after a step, which is revision `next`
+abbrev pub first_after_step : Option ℕ → RevStep → ℕ → ℕ → Option ℕ
+first_after_step found (Edit e) next group = first_after found e.group next group
+first_after_step found (Undo groups) next group = found
 
 -- beside each group stands its first edit
 abbrev pub AreFirstEdits : List Revision → Firsts → Type 0

@@ -83,12 +83,13 @@ abbrev pub IsOpen : List ℕ → Revision → Type 0
 IsOpen collected (edit base group priority author) = has collected group ≡ false
 IsOpen collected (undo groups) = Unit {0}
 
--- what a list keeps: what is up to the floor, each later revision with what it turned, what is dead at the head, the first edit of each
+-- what a list keeps: what is up to the floor, and what is undone there, each later revision with what it turned, what is dead at the head, the first edit of each
 -- group, and which groups are undone at the head; each undo has a rising set, no later edit has its base below the floor, and no edit is of
 -- a collected group
 pub record HoldsRevisions (settled : Settled) (records : List RevRecord) (gone : List Bool) (first : Firsts) (groups : List ℕ) : Type 0 where
   pub parts : AreSettled settled
   pub sound : IsSound (settled_history settled)
+  pub at_floor : undone_now (settled_history settled) ≡ settled.undone
   pub kept : AreKept (settled_history settled) records
   pub numbers : settled.floor + length records < 2 ^ 63
   pub dead : gone ≡ dead_now (history_of settled (steps_of records))

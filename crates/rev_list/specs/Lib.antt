@@ -6,5 +6,6 @@ pub mod RevFault
 pub mod Groups
 pub mod Hidden
 pub mod Kept
+pub mod Until
 pub mod WithoutText
 pub mod Inner

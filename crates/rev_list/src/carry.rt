@@ -3,7 +3,7 @@ ghost use Rattle.std.specs.Prelude.{◌≡◌, ◌+◌, [], ◌∷◌, length, I
 ghost use Rattle.std.specs.List.{fold};
 ghost use Rattle.subset_runs.specs.Subset.{count, expand, symmetric_difference};
 ghost use Rattle.rev_list.specs.declared.step.RevStep.TheVariants.{Edit, Undo};
-ghost use Rattle.rev_list.specs.Kept.{dead_after, dead_before, GrowFrom, HasLength};
+ghost use Rattle.rev_list.specs.Kept.{dead_after, dead_before, grown_by, GrowFrom, HasLength};
 ghost use Rattle.rev_list.specs.Inner.{dead_later};
 
 use crate::records::RevRecord;
@@ -84,6 +84,21 @@ pub(crate) fn before(alloc: Global, dead: &Subset, last: &RevRecord) -> Result<S
     match &last.step {
         RevStep::Edit(edit) => turned.shrink(alloc, &edit.inserted),
         RevStep::Undo(_) => Ok(turned),
+    }
+}
+
+// What is dead after a revision, where `dead` was before it.
+pub(crate) fn after(alloc: Global, dead: &Subset, newest: &RevRecord) -> Result<Subset, AllocError>
+    requires fits { GrowFrom (length dead.now) (newest.now.step ∷ []) }
+    requires same_length { length (grown_by dead.now newest.now.step) ≡ length newest.now.turned }
+    ensures { IfOk result (λ s. s ≡ symmetric_difference (grown_by dead.now newest.now.step) newest.now.turned) }
+{
+    match &newest.step {
+        RevStep::Edit(edit) => {
+            let grown = dead.expand(alloc, &edit.inserted)?;
+            grown.symmetric_difference(alloc, &newest.turned)
+        }
+        RevStep::Undo(_) => dead.symmetric_difference(alloc, &newest.turned),
     }
 }
 

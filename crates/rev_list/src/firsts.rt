@@ -2,9 +2,9 @@
 ghost use Rattle.std.specs.Prelude.{◌≡◌, ℕ, ◌<◌, [], ◌∷◌, length, slice_index_or, IfOk};
 ghost use Rattle.std.specs.List.Sorted.{IsBinarySearchResult};
 ghost use Rattle.std.specs.Ordering.{nat_cmp};
-ghost use Rattle.rev_list.specs.Groups.{first_after, first_with, rev_of};
+ghost use Rattle.rev_list.specs.Groups.{first_after, first_after_step, first_with, rev_of};
 
-use crate::SettledGroup;
+use crate::{RevStep, SettledGroup};
 use number_set::NumberSet;
 use plain_text::NoMemory;
 use shared_tree::{Batch, Tree};
@@ -88,6 +88,22 @@ impl FirstEdits {
         match self.groups.search(group) {
             Ok(_) => self.copy(alloc),
             Err(at) => self.inserted(alloc, at, group, rev),
+        }
+    }
+
+    // After a step, which is this revision.
+    pub(crate) fn after(
+        &self,
+        alloc: Global,
+        step: &RevStep,
+        rev: u64,
+    ) -> Result<FirstEdits, NoMemory>
+        ensures { IfOk result (λ made. (other : ℕ) → rev_of made.groups made.revs other
+            ≡ first_after_step (rev_of self.now.groups self.now.revs other) step.now rev other) }
+    {
+        match step {
+            RevStep::Edit(edit) => self.with(alloc, edit.group, rev),
+            RevStep::Undo(_) => self.copy(alloc),
         }
     }
 

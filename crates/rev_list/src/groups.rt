@@ -31,6 +31,13 @@ impl Groups {
         &self.numbers
     }
 
+    /// The same groups, one by one.
+    pub fn copy(&self, alloc: Global) -> Result<Groups, AllocError>
+        ensures { IfOk result (λ made. made ≡ self.now) }
+    {
+        Groups::of_slice(alloc, self.as_slice())
+    }
+
     pub(crate) fn of_slice(alloc: Global, groups: &[u64]) -> Result<Groups, AllocError>
         requires { IsRising groups.now }
         ensures { IfOk result (λ made. made ≡ groups.now) }

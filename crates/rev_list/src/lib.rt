@@ -28,12 +28,14 @@ mod settled;
 mod step;
 pub mod undo_laws;
 pub mod undo_rows;
+pub mod until_laws;
 mod walk;
 
 pub use edit::RevEdit;
 pub use fault::RevFault;
 pub use groups::Groups;
 pub use list::RevList;
+pub use records::RevRecord;
 pub use settled::SettledGroup;
 pub use step::RevStep;
 pub use walk::RevisionsAfter;

@@ -1,4 +1,4 @@
-ghost use Rattle.std.specs.Prelude.{◌≡◌, ◌≢◌, ℕ, ◌+◌, ◌-◌, ◌<◌, ◌≤◌, ◌↔◌, true, false, List, length, map, replicate, IfOk, IfSome, IfNone, OnOk, OnErr};
+ghost use Rattle.std.specs.Prelude.{◌≡◌, ◌≢◌, ℕ, ◌+◌, ◌-◌, ◌<◌, ◌≤◌, ◌↔◌, true, false, List, None, length, map, replicate, IfOk, IfSome, IfNone, OnOk, OnErr};
 ghost use Rattle.std.specs.List.{AllByRecursion};
 ghost use Rattle.plain_text.specs.Numbers.{has, IsRising};
 ghost use Rattle.plain_edits.specs.History.{IsSound, head, loaded, revision_at};
@@ -6,16 +6,17 @@ ghost use Rattle.plain_edits.specs.Edits.{undid};
 ghost use Rattle.plain_edits.specs.Collection.{is_clean};
 ghost use Rattle.plain_edits.specs.HistorySteps.{HasRisingSet, IsByEdits};
 ghost use Rattle.plain_edits.specs.Undo.{undone_now};
-ghost use Rattle.rev_list.specs.Groups.{IsFirstEdit};
-ghost use Rattle.rev_list.specs.Edit.{after_edit, undone_by, MayPush, MayPushUndo};
+ghost use Rattle.rev_list.specs.Groups.{AreFirstEdits, IsFirstEdit};
+ghost use Rattle.rev_list.specs.Edit.{after_edit, after_revision, undone_by, MayPush, MayPushUndo};
 ghost use Rattle.rev_list.specs.Hidden.{AreDeletedLater, AreRevisionsAfter, IsCollected, IsEditAt, IsKeptAt, IsRevisionAt, IsUnknown, hidden_at, hidden_then, is_edit, union_at};
 ghost use Rattle.rev_list.specs.Kept.{IsOpen};
 ghost use Rattle.rev_list.specs.Settled.{AreSettledGroups, HasLengths, MaySettle, hidden_by_groups, settled_at_head, settled_history};
 ghost use Rattle.rev_list.specs.Under.{is_hidden_under};
+ghost use Rattle.rev_list.specs.Until.{history_until, undone_after_step, IsRecordAt, MayFollow};
 
-use crate::carry::{before, carried, recorded_edit, recorded_undo};
+use crate::carry::{after, before, carried, recorded_edit, recorded_undo};
 use crate::firsts::FirstEdits;
-use crate::records::Records;
+use crate::records::{Records, RevRecord};
 use crate::settled::UpToFloor;
 use crate::{Groups, RevEdit, RevFault, RevStep, RevisionsAfter, SettledGroup};
 use number_set::NumberSet;
@@ -175,6 +176,8 @@ impl RevList {
     pub fn edit(&self, rev: u64) -> Option<&RevEdit>
         ensures some { IfSome result (λ edit. IsEditAt self.now rev edit.now) }
         ensures none { IfNone result (self.now.floor < rev → is_edit (revision_at self.now.revisions rev) ≡ false) }
+        ensures past { rev ≤ self.now.floor → result ≡ None }
+        ensures unknown { head self.now < rev → result ≡ None }
     {
         if rev <= self.floor() || self.head() < rev {
             return None;
@@ -223,6 +226,63 @@ impl RevList {
             Ok(_) => Ok(self.dead_back(alloc, rev)?),
             Err(fault) => Err(fault),
         }
+    }
+
+    /// The list as it was at a kept revision, which shares the records up to there with this one. It costs what [`RevList::dead_then`]
+    /// does, and for each revision from the floor up to there the logarithm of the number of groups, or the groups that it turns.
+    pub fn until(&self, alloc: Global, rev: u64) -> Result<RevList, NoMemory>
+        requires { IsKeptAt self.now rev }
+        ensures { IfOk result (λ made. made ≡ history_until self.now rev) }
+    {
+        let count = rev - self.floor();
+        let dead = self.dead_back(alloc, rev)?;
+        let undone = self.undone_until(alloc, count)?;
+        let firsts = self.firsts_until(alloc, count)?;
+        Ok(RevList {
+            settled: Arc::try_clone(&self.settled)?,
+            records: self.records.front(alloc, count)?,
+            dead: Arc::new(alloc, dead)?,
+            firsts,
+            undone,
+        })
+    }
+
+    // The groups that were undone where there are so many records: those that each undo up to there turns are turned.
+    fn undone_until(&self, alloc: Global, count: u64) -> Result<NumberSet, NoMemory>
+        requires { self.now.floor + count ≤ head self.now }
+        ensures { IfOk result (λ set. set ≡ undone_now (history_until self.now (self.now.floor + count))) }
+    {
+        let mut undone = self.settled.undone().copy(alloc)?;
+        let mut at = 0;
+        while at < count {
+            undone = turned(alloc, &undone, &self.records.get(at).step)?;
+            at += 1;
+        }
+        Ok(undone)
+    }
+
+    // The first edit of each group up to where there are so many records.
+    fn firsts_until(&self, alloc: Global, count: u64) -> Result<FirstEdits, NoMemory>
+        requires { self.now.floor + count ≤ head self.now }
+        ensures { IfOk result (λ firsts. AreFirstEdits (history_until self.now (self.now.floor + count)).revisions firsts) }
+    {
+        let floor = self.settled.floor();
+        let mut firsts = FirstEdits::of_groups(alloc, self.settled.groups())?;
+        let mut at = 0;
+        while at < count {
+            firsts = firsts.after(alloc, &self.records.get(at).step, floor + at + 1)?;
+            at += 1;
+        }
+        Ok(firsts)
+    }
+
+    /// What is kept of a revision after the floor, in O(height).
+    pub fn record(&self, rev: u64) -> &RevRecord
+        requires after { self.now.floor < rev }
+        requires known { rev ≤ head self.now }
+        ensures { IsRecordAt self.now rev result.now }
+    {
+        self.records.get(rev - self.floor() - 1)
     }
 
     // From the revision's own union to the present one.
@@ -318,6 +378,26 @@ impl RevList {
         Ok(next)
     }
 
+    /// Makes the revision of a record the next one, as [`RevList::record`] gives it. It costs the runs of what is dead and of the record,
+    /// the height of the list, and the logarithm of the number of groups, or the groups that it turns. After want of memory the revisions
+    /// are as before.
+    pub fn push_record(&mut self, alloc: Global, newest: RevRecord) -> Result<(), NoMemory>
+        requires { MayFollow self.old newest }
+        ensures ok { OnOk result (self.new ≡ after_revision self.old newest.step) }
+        ensures err { OnErr result (self.new ≡ self.old) }
+    {
+        let dead = after(alloc, &self.dead, &newest)?;
+        let next = self.head() + 1;
+        let firsts = self.firsts.after(alloc, &newest.step, next)?;
+        let undone = turned(alloc, &self.undone, &newest.step)?;
+        let dead = Arc::new(alloc, dead)?;
+        self.records.push(alloc, newest)?;
+        self.dead = dead;
+        self.firsts = firsts;
+        self.undone = undone;
+        Ok(())
+    }
+
     /// The list whose floor is the head, with these groups up to there, where the groups of `collected` are collected beside those that
     /// were. It costs the logarithm of the number of groups for each of them, and that of the collected ones for each of `collected`.
     pub fn settled(
@@ -357,5 +437,15 @@ impl RevList {
             firsts: self.firsts.copy(alloc)?,
             undone: self.undone.copy(alloc)?,
         })
+    }
+}
+
+// The groups that are undone after a step, where these were before it.
+fn turned(alloc: Global, groups: &NumberSet, step: &RevStep) -> Result<NumberSet, NoMemory>
+    ensures { IfOk result (λ set. set ≡ undone_after_step groups.now step.now) }
+{
+    match step {
+        RevStep::Edit(_) => groups.copy(alloc),
+        RevStep::Undo(others) => groups.flipped(alloc, others.as_slice()),
     }
 }

@@ -1,5 +1,5 @@
 // What a list of revisions keeps of each of them, behind shared pointers.
-ghost use Rattle.std.specs.Prelude.{◌≡◌, ◌+◌, ◌^◌, ◌<◌, [], ◌∷◌, ◌++◌, length, slice_index_or, IfOk, OnOk, OnErr};
+ghost use Rattle.std.specs.Prelude.{◌≡◌, ◌+◌, ◌^◌, ◌<◌, [], ◌∷◌, ◌++◌, length, ◌≤◌, slice_index_or, take, IfOk, OnOk, OnErr};
 
 use crate::RevStep;
 use shared_tree::{Batch, Tree};
@@ -10,9 +10,9 @@ use subset_runs::Subset;
 /// A revision, and the positions of its own union that it turned from dead to alive or back. What is new there counts as alive
 /// before it.
 #[derive(Drop)]
-pub(crate) struct RevRecord {
-    pub(crate) step: RevStep,
-    pub(crate) turned: Subset,
+pub struct RevRecord {
+    pub step: RevStep,
+    pub turned: Subset,
 }
 
 /// The records of the revisions after the loaded text, the oldest first.
@@ -62,6 +62,16 @@ impl Records {
     {
         let (batch, place) = self.tree.get(index);
         batch.get(place)
+    }
+
+    // The first `to` records, shared, in O(height).
+    pub(crate) fn front(&self, alloc: Global, to: u64) -> Result<Records, AllocError>
+        requires { to ≤ length self.now }
+        ensures { IfOk result (λ made. made ≡ take to self.now) }
+    {
+        Ok(Records {
+            tree: self.tree.front(alloc, to)?,
+        })
     }
 
     // Puts a record at the end, in O(height).

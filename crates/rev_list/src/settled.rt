@@ -99,6 +99,12 @@ impl UpToFloor {
         &self.groups
     }
 
+    pub(crate) fn undone(&self) -> &NumberSet
+        ensures { result.now ≡ self.now.undone }
+    {
+        &self.undone
+    }
+
     pub(crate) fn has_collected(&self, group: u64) -> bool
         ensures { result ≡ has self.now.collected group }
     {
