@@ -1,0 +1,8 @@
+//! Tables of tests of what a front end has and of plans by runs: worked entries of a session, one after the other, have the steps that
+//! they had on paper, and what they leave valid is so.
+#![tactic(auto)]
+
+#[cfg(test)]
+mod entries;
+#[cfg(test)]
+mod plans;
