@@ -1,0 +1,2 @@
+-- What other crates may cite of the proofs of `macro_record`.
+pub use Rattle.macro_record.proofs.LengthLemmas.{played-short, played-short-by}
