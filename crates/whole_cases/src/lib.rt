@@ -2,4 +2,6 @@
 #![tactic(auto)]
 
 #[cfg(test)]
+mod awaiting;
+#[cfg(test)]
 mod runs;

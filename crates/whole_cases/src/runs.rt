@@ -2,8 +2,10 @@
 
 ghost use Rattle.std.specs.Prelude.{◌<◌};
 
-use outside::{MemSink, MemSource};
+use crate::awaiting::{Awaiting, Counting};
+use outside::{CalmSink, MemSink, MemSource};
 use std::alloc::{AllocError, Global};
+use std::cell::Cell;
 use std::test::Fail;
 use xi_top::run_alone;
 
@@ -124,5 +126,59 @@ fn the_input_ends_after_each_line(rt: HostRuntime) -> Result<(), Fail> {
         let outcome = ran(alloc, input, 4096, 0, 0)?;
         assert!(rt; outcome == (0, lines + 1, Some(written)), "{lines} lines");
     }
+    Ok(())
+}
+
+// An opening and an insert, of one length: each is answered by two lines.
+const OPENING: &str =
+    "{\"id\":0,                                                               \"method\":\"new_view\"}\n";
+
+const TYPING: &str =
+    "{\"method\":\"edit\",\"params\":{\"method\":\"insert\",\"params\":{\"chars\":\"a\"},\"view_id\":\"view-id-1\"}}\n";
+
+// An opening and 99 inserts.
+fn hundred_lines(alloc: Global) -> Result<Vec<u8>, AllocError> {
+    let mut bytes = Vec::from_slice(alloc, OPENING.as_bytes())?;
+    for _ in 1..100 {
+        bytes.extend_from_slice(TYPING.as_bytes())?;
+    }
+    Ok(bytes)
+}
+
+// Whether a run over a hundred lines ends well where at most `piece` bytes are given at a time, and none before all that is whole was
+// answered.
+fn answers_in_time(alloc: Global, piece: usize) -> Result<bool, AllocError>
+    requires { 0 < piece }
+{
+    let written = Cell::new(0);
+    let source = MemSource::new(hundred_lines(alloc)?, piece, Vec::new(alloc));
+    let mut source = Awaiting::new(source, &written);
+    let sink = Counting::new(CalmSink::new(alloc), &written);
+    let report = run_alone(alloc, &mut source, sink);
+    Ok(report.status == 0 && report.journal.len() == 101 && written.get() == 200)
+}
+
+#[test]
+fn each_line_is_answered_before_the_next_read(rt: HostRuntime) -> Result<(), Fail> {
+    let alloc = rt.alloc();
+    assert_eq!(rt; OPENING.len(), TYPING.len());
+    // A byte, a line and its parts, two lines, and two and a half.
+    for piece in [1, 40, 92, 184, 230] {
+        assert!(rt; answers_in_time(alloc, piece)?, "piece {piece}");
+    }
+    Ok(())
+}
+
+#[test]
+fn a_failed_read_is_the_last(rt: HostRuntime) -> Result<(), Fail> {
+    let alloc = rt.alloc();
+    let failing = Vec::from_slice(alloc, &[3])?;
+    let mut source = MemSource::new(joined(alloc, &FIVE_LINES, 5)?, 90, failing);
+    let report = run_alone(alloc, &mut source, CalmSink::new(alloc));
+    assert_eq!(rt; report.status, 4);
+    assert_eq!(rt; source.calls(), 3);
+    assert_eq!(rt; source.faults(), 1);
+    assert!(rt; !source.left().is_empty());
+    assert_eq!(rt; report.sink.refused(), 0);
     Ok(())
 }
