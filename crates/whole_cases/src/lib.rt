@@ -5,3 +5,5 @@
 mod awaiting;
 #[cfg(test)]
 mod runs;
+#[cfg(test)]
+mod tapes;

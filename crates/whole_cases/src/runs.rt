@@ -10,7 +10,7 @@ use std::test::Fail;
 use xi_top::run_alone;
 
 // An opening, three inserts, and an undo of them.
-const FIVE_LINES: [&str; 5] = [
+pub(crate) const FIVE_LINES: [&str; 5] = [
     "{\"id\":0,\"method\":\"new_view\"}\n",
     "{\"method\":\"edit\",\"params\":{\"method\":\"insert\",\"params\":{\"chars\":\"a\"},\"view_id\":\"view-id-1\"}}\n",
     "{\"method\":\"edit\",\"params\":{\"method\":\"insert\",\"params\":{\"chars\":\"é\"},\"view_id\":\"view-id-1\"}}\n",
@@ -19,7 +19,7 @@ const FIVE_LINES: [&str; 5] = [
 ];
 
 // What each of them writes.
-const FIVE_PIECES: [&str; 5] = [
+pub(crate) const FIVE_PIECES: [&str; 5] = [
     r#"{"id":0,"result":"view-id-1"}
 {"method":"update","params":{"update":{"ops":[{"lines":[{"cursor":[0],"ln":1,"styles":[],"text":""}],"n":1,"op":"ins"}],"pristine":true},"view_id":"view-id-1"}}
 "#,
@@ -39,7 +39,7 @@ const FIVE_PIECES: [&str; 5] = [
 ];
 
 // The first of these texts, one after the other.
-fn joined(alloc: Global, texts: &[&str], count: usize) -> Result<Vec<u8>, AllocError> {
+pub(crate) fn joined(alloc: Global, texts: &[&str], count: usize) -> Result<Vec<u8>, AllocError> {
     let mut bytes = Vec::new(alloc);
     for text in texts.iter().take(count) {
         bytes.extend_from_slice(text.as_bytes())?;
