@@ -28,7 +28,7 @@ use Rattle.rev_collect.proofs.LeftLemmas.{left_said}
 
 -- ---- flags of what is left
 
-shrink-map : (f p : Tagged → Bool) (xs : List Tagged) → shrink (map f xs) (map p xs) ≡ map f (filter (λ t. not (p t)) xs)
+pub shrink-map : (f p : Tagged → Bool) (xs : List Tagged) → shrink (map f xs) (map p xs) ≡ map f (filter (λ t. not (p t)) xs)
 shrink-map f p [] = refl
 shrink-map f p (x ∷ xs) = by (p x) (shrink-map f p xs)
   where

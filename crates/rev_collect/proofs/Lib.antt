@@ -7,3 +7,7 @@ pub mod JoinLemmas
 pub mod SetLemmas
 pub mod LoopLemmas
 pub mod CollectLemmas
+pub mod FlagLemmas
+pub mod StepLemmas
+pub mod UntilLemmas
+pub mod LaterLemmas

@@ -1,5 +1,5 @@
 -- Groups at rest, one revision after the other.
-use Rattle.std.proofs.Common.{◌≡◌, ℕ, zero, suc, ◌+◌, ◌-◌, ◌<◌, ◌≤◌, Bool, true, false, not, ◌&&◌, ◌||◌, cond, if◌then◌else◌, ◌==◌, inl, inr, nat_cmp, Less, Greater, List, [], ◌∷◌, ◌++◌, take, drop, Some, slice_get, refl, ap, ap₂, sym, ◌∙◌, arith}
+use Rattle.std.proofs.Common.{◌≡◌, ℕ, zero, suc, ◌+◌, ◌-◌, ◌<◌, ◌≤◌, Bool, true, false, not, ◌&&◌, ◌||◌, cond, if◌then◌else◌, ◌==◌, inl, inr, nat_cmp, Less, Greater, List, [], ◌∷◌, ◌++◌, take, drop, Some, slice_get, refl, ap, ap₂, sym, ◌∙◌, ◌↔◌, arith}
 use Rattle.std.specs.List.{AllByRecursion, fold, list_all, list_any, range_with_len}
 use Rattle.std.specs.Ordering.{match_ordering}
 use Rattle.std.specs.List.Sorted.{IsStrictlySortedBy}
@@ -13,7 +13,8 @@ use Rattle.number_set.proofs.ForCallers.{above, has-append, has-own}
 use Rattle.plain_edits.specs.History.{Revision, edit, undo, undone, undone_after, History, head}
 use Rattle.plain_edits.specs.Edits.{is_edit_of}
 use Rattle.plain_edits.specs.HistorySteps.{HasRisingSet}
-use Rattle.plain_edits.specs.Collection.{agrees, is_at_rest, resting_groups}
+use Rattle.plain_edits.specs.Collection.{agrees, is_at_rest, is_clean, resting_groups, IsAtRest, MayCollect}
+use Rattle.plain_edits.proofs.callers.CollectionLemmas.{is_at_rest_iff}
 use Rattle.rev_list.specs.declared.edit.RevEdit.{RevEdit}
 use Rattle.rev_list.specs.declared.step.RevStep.{RevStep}
 use Rattle.rev_list.specs.declared.step.RevStep.TheVariants.{Edit, Undo}
@@ -249,3 +250,28 @@ pub keys_rise : (keys : List ℕ) → IsStrictlySortedBy nat_cmp keys → IsRisi
 unfolding IsStrictlySortedBy
 keys_rise [] sorted = tt
 keys_rise (n ∷ keys) sorted = (AllByRecursion-weaker (λ m. nat_cmp n m ≡ Less) (λ m. n < m) (below n) keys sorted.0, keys_rise keys sorted.1)
+
+-- ---- whether a collection may come
+
+module _ (h : History) (floor : ℕ) (moving groups : List ℕ) (are : AreMoving h floor moving) where
+  none_moves : (group : ℕ) → has moving group ≡ false → IsAtRest h floor group
+  none_moves group none = (is_at_rest_iff h floor group).0 (are group ∙ ap not none)
+
+  at_rest_moves : (group : ℕ) → IsAtRest h floor group → has moving group ≡ false
+  at_rest_moves group rest = not_true (has moving group) (sym (are group) ∙ (is_at_rest_iff h floor group).1 rest)
+    where
+      not_true : (b : Bool) → not b ≡ true → b ≡ false
+      not_true true is = absurd cc
+      not_true false is = refl
+
+  pub may_iff : h.floor ≤ floor → floor ≤ head h → is_clean h.revisions floor ≡ true →
+      AllByRecursion (λ group. has moving group ≡ false) groups ↔ MayCollect h floor groups
+  may_iff rises known clean = (
+    λ none. record {
+      rises = rises;
+      known = known;
+      clean = clean;
+      at_rest = AllByRecursion-weaker (λ group. has moving group ≡ false) (IsAtRest h floor) none_moves groups none;
+    },
+    λ may. AllByRecursion-weaker (IsAtRest h floor) (λ group. has moving group ≡ false) at_rest_moves groups may.at_rest,
+  )

@@ -9,6 +9,7 @@ ghost use Rattle.rev_list.specs.Settled.{HasLengths};
 ghost use Rattle.rev_collect.specs.Groups.{dropped_by, shrunk, AreGroups};
 
 use crate::join::all_joined;
+use crate::later::with_later;
 use crate::present::all_edits;
 use number_set::NumberSet;
 use plain_text::NoMemory;
@@ -17,9 +18,10 @@ use std::alloc::{AllocError, Global};
 use std::collections::BTreeSet;
 use subset_runs::Subset;
 
-/// The list that is left after the collection of these groups at the head, and the positions of the present union that are dropped. It
-/// costs, for each revision after the floor, the runs of its edit and of what came later, and for each group that has an edit its runs
-/// and those of what is dropped: nothing of what was collected before, and nothing of the text.
+/// The list that is left after the collection of these groups at a clean floor, and the positions of the present union that are dropped.
+/// It costs, for each revision from the old floor to the new one, the runs of its edit and of what came later up to there, for each group that
+/// has an edit by then its runs and those of what is dropped, and for each revision after the new floor the runs of its edit, of what is
+/// dropped and of what is dead: nothing of what was collected before, and nothing of the text.
 pub fn collect(
     alloc: Global,
     revs: &RevList,
@@ -27,11 +29,27 @@ pub fn collect(
     groups: &BTreeSet<u64>,
 ) -> Result<(RevList, Subset), NoMemory>
     requires may { MayCollect revs.now floor groups.now.keys }
-    requires at_head { floor ≡ head revs.now }
     ensures left { IfOk result (λ made. made.0 ≡ left_of (collected_at revs.now floor groups.now.keys)) }
     ensures dropped { IfOk result (λ made. made.1
         ≡ map (is_dropped (collected_at revs.now floor groups.now.keys)) revs.now.characters) }
 {
+    let _walk = revs.revisions_after(floor);
+    let front = revs.until(alloc, floor)?;
+    let (left, dropped) = collect_at_head(alloc, &front, groups)?;
+    with_later(alloc, revs, floor, groups, left, dropped)
+}
+
+// The same at the head.
+fn collect_at_head(
+    alloc: Global,
+    revs: &RevList,
+    groups: &BTreeSet<u64>,
+) -> Result<(RevList, Subset), NoMemory>
+    ensures left { IfOk result (λ made. made.0 ≡ left_of (collected_at revs.now (head revs.now) groups.now.keys)) }
+    ensures dropped { IfOk result (λ made. made.1
+        ≡ map (is_dropped (collected_at revs.now (head revs.now) groups.now.keys)) revs.now.characters) }
+{
+    let floor = revs.floor();
     let _walk = revs.revisions_after(floor);
     let _open = revs.is_collected(0);
     let all = groups_at_head(alloc, revs)?;

@@ -1,10 +1,12 @@
 // Groups at rest at a floor.
-ghost use Rattle.std.specs.Prelude.{◌≡◌, ℕ, ◌≤◌, not, ◌&&◌, IfOk};
+ghost use Rattle.std.specs.List.{AllByRecursion};
+ghost use Rattle.std.specs.Prelude.{◌≡◌, ℕ, ◌≤◌, ◌↔◌, false, not, ◌&&◌, IfOk, IsTrue};
 ghost use Rattle.plain_text.specs.Numbers.{has};
 ghost use Rattle.plain_edits.specs.History.{head};
-ghost use Rattle.plain_edits.specs.Collection.{is_at_rest, resting_groups};
+ghost use Rattle.plain_edits.specs.Collection.{is_at_rest, resting_groups, MayCollect};
 ghost use Rattle.rev_collect.specs.Inner.{AreMoving, IsMoved};
 
+use crate::floors::clean;
 use number_set::NumberSet;
 use plain_text::NoMemory;
 use rev_list::{RevList, RevStep};
@@ -64,4 +66,36 @@ fn with_moved(alloc: Global, moving: &NumberSet, revision: &RevStep) -> Result<N
         RevStep::Edit(edit) => moving.with(alloc, edit.group),
         RevStep::Undo(groups) => moving.with_all(alloc, groups.as_slice()),
     }
+}
+
+/// Whether a collection of these groups at this floor may come: the floor is from the present one to the head and clean, and the groups are
+/// at rest there. It costs one pass over the revisions after the floor and over the groups that each moves, and a look-up for each group.
+pub fn may_collect(
+    alloc: Global,
+    revs: &RevList,
+    floor: u64,
+    groups: &BTreeSet<u64>,
+) -> Result<bool, NoMemory>
+    ensures { IfOk result (λ may. IsTrue may ↔ MayCollect revs.now floor groups.now.keys) }
+{
+    if floor < revs.floor() || revs.head() < floor {
+        return Ok(false);
+    }
+    if !clean(revs, floor) {
+        return Ok(false);
+    }
+    let moving = moving_after(alloc, revs, floor)?;
+    Ok(all_rest(&moving, groups))
+}
+
+// Whether none of the groups moves.
+fn all_rest(moving: &NumberSet, groups: &BTreeSet<u64>) -> bool
+    ensures { IsTrue result ↔ AllByRecursion (λ group. has moving.now group ≡ false) groups.now.keys }
+{
+    for group in groups {
+        if moving.has(*group) {
+            return false;
+        }
+    }
+    true
 }
