@@ -1,0 +1,6 @@
+pub mod Made
+pub mod Plain
+pub mod ReadBack
+pub mod Hears
+pub mod LineFeeds
+pub mod ForCallers
