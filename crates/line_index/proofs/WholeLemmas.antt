@@ -104,7 +104,7 @@ start_of-whole text index inside = ap (λ o. unwrap_or (option_map (λ (piece : 
 -- ---- where they start
 
 -- the lines that LFs end in the front of a text are its first lines
-first_lines : (front rest : List ℕ) → take (lf_count front) (logical_lines (front ++ rest)) ≡ full_lines front
+pub first_lines : (front rest : List ℕ) → take (lf_count front) (logical_lines (front ++ rest)) ≡ full_lines front
 first_lines front rest =
     ap (take (lf_count front)) (logical_lines-append front rest) ∙ take_at (full_lines front) _ (lf_count front) (count-full front)
 

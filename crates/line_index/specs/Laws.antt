@@ -1,9 +1,11 @@
 -- Laws of cuts, of all texts.
-use Rattle.std.specs.Prelude.{◌≡◌, ℕ, ◌+◌, true, List, [], ◌++◌, length, take, drop}
+use Rattle.std.specs.Prelude.{◌≡◌, ℕ, ◌+◌, true, List, [], ◌++◌, length, take, drop, slice_range}
 use Rattle.std.specs.Str.{all_scalars}
+use Rattle.plain_text.specs.Lines.{logical_lines}
 use Rattle.line_break.specs.Pieces.{wrapped_pieces}
 use Rattle.line_index.specs.Cuts.{cuts_of, cuts_of_lines, firsts, full_lines, open_line, pieces_at, span}
 use Rattle.rope_metrics.specs.Measure.{IsCut}
+use Rattle.rope_node.specs.Lengths.{lf_count}
 use Rattle.rope_metrics.specs.declared.measure.Measure.TheVariants.{Lines}
 use Rattle.line_index.specs.declared.cut.Cut.{Cut}
 
@@ -41,3 +43,14 @@ pub record EditsReplaceCuts (width tab : ℕ) (front gone come rest : List ℕ) 
 -- the same of all edits behind a front that is empty or ends with LF
 abbrev pub EditsReplace : Type 0
 EditsReplace = (width tab : ℕ) (front gone come rest : List ℕ) → open_line front ≡ [] → EditsReplaceCuts width tab front gone come rest
+
+-- an edit touches the logical lines from that of its first gap to that of its last: the cuts of all others stay
+abbrev pub EditTouches : ℕ → ℕ → List ℕ → List ℕ → List ℕ → List ℕ → Type 0
+EditTouches width tab front gone come back =
+    cuts_of width tab (front ++ (come ++ back)) ≡
+    cuts_of_lines width tab (take (lf_count front) (logical_lines (front ++ (gone ++ back)))) ++
+    (cuts_of_lines width tab (slice_range (logical_lines (front ++ (come ++ back))) (lf_count front) (lf_count (front ++ come) + 1)) ++
+    cuts_of_lines width tab (drop (lf_count (front ++ gone) + 1) (logical_lines (front ++ (gone ++ back)))))
+
+abbrev pub EditsTouchLines : Type 0
+EditsTouchLines = (width tab : ℕ) (front gone come back : List ℕ) → EditTouches width tab front gone come back

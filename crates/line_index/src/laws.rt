@@ -1,6 +1,6 @@
 //! Laws of cuts, each the contract of a function: they hold of all texts.
 
-ghost use Rattle.line_index.specs.Laws.{CutsSayPieces, EditsLeaveOtherLines, EditsReplace, FeedsEndLines, PiecesGoOn};
+ghost use Rattle.line_index.specs.Laws.{CutsSayPieces, EditsLeaveOtherLines, EditsReplace, EditsTouchLines, FeedsEndLines, PiecesGoOn};
 
 /// The cuts of a text say its pieces.
 pub fn cuts_say_pieces()
@@ -15,6 +15,11 @@ pub fn edits_leave_other_lines()
 /// The cuts after an edit are those before it, but for the lines that it touches.
 pub fn edits_replace()
     ensures { EditsReplace }
+{}
+
+/// The cuts after an edit are those of the lines before its first gap's and after its last gap's, and between these those of the new lines.
+pub fn edits_touch_lines()
+    ensures { EditsTouchLines }
 {}
 
 /// A text up to the first gap with so many LFs left of it has as many whole lines.
