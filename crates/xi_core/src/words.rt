@@ -1,4 +1,6 @@
-ghost use Rattle.std.specs.Prelude.{◌≡◌, ◌↔◌, [], ◌∷◌, IsTrue, IfOk, codes};
+ghost use Rattle.std.specs.Prelude.{◌≡◌, ◌↔◌, [], ◌∷◌, IsTrue, IfOk, codes, drop, map, string_bytes};
+ghost use Rattle.std.specs.Str.{chars};
+ghost use Rattle.std.specs.Vec.Iter.{into_iter_items};
 ghost use Rattle.xi_core.specs.Words.{AsksFor};
 
 use plain_text::{List, NoMemory, Text, Texts};
@@ -26,12 +28,26 @@ pub fn words<R: Env + AllocGlobal>(rt: &R) -> Result<Texts, NoMemory> {
     }
 }
 
-fn after_name(alloc: Global, args: env::Args) -> Result<Texts, NoMemory> {
-    let mut words = List::new(alloc);
-    for word in args.skip(1) {
-        words.push(Text::from_string(word))?;
+/// The texts of the arguments but the first, which is the program's name.
+fn after_name(alloc: Global, args: env::Args) -> Result<Texts, NoMemory>
+    ensures { IfOk result (λ words. words
+        ≡ map (λ word. chars (string_bytes word)) (drop 1 (into_iter_items args))) }
+{
+    let mut rest = args;
+    let _name = rest.next();
+    texts(alloc, rest)
+}
+
+/// One text each.
+fn texts(alloc: Global, args: env::Args) -> Result<Texts, NoMemory>
+    ensures { IfOk result (λ texts. texts ≡ map (λ word. chars (string_bytes word)) (into_iter_items args)) }
+{
+    let mut rest = args;
+    let mut texts = List::new(alloc);
+    while let Some(word) = rest.next() {
+        texts.push(Text::from_string(word))?;
     }
-    Ok(words)
+    Ok(texts)
 }
 
 fn one_empty(alloc: Global) -> Result<Texts, NoMemory>
