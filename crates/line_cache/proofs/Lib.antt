@@ -2,4 +2,5 @@ mod RangeLemmas
 mod StepLemmas
 mod StayLemmas
 mod PlanLemmas
+mod TakenLemmas
 mod LawLemmas

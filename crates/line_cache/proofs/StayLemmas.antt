@@ -13,7 +13,7 @@ AreStaysFrom-lower old new low least count total [] le below are = let first = a
 AreStaysFrom-lower old new low least count total (stay ∷ stays) le below are =
     let first = are.0 in let second = are.1 in (omega arith, omega arith, are.2)
 
-AreStaysFrom-within : (old new count total : ℕ) (stays : List Stay) → AreStaysFrom old new count total stays → (old ≤ count) × (new ≤ total)
+pub AreStaysFrom-within : (old new count total : ℕ) (stays : List Stay) → AreStaysFrom old new count total stays → (old ≤ count) × (new ≤ total)
 AreStaysFrom-within old new count total [] are = are
 AreStaysFrom-within old new count total (stay ∷ stays) are =
     let rest = AreStaysFrom-within (stay.old + stay.n) (stay.new + stay.n) count total stays are.2 in

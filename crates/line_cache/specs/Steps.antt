@@ -1,5 +1,5 @@
 -- A plan of an update as runs of lines, and what they mean.
-use Rattle.std.specs.Prelude.{◌≡◌, ℕ, ◌+◌, ◌<◌, Bool, true, false, ◌==◌, if◌then◌else◌, List, [], ◌∷◌, map, replicate, Option, None, Some, ⊤}
+use Rattle.std.specs.Prelude.{◌≡◌, ℕ, ◌+◌, ◌≤◌, ◌<◌, Bool, true, false, ◌==◌, if◌then◌else◌, List, [], ◌∷◌, map, replicate, Option, None, Some, ⊤}
 use Rattle.std.specs.List.{flat_map, range_with_len, sum_by}
 use Rattle.plain_screen.specs.Plan.{Standing, stays, is_restyled, is_sent, is_left}
 use Rattle.line_cache.specs.declared.step.Step.{Step}
@@ -62,3 +62,11 @@ IsPlacedAt index step = ⊤
 abbrev pub ArePlacedFrom : ℕ → List Step → Type 0
 ArePlacedFrom index [] = ⊤
 ArePlacedFrom index (step ∷ plan) = IsPlacedAt index step × ArePlacedFrom (index + lines_of step) plan
+
+-- the old lines that are taken over rise, from this one on, and are disjoint; there are so many
+abbrev pub TakesFrom : ℕ → ℕ → List Step → Type 0
+TakesFrom used count [] = used ≤ count
+TakesFrom used count (Keep old n ∷ plan) = (used ≤ old) × TakesFrom (old + n) count plan
+TakesFrom used count (Restyle old n ∷ plan) = (used ≤ old) × TakesFrom (old + n) count plan
+TakesFrom used count (Send first n ∷ plan) = TakesFrom used count plan
+TakesFrom used count (Drop n ∷ plan) = TakesFrom used count plan

@@ -2,7 +2,7 @@ ghost use Rattle.std.specs.Prelude.{◌≡◌, ◌^◌, ◌<◌, [], length, IfO
 ghost use Rattle.subset_runs.specs.Subset.{contains};
 ghost use Rattle.line_cache.specs.Stays.{AreStays, partners_by, valid_by};
 ghost use Rattle.line_cache.specs.Standings.{standings};
-ghost use Rattle.line_cache.specs.Steps.{AreLongest, ArePlacedFrom, lines_in, shown_by, standings_of};
+ghost use Rattle.line_cache.specs.Steps.{AreLongest, ArePlacedFrom, TakesFrom, lines_in, shown_by, standings_of};
 
 use crate::plan::planned;
 use crate::stay::Stay;
@@ -72,6 +72,7 @@ impl Mirror {
         ensures count { IfOk result (λ plan. lines_in plan ≡ total) }
         ensures longest { IfOk result AreLongest }
         ensures placed { IfOk result (ArePlacedFrom 0) }
+        ensures olds { IfOk result (TakesFrom 0 (length self.now)) }
     {
         match &self.lines {
             None => planned(alloc, &Subset::none(alloc, 0), stay, total, window, request),

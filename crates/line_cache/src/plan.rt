@@ -5,7 +5,7 @@ ghost use Rattle.line_cache.specs.Ahead.{moved_by};
 ghost use Rattle.line_cache.specs.Inner.{kept_step, restyled_step, sent_step};
 ghost use Rattle.line_cache.specs.Stays.{AreStays, if_true, partner_by, partners_by, valid_by};
 ghost use Rattle.line_cache.specs.Standings.{standings};
-ghost use Rattle.line_cache.specs.Steps.{AreLongest, ArePlacedFrom, IsPlacedAt, lines_in, lines_of, standings_in, standings_of};
+ghost use Rattle.line_cache.specs.Steps.{AreLongest, ArePlacedFrom, IsPlacedAt, TakesFrom, lines_in, lines_of, standings_in, standings_of};
 
 use crate::edges::{alike, is_kept, is_shown};
 use crate::partner::{Part, partner_from, rest_past};
@@ -29,6 +29,7 @@ pub(crate) fn planned(
     ensures count { IfOk result (λ plan. lines_in plan ≡ total) }
     ensures longest { IfOk result AreLongest }
     ensures placed { IfOk result (ArePlacedFrom 0) }
+    ensures olds { IfOk result (TakesFrom 0 (length lines.now)) }
 {
     let mut plan = Plan::new(alloc);
     let mut rest = stays;

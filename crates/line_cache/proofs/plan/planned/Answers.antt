@@ -5,6 +5,7 @@ use Rattle.line_cache.specs.Stays.{if_true, partner_by}
 use Rattle.line_cache.specs.Steps.{IsPlacedAt, lines_of}
 use Rattle.line_cache.proofs.PlanLemmas.{range-more, standings-all}
 use Rattle.line_cache.proofs.StayLemmas.{stays-fit}
+use Rattle.line_cache.proofs.TakenLemmas.{plan-takes}
 use Rattle.line_cache.proofs.plan.planned.Goals as goal
 
 pub rest_past-rest-requires : goal.rest_past-rest-requires
@@ -41,3 +42,8 @@ returns-clause-standings c =
     c.loop-at.invariant.standings ∙
     ap (λ n. map stands (range_with_len 0 n)) (omega (arith, c.loop-at.invariant.within, c.loop-at-test.false)) ∙
     standings-all c.args.window c.args.request lines c.args.stays.now c.args.total
+
+pub returns-clause-olds : goal.returns-clause-olds
+returns-clause-olds c =
+    plan-takes c.args.window c.args.request c.args.lines.now (length c.args.lines.now) c.args.total c.args.stays.now c.requires c.loop-at.plan c.loop-at.at
+    c.loop-at.invariant.longest c.loop-at.invariant.standings
