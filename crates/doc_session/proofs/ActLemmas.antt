@@ -1,4 +1,4 @@
--- The commands of the front end: an undo, a redo, five that only look, and all others.
+-- The commands of the front end: those that only look, an undo, a redo, and all others.
 use Rattle.std.proofs.Common.{◌≡◌, ℕ, ◌+◌, Bool, true, false, List, [], length, Option, Some, None, refl, ap, sym, subst, ◌∙◌}
 use Rattle.std.specs.Prelude.{if◌then◌else◌}
 use Rattle.std.proofs.lemmas.List.{length_push}
@@ -9,82 +9,125 @@ use Rattle.xi_plain.specs.declared.command.EditAct.{EditAct}
 use Rattle.xi_plain.specs.declared.command.EditAct.TheVariants as Acts
 use Rattle.undo_groups.specs.Groups.{Groups, next_undo, undone_one, next_redo, redone_one}
 use Rattle.edit_ops.specs.Commands.{Effect, IsDoneOnText, selecting}
+use Rattle.doc_view.specs.View.{View}
 use Rattle.doc_view.proofs.ForCallers.{do_nothing-none}
 use Rattle.doc_session.specs.declared.event.Body.{Body}
 use Rattle.doc_session.specs.declared.event.Body.TheVariants.{Null}
+use Rattle.doc_session.specs.declared.looking.Viewing.{Viewing}
+use Rattle.doc_session.specs.declared.looking.Viewing.TheVariants as Views
 use Rattle.doc_session.specs.Asking.{asked_refusal, front_edit}
-use Rattle.doc_session.specs.Document.{Document, no_request, head_text}
+use Rattle.doc_session.specs.Document.{Document, no_request}
+use Rattle.edit_groups.specs.Typing.{kind_of}
 use Rattle.doc_session.specs.Effects.{notice_of, scroll_after}
 use Rattle.doc_session.specs.Layout.{Position}
-use Rattle.doc_session.specs.Step.{EventStep, act_step, at_next_match, at_previous_match, command_refusal, command_step, effect_on, history_step, idle_step, is_idle, looking_document, request_of, revision_step, scrolled_document, seeking_document, step_to, typed_step}
+use Rattle.doc_session.specs.Looking.{scrolls_at, viewed, viewed_lines, viewing_of}
+use Rattle.doc_session.specs.Step.{EventStep, act_step, answer_to, command_refusal, command_step, done_step, effect_on, history_step, idle_step, is_idle, looking_step, request_of, revision_step, scroll_if, scrolls, selected_document, step_to, typed_document, typed_step, undone_document, viewed_document, viewing_step}
+use Rattle.doc_session.proofs.UntoldLemmas.{shown-viewed}
 
 -- a command that edits text or regions: it is done on these alone, its step is that of its effect, and it requests no lines
 pub record IsCommand (act : EditAct) : Type 0 where
   pub done : IsDoneOnText act
-  pub step : (plain : Document) → act_step plain act ≡ command_step plain act (effect_on plain act)
+  pub looks_not : viewing_of act ≡ None
+  pub step : (plain : Document) → done_step plain act ≡ command_step plain act (effect_on plain act)
   pub request : request_of act ≡ no_request
+
+-- a command that only looks: it requests what it says, leaves the configuration, and edits nothing
+record IsLook (act : EditAct) (viewing : Viewing) : Type 0 where
+  is : viewing_of act ≡ Some viewing
+  request : request_of act ≡ viewed_lines viewing
+  config : (view : View) → (viewed view viewing).config ≡ view.config
+  effect : (plain : Document) → effect_on plain act ≡ selecting plain.view.regions
 
 data Form (act : EditAct) : Type 0 where
   undoes : act ≡ Acts.Undo → Form act
   redoes : act ≡ Acts.Redo → Form act
-  scrolls : (first last : ℕ) → act ≡ Acts.Scroll first last → Form act
-  requests : (first last : ℕ) → act ≡ Acts.RequestLines first last → Form act
-  finds : (chars : List ℕ) (case_sensitive regex whole_words : Option Bool) → act ≡ Acts.Find chars case_sensitive regex whole_words → Form act
-  finds_next : (wrap_around allow_same : Option Bool) → act ≡ Acts.FindNext wrap_around allow_same → Form act
-  finds_previous : (wrap_around allow_same : Option Bool) → act ≡ Acts.FindPrevious wrap_around allow_same → Form act
+  looks : (viewing : Viewing) → IsLook act viewing → Form act
   commands : IsCommand act → Form act
 
 form_of : (act : EditAct) → Form act
-form_of (Acts.Insert chars) = commands (record { done = tt; step = λ plain. refl; request = refl })
-form_of (Acts.Paste chars) = commands (record { done = tt; step = λ plain. refl; request = refl })
-form_of Acts.InsertNewline = commands (record { done = tt; step = λ plain. refl; request = refl })
-form_of Acts.InsertTab = commands (record { done = tt; step = λ plain. refl; request = refl })
-form_of Acts.DeleteBackward = commands (record { done = tt; step = λ plain. refl; request = refl })
-form_of Acts.DeleteForward = commands (record { done = tt; step = λ plain. refl; request = refl })
-form_of Acts.DeleteWordBackward = commands (record { done = tt; step = λ plain. refl; request = refl })
-form_of Acts.DeleteWordForward = commands (record { done = tt; step = λ plain. refl; request = refl })
-form_of Acts.Cut = commands (record { done = tt; step = λ plain. refl; request = refl })
-form_of Acts.Copy = commands (record { done = tt; step = λ plain. refl; request = refl })
+form_of (Acts.Insert chars) = commands (record { done = tt; looks_not = refl; step = λ plain. refl; request = refl })
+form_of (Acts.Paste chars) = commands (record { done = tt; looks_not = refl; step = λ plain. refl; request = refl })
+form_of Acts.InsertNewline = commands (record { done = tt; looks_not = refl; step = λ plain. refl; request = refl })
+form_of Acts.InsertTab = commands (record { done = tt; looks_not = refl; step = λ plain. refl; request = refl })
+form_of Acts.DeleteBackward = commands (record { done = tt; looks_not = refl; step = λ plain. refl; request = refl })
+form_of Acts.DeleteForward = commands (record { done = tt; looks_not = refl; step = λ plain. refl; request = refl })
+form_of Acts.DeleteWordBackward = commands (record { done = tt; looks_not = refl; step = λ plain. refl; request = refl })
+form_of Acts.DeleteWordForward = commands (record { done = tt; looks_not = refl; step = λ plain. refl; request = refl })
+form_of Acts.Cut = commands (record { done = tt; looks_not = refl; step = λ plain. refl; request = refl })
+form_of Acts.Copy = commands (record { done = tt; looks_not = refl; step = λ plain. refl; request = refl })
 form_of Acts.Undo = undoes refl
 form_of Acts.Redo = redoes refl
-form_of Acts.SelectAll = commands (record { done = tt; step = λ plain. refl; request = refl })
-form_of Acts.Collapse = commands (record { done = tt; step = λ plain. refl; request = refl })
-form_of (Acts.Move motion extend) = commands (record { done = tt; step = λ plain. refl; request = refl })
-form_of (Acts.Scroll first last) = scrolls first last refl
-form_of (Acts.RequestLines first last) = requests first last refl
-form_of (Acts.Click line col modifiers count) = commands (record { done = tt; step = λ plain. refl; request = refl })
-form_of (Acts.Drag line col modifiers) = commands (record { done = tt; step = λ plain. refl; request = refl })
-form_of (Acts.Gesture line col ty) = commands (record { done = tt; step = λ plain. refl; request = refl })
-form_of (Acts.GotoLine line) = commands (record { done = tt; step = λ plain. refl; request = refl })
-form_of (Acts.Find chars case_sensitive regex whole_words) = finds chars case_sensitive regex whole_words refl
-form_of (Acts.FindNext wrap_around allow_same) = finds_next wrap_around allow_same refl
-form_of (Acts.FindPrevious wrap_around allow_same) = finds_previous wrap_around allow_same refl
-form_of Acts.Nothing = commands (record { done = tt; step = λ plain. refl; request = refl })
+form_of Acts.SelectAll = commands (record { done = tt; looks_not = refl; step = λ plain. refl; request = refl })
+form_of Acts.Collapse = commands (record { done = tt; looks_not = refl; step = λ plain. refl; request = refl })
+form_of (Acts.Move motion extend) = commands (record { done = tt; looks_not = refl; step = λ plain. refl; request = refl })
+form_of (Acts.Scroll first last) = looks (Views.Window (record { start = first; end = last })) (record { is = refl; request = refl; config = λ view. refl; effect = λ plain. refl })
+form_of (Acts.RequestLines first last) = looks (Views.Lines (record { start = first; end = last })) (record { is = refl; request = refl; config = λ view. refl; effect = λ plain. refl })
+form_of (Acts.Click line col modifiers count) = commands (record { done = tt; looks_not = refl; step = λ plain. refl; request = refl })
+form_of (Acts.Drag line col modifiers) = commands (record { done = tt; looks_not = refl; step = λ plain. refl; request = refl })
+form_of (Acts.Gesture line col ty) = commands (record { done = tt; looks_not = refl; step = λ plain. refl; request = refl })
+form_of (Acts.GotoLine line) = commands (record { done = tt; looks_not = refl; step = λ plain. refl; request = refl })
+form_of (Acts.Find chars case_sensitive regex whole_words) = looks (Views.Seek chars case_sensitive) (record { is = refl; request = refl; config = λ view. refl; effect = λ plain. refl })
+form_of (Acts.FindNext wrap_around allow_same) = looks (Views.Next wrap_around) (record { is = refl; request = refl; config = λ view. refl; effect = λ plain. refl })
+form_of (Acts.FindPrevious wrap_around allow_same) = looks (Views.Previous wrap_around) (record { is = refl; request = refl; config = λ view. refl; effect = λ plain. refl })
+form_of Acts.Nothing = commands (record { done = tt; looks_not = refl; step = λ plain. refl; request = refl })
 
--- what is none of the others edits text or regions
-pub IsCommand-else : (act : EditAct) → (act ≡ Acts.Undo → ⊥) → (act ≡ Acts.Redo → ⊥) → ((first last : ℕ) → act ≡ Acts.Scroll first last → ⊥) →
-    ((first last : ℕ) → act ≡ Acts.RequestLines first last → ⊥) →
+-- what is none of those that only look does more
+pub viewing_of-else : (act : EditAct) → ((first last : ℕ) → act ≡ Acts.Scroll first last → ⊥) → ((first last : ℕ) → act ≡ Acts.RequestLines first last → ⊥) →
     ((chars : List ℕ) (case_sensitive regex whole_words : Option Bool) → act ≡ Acts.Find chars case_sensitive regex whole_words → ⊥) →
     ((wrap_around allow_same : Option Bool) → act ≡ Acts.FindNext wrap_around allow_same → ⊥) →
-    ((wrap_around allow_same : Option Bool) → act ≡ Acts.FindPrevious wrap_around allow_same → ⊥) → IsCommand act
-IsCommand-else act no_undo no_redo no_scroll no_request no_find no_next no_previous = by (form_of act)
+    ((wrap_around allow_same : Option Bool) → act ≡ Acts.FindPrevious wrap_around allow_same → ⊥) → viewing_of act ≡ None
+viewing_of-else (Acts.Insert chars) no_scroll no_lines no_find no_next no_previous = refl
+viewing_of-else (Acts.Paste chars) no_scroll no_lines no_find no_next no_previous = refl
+viewing_of-else Acts.InsertNewline no_scroll no_lines no_find no_next no_previous = refl
+viewing_of-else Acts.InsertTab no_scroll no_lines no_find no_next no_previous = refl
+viewing_of-else Acts.DeleteBackward no_scroll no_lines no_find no_next no_previous = refl
+viewing_of-else Acts.DeleteForward no_scroll no_lines no_find no_next no_previous = refl
+viewing_of-else Acts.DeleteWordBackward no_scroll no_lines no_find no_next no_previous = refl
+viewing_of-else Acts.DeleteWordForward no_scroll no_lines no_find no_next no_previous = refl
+viewing_of-else Acts.Cut no_scroll no_lines no_find no_next no_previous = refl
+viewing_of-else Acts.Copy no_scroll no_lines no_find no_next no_previous = refl
+viewing_of-else Acts.Undo no_scroll no_lines no_find no_next no_previous = refl
+viewing_of-else Acts.Redo no_scroll no_lines no_find no_next no_previous = refl
+viewing_of-else Acts.SelectAll no_scroll no_lines no_find no_next no_previous = refl
+viewing_of-else Acts.Collapse no_scroll no_lines no_find no_next no_previous = refl
+viewing_of-else (Acts.Move motion extend) no_scroll no_lines no_find no_next no_previous = refl
+viewing_of-else (Acts.Scroll first last) no_scroll no_lines no_find no_next no_previous = absurd (no_scroll first last refl)
+viewing_of-else (Acts.RequestLines first last) no_scroll no_lines no_find no_next no_previous = absurd (no_lines first last refl)
+viewing_of-else (Acts.Click line col modifiers count) no_scroll no_lines no_find no_next no_previous = refl
+viewing_of-else (Acts.Drag line col modifiers) no_scroll no_lines no_find no_next no_previous = refl
+viewing_of-else (Acts.Gesture line col ty) no_scroll no_lines no_find no_next no_previous = refl
+viewing_of-else (Acts.GotoLine line) no_scroll no_lines no_find no_next no_previous = refl
+viewing_of-else (Acts.Find chars case_sensitive regex whole_words) no_scroll no_lines no_find no_next no_previous = absurd (no_find chars case_sensitive regex whole_words refl)
+viewing_of-else (Acts.FindNext wrap_around allow_same) no_scroll no_lines no_find no_next no_previous = absurd (no_next wrap_around allow_same refl)
+viewing_of-else (Acts.FindPrevious wrap_around allow_same) no_scroll no_lines no_find no_next no_previous = absurd (no_previous wrap_around allow_same refl)
+viewing_of-else Acts.Nothing no_scroll no_lines no_find no_next no_previous = refl
+
+-- what does more than look, and is no undo and no redo, edits text or regions
+pub IsCommand-else : (act : EditAct) → (act ≡ Acts.Undo → ⊥) → (act ≡ Acts.Redo → ⊥) → viewing_of act ≡ None → IsCommand act
+IsCommand-else act no_undo no_redo none = by (form_of act)
   where
     by : Form act → IsCommand act
     by (undoes is) = absurd (no_undo is)
     by (redoes is) = absurd (no_redo is)
-    by (scrolls first last is) = absurd (no_scroll first last is)
-    by (requests first last is) = absurd (no_request first last is)
-    by (finds chars case_sensitive regex whole_words is) = absurd (no_find chars case_sensitive regex whole_words is)
-    by (finds_next wrap_around allow_same is) = absurd (no_next wrap_around allow_same is)
-    by (finds_previous wrap_around allow_same is) = absurd (no_previous wrap_around allow_same is)
+    by (looks viewing look) = absurd (let clash = sym none ∙ look.is in cc)
     by (commands is) = is
 
 -- ---- what is never refused
 
 -- where nothing is edited nothing is refused
-pub refusal-selecting : (plain : Document) → command_refusal plain (selecting plain.regions) ≡ None
+pub refusal-selecting : (plain : Document) → command_refusal plain (selecting plain.view.regions) ≡ None
 refusal-selecting plain =
-    ap (λ b. if b then None else asked_refusal plain (front_edit plain None [])) (do_nothing-none (length (head_text plain)))
+    ap (λ b. if b then None else asked_refusal plain (front_edit plain None [])) (do_nothing-none (length plain.view.text))
+
+-- so it is where a command only looks
+pub refusal-looking : (plain : Document) (act : EditAct) (viewing : Viewing) → viewing_of act ≡ Some viewing → command_refusal plain (effect_on plain act) ≡ None
+refusal-looking plain act viewing given = by (form_of act)
+  where
+    by : Form act → command_refusal plain (effect_on plain act) ≡ None
+    by (undoes is) = absurd (let clash = sym (ap viewing_of is) ∙ given in cc)
+    by (redoes is) = absurd (let clash = sym (ap viewing_of is) ∙ given in cc)
+    by (looks own look) = ap (command_refusal plain) (look.effect plain) ∙ refusal-selecting plain
+    by (commands is) = absurd (let clash = sym is.looks_not ∙ given in cc)
 
 -- an edit that is refused requests no lines
 pub request_of-refused : (plain : Document) (act : EditAct) (refusal : Refusal) → command_refusal plain (effect_on plain act) ≡ Some refusal →
@@ -94,42 +137,60 @@ request_of-refused plain act refusal refused = by (form_of act)
     by : Form act → request_of act ≡ no_request
     by (undoes is) = ap request_of is
     by (redoes is) = ap request_of is
-    by (scrolls first last is) = ap request_of is
-    by (requests first last is) =
-        absurd (let taken = sym (refusal-selecting plain) ∙ sym (ap (λ a. command_refusal plain (effect_on plain a)) is) ∙ refused in cc)
-    by (finds chars case_sensitive regex whole_words is) = ap request_of is
-    by (finds_next wrap_around allow_same is) = ap request_of is
-    by (finds_previous wrap_around allow_same is) = ap request_of is
+    by (looks viewing look) =
+        absurd (let taken = sym (refusal-selecting plain) ∙ sym (ap (command_refusal plain) (look.effect plain)) ∙ refused in cc)
     by (commands is) = is.request
 
 -- ---- the two forms of a step
 
--- it makes no revision, or one; configuration and screen are as before, the screen until the front end is told
+-- what a step leaves until the front end is told: how the text is laid out and edited, what the front end was told, and its screen
+pub record Leaves (before next : Document) : Type 0 where
+  pub config : next.view.config ≡ before.view.config
+  pub shown : next.view.shown ≡ before.view.shown
+  pub screen : next.screen ≡ before.screen
+
+-- it makes no revision, or one, and leaves that
 module _ (P : EventStep → Type 0) (plain : Document) (act : EditAct)
-    (still : (next : Document) (body : Body) (scroll : Option Position) → next.history ≡ plain.history → next.config ≡ plain.config → next.screen ≡ plain.screen →
+    (still : (next : Document) (body : Body) (scroll : Option Position) → next.history ≡ plain.history → Leaves plain next →
     P (step_to (request_of act) plain next body scroll None))
-    (made : (next : Document) (body : Body) (scroll : Option Position) → head next.history ≡ head plain.history + 1 → next.config ≡ plain.config → next.screen ≡ plain.screen →
+    (made : (next : Document) (body : Body) (scroll : Option Position) → head next.history ≡ head plain.history + 1 → Leaves plain next →
     P (step_to (request_of act) plain next body scroll (Some (notice_of plain.history next.history 0)))) where
   still_asking : (request : Run) → request_of act ≡ request → (next : Document) (body : Body) (scroll : Option Position) →
-      next.history ≡ plain.history → next.config ≡ plain.config → next.screen ≡ plain.screen → P (step_to request plain next body scroll None)
-  still_asking request is next body scroll history config screen =
-      subst (λ r. P (step_to r plain next body scroll None)) is (still next body scroll history config screen)
+      next.history ≡ plain.history → Leaves plain next → P (step_to request plain next body scroll None)
+  still_asking request is next body scroll history leaves =
+      subst (λ r. P (step_to r plain next body scroll None)) is (still next body scroll history leaves)
 
   made_asking : request_of act ≡ no_request → (next : Document) (body : Body) (scroll : Option Position) →
-      head next.history ≡ head plain.history + 1 → next.config ≡ plain.config → next.screen ≡ plain.screen → P (revision_step plain next 0 body scroll)
-  made_asking is next body scroll more config screen =
-      subst (λ r. P (step_to r plain next body scroll (Some (notice_of plain.history next.history 0)))) is (made next body scroll more config screen)
+      head next.history ≡ head plain.history + 1 → Leaves plain next → P (revision_step plain next 0 body scroll)
+  made_asking is next body scroll more leaves =
+      subst (λ r. P (step_to r plain next body scroll (Some (notice_of plain.history next.history 0)))) is (made next body scroll more leaves)
 
   command_forms : (effect : Effect) → request_of act ≡ no_request → P (command_step plain act effect)
   command_forms effect is = by (is_idle plain effect)
     where
       by : (idle : Bool) → P (if idle then idle_step plain act effect else typed_step plain act effect)
-      by true = still_asking no_request is _ _ _ refl refl refl
-      by false = made_asking is _ _ _ (length_push plain.history.revisions _) refl refl
+      by true =
+          let next = selected_document plain (kind_of act) effect.regions in
+          still_asking no_request is next (answer_to plain act) (scroll_if (scrolls act) plain next) refl
+          (record { config = refl; shown = refl; screen = refl })
+      by false =
+          let next = typed_document plain (kind_of act) effect in
+          made_asking is next (answer_to plain act) (scroll_if (scrolls act) plain next) (length_push plain.history.revisions _)
+          (record { config = refl; shown = refl; screen = refl })
+
+  viewing_forms : (viewing : Viewing) → request_of act ≡ viewed_lines viewing → (viewed plain.view viewing).config ≡ plain.view.config →
+      P (viewing_step plain viewing)
+  viewing_forms viewing is config =
+      let next = viewed_document plain viewing in
+      still_asking (viewed_lines viewing) is next Null (scroll_if (scrolls_at viewing) plain next) refl
+      (record { config = config; shown = shown-viewed plain.view viewing; screen = refl })
 
   turn_forms : (group : Option ℕ) (groups : Groups) → request_of act ≡ no_request → P (history_step plain group groups)
-  turn_forms None groups is = still_asking no_request is _ _ _ refl refl refl
-  turn_forms (Some group) groups is = made_asking is _ _ _ (length_push plain.history.revisions _) refl refl
+  turn_forms None groups is = viewing_forms Views.Other is refl
+  turn_forms (Some group) groups is =
+      let next = undone_document plain groups in
+      made_asking is next Null (scroll_after plain next) (length_push plain.history.revisions _)
+      (record { config = refl; shown = refl; screen = refl })
 
   abbrev At : EditAct → Type 0
   At a = P (act_step plain a)
@@ -141,19 +202,8 @@ module _ (P : EventStep → Type 0) (plain : Document) (act : EditAct)
       by : Form act → P (act_step plain act)
       by (undoes is) = subst At (sym is) (turn_forms (next_undo plain.groups) (undone_one plain.groups) (ap request_of is))
       by (redoes is) = subst At (sym is) (turn_forms (next_redo plain.groups) (redone_one plain.groups) (ap request_of is))
-      by (scrolls first last is) =
-          let next = scrolled_document plain (record { start = first; end = last }) in
-          subst At (sym is) (still_asking no_request (ap request_of is) next Null (scroll_after plain next) refl refl refl)
-      by (requests first last is) =
-          let next = looking_document plain in
-          subst At (sym is) (still_asking (record { start = first; end = last }) (ap request_of is) next Null (scroll_after plain next) refl refl refl)
-      by (finds chars case_sensitive regex whole_words is) =
-          let next = seeking_document plain chars case_sensitive in
-          subst At (sym is) (still_asking no_request (ap request_of is) next Null (scroll_after plain next) refl refl refl)
-      by (finds_next wrap_around allow_same is) =
-          let next = at_next_match plain wrap_around in
-          subst At (sym is) (still_asking no_request (ap request_of is) next Null (scroll_after plain next) refl refl refl)
-      by (finds_previous wrap_around allow_same is) =
-          let next = at_previous_match plain wrap_around in
-          subst At (sym is) (still_asking no_request (ap request_of is) next Null (scroll_after plain next) refl refl refl)
-      by (commands is) = subst P (sym (is.step plain)) (command_forms (effect_on plain act) is.request)
+      by (looks viewing look) =
+          subst (λ found. P (looking_step plain act found)) (sym look.is) (viewing_forms viewing look.request (look.config plain.view))
+      by (commands is) =
+          subst (λ found. P (looking_step plain act found)) (sym is.looks_not)
+          (subst P (sym (is.step plain)) (command_forms (effect_on plain act) is.request))

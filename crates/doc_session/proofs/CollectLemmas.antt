@@ -270,14 +270,10 @@ IsUncollected-collected doc made plain engine stack found stands is limit engine
       typing = stands.typing;
       agree = subst (λ s. Agree plain.history.revisions (fold with_number plain.history.collected found.groups) s plain.typing) groups_is
           (Agree-collected plain.history.revisions plain.history.collected plain.groups plain.typing stands.agree found.groups gone stack groups_is sound);
-      regions = stands.regions;
+      view = stands.view;
       regions_are = stands.regions_are;
-      layers = stands.layers;
       saved = stands.saved;
       saved_before = stands.saved_before;
-      window = stands.window;
-      query = stands.query;
-      config = stands.config;
       screen = stands.screen;
     })
 
@@ -361,14 +357,10 @@ DocStandsFor-whole doc plain stands none = record {
   none_left = none;
   typing = stands.typing;
   agree = stands.agree;
-  regions = stands.regions;
+  view = stands.view;
   regions_are = stands.regions_are;
-  layers = stands.layers;
   saved = stands.saved;
   saved_before = stands.saved_before;
-  window = stands.window;
-  query = stands.query;
-  config = stands.config;
   screen = stands.screen;
 }
 
@@ -397,14 +389,10 @@ IsUncollected-sessions doc plain sessions others stands same are = record {
   groups = stands.groups;
   typing = stands.typing;
   agree = stands.agree;
-  regions = stands.regions;
+  view = stands.view;
   regions_are = stands.regions_are;
-  layers = stands.layers;
   saved = stands.saved;
   saved_before = stands.saved_before;
-  window = stands.window;
-  query = stands.query;
-  config = stands.config;
   screen = stands.screen;
 }
 

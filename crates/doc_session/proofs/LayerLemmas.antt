@@ -12,6 +12,7 @@ use Rattle.stale_spans.specs.declared.asked.AskedSpans.{AskedSpans}
 use Rattle.stale_spans.specs.Asked.{layers_with_spans, moved_layers}
 use Rattle.stale_spans.proofs.ForCallers.{mapped_layers-change}
 use Rattle.doc_layout.specs.Changed.{IsChangeOf}
+use Rattle.doc_view.specs.View.{View}
 use Rattle.doc_session.specs.declared.taken.Taken.{Taken}
 use Rattle.doc_session.specs.Document.{Document, head_text}
 use Rattle.doc_session.specs.InMemory.{Doc}
@@ -55,11 +56,11 @@ as_many-changed units layers moved is = ap length is ∙ length-map layers (mapp
 -- they follow by the style rule, whatever document it stands for
 pub moved-changed : (doc : Doc) (plain : Document) (history : History) (author : ℕ) (taken : Taken) (moved : List Layer) → DocStandsFor doc plain →
     IsAfter plain.history history author taken → AreOver (length doc.view.text) doc.view.layers →
-    moved ≡ mapped_layers taken.change.units doc.view.layers → moved ≡ moved_layers plain.history history plain.layers
+    moved ≡ mapped_layers taken.change.units doc.view.layers → moved ≡ moved_layers plain.history history plain.view.layers
 moved-changed doc plain history author taken moved stands after over is =
     let here : AreOver (length (head_text plain)) doc.view.layers = subst (λ t. AreOver (length t) doc.view.layers) stands.parts.shown_is over in
     is ∙ mapped_layers-change plain.history history taken.change.units after.changes.kept after.changes.added after.text_before doc.view.layers here ∙
-    ap (moved_layers plain.history history) (sym stands.layers)
+    ap (λ (v : View). moved_layers plain.history history v.layers) stands.view
 
 -- ---- after spans of a plugin
 
@@ -75,14 +76,12 @@ IsUntold-styled doc made plain caller asked layers stands is layers_are =
       groups = stands.groups;
       typing = stands.typing;
       agree = stands.agree;
-      regions = stands.regions;
+      view =
+          ap (λ (ls : List Layer). record doc.view { layers = ls }) layers_are ∙
+          ap (λ (v : View). record v { layers = layers_with_spans plain.history asked (caller - 1) v.layers }) stands.view;
       regions_are = stands.regions_are;
-      layers = sym (layers_are ∙ ap (layers_with_spans plain.history asked (caller - 1)) (sym stands.layers));
       saved = stands.saved;
       saved_before = stands.saved_before;
-      window = stands.window;
-      query = stands.query;
-      config = stands.config;
       screen_stays = refl;
       shown = stands.screen;
     })

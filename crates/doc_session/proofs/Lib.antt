@@ -10,7 +10,6 @@ pub mod FrontLemmas
 pub mod UntoldLemmas
 pub mod LayerLemmas
 pub mod ReadLemmas
-pub mod ViewLemmas
 pub mod IdleLemmas
 pub mod SomeLemmas
 pub mod PieceLemmas

@@ -4,11 +4,9 @@ use Rattle.plain_text.specs.declared.selection.Region.{Region}
 use Rattle.plain_edits.specs.History.{History}
 use Rattle.plain_edits.specs.HistorySteps.{Step, after_step}
 use Rattle.xi_plain.specs.declared.command.EditAct.{EditAct}
-use Rattle.xi_plain.specs.declared.config.Config.{Config}
-use Rattle.line_break.specs.Pieces.{wrapped_pieces}
 use Rattle.edit_ops.specs.declared.replacement.Replacement.{Replacement}
 use Rattle.plain_edits.specs.declared.delta.UnitDelta.{UnitDelta}
-use Rattle.edit_ops.specs.Commands.{Effect, IsEffect, copied_text, effect_of}
+use Rattle.edit_ops.specs.Commands.{IsEffect, copied_text}
 use Rattle.edit_ops.specs.Replacements.{IsEditOf}
 use Rattle.rev_engine.specs.declared.edit.Edit.{Edit}
 use Rattle.rev_engine.specs.declared.edit.UnitEdit.{UnitEdit}
@@ -20,28 +18,28 @@ use Rattle.edit_groups.specs.declared.typing.Kind.{Kind}
 use Rattle.edit_groups.specs.declared.typing.Typing.{Typing}
 use Rattle.edit_groups.specs.Grouping.{group_by, groups_by, known_group, named_group, run_group}
 use Rattle.edit_groups.specs.Typing.{run_on}
-use Rattle.stale_spans.specs.Asked.{moved_layers}
 use Rattle.doc_view.specs.Idle.{do_nothing}
 use Rattle.doc_view.specs.declared.moved.Goals.{Goals}
 use Rattle.doc_view.specs.Moved.{AreMoved, with_goals}
+use Rattle.doc_view.specs.View.{View}
 use Rattle.doc_session.specs.InMemory.{Doc}
 use Rattle.doc_session.specs.declared.taken.Taken.{Taken}
 use Rattle.doc_session.specs.Asking.{asked_refusal, replacing_edit, front_edit, plugin_edit}
-use Rattle.doc_session.specs.Document.{Document, head_text}
-use Rattle.doc_session.specs.Inner.{IsAfter, IsAfterEdit, effect_in, next_document}
+use Rattle.doc_session.specs.Document.{Document}
+use Rattle.doc_session.specs.Inner.{IsAfter, IsAfterEdit, next_document}
 use Rattle.doc_session.specs.Stands.{DocStandsFor}
-use Rattle.doc_session.specs.Step.{effect_on, is_idle, regions_by}
+use Rattle.doc_session.specs.Step.{effect_in, effect_on, is_idle, regions_by, revised_view}
 use Rattle.doc_session.proofs.GroupLemmas.{known_group-named}
 use Rattle.doc_session.proofs.MoveLemmas.{mapped_regions-moved, sound-given}
 
 -- its regions are where the caret rule takes them
 pub regions-moved : (doc : Doc) (plain : Document) (step : Step) (author : ℕ) (taken : Taken) (right : Bool) (goals : Goals) (moved : List Region) → DocStandsFor doc plain →
     IsAfter plain.history (after_step plain.history step) author taken → AreMoved taken.change.units right goals doc.view.regions moved →
-    moved ≡ regions_by plain (after_step plain.history step) right (with_goals goals plain.regions)
+    moved ≡ regions_by plain (after_step plain.history step) right (with_goals goals plain.view.regions)
 regions-moved doc plain step author taken right goals moved stands is are =
     are.is ∙
     mapped_regions-moved plain.history (sound-given doc.engine plain.history stands.parts.stands) step taken.change is.changes right (with_goals goals doc.view.regions) ∙
-    ap (λ rs. regions_by plain (after_step plain.history step) right (with_goals goals rs)) stands.regions
+    ap (λ rs. regions_by plain (after_step plain.history step) right (with_goals goals rs)) (ap (λ (v : View). v.regions) stands.view)
 
 -- the document that a revision leaves, by what it leaves beside the engine
 abbrev pub left_document : Document → History → Groups → Option Typing → List Region → Document
@@ -49,8 +47,7 @@ left_document plain history groups typing regions = record plain {
   history = history;
   groups = groups;
   typing = typing;
-  regions = regions;
-  layers = moved_layers plain.history history plain.layers;
+  view = revised_view plain history regions;
 }
 
 pub next_document-is : (plain : Document) (history : History) (left : Left) (groups : Groups) (typing : Option Typing) (regions : List Region) →
@@ -64,10 +61,7 @@ next_document-is plain history left groups typing regions stack_is typing_is reg
 
 -- the effect of a command is that on the plain document
 pub effect-is : (doc : Doc) (plain : Document) (act : EditAct) → DocStandsFor doc plain → effect_in doc.view act ≡ effect_on plain act
-effect-is doc plain act stands =
-    let view = doc.view in
-    ap (λ (k : Config). effect_of k view.text (wrapped_pieces k.width k.tab view.text) view.regions act) (sym stands.config) ∙
-    ap₂ (λ text regions. effect_of plain.config text (wrapped_pieces plain.config.width plain.config.tab text) regions act) stands.parts.shown_is stands.regions
+effect-is doc plain act stands = ap (λ (v : View). effect_in v act) stands.view
 
 -- what the view made of a command is its effect
 pub effect-made : (doc now : Doc) (act : EditAct) (units : UnitDelta) (after : List Region) → doc ≡ now →
@@ -82,11 +76,11 @@ pub idle-is : (doc : Doc) (plain : Document) (act : EditAct) (units : UnitDelta)
 idle-is doc plain act units after idle stands is each =
     let replacements = (effect_in doc.view act).replacements in
     each replacements (subst (λ n. IsEditOf n replacements units) (sym is.edit.of) is.edit) ∙
-    ap (λ n. do_nothing n replacements) (is.edit.of ∙ ap length stands.parts.shown_is) ∙
-    ap (λ (e : Effect). do_nothing (length (head_text plain)) e.replacements) (effect-is doc plain act stands)
+    ap (λ n. do_nothing n replacements) is.edit.of ∙
+    ap (λ (v : View). do_nothing (length v.text) (effect_in v act).replacements) stands.view
 
-pub copied-is : (doc : Doc) (plain : Document) → DocStandsFor doc plain → copied_text doc.view.text doc.view.regions ≡ copied_text (head_text plain) plain.regions
-copied-is doc plain stands = ap₂ copied_text stands.parts.shown_is stands.regions
+pub copied-is : (doc : Doc) (plain : Document) → DocStandsFor doc plain → copied_text doc.view.text doc.view.regions ≡ copied_text plain.view.text plain.view.regions
+copied-is doc plain stands = ap (λ (v : View). copied_text v.text v.regions) stands.view
 
 -- ---- the front end's edit
 

@@ -1,66 +1,44 @@
 -- What a front end and the plugins are told after a document changed.
-use Rattle.std.specs.Prelude.{ℕ, ◌+◌, Bool, true, false, not, ◌&&◌, ◌||◌, if◌then◌else◌, List, [], ◌∷◌, Option, Some, None, unwrap_or, is_some}
+use Rattle.std.specs.Prelude.{ℕ, List, [], Option, Some, None, unwrap_or}
 use Rattle.xi_plain.specs.declared.config.Notice.{Notice}
 use Rattle.plain_edits.specs.declared.delta.Delta.{Delta}
 use Rattle.plain_text.specs.declared.run.Run.{Run}
-use Rattle.plain_screen.specs.declared.screen.Line.{Line}
-use Rattle.plain_screen.specs.declared.screen.Op.{Op}
 use Rattle.plain_screen.specs.declared.screen.Update.{Update}
 use Rattle.plain_text.specs.Text.{byte_len}
 use Rattle.plain_edits.specs.History.{History, head, text_at}
 use Rattle.plain_edits.specs.Change.{change_keeps, change_adds}
-use Rattle.doc_session.specs.Layout.{Position}
 use Rattle.plain_screen.specs.Screen.{Screen, screen_after}
-use Rattle.plain_screen.specs.Plan.{is_within, update_plan}
 use Rattle.delta_core.specs.Wire.{wire_from}
-use Rattle.doc_session.specs.Document.{Document, layout_of, caret_point, is_pristine}
-use Rattle.doc_session.specs.SameLayout.{is_same_layout}
-pub use Rattle.doc_layout.specs.Told.{is_same_point}
-pub use Rattle.doc_view.specs.Told.{differ}
+use Rattle.doc_layout.specs.Told.{scroll_between}
+use Rattle.doc_view.specs.declared.told.Pristine.{Pristine}
+use Rattle.doc_view.specs.Told.{settled_view, told}
+use Rattle.doc_view.specs.View.{point_in}
+use Rattle.doc_session.specs.Layout.{Position}
+use Rattle.doc_session.specs.Document.{Document, is_pristine}
 
--- the update of a document at an event that requests these lines (no line has a partner yet)
-abbrev pub ops_of : Run → Document → List Op
-ops_of request document = update_plan document.window request (layout_of document) []
+-- whether the text was the one that was loaded or last saved, and whether it is
+abbrev pub pristine_from : Document → Document → Pristine
+pristine_from before after = record { before = is_pristine before; after = is_pristine after }
 
-abbrev pub update_of : Run → Document → Update
-update_of request document = record { ops = ops_of request document; pristine = is_pristine document }
-
--- the document with its update on the screen of its front end
-abbrev pub updated : Run → Document → Document
-updated request document = record document { screen = unwrap_or (screen_after document.screen (ops_of request document)) [] }
-
--- whether the layout changed
-abbrev pub is_laid_out_anew : Document → Document → Bool
-is_laid_out_anew before after = not (is_same_layout (layout_of before) (layout_of after))
-
--- whether each of these lines that is in the window or requested is valid on the screen, of which the lines from this index on are left;
--- a screen that has fewer lines than there are was told of none of them
-abbrev pub are_valid : Run → Run → ℕ → List Line → Screen → Bool
-are_valid window request index [] screen = true
-are_valid window request index (line ∷ lines) [] = false
-are_valid window request index (line ∷ lines) (shown ∷ screen) =
-    (not (is_within window index || is_within request index) || is_some shown) && are_valid window request (index + 1) lines screen
-
--- whether each line of the window, and each that is requested, is valid on the screen
-abbrev pub is_shown : Run → Document → Bool
-is_shown request document = are_valid document.window request 0 (layout_of document) document.screen
-
--- THE OCCASION OF AN UPDATE at an event that requests these lines: the layout changed, or whether the text is pristine changed, or a line
--- of the window or of the request was not valid
-abbrev pub wants_update : Run → Document → Document → Bool
-wants_update request before after =
-    is_laid_out_anew before after || differ (is_pristine before) (is_pristine after) || not (is_shown request after)
-
--- the update that is written, and the document after it
+-- THE UPDATE at an event that requests these lines, where the front end lacks something: that is the view's own word
 abbrev pub update_after : Run → Document → Document → Option Update
-update_after request before after = if wants_update request before after then Some (update_of request after) else None
+update_after request before after = told before.view after.view request (pristine_from before after)
 
+-- the screen after an update, where there is one
+abbrev pub screen_told : Option Update → Screen → Screen
+screen_told None screen = screen
+screen_told (Some update) screen = unwrap_or (screen_after screen update.ops) []
+
+-- the document once its front end was told
 abbrev pub settled : Run → Document → Document → Document
-settled request before after = if wants_update request before after then updated request after else after
+settled request before after = record after {
+  view = settled_view before.view after.view request (pristine_from before after);
+  screen = screen_told (update_after request before after) after.screen;
+}
 
 -- THE OCCASION OF A SCROLL, at a command of the front end: line or byte column of the last caret changed; and the place that is written
 abbrev pub scroll_after : Document → Document → Option Position
-scroll_after before after = if is_same_point (caret_point before) (caret_point after) then None else Some (caret_point after)
+scroll_after before after = scroll_between (point_in before.view) (point_in after.view)
 
 -- THE CHANGE from the text of a revision to that of another one, as the delta of the notices: which characters stay, and what appears at
 -- each gap

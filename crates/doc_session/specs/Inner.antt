@@ -1,16 +1,13 @@
 -- What private functions say: the steps of an event.
-use Rattle.std.specs.Prelude.{◌≡◌, ℕ, ◌+◌, ◌^◌, ◌<◌, ◌≤◌, Bool, true, false, ◌==◌, List, [], length, map, Option, Some, None, ⊤}
+use Rattle.std.specs.Prelude.{◌≡◌, ℕ, ◌+◌, ◌^◌, ◌<◌, ◌≤◌, Bool, true, false, ◌==◌, List, [], length, Option, Some, None, Result, Ok, Err, ⊤}
 use Rattle.std.specs.Arc.{arc_value}
 use Rattle.std.specs.List.{AllByRecursion}
-use Rattle.plain_text.specs.declared.run.Run.{Run}
 use Rattle.plain_text.specs.Text.{byte_len}
 use Rattle.plain_text.specs.Numbers.{has, turned}
 use Rattle.plain_edits.specs.History.{History, head, inserted_count, text_at}
 use Rattle.plain_edits.specs.Undo.{undone_now}
 use Rattle.xi_plain.specs.declared.command.EditAct.{EditAct}
 use Rattle.delta_core.specs.Wire.{wire_of}
-use Rattle.edit_ops.specs.Commands.{Effect, effect_of}
-use Rattle.edit_ops.specs.Regions.{without_goal}
 use Rattle.edit_ops.specs.Replacements.{IsEditOf}
 use Rattle.rev_engine.specs.declared.edit.Change.{Change}
 use Rattle.rev_engine.specs.declared.edit.UnitEdit.{UnitEdit}
@@ -22,27 +19,24 @@ use Rattle.undo_groups.specs.Groups.{Groups, IsStack}
 use Rattle.edit_groups.specs.declared.left.Left.{Left}
 use Rattle.edit_groups.specs.declared.typing.Typing.{Typing}
 use Rattle.edit_groups.specs.Typing.{run_on}
-use Rattle.stale_spans.specs.Asked.{moved_layers}
 use Rattle.doc_layout.specs.Changed.{IsChangeOf}
 use Rattle.doc_layout.specs.Told.{screen_of}
 use Rattle.doc_view.specs.declared.told.Pristine.{Pristine}
-use Rattle.doc_view.specs.Search.{next_found, previous_found, search_for}
-use Rattle.doc_view.specs.View.{View, pieces_in}
-use Rattle.doc_session.specs.declared.event.Body.TheVariants.{Null}
+use Rattle.doc_view.specs.View.{View}
 use Rattle.doc_session.specs.declared.event.Effects.{Effects}
 use Rattle.doc_session.specs.declared.looking.Viewing.{Viewing}
-use Rattle.doc_session.specs.declared.looking.Viewing.TheVariants.{Layout, Lines, Next, Other, Previous, Seek, Window}
 use Rattle.doc_session.specs.declared.said.Scrolling.{Scrolling}
 use Rattle.doc_session.specs.declared.said.Scrolling.TheVariants.{Nowhere, ToCaret}
 use Rattle.doc_session.specs.declared.taken.Taken.{Taken}
 use Rattle.doc_session.specs.Agree.{Agree}
 use Rattle.doc_session.specs.Asking.{front_priority}
 use Rattle.doc_session.specs.Collecting.{AreAcknowledged}
-use Rattle.doc_session.specs.Document.{Document, layout_of, no_request, head_text}
+use Rattle.doc_session.specs.Document.{Document, layout_of}
 use Rattle.doc_session.specs.Effects.{notice_of}
 use Rattle.doc_session.specs.InMemory.{Doc}
-use Rattle.doc_session.specs.Stands.{AreRegionsOf}
-use Rattle.doc_session.specs.Step.{AreEffectsOf, EventStep, at_next_match, at_previous_match, configured_document, going_on, looking_document, scroll_if, scrolled_document, seeking_document, step_to}
+use Rattle.doc_session.specs.Looking.{viewing_of}
+use Rattle.doc_session.specs.Stands.{AreRegionsOf, IsLastTold}
+use Rattle.doc_session.specs.Step.{AreEffectsOf, EventStep, effect_in, revised_view}
 use Rattle.doc_session.specs.Whole.{IsStateOf}
 
 -- ---- an engine
@@ -129,15 +123,10 @@ next_document document history left = record document {
   history = history;
   groups = left.stack;
   typing = left.typing;
-  regions = left.sel.regions;
-  layers = moved_layers document.history history document.layers;
+  view = revised_view document history left.sel.regions;
 }
 
 -- ---- the next document in memory
-
--- the effect of a command on a view
-abbrev pub effect_in : View → EditAct → Effect
-effect_in view act = effect_of view.config view.text (pieces_in view) view.regions act
 
 -- an edit in characters is the front end's, and is that of a command on a view
 pub record IsFrontEdit (view : View) (act : EditAct) (edit : UnitEdit) : Type 0 where
@@ -163,16 +152,12 @@ pub record IsUntold (doc : Doc) (before plain : Document) : Type 0 where
   pub groups : doc.groups ≡ plain.groups
   pub typing : doc.typing ≡ plain.typing
   pub agree : Agree plain.history.revisions plain.history.collected plain.groups plain.typing
-  pub regions : doc.view.regions ≡ plain.regions
-  pub regions_are : AreRegionsOf (head_text plain) plain.regions
-  pub layers : plain.layers ≡ doc.view.layers
+  pub view : doc.view ≡ plain.view
+  pub regions_are : AreRegionsOf plain.view.text plain.view.regions
   pub saved : doc.saved ≡ plain.saved
   pub saved_before : plain.saved ≤ head plain.history
-  pub window : plain.window ≡ doc.view.window
-  pub query : plain.query ≡ doc.view.query
-  pub config : plain.config ≡ doc.view.config
   pub screen_stays : plain.screen ≡ before.screen
-  pub shown : before.screen ≡ screen_of doc.view.shown (layout_of before)
+  pub shown : before.screen ≡ screen_of plain.view.shown (layout_of before)
 
 -- these groups may be collected at the floor: the engine takes it, and the stack has retired them
 pub record MayCollectIn (doc : Doc) (floor : ℕ) (groups : List ℕ) : Type 0 where
@@ -188,68 +173,25 @@ pub record IsUncollected (doc : Doc) (plain : Document) : Type 0 where
   pub groups : doc.groups ≡ plain.groups
   pub typing : doc.typing ≡ plain.typing
   pub agree : Agree plain.history.revisions plain.history.collected plain.groups plain.typing
-  pub regions : doc.view.regions ≡ plain.regions
-  pub regions_are : AreRegionsOf (head_text plain) plain.regions
-  pub layers : plain.layers ≡ doc.view.layers
+  pub view : doc.view ≡ plain.view
+  pub regions_are : AreRegionsOf plain.view.text plain.view.regions
   pub saved : doc.saved ≡ plain.saved
   pub saved_before : plain.saved ≤ head plain.history
-  pub window : plain.window ≡ doc.view.window
-  pub query : plain.query ≡ doc.view.query
-  pub config : plain.config ≡ doc.view.config
-  pub screen : plain.screen ≡ screen_of doc.view.shown (layout_of plain)
+  pub screen : IsLastTold plain
 
 -- the document after a line that makes no revision and ends the run, with this view of its text
 abbrev pub looking_doc : Doc → View → Doc
 looking_doc doc view = record doc { typing = run_on doc.typing None; view = view }
-
--- ---- lines that leave the text as it is
 
 -- whether the front end scrolls to the last caret, where that stands elsewhere then
 abbrev pub is_scrolling : Scrolling → Bool
 is_scrolling ToCaret = true
 is_scrolling Nowhere = false
 
--- such a line, and what it makes of a view
-abbrev pub viewed : View → Viewing → View
-viewed view (Window lines) = record view { regions = map without_goal view.regions; window = lines }
-viewed view (Lines lines) = record view { regions = map without_goal view.regions }
-viewed view (Seek chars case_counts) =
-    record view { regions = map without_goal view.regions; query = search_for view.query chars case_counts }
-viewed view (Next wrap_around) = record view { regions = next_found view.text view.query wrap_around view.regions }
-viewed view (Previous wrap_around) = record view { regions = previous_found view.text view.query wrap_around view.regions }
-viewed view (Layout config) = record view { config = config }
-viewed view Other = view
-
--- and of a plain document
-abbrev pub viewed_document : Document → Viewing → Document
-viewed_document document (Window lines) = scrolled_document document lines
-viewed_document document (Lines lines) = looking_document document
-viewed_document document (Seek chars case_counts) = seeking_document document chars case_counts
-viewed_document document (Next wrap_around) = at_next_match document wrap_around
-viewed_document document (Previous wrap_around) = at_previous_match document wrap_around
-viewed_document document (Layout config) = configured_document document config
-viewed_document document Other = going_on document None
-
--- the lines that it requests, and whether it scrolls: not where nothing is shown or sought
-abbrev pub viewed_lines : Viewing → Run
-viewed_lines (Lines lines) = lines
-viewed_lines viewing = no_request
-
-abbrev pub scrolls_at : Viewing → Bool
-scrolls_at (Layout config) = false
-scrolls_at Other = false
-scrolls_at viewing = true
-
--- its step
-abbrev pub viewing_step : Document → Viewing → EventStep
-viewing_step document viewing =
-    let next = viewed_document document viewing in
-    step_to (viewed_lines viewing) document next Null (scroll_if (scrolls_at viewing) document next) None
-
--- a configuration has a tab width
-abbrev pub MayView : Viewing → Type 0
-MayView (Layout config) = 0 < config.tab
-MayView viewing = ⊤
+-- a command as one that only looks, or the same command
+abbrev pub IsViewingOf : EditAct → Result Viewing EditAct → Type 0
+IsViewingOf act (Ok viewing) = viewing_of act ≡ Some viewing
+IsViewingOf act (Err same) = (viewing_of act ≡ None) × (act ≡ same)
 
 -- what an event makes is what its step gives, before anything is collected: the document after it, and what those outside are told
 pub record IsStepped (step : EventStep) (made : Doc × Effects) : Type 0 where

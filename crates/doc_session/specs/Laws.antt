@@ -1,5 +1,5 @@
 -- Laws: what the definitions of a document come to, whatever the document.
-use Rattle.std.specs.Prelude.{◌≡◌, ℕ, Option, Some, None, ⊤}
+use Rattle.std.specs.Prelude.{◌≡◌, ◌↔◌, ℕ, true, Option, Some, None, IfSome, ⊤}
 use Rattle.plain_text.specs.declared.run.Run.{Run}
 use Rattle.xi_plain.specs.declared.command.EditAct.{EditAct}
 use Rattle.plain_edits.specs.History.{History, text_at}
@@ -11,22 +11,30 @@ use Rattle.edit_ops.specs.Replacements.{text_with}
 use Rattle.doc_session.specs.Asking.{front_edit}
 use Rattle.doc_session.specs.Collecting.{HasNoneLeft}
 use Rattle.doc_session.specs.Document.{Document, layout_of, head_text}
-use Rattle.doc_session.specs.Effects.{ops_of, updated, change_delta}
+use Rattle.doc_session.specs.Effects.{change_delta, settled, update_after}
 use Rattle.doc_session.specs.InMemory.{Doc}
 use Rattle.doc_session.specs.Refusal.{DocRefusal, of_edit, of_range}
-use Rattle.doc_session.specs.ScreenOf.{IsScreenOf}
-use Rattle.doc_session.specs.Stands.{DocStandsFor}
+use Rattle.doc_session.specs.ScreenOf.{IsScreenOf, IsUpToDate}
+use Rattle.doc_session.specs.Stands.{DocStandsFor, IsLastTold}
+use Rattle.doc_view.specs.Told.{has_asked}
 use Rattle.doc_session.specs.Step.{effect_on, refusal_at}
 use Rattle.doc_session.specs.declared.event.Event.TheVariants.{Front}
 
 -- a screen that shows the lines of the window and of a request is a screen of the layout
 abbrev pub ScreensShow : Type 0
-ScreensShow = (plain : Document) (request : Run) → plain.screen ≡ shown_lines plain.window request (layout_of plain) →
-    IsScreenOf plain.screen plain.window request (layout_of plain)
+ScreensShow = (plain : Document) (request : Run) → plain.screen ≡ shown_lines plain.view.window request (layout_of plain) →
+    IsScreenOf plain.screen plain.view.window request (layout_of plain)
 
--- the operations of a document make its updated screen, on whatever screen there was
+-- the update of a document, where there is one, makes its screen, on whatever screen there was
 abbrev pub UpdatesShow : Type 0
-UpdatesShow = (before after : Document) (request : Run) → screen_after before.screen (ops_of request after) ≡ Some ((updated request after).screen)
+UpdatesShow = (before after : Document) (request : Run) →
+    IfSome (update_after request before after) (λ update.
+    screen_after before.screen update.ops ≡ Some ((settled request before after).screen))
+
+-- a view says of its front end what is so on the screen: it has the lines that are asked for exactly where the screen shows the layout, with
+-- each line of the window and of the request
+abbrev pub LinesAreHad : Type 0
+LinesAreHad = (plain : Document) (request : Run) → IsLastTold plain → (has_asked plain.view request ≡ true) ↔ IsUpToDate request plain
 
 -- the delta of a notice fits the text of the one revision, and leads to that of the other
 abbrev pub NoticesLead : Type 0

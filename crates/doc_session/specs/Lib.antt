@@ -3,9 +3,9 @@ pub mod Document
 pub mod Collecting
 pub mod Refusal
 pub mod Asking
-pub mod SameLayout
 pub mod Effects
 pub mod PositionView
+pub mod Looking
 pub mod Step
 pub mod Fault
 pub mod Agree

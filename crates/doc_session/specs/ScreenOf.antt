@@ -17,7 +17,7 @@ pub record IsScreenOf (screen : Screen) (window request : Run) (lines : List Lin
 
 -- the screen that the front end has of the document shows its layout, these lines too
 abbrev pub IsUpToDate : Run → Document → Type 0
-IsUpToDate request document = IsScreenOf document.screen document.window request (layout_of document)
+IsUpToDate request document = IsScreenOf document.screen document.view.window request (layout_of document)
 
 -- after an event it does, and the lines that the event requests; where the front end is told nothing, if it did before
 abbrev pub IsShownAfter : Document → Event → Type 0

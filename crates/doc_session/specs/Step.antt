@@ -5,10 +5,10 @@ use Rattle.plain_text.specs.declared.selection.Region.{Region}
 use Rattle.xi_plain.specs.declared.config.Config.{Config}
 use Rattle.xi_plain.specs.declared.config.Notice.{Notice}
 use Rattle.xi_plain.specs.declared.command.EditAct.{EditAct}
-use Rattle.xi_plain.specs.declared.command.EditAct.TheVariants.{Copy, Cut, Find, FindNext, FindPrevious, Redo, RequestLines, Scroll, SelectAll, Undo}
+use Rattle.xi_plain.specs.declared.command.EditAct.TheVariants.{Copy, Cut, Redo, RequestLines, SelectAll, Undo}
 use Rattle.plain_screen.specs.declared.screen.Update.{Update}
 use Rattle.plain_edits.specs.Caret.{moved_regions}
-use Rattle.plain_edits.specs.History.{History, head}
+use Rattle.plain_edits.specs.History.{History, head, text_at}
 use Rattle.plain_edits.specs.Edits.{Refusal, undid}
 use Rattle.selection_core.specs.Selection.{merged_regions}
 use Rattle.edit_ops.specs.Commands.{Effect, copied_text, effect_of}
@@ -18,7 +18,7 @@ use Rattle.edit_groups.specs.declared.typing.Kind.{Kind}
 use Rattle.edit_groups.specs.Typing.{kind_of, run_on, run_with}
 use Rattle.edit_groups.specs.Grouping.{named_group, run_group, groups_by}
 use Rattle.doc_view.specs.Idle.{do_nothing}
-use Rattle.doc_view.specs.Search.{next_found, previous_found, search_for}
+use Rattle.doc_view.specs.View.{View, pieces_in}
 use Rattle.doc_session.specs.Layout.{Position}
 use Rattle.rev_engine.specs.declared.edit.Edit.{Edit as Given}
 use Rattle.rev_engine.specs.Given.{AskedEdit, after}
@@ -27,7 +27,10 @@ use Rattle.doc_session.specs.declared.event.Body.TheVariants.{Null, Copied, Edit
 use Rattle.doc_session.specs.declared.event.Effects.{Effects}
 use Rattle.doc_session.specs.declared.event.Event.{Event}
 use Rattle.doc_session.specs.declared.event.Event.TheVariants.{Ack, Config as Configure, Edit, Ended, Front, Other, Spans}
-use Rattle.doc_session.specs.Document.{Document, no_request, pieces_of, head_text}
+use Rattle.doc_session.specs.declared.looking.Viewing.{Viewing}
+use Rattle.doc_session.specs.declared.looking.Viewing.TheVariants.{Layout, Other as NoCommand}
+use Rattle.doc_session.specs.Document.{Document, no_request, head_text}
+use Rattle.doc_session.specs.Looking.{scrolls_at, viewed, viewed_lines, viewing_of}
 use Rattle.stale_spans.specs.declared.asked.AskedSpans.{AskedSpans}
 use Rattle.stale_spans.specs.Asked.{layers_with_spans, moved_layers}
 use Rattle.stale_spans.specs.Places.{StandIn}
@@ -69,29 +72,35 @@ revision_step document next author body scroll =
 abbrev pub going_on : Document → Option Kind → Document
 going_on document kind = record document { typing = run_on document.typing kind }
 
--- a line that is no command of this document
-abbrev pub other_step : Document → EventStep
-other_step document = still_step document (going_on document None) Null None
+-- the view after a revision, with these regions: it is of the text then, and styles stay with their characters
+abbrev pub revised_view : Document → History → List Region → View
+revised_view document history regions = record document.view {
+  text = text_at history (head history);
+  regions = regions;
+  layers = moved_layers document.history history document.view.layers;
+}
 
--- the document after an edit of this kind which joined a group or opened the next, with these regions; styles stay with their characters
+-- the document after an edit of this kind which joined a group or opened the next, with these regions
 abbrev pub edited_document : Document → AskedEdit → Option ℕ → Option Kind → List Region → Document
 edited_document document asked joined kind regions = record document {
   history = after document.history asked;
   groups = groups_by document.groups joined;
   typing = run_with kind asked.group;
-  regions = regions;
-  layers = moved_layers document.history (after document.history asked) document.layers;
+  view = revised_view document (after document.history asked) regions;
 }
 
 -- ---- commands of the front end
 
--- THE EFFECT OF A COMMAND on the text and the regions
+-- THE EFFECT OF A COMMAND on the text and the regions of a view
+abbrev pub effect_in : View → EditAct → Effect
+effect_in view act = effect_of view.config view.text (pieces_in view) view.regions act
+
 abbrev pub effect_on : Document → EditAct → Effect
-effect_on document act = effect_of document.config (head_text document) (pieces_of document) document.regions act
+effect_on document act = effect_in document.view act
 
 -- whether it makes no revision: it drops nothing, and adds nothing
 abbrev pub is_idle : Document → Effect → Bool
-is_idle document effect = do_nothing (length (head_text document)) effect.replacements
+is_idle document effect = do_nothing (length document.view.text) effect.replacements
 
 -- whether it copies what is selected; and what it is answered: the copied text, or nothing
 abbrev pub copies : EditAct → Bool
@@ -100,7 +109,7 @@ copies Copy = true
 copies act = false
 
 abbrev pub answer_to : Document → EditAct → Body
-answer_to document act = if copies act then Copied (copied_text (head_text document) document.regions) else Null
+answer_to document act = if copies act then Copied (copied_text document.view.text document.view.regions) else Null
 
 -- whether it scrolls to the last caret where that stands elsewhere then: one that selects all does not; and where it scrolls to
 abbrev pub scrolls : EditAct → Bool
@@ -112,7 +121,7 @@ scroll_if asked document next = if asked then scroll_after document next else No
 
 -- the document after a command that makes no revision
 abbrev pub selected_document : Document → Option Kind → List Region → Document
-selected_document document kind regions = record (going_on document kind) { regions = regions }
+selected_document document kind regions = record (going_on document kind) { view = record document.view { regions = regions } }
 
 -- the document after one that makes a revision: its edit joins the group of the run that it goes on with, or opens the next
 abbrev pub typed_document : Document → Option Kind → Effect → Document
@@ -134,6 +143,21 @@ typed_step document act effect =
 abbrev pub command_step : Document → EditAct → Effect → EventStep
 command_step document act effect = if is_idle document effect then idle_step document act effect else typed_step document act effect
 
+-- ---- lines that leave the text as it is
+
+-- THE STEP OF A LINE THAT ONLY LOOKS: the view's own step; the run ends, no revision is made, and it is answered null
+abbrev pub viewed_document : Document → Viewing → Document
+viewed_document document viewing = record (going_on document None) { view = viewed document.view viewing }
+
+abbrev pub viewing_step : Document → Viewing → EventStep
+viewing_step document viewing =
+    let next = viewed_document document viewing in
+    step_to (viewed_lines viewing) document next Null (scroll_if (scrolls_at viewing) document next) None
+
+-- a line that is no command of this document
+abbrev pub other_step : Document → EventStep
+other_step document = viewing_step document NoCommand
+
 -- ---- undo and redo
 
 -- where the caret rule takes regions: `after_cursor` or not; those that then meet are merged
@@ -146,8 +170,8 @@ undone_document document groups = record document {
   history = undid document.history groups.undone;
   groups = groups;
   typing = None;
-  regions = regions_by document (undid document.history groups.undone) false (map without_goal document.regions);
-  layers = moved_layers document.history (undid document.history groups.undone) document.layers;
+  view = revised_view document (undid document.history groups.undone)
+      (regions_by document (undid document.history groups.undone) false (map without_goal document.view.regions));
 }
 
 -- an undo or a redo takes this group, where there is one, and leaves the groups so; at its end it makes no revision
@@ -156,55 +180,34 @@ history_step document None groups = other_step document
 history_step document (Some group) groups =
     revision_step document (undone_document document groups) 0 Null (scroll_after document (undone_document document groups))
 
--- ---- window, requested lines and search
-
--- a line that only looks requests these lines, makes no revision and is answered null
-abbrev pub look_step : Run → Document → Document → EventStep
-look_step request document next = step_to request document next Null (scroll_after document next) None
-
--- the document after it: the run ends, and the goals go
-abbrev pub looking_document : Document → Document
-looking_document document = selected_document document None (map without_goal document.regions)
-
--- it shows other lines, or looks for other characters
-abbrev pub scrolled_document : Document → Run → Document
-scrolled_document document window = record (looking_document document) { window = window }
-
-abbrev pub seeking_document : Document → List ℕ → Option Bool → Document
-seeking_document document chars case_sensitive =
-    record (looking_document document) { query = search_for document.query chars case_sensitive }
-
--- the next match is selected, or the previous one; where there is none the regions stay, with their goals
-abbrev pub at_next_match : Document → Option Bool → Document
-at_next_match document wrap_around =
-    selected_document document None (next_found (head_text document) document.query wrap_around document.regions)
-
-abbrev pub at_previous_match : Document → Option Bool → Document
-at_previous_match document wrap_around =
-    selected_document document None (previous_found (head_text document) document.query wrap_around document.regions)
+-- ---- all commands
 
 -- the lines that a command requests: at that line alone
 abbrev pub request_of : EditAct → Run
 request_of (RequestLines first last) = record { start = first; end = last }
 request_of act = no_request
 
+-- a command that does more than look
+abbrev pub done_step : Document → EditAct → EventStep
+done_step document Undo = history_step document (next_undo document.groups) (undone_one document.groups)
+done_step document Redo = history_step document (next_redo document.groups) (redone_one document.groups)
+done_step document act = command_step document act (effect_on document act)
+
+-- one that only looks, if it is that
+abbrev pub looking_step : Document → EditAct → Option Viewing → EventStep
+looking_step document act None = done_step document act
+looking_step document act (Some viewing) = viewing_step document viewing
+
 -- THE STEP OF A COMMAND of the front end
 abbrev pub act_step : Document → EditAct → EventStep
-act_step document Undo = history_step document (next_undo document.groups) (undone_one document.groups)
-act_step document Redo = history_step document (next_redo document.groups) (redone_one document.groups)
-act_step document (Scroll first last) = look_step no_request document (scrolled_document document (record { start = first; end = last }))
-act_step document (RequestLines first last) = look_step (record { start = first; end = last }) document (looking_document document)
-act_step document (Find chars case_sensitive regex whole_words) = look_step no_request document (seeking_document document chars case_sensitive)
-act_step document (FindNext wrap_around allow_same) = look_step no_request document (at_next_match document wrap_around)
-act_step document (FindPrevious wrap_around allow_same) = look_step no_request document (at_previous_match document wrap_around)
-act_step document act = command_step document act (effect_on document act)
+act_step document act = looking_step document act (viewing_of act)
 
 -- ---- plugins
 
 -- a plugin edited the text; the regions move by the caret rule and keep their goals
 abbrev pub given_document : Document → AskedEdit → Option ℕ → Bool → Document
 given_document document asked joined after_cursor =
-    edited_document document asked joined None (regions_by document (after document.history asked) after_cursor document.regions)
+    edited_document document asked joined None (regions_by document (after document.history asked) after_cursor document.view.regions)
 
 -- the edit of a plugin is taken in the group that it joins or opens, which it is told, and scrolls nowhere
 abbrev pub given_step : Document → AskedEdit → Option ℕ → Bool → EventStep
@@ -222,20 +225,13 @@ plugin_step document caller edit named =
 -- a plugin said styles of the text of a revision, which come to those of its characters that the head shows; nothing else changes
 abbrev pub styled_document : Document → ℕ → AskedSpans → Document
 styled_document document caller asked =
-    record document { layers = layers_with_spans document.history asked (caller - 1) document.layers }
+    record document { view = record document.view { layers = layers_with_spans document.history asked (caller - 1) document.view.layers } }
 
 -- THE STEP OF SPANS: no revision is made, the run of typing goes on, since the front end said nothing, and nothing is scrolled
 abbrev pub spans_step : Document → ℕ → AskedSpans → EventStep
 spans_step document caller asked = still_step document (styled_document document caller asked) Null None
 
 -- ---- configuration
-
--- the text is laid out and edited so from now on; regions, with their goals, and revisions stay, and nothing is scrolled
-abbrev pub configured_document : Document → Config → Document
-configured_document document config = record (going_on document None) { config = config }
-
-abbrev pub config_step : Document → Config → EventStep
-config_step document config = still_step document (configured_document document config) Null None
 
 -- the configuration after an event
 abbrev pub config_after : Config → Event → Config
@@ -257,7 +253,7 @@ taken_step document (Edit caller edit named) = plugin_step document caller edit 
 taken_step document (Spans caller rev start len spans) = spans_step document caller (asked_spans rev start len spans)
 taken_step document (Ack caller rev) = silent_step (acknowledged_document document caller rev)
 taken_step document (Ended caller) = silent_step (ended_document document caller)
-taken_step document (Configure config) = config_step document config
+taken_step document (Configure config) = viewing_step document (Layout config)
 taken_step document Other = other_step document
 
 -- THE STEP of an event that is not refused: then old groups are collected

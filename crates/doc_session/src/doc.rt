@@ -16,11 +16,12 @@ ghost use Rattle.doc_session.specs.Refusal.{edit_refused};
 ghost use Rattle.undo_groups.specs.Groups.{next_redo, next_undo, redone_one, undone_one};
 ghost use Rattle.doc_session.specs.Agree.{Agree};
 ghost use Rattle.doc_layout.specs.Told.{scroll_between};
-ghost use Rattle.doc_session.specs.Inner.{IsAfter, IsAfterEdit, IsFrontEdit, IsLeftOf, IsMoved, IsStepped, IsTakenFrom, IsTurned, IsUncollected, IsUntold, effect_in, head_shown, is_pristine_in, is_scrolling, next_document, pristine_to};
+ghost use Rattle.doc_session.specs.Inner.{IsAfter, IsAfterEdit, IsFrontEdit, IsLeftOf, IsMoved, IsStepped, IsTakenFrom, IsTurned, IsUncollected, IsUntold, head_shown, is_pristine_in, is_scrolling, next_document, pristine_to};
+ghost use Rattle.doc_session.specs.Looking.{viewing_of};
 ghost use Rattle.doc_session.specs.PositionView.{position_view};
 ghost use Rattle.doc_session.specs.ScreenOf.{IsShownAfter};
 ghost use Rattle.doc_session.specs.Stands.{DocStandsFor};
-ghost use Rattle.doc_session.specs.Step.{AreEffectsOf, IsEventFor, act_step, answer_to, command_refusal, command_step, effect_on, event_step, history_step, idle_step, plugin_step, refusal_at, revision_step, scroll_if, silent_step, step_to, taken_step, typed_step};
+ghost use Rattle.doc_session.specs.Step.{AreEffectsOf, IsEventFor, act_step, answer_to, command_refusal, command_step, done_step, effect_in, effect_on, event_step, history_step, idle_step, plugin_step, refusal_at, revision_step, scroll_if, silent_step, step_to, taken_step, typed_step};
 ghost use Rattle.doc_session.specs.Whole.{IsWhole};
 ghost use Rattle.doc_view.specs.Told.{IsTextLeft, settled_view, told};
 ghost use Rattle.doc_view.specs.View.{point_in};
@@ -28,7 +29,7 @@ ghost use Rattle.doc_view.specs.View.{point_in};
 use crate::commands::{copies, scrolls};
 use crate::event::{Body, Effects, Event};
 use crate::fault::DocFault;
-use crate::looking::Viewing;
+use crate::looking::{Viewing, viewing_of};
 use crate::said::{NO_REQUEST, Said, Scrolling};
 use crate::taken::{Taken, taken_by, taken_head, taken_turn};
 use doc_layout::{scroll_of, whole_text};
@@ -220,8 +221,8 @@ impl Doc {
             }
             Event::Ack { caller, rev } => self.acknowledged(alloc, caller, rev),
             Event::Ended { caller } => Ok(self.ended(alloc, caller)?),
-            Event::Config(config) => Ok(self.looking(alloc, Viewing::Layout(config))?),
-            Event::Other => Ok(self.looking(alloc, Viewing::Other)?),
+            Event::Config(config) => Ok(self.view_only(alloc, Viewing::Layout(config))?),
+            Event::Other => Ok(self.view_only(alloc, Viewing::Other)?),
         }
     }
 
@@ -235,34 +236,26 @@ impl Doc {
             → IfErr result (DocRefuses (edit_refused (command_refusal plain (effect_on plain act)))) }
         ensures sessions { IfOk result (λ made. made.0.sessions ≡ self.now.sessions) }
     {
+        match viewing_of(act) {
+            Ok(viewing) => Ok(self.view_only(alloc, viewing)?),
+            Err(act) => self.done(alloc, act),
+        }
+    }
+
+    // A command that does more than look.
+    fn done(&self, alloc: Global, act: EditAct) -> Result<(Doc, Effects), DocFault>
+        requires act { viewing_of act ≡ None }
+        requires has_number { head self.now.engine.revisions < 2 ^ 63 - 1 }
+        ensures stepped { (plain : Document) → DocStandsFor self.now plain → IfOk result (IsStepped (done_step plain act)) }
+        ensures accepted { (plain : Document) → DocStandsFor self.now plain
+            → OnOk result (command_refusal plain (effect_on plain act) ≡ None) }
+        ensures refused { (plain : Document) → DocStandsFor self.now plain
+            → IfErr result (DocRefuses (edit_refused (command_refusal plain (effect_on plain act)))) }
+        ensures sessions { IfOk result (λ made. made.0.sessions ≡ self.now.sessions) }
+    {
         match act {
             EditAct::Undo => Ok(self.undo(alloc)?),
             EditAct::Redo => Ok(self.redo(alloc)?),
-            EditAct::Scroll { first, last } => {
-                let lines = Run {
-                    start: first,
-                    end: last,
-                };
-                Ok(self.looking(alloc, Viewing::Window(lines))?)
-            }
-            EditAct::RequestLines { first, last } => {
-                let lines = Run {
-                    start: first,
-                    end: last,
-                };
-                Ok(self.looking(alloc, Viewing::Lines(lines))?)
-            }
-            EditAct::Find {
-                chars,
-                case_sensitive,
-                ..
-            } => Ok(self.looking(alloc, Viewing::Seek(chars, case_sensitive))?),
-            EditAct::FindNext { wrap_around, .. } => {
-                Ok(self.looking(alloc, Viewing::Next(wrap_around))?)
-            }
-            EditAct::FindPrevious { wrap_around, .. } => {
-                Ok(self.looking(alloc, Viewing::Previous(wrap_around))?)
-            }
             act => self.command(alloc, &act),
         }
     }
@@ -409,7 +402,7 @@ impl Doc {
     {
         match group {
             Some(group) => self.turned(alloc, stack, group),
-            None => self.looking(alloc, Viewing::Other),
+            None => self.view_only(alloc, Viewing::Other),
         }
     }
 

@@ -1,6 +1,6 @@
 //! Laws of the definitions, each the contract of a function: they hold of all documents.
 
-ghost use Rattle.doc_session.specs.Laws.{CommandsFit, CommandsPut, NoneIsLeft, NoticesLead, ScreensShow, UpdatesShow};
+ghost use Rattle.doc_session.specs.Laws.{CommandsFit, CommandsPut, LinesAreHad, NoneIsLeft, NoticesLead, ScreensShow, UpdatesShow};
 
 /// An updated screen shows the layout: its length, and no line of it is another; the lines of the window are there.
 pub fn screens_show()
@@ -10,6 +10,11 @@ pub fn screens_show()
 /// An update makes the screen that the document says its front end has.
 pub fn updates_show()
     ensures { UpdatesShow }
+{}
+
+/// Whether a view says that its front end has the lines that are asked for is whether its screen shows them.
+pub fn lines_are_had()
+    ensures { LinesAreHad }
 {}
 
 /// A plugin that knows the text before a change has the text after it by the delta of the notice.

@@ -1,7 +1,7 @@
 //! A document with one view, which a front end and plugins edit.
 //!
-//! A contract says of a `Doc` which plain documents it stands for: `specs/Document.antt` has the plain document, a history with the
-//! regions, window, search and screen of its view; `specs/Step.antt` has what each event comes to in it, or why it is refused; `specs/Effects.antt` has
+//! A contract says of a `Doc` which plain documents it stands for: `specs/Document.antt` has the plain document, a text with its history,
+//! undo groups and sessions, and a view of it; `specs/Looking.antt` has what a line makes of the view alone; `specs/Step.antt` has what each event comes to in it, or why it is refused; `specs/Effects.antt` has
 //! what the front end and the plugins are told.
 #![tactic(auto)]
 
@@ -21,4 +21,5 @@ pub use doc::Doc;
 pub use edit_groups::{Kind, Typing};
 pub use event::{Body, Effects, Event};
 pub use fault::DocFault;
+pub use looking::Viewing;
 pub use stale_spans::Misplaced;

@@ -1,8 +1,10 @@
 // Lines that leave the text as it is: what a view shows, what is looked for, and how the text is laid out.
 ghost use Rattle.std.specs.Prelude.{◌≡◌, IfOk};
 ghost use Rattle.doc_session.specs.Document.{Document};
-ghost use Rattle.doc_session.specs.Inner.{IsStepped, MayView, is_scrolling, scrolls_at, viewed, viewed_lines, viewing_step};
+ghost use Rattle.doc_session.specs.Inner.{IsStepped, IsViewingOf, is_scrolling};
+ghost use Rattle.doc_session.specs.Looking.{MayView, scrolls_at, viewed, viewed_lines};
 ghost use Rattle.doc_session.specs.Stands.{DocStandsFor};
+ghost use Rattle.doc_session.specs.Step.{viewing_step};
 
 use crate::doc::Doc;
 use crate::event::{Body, Effects};
@@ -11,11 +13,11 @@ use doc_view::{TextLeft, ViewState};
 use edit_groups::run_on;
 use plain_text::{NoMemory, Run, Text};
 use std::alloc::Global;
-use xi_plain::Config;
+use xi_plain::{Config, EditAct};
 
 /// What a line does that leaves the text as it is, and ends the run of typing.
 #[derive(Drop)]
-pub(crate) enum Viewing {
+pub enum Viewing {
     /// The front end shows these lines.
     Window(Run),
     /// It requests these lines.
@@ -34,7 +36,7 @@ pub(crate) enum Viewing {
 
 impl Doc {
     /// The document after such a line; the front end is told what it lacks.
-    pub(crate) fn looking(
+    pub(crate) fn view_only(
         &self,
         alloc: Global,
         viewing: Viewing,
@@ -55,6 +57,33 @@ impl Doc {
             notice: None,
         };
         self.told(alloc, next, said)
+    }
+}
+
+/// The command as one that only looks, or the same command where it does more.
+pub(crate) fn viewing_of(act: EditAct) -> Result<Viewing, EditAct>
+    ensures { IsViewingOf act result }
+{
+    match act {
+        EditAct::Scroll { first, last } => Ok(Viewing::Window(lines_of(first, last))),
+        EditAct::RequestLines { first, last } => Ok(Viewing::Lines(lines_of(first, last))),
+        EditAct::Find {
+            chars,
+            case_sensitive,
+            ..
+        } => Ok(Viewing::Seek(chars, case_sensitive)),
+        EditAct::FindNext { wrap_around, .. } => Ok(Viewing::Next(wrap_around)),
+        EditAct::FindPrevious { wrap_around, .. } => Ok(Viewing::Previous(wrap_around)),
+        act => Err(act),
+    }
+}
+
+fn lines_of(first: u64, last: u64) -> Run
+    ensures { result ≡ record { start = first; end = last } }
+{
+    Run {
+        start: first,
+        end: last,
     }
 }
 

@@ -61,7 +61,7 @@ impl Doc {
         requires { IsTakenFrom self.now.engine taken.now }
         ensures moved { (plain : Document) (history : History) (author : ℕ) → DocStandsFor self.now plain
             → IsAfter plain.history history author taken.now
-            → IfOk result (λ made. made ≡ moved_layers plain.history history plain.layers) }
+            → IfOk result (λ made. made ≡ moved_layers plain.history history plain.view.layers) }
         ensures over { IfOk result (AreOver (length (head_shown (arc_value taken.now.engine)))) }
         ensures as_many { IfOk result (λ made. length made ≡ length self.now.sessions) }
     {

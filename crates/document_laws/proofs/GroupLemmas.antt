@@ -1,5 +1,5 @@
 -- What an undo and a redo make of the groups of a document, and what a step leaves beside the screen and what it collects.
-use Rattle.std.proofs.Common.{◌≡◌, ℕ, ◌+◌, ◌-◌, ◌<◌, ◌≤◌, Bool, true, false, if◌then◌else◌, ◌==◌, List, length, Some, None, refl, ap, ◌∙◌, arith}
+use Rattle.std.proofs.Common.{◌≡◌, ℕ, ◌+◌, ◌-◌, ◌<◌, ◌≤◌, Bool, true, false, if◌then◌else◌, ◌==◌, List, length, Option, Some, None, refl, ap, ◌∙◌, arith}
 use Rattle.std.specs.Prelude.{slice_index}
 use Rattle.std.specs.List.{fold}
 use Rattle.std.proofs.lemmas.Bool.{eq-eqb, ne_eqb}
@@ -12,18 +12,32 @@ use Rattle.plain_edits.specs.Undo.{undone_now}
 use Rattle.plain_edits.proofs.callers.HistoryLemmas.{undone-undo}
 use Rattle.undo_groups.specs.Groups.{Groups, after_opening, forgotten, next_redo, next_undo, undone_one, groups_of}
 use Rattle.doc_session.specs.Collecting.{collected_document, with_collection}
-use Rattle.doc_session.specs.Document.{Document, no_request}
-use Rattle.doc_session.specs.Effects.{settled, updated, wants_update}
+use Rattle.plain_screen.specs.Screen.{Screen}
+use Rattle.plain_screen.specs.declared.screen.Update.{Update}
+use Rattle.doc_layout.specs.declared.asked.Asked.{Asked}
+use Rattle.doc_layout.specs.Told.{planned}
+use Rattle.doc_view.specs.Told.{is_lacking}
+use Rattle.doc_view.specs.View.{asked_in, layout_in}
+use Rattle.doc_session.specs.Document.{Document, is_pristine, no_request}
+use Rattle.doc_session.specs.Effects.{pristine_from, screen_told, settled}
 use Rattle.doc_session.proofs.ForCallers.{fold_forgotten, part-collected}
 use Rattle.document_laws.specs.Laws.{bare_groups}
 
--- ---- what is told leaves everything but the screen
+-- ---- what is told leaves everything but the screen, and what the front end was told
 
-pub part-settled : {X : Type 0} (f : Document → X) (before after : Document) → f (updated no_request after) ≡ f after → f (settled no_request before after) ≡ f after
-part-settled {X} f before after same = by (wants_update no_request before after)
+pub part-settled : {X : Type 0} (f : Document → X) (before after : Document) →
+    ((screen : Screen) (asked : Asked) → f (record after { view = record after.view { shown = Some asked }; screen = screen }) ≡ f after) →
+    f (settled no_request before after) ≡ f after
+part-settled f before after same = by (is_lacking before.view after.view no_request (pristine_from before after))
   where
-    by : (b : Bool) → f (if b then updated no_request after else after) ≡ f after
-    by true = same
+    told_by : Bool → Option Update
+    told_by b = if b then Some (planned (asked_in after.view no_request) (layout_in after.view) (is_pristine after)) else None
+
+    by : (b : Bool) → f (record after {
+      view = if b then record after.view { shown = Some (asked_in after.view no_request) } else after.view;
+      screen = screen_told (told_by b) after.screen;
+    }) ≡ f after
+    by true = same (screen_told (told_by true) after.screen) (asked_in after.view no_request)
     by false = refl
 
 -- ---- a collection leaves what does not read what it collects
@@ -33,7 +47,8 @@ pub bare-forgotten : (groups : List ℕ) (s : Groups) → bare_groups (fold forg
 bare-forgotten groups s = ap bare_groups (fold_forgotten s groups)
 
 -- what a step leaves beside its screen and what it collects
-pub part-stepped : {X : Type 0} (f : Document → X) (before after : Document) → f (updated no_request after) ≡ f after →
+pub part-stepped : {X : Type 0} (f : Document → X) (before after : Document) →
+    ((screen : Screen) (asked : Asked) → f (record after { view = record after.view { shown = Some asked }; screen = screen }) ≡ f after) →
     ((d : Document) (collection : Collection) → f (with_collection d (Some collection)) ≡ f d) → f (collected_document (settled no_request before after)) ≡ f after
 part-stepped f before after same leaves = part-collected f (settled no_request before after) (leaves (settled no_request before after)) ∙ part-settled f before after same
 

@@ -14,8 +14,9 @@ use Rattle.undo_groups.specs.Groups.{Groups, IsStack, next_redo, next_undo, redo
 use Rattle.undo_groups.specs.Laws.{RedoTakesUndoBack as StackLaw}
 use Rattle.doc_session.specs.Collecting.{AreAcknowledged, AreEnded, HasNoneLeft, collected_document, collection_after, least_acknowledged, with_collection}
 use Rattle.doc_session.specs.Document.{Document, no_request, head_text}
-use Rattle.doc_session.specs.Effects.{settled, updated}
-use Rattle.doc_session.specs.Step.{going_on, history_step, taken_step, undone_document}
+use Rattle.doc_session.specs.declared.looking.Viewing.TheVariants.{Other as NoCommand}
+use Rattle.doc_session.specs.Effects.{settled}
+use Rattle.doc_session.specs.Step.{history_step, taken_step, undone_document, viewed_document}
 use Rattle.doc_session.proofs.ForCallers.{IsLast-next_undo, collection_of-lags, collection_of-nothing, fold_forgotten, has-next_undo}
 use Rattle.document_laws.specs.Laws.{IsNewestLeft, NewGroupEndsRedo, after_event, after_redo, after_undo, after_undos}
 use Rattle.document_laws.proofs.GroupLemmas.{head-undid, next_redo-opened, next_redo-undone, part-settled, part-stepped, some_undo, undone-undone_one, undone_now-undid, undone_one-some}
@@ -61,45 +62,45 @@ module _ (d : Document) (are : AreAcknowledged d.history d.sessions) (left : Has
       let next = undone_document d (undone_one s) in
       let d1 = after_undo d in
       let heads1 : head (settled no_request d next).history ≡ head d.history + 1 =
-      part-settled (λ (x : Document). head x.history) d next refl ∙ head-undid d.history (undone_one s).undone in
+      part-settled (λ (x : Document). head x.history) d next (λ screen asked. refl) ∙ head-undid d.history (undone_one s).undone in
       let is1 : d1 ≡ settled no_request d next =
       after_undo-some d group (some_undo s some) ∙
-      none_collected (settled no_request d next) (part-settled (λ (x : Document). x.sessions) d next refl)
-      (part-settled (λ (x : Document). x.groups.retired) d next refl ∙ ap (λ (g : Groups). g.retired) (undone_one-some s some)) (omega (arith, heads1)) in
-      let groups1 : d1.groups ≡ undone_one s = ap (λ (x : Document). x.groups) is1 ∙ part-settled (λ (x : Document). x.groups) d next refl in
-      let history1 : d1.history ≡ undid d.history (undone_one s).undone = ap (λ (x : Document). x.history) is1 ∙ part-settled (λ (x : Document). x.history) d next refl in
+      none_collected (settled no_request d next) (part-settled (λ (x : Document). x.sessions) d next (λ screen asked. refl))
+      (part-settled (λ (x : Document). x.groups.retired) d next (λ screen asked. refl) ∙ ap (λ (g : Groups). g.retired) (undone_one-some s some)) (omega (arith, heads1)) in
+      let groups1 : d1.groups ≡ undone_one s = ap (λ (x : Document). x.groups) is1 ∙ part-settled (λ (x : Document). x.groups) d next (λ screen asked. refl) in
+      let history1 : d1.history ≡ undid d.history (undone_one s).undone = ap (λ (x : Document). x.history) is1 ∙ part-settled (λ (x : Document). x.history) d next (λ screen asked. refl) in
       let found : next_redo d1.groups ≡ Some group = ap next_redo groups1 ∙ next_redo-undone s some stack.reached in
       let next2 = undone_document d1 (redone_one d1.groups) in
       let back : redone_one d1.groups ≡ s = ap redone_one groups1 ∙ law s stack some in
       let heads2 : head (settled no_request d1 next2).history ≡ head d1.history + 1 =
-      part-settled (λ (x : Document). head x.history) d1 next2 refl ∙ head-undid d1.history (redone_one d1.groups).undone in
+      part-settled (λ (x : Document). head x.history) d1 next2 (λ screen asked. refl) ∙ head-undid d1.history (redone_one d1.groups).undone in
       let is2 : after_redo d1 ≡ settled no_request d1 next2 =
       after_redo-some d1 group found ∙
       none_collected (settled no_request d1 next2)
-      (part-settled (λ (x : Document). x.sessions) d1 next2 refl ∙ ap (λ (x : Document). x.sessions) is1 ∙
-      part-settled (λ (x : Document). x.sessions) d next refl)
-      (part-settled (λ (x : Document). x.groups.retired) d1 next2 refl ∙ ap (λ (g : Groups). g.retired) back)
+      (part-settled (λ (x : Document). x.sessions) d1 next2 (λ screen asked. refl) ∙ ap (λ (x : Document). x.sessions) is1 ∙
+      part-settled (λ (x : Document). x.sessions) d next (λ screen asked. refl))
+      (part-settled (λ (x : Document). x.groups.retired) d1 next2 (λ screen asked. refl) ∙ ap (λ (g : Groups). g.retired) back)
       (omega (arith, heads2, ap (λ (x : Document). head x.history) is1, heads1)) in
       let history2 : (after_redo d1).history ≡ undid (undid d.history (undone_one s).undone) (undone_now d.history) =
-      ap (λ (x : Document). x.history) is2 ∙ part-settled (λ (x : Document). x.history) d1 next2 refl ∙
+      ap (λ (x : Document). x.history) is2 ∙ part-settled (λ (x : Document). x.history) d1 next2 (λ screen asked. refl) ∙
       ap₂ (λ h (g : Groups). undid h g.undone) history1 back ∙ ap (undid (undid d.history (undone_one s).undone)) (sym undone) in
       let once = undid d.history (undone_one s).undone in
       let heads : head (undid once (undone_now d.history)) ≡ head d.history + 2 =
       omega (arith, head-undid once (undone_now d.history), head-undid d.history (undone_one s).undone) in (
         ap (λ h. text_at h (head h)) history2 ∙ ap (text_at (undid once (undone_now d.history))) heads ∙ text_at-undid_back d.history (undone_one s).undone sound,
-        ap (λ (x : Document). x.groups) is2 ∙ part-settled (λ (x : Document). x.groups) d1 next2 refl ∙ back,
+        ap (λ (x : Document). x.groups) is2 ∙ part-settled (λ (x : Document). x.groups) d1 next2 (λ screen asked. refl) ∙ back,
       )
 
 pub new_group_ends_redo : NewGroupEndsRedo
 new_group_ends_redo plain event opened =
     let d = after_event plain event in
-    let still = going_on d None in
+    let still = viewed_document d NoCommand in
     let none : next_redo d.groups ≡ None = ap next_redo opened ∙ next_redo-opened plain.groups in
     let spent : collection_after (settled no_request d still) ≡ None =
-    part-settled collection_after d still refl ∙ collected_once (taken_step plain event).document in (
+    part-settled collection_after d still (λ screen asked. refl) ∙ collected_once (taken_step plain event).document in (
       none,
       ap (λ o. (collected_document (history_step d o (redone_one d.groups)).document).history) none ∙
-          ap (λ found. (with_collection (settled no_request d still) found).history) spent ∙ part-settled (λ (x : Document). x.history) d still refl,
+          ap (λ found. (with_collection (settled no_request d still) found).history) spent ∙ part-settled (λ (x : Document). x.history) d still (λ screen asked. refl),
     )
 
 -- the newest that is left
@@ -142,20 +143,18 @@ pub undone_newest : (d : Document) (group : ℕ) → undone_now d.history ≡ d.
 undone_newest d group undone found =
     let next = undone_document d (undone_one d.groups) in
     ap (λ (x : Document). undone_now x.history) (after_undo-some d group found) ∙
-    part-stepped (λ (x : Document). undone_now x.history) d next refl (λ x collection. refl) ∙
+    part-stepped (λ (x : Document). undone_now x.history) d next (λ screen asked. refl) (λ x collection. refl) ∙
     undone_now-undid d.history (undone_one d.groups).undone ∙ undone-undone_one d.groups group found ∙ ap (λ us. with_number us group) (sym undone)
 
 -- ---- how many undos there are
 
 -- a step's screen and what it collects leave head and index
-head-stepped : (before after : Document) → head (updated no_request after).history ≡ head after.history →
-    head (collected_document (settled no_request before after)).history ≡ head after.history
-head-stepped before after same = part-stepped (λ (x : Document). head x.history) before after same (λ x collection. refl)
+head-stepped : (before after : Document) → head (collected_document (settled no_request before after)).history ≡ head after.history
+head-stepped before after = part-stepped (λ (x : Document). head x.history) before after (λ screen asked. refl) (λ x collection. refl)
 
-index-stepped : (before after : Document) → (updated no_request after).groups.index ≡ after.groups.index →
-    (collected_document (settled no_request before after)).groups.index ≡ after.groups.index
-index-stepped before after same =
-    part-stepped (λ (x : Document). x.groups.index) before after same
+index-stepped : (before after : Document) → (collected_document (settled no_request before after)).groups.index ≡ after.groups.index
+index-stepped before after =
+    part-stepped (λ (x : Document). x.groups.index) before after (λ screen asked. refl)
     (λ x collection. ap (λ (g : Groups). g.index) (fold_forgotten x.groups collection.groups))
 
 -- each makes a revision and leaves one fewer, or does neither
@@ -172,20 +171,20 @@ measure d =
         let next = undone_document d (undone_one s) in
         let is = after_undo-some d (slice_index s.live (s.index - 1)) (some_undo s some) in
         let heads : head (after_undo d).history ≡ head d.history + 1 =
-        ap (λ (x : Document). head x.history) is ∙ head-stepped d next refl ∙ head-undid d.history (undone_one s).undone in
+        ap (λ (x : Document). head x.history) is ∙ head-stepped d next ∙ head-undid d.history (undone_one s).undone in
         let index : (after_undo d).groups.index ≡ s.index - 1 =
-        ap (λ (x : Document). x.groups.index) is ∙ index-stepped d next refl ∙ ap (λ (g : Groups). g.index) (undone_one-some s some) in
+        ap (λ (x : Document). x.groups.index) is ∙ index-stepped d next ∙ ap (λ (g : Groups). g.index) (undone_one-some s some) in
         omega (arith, heads, index, some)
 
     at_end : d.groups.index ≡ 0 → head (after_undo d).history + (after_undo d).groups.index ≡ head d.history + d.groups.index
     at_end none =
-        let still = going_on d None in
+        let still = viewed_document d NoCommand in
         let found : next_undo d.groups ≡ None =
         ap (λ b. if b then None else Some (slice_index d.groups.live (d.groups.index - 1))) (eq-eqb d.groups.index 0 none) in
         let is : after_undo d ≡ collected_document (settled no_request d still) =
         ap (λ o. collected_document (history_step d o (undone_one d.groups)).document) found in
-        ap₂ (λ a b. a + b) (ap (λ (x : Document). head x.history) is ∙ head-stepped d still refl)
-        (ap (λ (x : Document). x.groups.index) is ∙ index-stepped d still refl)
+        ap₂ (λ a b. a + b) (ap (λ (x : Document). head x.history) is ∙ head-stepped d still)
+        (ap (λ (x : Document). x.groups.index) is ∙ index-stepped d still)
 
 pub head-undos : (n : ℕ) (d : Document) → head (after_undos n d).history ≤ head d.history + d.groups.index
 head-undos zero d = omega arith

@@ -27,11 +27,15 @@ use Rattle.doc_session.specs.declared.event.Event.TheVariants.{Ack, Config as Co
 use Rattle.doc_session.specs.Asking.{asked_spans, plugin_edit}
 use Rattle.doc_session.specs.Collecting.{collected_document, collection_after, with_collection}
 use Rattle.doc_session.specs.Document.{Document, loaded_document, no_request, head_text}
-use Rattle.doc_session.specs.Effects.{settled, updated, wants_update}
-use Rattle.doc_session.specs.Step.{act_step, at_next_match, at_previous_match, command_step, configured_document, effect_on, given_document, going_on, history_step, idle_step, is_idle, looking_document, scrolled_document, seeking_document, selected_document, styled_document, taken_step, typed_document, typed_step, undone_document}
+use Rattle.doc_view.specs.View.{View}
+use Rattle.doc_session.specs.declared.looking.Viewing.{Viewing}
+use Rattle.doc_session.specs.declared.looking.Viewing.TheVariants.{Layout, Other as NoCommand}
+use Rattle.doc_session.specs.Looking.{viewed_lines, viewing_of}
+use Rattle.doc_session.specs.Effects.{pristine_from, settled}
+use Rattle.doc_session.specs.Step.{act_step, command_step, done_step, effect_on, given_document, history_step, idle_step, is_idle, looking_step, selected_document, styled_document, taken_step, typed_document, typed_step, undone_document, viewed_document, viewing_step}
 use Rattle.document_laws.specs.Laws.{AreOverText, SaysNoStyles, StylesFollow}
 use Rattle.document_laws.proofs.GroupLemmas.{part-stepped}
-use Rattle.doc_session.proofs.ForCallers.{head_text-loaded}
+use Rattle.doc_session.proofs.ForCallers.{head_text-loaded, layers-viewed, part-settled as view-settled}
 
 -- ---- where no revision is made the style rule leaves all styles
 
@@ -86,20 +90,16 @@ spans-over h asked index layers over =
 
 pub AreOverText-loaded : (text : List ℕ) (plugins limit : ℕ) (config : Config) → AreOverText (loaded_document text plugins limit config)
 AreOverText-loaded text plugins limit config =
-    subst (λ t. AreOver (length t) (loaded_document text plugins limit config).layers) (sym (head_text-loaded text)) (AreOver-new plugins (length text))
+    subst (λ t. AreOver (length t) (loaded_document text plugins limit config).view.layers) (sym (head_text-loaded text)) (AreOver-new plugins (length text))
 
 -- ---- the steps
 
 abbrev Follows : Document → Document → Type 0
-Follows d next = next.layers ≡ moved_layers d.history next.history d.layers
+Follows d next = next.view.layers ≡ moved_layers d.history next.history d.view.layers
 
 -- what is told of a step is no matter, nor what is collected
 follows-settled : (request : Run) (d next : Document) → Follows d next → Follows d (settled request d next)
-follows-settled request d next follows = by (wants_update request d next)
-  where
-    by : (b : Bool) → Follows d (if b then updated request next else next)
-    by true = follows
-    by false = follows
+follows-settled request d next follows = view-settled (λ (v : View). v.layers) d.view next.view request (pristine_from d next) refl ∙ follows
 
 follows-collected : (d next : Document) → Follows d next → Follows d (collected_document next)
 follows-collected d next follows = by (collection_after next)
@@ -109,8 +109,8 @@ follows-collected d next follows = by (collection_after next)
     by (Some collection) = follows
 
 module _ (d : Document) (over : AreOverText d) where
-  follows-still : d.layers ≡ moved_layers d.history d.history d.layers
-  follows-still = sym (moved-still d.history d.layers over)
+  follows-still : d.view.layers ≡ moved_layers d.history d.history d.view.layers
+  follows-still = sym (moved-still d.history d.view.layers over)
 
   follows-command : (act : EditAct) → Follows d (command_step d act (effect_on d act)).document
   follows-command act = by (is_idle d effect)
@@ -122,22 +122,26 @@ module _ (d : Document) (over : AreOverText d) where
       by true = follows-settled no_request d (selected_document d (kind_of act) effect.regions) follows-still
       by false = follows-settled no_request d (typed_document d (kind_of act) effect) refl
 
-  follows-other : Follows d (taken_step d Other).document
-  follows-other = follows-settled no_request d (going_on d None) follows-still
+  -- a line that only looks says nothing of styles
+  follows-viewing : (viewing : Viewing) → Follows d (viewing_step d viewing).document
+  follows-viewing viewing =
+      follows-settled (viewed_lines viewing) d (viewed_document d viewing) (layers-viewed d.view viewing ∙ follows-still)
 
   follows-turned : (group : Option ℕ) (groups : Groups) → Follows d (history_step d group groups).document
-  follows-turned None groups = follows-other
+  follows-turned None groups = follows-viewing NoCommand
   follows-turned (Some group) groups = follows-settled no_request d (undone_document d groups) refl
 
+  follows-done : (act : EditAct) → Follows d (done_step d act).document
+  follows-done Acts.Undo = follows-turned (next_undo d.groups) (undone_one d.groups)
+  follows-done Acts.Redo = follows-turned (next_redo d.groups) (redone_one d.groups)
+  follows-done act = follows-command act
+
   follows-act : (act : EditAct) → Follows d (act_step d act).document
-  follows-act Acts.Undo = follows-turned (next_undo d.groups) (undone_one d.groups)
-  follows-act Acts.Redo = follows-turned (next_redo d.groups) (redone_one d.groups)
-  follows-act (Acts.Scroll first last) = follows-settled no_request d (scrolled_document d (record { start = first; end = last })) follows-still
-  follows-act (Acts.RequestLines first last) = follows-settled (record { start = first; end = last }) d (looking_document d) follows-still
-  follows-act (Acts.Find chars case_sensitive regex whole_words) = follows-settled no_request d (seeking_document d chars case_sensitive) follows-still
-  follows-act (Acts.FindNext wrap_around allow_same) = follows-settled no_request d (at_next_match d wrap_around) follows-still
-  follows-act (Acts.FindPrevious wrap_around allow_same) = follows-settled no_request d (at_previous_match d wrap_around) follows-still
-  follows-act act = follows-command act
+  follows-act act = by (viewing_of act)
+    where
+      by : (found : Option Viewing) → Follows d (looking_step d act found).document
+      by None = follows-done act
+      by (Some viewing) = follows-viewing viewing
 
   follows-taken : (event : Event) → SaysNoStyles event → Follows d (taken_step d event).document
   follows-taken (Front act) none = follows-act act
@@ -147,8 +151,8 @@ module _ (d : Document) (over : AreOverText d) where
   follows-taken (Spans caller rev start len spans) none = absurd none
   follows-taken (Ack caller rev) none = follows-still
   follows-taken (Ended caller) none = follows-still
-  follows-taken (Configure config) none = follows-settled no_request d (configured_document d config) follows-still
-  follows-taken Other none = follows-other
+  follows-taken (Configure config) none = follows-viewing (Layout config)
+  follows-taken Other none = follows-viewing NoCommand
 
   follows-event : (event : Event) → SaysNoStyles event → StylesFollow d event
   follows-event event none =
@@ -156,8 +160,8 @@ module _ (d : Document) (over : AreOverText d) where
       let made = collected_document next in
       let follows : Follows d made = follows-collected d next (follows-taken event none) in
       record {
-        over = subst (AreOver (length (head_text made))) (sym follows) (moved-over d.history made.history d.layers);
-        as_many = ap length follows ∙ length-map d.layers (moved_layer d.history made.history);
+        over = subst (AreOver (length (head_text made))) (sym follows) (moved-over d.history made.history d.view.layers);
+        as_many = ap length follows ∙ length-map d.view.layers (moved_layer d.history made.history);
         moved = λ says. follows;
       }
 
@@ -165,11 +169,8 @@ module _ (d : Document) (over : AreOverText d) where
 
 -- what is told is no matter, nor what is collected
 over-settled : (d next : Document) → AreOverText next → AreOverText (settled no_request d next)
-over-settled d next over = by (wants_update no_request d next)
-  where
-    by : (b : Bool) → AreOverText (if b then updated no_request next else next)
-    by true = over
-    by false = over
+over-settled d next over =
+    subst (AreOver (length (head_text next))) (sym (view-settled (λ (v : View). v.layers) d.view next.view no_request (pristine_from d next) refl)) over
 
 over-collected : (next : Document) → AreOverText next → AreOverText (collected_document next)
 over-collected next over = by (collection_after next)
@@ -183,8 +184,8 @@ spans-event d caller rev start len spans over =
     let asked = asked_spans rev start len spans in
     let next = styled_document d caller asked in
     record {
-      over = over-collected (settled no_request d next) (over-settled d next (spans-over d.history asked (caller - 1) d.layers over));
-      as_many = part-stepped (λ (x : Document). length x.layers) d next refl (λ x collection. refl) ∙ length-set d.layers (caller - 1) _;
+      over = over-collected (settled no_request d next) (over-settled d next (spans-over d.history asked (caller - 1) d.view.layers over));
+      as_many = part-stepped (λ (x : Document). length x.view.layers) d next (λ screen asked. refl) (λ x collection. refl) ∙ length-set d.view.layers (caller - 1) _;
       moved = λ none. absurd none;
     }
 

@@ -1,5 +1,5 @@
 -- An undo takes a run of typing back whole.
-use Rattle.std.proofs.Common.{◌≡◌, ◌≢◌, ℕ, ◌+◌, ◌++◌, length, Bool, true, false, if◌then◌else◌, List, [], ◌∷◌, Option, Some, None, refl, ap, sym, ◌∙◌, arith}
+use Rattle.std.proofs.Common.{◌≡◌, ◌≢◌, ℕ, ◌+◌, ◌++◌, length, Bool, true, false, if◌then◌else◌, List, [], ◌∷◌, Option, Some, None, refl, ap, sym, ◌∙◌, subst, arith}
 use Rattle.std.specs.List.{concat, list_any}
 use Rattle.plain_text.specs.Numbers.{with_number}
 use Rattle.plain_text.specs.declared.selection.Region.{Region}
@@ -19,10 +19,11 @@ use Rattle.edit_groups.specs.Grouping.{group_by, groups_by, run_group}
 use Rattle.edit_groups.specs.Typing.{run_on, run_with}
 use Rattle.doc_session.specs.Asking.{front_edit}
 use Rattle.doc_session.specs.Collecting.{collected_document, collection_after, with_collection}
-use Rattle.doc_session.specs.Document.{Document, no_request, pieces_of, head_text}
-use Rattle.doc_session.specs.Effects.{settled, updated, wants_update}
+use Rattle.doc_view.specs.View.{View, pieces_in}
+use Rattle.doc_session.specs.Document.{Document, no_request, head_text}
+use Rattle.doc_session.specs.Effects.{pristine_from, settled}
 use Rattle.doc_session.specs.Step.{effect_on, history_step, idle_step, is_idle, selected_document, taken_step, typed_document, typed_step, undone_document}
-use Rattle.doc_session.proofs.ForCallers.{effect-some, next_undo-opened, typing-some, typing-within}
+use Rattle.doc_session.proofs.ForCallers.{effect-some, next_undo-opened, part-settled as view-settled, typing-some, typing-within}
 use Rattle.doc_session.specs.declared.event.Event.TheVariants.{Front}
 use Rattle.document_laws.specs.Laws.{after_event, after_typing, after_undo, bare_groups}
 use Rattle.document_laws.proofs.GroupLemmas.{bare-forgotten, head-undid, part-stepped, undone-undone_one}
@@ -51,18 +52,10 @@ IsBefore document =
     (list_any (is_edit_of (next_group document)) document.history.revisions ≡ false) × (run_on document.typing inserts ≡ None)
 
 settled-IsInRun : (start before after : Document) → IsInRun start after → IsInRun start (settled no_request before after)
-settled-IsInRun start before after is = by (wants_update no_request before after)
-  where
-    by : (b : Bool) → IsInRun start (if b then updated no_request after else after)
-    by true = is
-    by false = is
+settled-IsInRun start before after is = is
 
 settled-IsBefore : (before after : Document) → IsBefore after → IsBefore (settled no_request before after)
-settled-IsBefore before after is = by (wants_update no_request before after)
-  where
-    by : (b : Bool) → IsBefore (if b then updated no_request after else after)
-    by true = is
-    by false = is
+settled-IsBefore before after is = is
 
 -- and of what is collected
 collected-IsInRun : (start after : Document) → IsInRun start after → IsInRun start (collected_document after)
@@ -150,22 +143,20 @@ run_undone start document before is =
     undone-undone_one document.groups group found ∙ ap (λ (g : Groups). with_number g.undone group) is.1 ∙
     ap (λ us. with_number us group) (sym before.1) in
     ap (λ o. head_text (collected_document (history_step document o groups).document)) found ∙
-    part-stepped head_text document (undone_document document groups) refl (λ x collection. refl) ∙
+    part-stepped head_text document (undone_document document groups) (λ screen asked. refl) (λ x collection. refl) ∙
     ap (text_at (undid document.history groups.undone)) (head-undid document.history groups.undone) ∙
     ap (λ us. text_at (undid document.history us) (head document.history + 1)) set ∙
     text_at-run start.history document.history group is.0 (omega arith) before.2
 
 -- there is a region, and regions lie in the text
 abbrev pub HasRegions : Document → Type 0
-HasRegions document = (document.regions ≢ []) × AreWithin (length (head_text document)) document.regions
+HasRegions document = (document.view.regions ≢ []) × AreWithin (length document.view.text) document.view.regions
 
 -- characters that are no edit leave the text
 settled-HasRegions : (before after : Document) → HasRegions after → HasRegions (settled no_request before after)
-settled-HasRegions before after has = by (wants_update no_request before after)
-  where
-    by : (b : Bool) → HasRegions (if b then updated no_request after else after)
-    by true = has
-    by false = has
+settled-HasRegions before after has =
+    let At : List ℕ × List Region → Type 0 = λ p. (p.1 ≢ []) × AreWithin (length p.0) p.1 in
+    subst At (sym (view-settled (λ (v : View). (v.text, v.regions)) before.view after.view no_request (pristine_from before after) refl)) has
 
 -- nor what is collected
 collected-HasRegions : (after : Document) → HasRegions after → HasRegions (collected_document after)
@@ -178,7 +169,7 @@ collected-HasRegions after has = by (collection_after after)
 -- they are none
 none_typed : (plain : Document) (chars : List ℕ) → HasRegions plain → is_idle plain (typing plain chars) ≡ true → chars ≡ []
 none_typed plain [] has idle = refl
-none_typed plain (c ∷ chars) has idle = absurd (typing-some (head_text plain) (c ∷ chars) plain.regions (λ none. cc) has.0 has.1 idle)
+none_typed plain (c ∷ chars) has idle = absurd (typing-some plain.view.text (c ∷ chars) plain.view.regions (λ none. cc) has.0 has.1 idle)
 
 pub run_taken_back : (texts : List (List ℕ)) (plain : Document) → IsBefore plain → HasRegions plain → concat texts ≢ [] →
     head_text (after_undo (after_typing plain texts)) ≡ head_text plain
@@ -195,11 +186,14 @@ run_taken_back (chars ∷ texts) plain is has some = by (run_taken_back texts) (
         let next = selected_document plain inserts effect.regions in
         let still : IsBefore next = (is.0, is.1, is.2, ap (λ t. run_on t inserts) is.3) in
         let left : HasRegions next =
-        (effect-some plain.config (head_text plain) (pieces_of plain) plain.regions has.0 (Insert chars), typing-within (head_text plain) chars plain.regions has.1 idle) in
+        (
+          effect-some plain.view.config plain.view.text (pieces_in plain.view) plain.view.regions has.0 (Insert chars),
+          typing-within plain.view.text chars plain.view.regions has.1 idle,
+        ) in
         let rest : concat texts ≢ [] = λ empty. some (ap (λ t. t ++ concat texts) (none_typed plain chars has idle) ∙ empty) in
         later (collected_document (settled no_request plain next)) (collected-IsBefore (settled no_request plain next) (settled-IsBefore plain next still))
         (collected-HasRegions (settled no_request plain next) (settled-HasRegions plain next left)) rest ∙
-        part-stepped head_text plain next refl (λ x collection. refl)
+        part-stepped head_text plain next (λ screen asked. refl) (λ x collection. refl)
     by later false idle =
         let next = typed_document plain inserts effect in
         let first = collected_document (settled no_request plain next) in

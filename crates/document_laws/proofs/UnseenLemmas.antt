@@ -23,10 +23,13 @@ use Rattle.doc_session.specs.declared.event.Event.TheVariants.{Ack, Config as Co
 use Rattle.doc_session.specs.Asking.{asked_refusal, front_edit}
 use Rattle.doc_session.specs.Collecting.{acknowledged_document, collected_document, collection_after, ended_document, least_acknowledged, with_collection}
 use Rattle.doc_session.specs.Document.{Document, no_request}
-use Rattle.doc_session.specs.Effects.{settled, update_after, updated, wants_update}
+use Rattle.doc_session.specs.declared.looking.Viewing.{Viewing}
+use Rattle.doc_session.specs.declared.looking.Viewing.TheVariants.{Layout, Other as NoCommand}
+use Rattle.doc_session.specs.Looking.{viewed_lines, viewing_of}
+use Rattle.doc_session.specs.Effects.{settled, update_after}
 use Rattle.doc_session.specs.Layout.{Position}
 use Rattle.doc_session.specs.Refusal.{edit_refused}
-use Rattle.doc_session.specs.Step.{EventStep, act_step, answer_to, at_next_match, at_previous_match, command_step, configured_document, edited_document, effect_on, event_step, going_on, history_step, idle_step, is_idle, looking_document, refusal_at, revision_step, scroll_if, scrolled_document, scrolls, seeking_document, selected_document, step_to, taken_step, typed_step, undone_document}
+use Rattle.doc_session.specs.Step.{EventStep, act_step, answer_to, command_step, done_step, edited_document, effect_on, event_step, history_step, idle_step, is_idle, looking_step, refusal_at, revision_step, scroll_if, scrolls, selected_document, step_to, taken_step, typed_step, undone_document, viewed_document, viewing_step}
 use Rattle.edit_groups.proofs.ForCallers.{least-within}
 use Rattle.doc_session.proofs.ForCallers.{floor-found, head-after}
 use Rattle.document_laws.specs.Laws.{AcknowledgementsAreUnseen, AreAlike, CollectionIsUnseen, IsOfFront, TellTheSame, after_event, bare, bare_groups}
@@ -40,11 +43,7 @@ pub record GoAlong (one other : EventStep) : Type 0 where
 
 -- the screen of the bare one is the same
 bare-settled : (request : Run) (before after : Document) → bare (settled request before after) ≡ settled request (bare before) (bare after)
-bare-settled request before after = by (wants_update request before after)
-  where
-    by : (b : Bool) → bare (if b then updated request after else after) ≡ (if b then updated request (bare after) else bare after)
-    by true = refl
-    by false = refl
+bare-settled request before after = refl
 
 along-step_to : (request : Run) (d next other : Document) (body : Body) (scroll : Option Position) (notice : Option Notice) → bare next ≡ bare other →
     GoAlong (step_to request d next body scroll notice) (step_to request (bare d) other body scroll notice)
@@ -81,8 +80,8 @@ along-command d act = by (is_idle d effect)
         along-step_to no_request d (selected_document d (kind_of act) effect.regions) (selected_document (bare d) (kind_of act) effect.regions) _ _ _ refl
     by false = along-typed d act effect (run_group (run_on d.typing (kind_of act)))
 
-along-other : (d : Document) → GoAlong (taken_step d Other) (taken_step (bare d) Other)
-along-other d = along-step_to no_request d (going_on d None) (going_on (bare d) None) Null None None refl
+along-viewing : (d : Document) (viewing : Viewing) → GoAlong (viewing_step d viewing) (viewing_step (bare d) viewing)
+along-viewing d viewing = along-step_to (viewed_lines viewing) d (viewed_document d viewing) (viewed_document (bare d) viewing) Null _ None refl
 
 -- ---- undo and redo
 
@@ -100,7 +99,7 @@ along-undo d = by (s.index == 0)
 
     by : (none : Bool) → GoAlong (history_step d (if none then None else Some group) (if none then s else after s.retired))
         (history_step (bare d) (if none then None else Some group) (if none then bare_groups s else after []))
-    by true = along-other d
+    by true = along-viewing d NoCommand
     by false = along-step_to no_request d (undone_document d (after s.retired)) (undone_document (bare d) (after [])) _ _ _ refl
 
 along-redo : (d : Document) → GoAlong (act_step d Acts.Redo) (act_step (bare d) Acts.Redo)
@@ -117,24 +116,20 @@ along-redo d = by (s.index == length s.live)
 
     by : (none : Bool) → GoAlong (history_step d (if none then None else Some group) (if none then s else after s.retired))
         (history_step (bare d) (if none then None else Some group) (if none then bare_groups s else after []))
-    by true = along-other d
+    by true = along-viewing d NoCommand
     by false = along-step_to no_request d (undone_document d (after s.retired)) (undone_document (bare d) (after [])) _ _ _ refl
 
+along-done : (d : Document) (act : EditAct) → GoAlong (done_step d act) (done_step (bare d) act)
+along-done d Acts.Undo = along-undo d
+along-done d Acts.Redo = along-redo d
+along-done d act = along-command d act
+
 along-act : (d : Document) (act : EditAct) → GoAlong (act_step d act) (act_step (bare d) act)
-along-act d Acts.Undo = along-undo d
-along-act d Acts.Redo = along-redo d
-along-act d (Acts.Scroll first last) =
-    let window : Run = record { start = first; end = last } in
-    along-step_to no_request d (scrolled_document d window) (scrolled_document (bare d) window) Null _ None refl
-along-act d (Acts.RequestLines first last) =
-    along-step_to (record { start = first; end = last }) d (looking_document d) (looking_document (bare d)) Null _ None refl
-along-act d (Acts.Find chars case_sensitive regex whole_words) =
-    along-step_to no_request d (seeking_document d chars case_sensitive) (seeking_document (bare d) chars case_sensitive) Null _ None refl
-along-act d (Acts.FindNext wrap_around allow_same) =
-    along-step_to no_request d (at_next_match d wrap_around) (at_next_match (bare d) wrap_around) Null _ None refl
-along-act d (Acts.FindPrevious wrap_around allow_same) =
-    along-step_to no_request d (at_previous_match d wrap_around) (at_previous_match (bare d) wrap_around) Null _ None refl
-along-act d act = along-command d act
+along-act d act = by (viewing_of act)
+  where
+    by : (found : Option Viewing) → GoAlong (looking_step d act found) (looking_step (bare d) act found)
+    by None = along-done d act
+    by (Some viewing) = along-viewing d viewing
 
 -- ---- events of the front end, after which old groups are collected
 
@@ -152,9 +147,8 @@ along-taken d (Edit caller edit named) front = absurd front
 along-taken d (Spans caller rev start len spans) front = absurd front
 along-taken d (Ack caller rev) front = absurd front
 along-taken d (Ended caller) front = absurd front
-along-taken d (Configure config) front =
-    along-step_to no_request d (configured_document d config) (configured_document (bare d) config) Null None None refl
-along-taken d Other front = along-other d
+along-taken d (Configure config) front = along-viewing d (Layout config)
+along-taken d Other front = along-viewing d NoCommand
 
 along-event : (d : Document) (event : Event) → IsOfFront event → GoAlong (event_step d event) (event_step (bare d) event)
 along-event d event front =
@@ -170,11 +164,10 @@ abbrev HasFloor : Document → Type 0
 HasFloor d = d.history.floor ≤ head d.history
 
 floor-settled : (request : Run) (d next : Document) → HasFloor next → HasFloor (settled request d next)
-floor-settled request d next has = by (wants_update request d next)
-  where
-    by : (b : Bool) → HasFloor (if b then updated request next else next)
-    by true = has
-    by false = has
+floor-settled request d next has = has
+
+floor-viewing : (d : Document) (viewing : Viewing) → HasFloor d → HasFloor (viewing_step d viewing).document
+floor-viewing d viewing has = has
 
 floor-command : (d : Document) (act : EditAct) → HasFloor d → HasFloor (command_step d act (effect_on d act)).document
 floor-command d act has = by (is_idle d effect)
@@ -191,19 +184,21 @@ floor-command d act has = by (is_idle d effect)
         floor-settled no_request d (typed_in d act effect joined) (omega (arith, has, head-after d.history (front_edit d joined effect.replacements)))
 
 floor-turned : (d : Document) (group : Option ℕ) (groups : Groups) → HasFloor d → HasFloor (history_step d group groups).document
-floor-turned d None groups has = floor-settled no_request d (going_on d None) has
+floor-turned d None groups has = floor-viewing d NoCommand has
 floor-turned d (Some group) groups has =
     floor-settled no_request d (undone_document d groups) (omega (arith, has, head-undid d.history groups.undone))
 
+floor-done : (d : Document) (act : EditAct) → HasFloor d → HasFloor (done_step d act).document
+floor-done d Acts.Undo has = floor-turned d (next_undo d.groups) (undone_one d.groups) has
+floor-done d Acts.Redo has = floor-turned d (next_redo d.groups) (redone_one d.groups) has
+floor-done d act has = floor-command d act has
+
 floor-act : (d : Document) (act : EditAct) → HasFloor d → HasFloor (act_step d act).document
-floor-act d Acts.Undo has = floor-turned d (next_undo d.groups) (undone_one d.groups) has
-floor-act d Acts.Redo has = floor-turned d (next_redo d.groups) (redone_one d.groups) has
-floor-act d (Acts.Scroll first last) has = floor-settled no_request d (scrolled_document d (record { start = first; end = last })) has
-floor-act d (Acts.RequestLines first last) has = floor-settled (record { start = first; end = last }) d (looking_document d) has
-floor-act d (Acts.Find chars case_sensitive regex whole_words) has = floor-settled no_request d (seeking_document d chars case_sensitive) has
-floor-act d (Acts.FindNext wrap_around allow_same) has = floor-settled no_request d (at_next_match d wrap_around) has
-floor-act d (Acts.FindPrevious wrap_around allow_same) has = floor-settled no_request d (at_previous_match d wrap_around) has
-floor-act d act has = floor-command d act has
+floor-act d act has = by (viewing_of act)
+  where
+    by : (found : Option Viewing) → HasFloor (looking_step d act found).document
+    by None = floor-done d act has
+    by (Some viewing) = floor-viewing d viewing has
 
 floor-collected : (d : Document) → HasFloor d → HasFloor (collected_document d)
 floor-collected d has = by (collection_after d) refl
@@ -223,8 +218,8 @@ floor-taken d (Edit caller edit named) front has = absurd front
 floor-taken d (Spans caller rev start len spans) front has = absurd front
 floor-taken d (Ack caller rev) front has = absurd front
 floor-taken d (Ended caller) front has = absurd front
-floor-taken d (Configure config) front has = floor-settled no_request d (configured_document d config) has
-floor-taken d Other front has = floor-settled no_request d (going_on d None) has
+floor-taken d (Configure config) front has = floor-viewing d (Layout config) has
+floor-taken d Other front has = floor-viewing d NoCommand has
 
 floor-event : (d : Document) (event : Event) → IsOfFront event → HasFloor d → HasFloor (after_event d event)
 floor-event d event front has = floor-collected (taken_step d event).document (floor-taken d event front has)

@@ -147,7 +147,7 @@ AcknowledgementsAreUnseen = (document : Document) (event : Event) → IsOfSessio
 
 -- the layers of a document are over its text
 abbrev pub AreOverText : Document → Type 0
-AreOverText document = AreOver (length (head_text document)) document.layers
+AreOverText document = AreOver (length (head_text document)) document.view.layers
 
 -- an event in which no plugin says styles
 abbrev pub SaysNoStyles : Event → Type 0
@@ -158,9 +158,9 @@ SaysNoStyles event = ⊤
 -- them over the histories before and after it: what both head texts show keeps its styles, and what appears has none
 pub record StylesFollow (document : Document) (event : Event) : Type 0 where
   pub over : AreOverText (after_event document event)
-  pub as_many : length (after_event document event).layers ≡ length document.layers
+  pub as_many : length (after_event document event).view.layers ≡ length document.view.layers
   pub moved : SaysNoStyles event →
-      (after_event document event).layers ≡ moved_layers document.history (after_event document event).history document.layers
+      (after_event document event).view.layers ≡ moved_layers document.history (after_event document event).history document.view.layers
 
 -- STYLES FOLLOW THEIR CHARACTERS in every document whose layers are over its text, as they are when it is loaded
 pub record LayersFollow : Type 0 where

@@ -122,7 +122,7 @@ abbrev pub word_after : List Event → Document
 word_after events = fold after_event (loaded_document (97 ∷ 98 ∷ 99 ∷ 100 ∷ []) 1 100 usual) events
 
 abbrev pub styles_after : List Event → List Layer
-styles_after events = (word_after events).layers
+styles_after events = (word_after events).view.layers
 
 -- the plugin says style 2 of a part of a range of the text of a revision, or clears a range
 abbrev pub styles : ℕ → ℕ → ℕ → List Span → Event

@@ -16,10 +16,10 @@ use Rattle.xi_top.specs.Laws.{AllAreConfigured}
 
 -- these views are laid out and edited so
 AreConfigured : Config → List OpenView → Type 0
-AreConfigured config views = AllByRecursion (λ (view : OpenView). view.document.config ≡ config) views
+AreConfigured config views = AllByRecursion (λ (view : OpenView). view.document.view.config ≡ config) views
 
 configured_steps : (config next : Config) (steps : OpenView → EventStep) (views : List OpenView) →
-    ((view : OpenView) → view.document.config ≡ config → (steps view).document.config ≡ next) → AreConfigured config views →
+    ((view : OpenView) → view.document.view.config ≡ config → (steps view).document.view.config ≡ next) → AreConfigured config views →
     AreConfigured next (stepped steps views)
 unfolding AreConfigured
 configured_steps config next steps [] each all = tt
@@ -32,29 +32,29 @@ configured_others config views all = configured_steps config config other_step v
 
 -- the view that was named is one of them
 found_configured : (config : Config) (views : List OpenView) (id : List ℕ) (own : OpenView) → view_of views id ≡ Some own →
-    AreConfigured config views → own.document.config ≡ config
+    AreConfigured config views → own.document.view.config ≡ config
 unfolding AreConfigured
 found_configured config [] id own found all = absurd cc
 found_configured config (view ∷ views) id own found all =
     by (bytes_eq id view.id) found (λ there. found_configured config views id own there all.1)
   where
     by : (here : Bool) → (if here then Some view else view_of views id) ≡ Some own →
-        (view_of views id ≡ Some own → own.document.config ≡ config) → own.document.config ≡ config
+        (view_of views id ≡ Some own → own.document.view.config ≡ config) → own.document.view.config ≡ config
     by true is later =
-        let At : OpenView → Type 0 = λ v. v.document.config ≡ config in
+        let At : OpenView → Type 0 = λ v. v.document.view.config ≡ config in
         let same : view ≡ own = cc in
         subst At same all.0
     by false is later = later is
 
-configured_own : (config : Config) (own : OpenView) (step : EventStep) (views : List OpenView) → step.document.config ≡ config →
+configured_own : (config : Config) (own : OpenView) (step : EventStep) (views : List OpenView) → step.document.view.config ≡ config →
     AreConfigured config views → AreConfigured config (stepped (own_step own step) views)
 configured_own config own step views is all = configured_steps config config (own_step own step) views (λ view at. by view at (bytes_eq own.id view.id)) all
   where
-    by : (view : OpenView) → view.document.config ≡ config → (here : Bool) → (if here then step else other_step view).document.config ≡ config
+    by : (view : OpenView) → view.document.view.config ≡ config → (here : Bool) → (if here then step else other_step view).document.view.config ≡ config
     by view at true = is
     by view at false = config-event_step view.document Other ∙ at
 
-configured_came : (config : Config) (views : List OpenView) (own : OpenView) (total : Option ℕ) (act : EditAct) → own.document.config ≡ config →
+configured_came : (config : Config) (views : List OpenView) (own : OpenView) (total : Option ℕ) (act : EditAct) → own.document.view.config ≡ config →
     AreConfigured config views → AreConfigured config (edit_came views own total (event_step own.document (Front act))).views
 configured_came config views own (Some total) act is all = configured_others config views all
 configured_came config views own None act is all =

@@ -25,10 +25,10 @@ use Rattle.view_update.proofs.ForCallers.{others_are_no_updates}
 use Rattle.doc_session.specs.InMemory.{Doc}
 use Rattle.doc_session.specs.Document.{Document, no_request}
 use Rattle.doc_session.specs.ScreenOf.{IsUpToDate}
-use Rattle.doc_session.specs.Step.{EventStep, going_on}
+use Rattle.doc_session.specs.Step.{EventStep}
 use Rattle.xi_top.specs.Answer.{Reply, accepted, refused, spent, not_built, silent, answers, refusal, refused_by, spent_refusal, not_built_refusal}
 use Rattle.json_rpc.specs.Refusal.{code_of, message_of}
-use Rattle.xi_top.specs.Session.{OpenView, Session, first_session, session_of, view_of, view_id, views_of, first_document, first_view, Outcome, outcome, opening_outcome, taking, leaving, other_step, outcome_messages, stepped, update_notes, scroll_notes, updates_for, messages, step, lines_written, written, piece_of}
+use Rattle.xi_top.specs.Session.{OpenView, Session, first_session, session_of, view_of, view_id, views_of, first_view, Outcome, outcome, opening_outcome, taking, leaving, other_step, outcome_messages, stepped, update_notes, scroll_notes, updates_for, messages, step, lines_written, written, piece_of}
 use Rattle.xi_top.specs.Shows.{updates_in, screen_with, rebuilt_from, rebuilt, IsShown, AreShown, SendsTo, NotesSendTo, requested, last_requested, Shows}
 use Rattle.doc_session.proofs.ForCallers.{head-stands}
 use Rattle.xi_top.specs.Core.{IsOfLine, IsOpen, Stands, StandsForSession, screen_of, IsShowing, front_entry}
@@ -36,8 +36,8 @@ use Rattle.xi_top.specs.InnerSession.{MayBeAsked, UpdatesReadBack, AreLinesOf}
 use Rattle.xi_top.specs.Laws.{HaveRevisions}
 use Rattle.xi_top.proofs.RevisionLemmas.{revisions_few}
 use Rattle.xi_top.proofs.ViewLemmas.{other_way, only_view, AtMostFirst}
-use Rattle.xi_top.proofs.StepLemmas.{MakesScreen, UpdateWithin, KeepsStep, KeepEach, NoneRequested, by_outcome, first_of}
-use Rattle.xi_top.proofs.ScreenLemmas.{IsUpToDate-over, IsUpToDate-untold}
+use Rattle.xi_top.proofs.StepLemmas.{AreLastTold, MakesScreen, UpdateWithin, KeepsStep, KeepEach, NoneRequested, by_outcome, first_of, last_of}
+use Rattle.xi_top.proofs.ScreenLemmas.{IsUpToDate-over}
 use Rattle.xi_top.proofs.SessionLemmas.{session_of-push, views_of-push, messages_of, messages_of-push, written-messages, IsOpen-push}
 
 -- the updates that messages say
@@ -297,33 +297,35 @@ AreUpToDate requests views = AllByRecursion (λ view. IsUpToDate (requests view.
 
 -- so it is after an entry, where it was so before
 StaysUpToDate : (List ℕ → Run) → List OpenView → Outcome → Type 0
-StaysUpToDate requests before done = (lasts : List ℕ → Run) → AreUpToDate lasts before → AreUpToDate requests done.views
+StaysUpToDate requests before done =
+    AreLastTold before → (lasts : List ℕ → Run) → AreUpToDate lasts before → AreUpToDate requests done.views
 
-shown_each : (requests : List ℕ → Run) (steps : OpenView → EventStep) (views : List OpenView) (lasts : List ℕ → Run) → KeepEach requests steps views →
-    AreUpToDate lasts views → AreUpToDate requests (stepped steps views)
-unfolding AreUpToDate KeepEach KeepsStep
-shown_each requests steps [] lasts keep before = tt
-shown_each requests steps (view ∷ views) lasts keep before =
-    (keep.0.shown (lasts view.id) (λ none. before.0), shown_each requests steps views lasts keep.1 before.1)
+shown_each : (requests : List ℕ → Run) (steps : OpenView → EventStep) (views : List OpenView) → KeepEach requests steps views →
+    AreLastTold views → AreUpToDate requests (stepped steps views)
+unfolding AreLastTold AreUpToDate KeepEach KeepsStep
+shown_each requests steps [] keep last = tt
+shown_each requests steps (view ∷ views) keep last = (keep.0.shown last.0, shown_each requests steps views keep.1 last.1)
 
 shown_steps : (requests : List ℕ → Run) (views : List OpenView) (reply : Reply) (scroll : Option Scroll) (steps : OpenView → EventStep) →
     AtMostFirst views → KeepEach requests steps views → StaysUpToDate requests views (taking reply scroll steps views)
 unfolding StaysUpToDate
-shown_steps requests views reply scroll steps first keep = λ lasts before. shown_each requests steps views lasts keep before
+shown_steps requests views reply scroll steps first keep = λ last lasts before. shown_each requests steps views keep last
 
 shown_opening : (config : Config) (requests : List ℕ → Run) → KeepEach requests other_step (first_view config ∷ []) →
     StaysUpToDate requests [] (opening_outcome config)
 unfolding AreUpToDate StaysUpToDate KeepEach KeepsStep
-shown_opening config requests keep = λ lasts before.
-    let first = first_document config in
-    (keep.0.shown no_request (λ none. IsUpToDate-untold no_request no_request first (going_on first None) refl refl none), tt)
+shown_opening config requests keep = λ last lasts before. (keep.0.shown refl, tt)
+
+rest_told : (view : OpenView) (views : List OpenView) → AreLastTold (view ∷ views) → AreLastTold views
+unfolding AreLastTold
+rest_told view views last = last.1
 
 shown_leaving : (requests : List ℕ → Run) (views : List OpenView) → NoneRequested requests views → StaysUpToDate requests views (leaving views)
 unfolding AreUpToDate StaysUpToDate NoneRequested
-shown_leaving requests [] none = λ lasts before. tt
-shown_leaving requests (view ∷ views) none = λ lasts before.
+shown_leaving requests [] none = λ last lasts before. tt
+shown_leaving requests (view ∷ views) none = λ last lasts before.
     let At : Run → Type 0 = λ request. IsUpToDate request view.document in
-    (subst At (sym none.0) (IsUpToDate-over (lasts view.id) view.document before.0), shown_leaving requests views none.1 lasts before.1)
+    (subst At (sym none.0) (IsUpToDate-over (lasts view.id) view.document before.0), (shown_leaving requests views none.1) (rest_told view views last) lasts before.1)
 
 stays_up_to_date : (session : Session) (act : Act) → AtMostFirst session.views → StaysUpToDate (requested act) session.views (outcome session act)
 stays_up_to_date session act first = by_outcome StaysUpToDate shown_steps shown_opening shown_leaving session act first
@@ -416,7 +418,7 @@ shown_push journal entry showing screens =
     up_to_date-AreShown (last_requested journal) session.views (written first_session journal) (first_of journal) showing.screens
     (showing.shows.screens journal [] (sym (append-nil journal))) in
     let after : AreUpToDate (requested entry.command.act) (outcome session entry.command.act).views =
-    stays_up_to_date session entry.command.act (first_of journal) (last_requested journal) before in
+    stays_up_to_date session entry.command.act (first_of journal) (last_of journal) (last_requested journal) before in
     let put = subst (AreUpToDate (requested entry.command.act)) (sym (views_of-push journal entry)) after in
     AreShown-up_to_date (last_requested (journal ++ entry ∷ [])) (views_of (journal ++ entry ∷ [])) (written first_session (journal ++ entry ∷ []))
     (first_of (journal ++ entry ∷ [])) screens

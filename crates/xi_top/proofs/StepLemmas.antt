@@ -1,6 +1,6 @@
 -- What every step of an open view keeps, and what every outcome is: steps of the views, the first opening, or the closing.
-use Rattle.std.proofs.Common.{◌≡◌, ℕ, ◌+◌, ◌≤◌, arith, Bool, true, false, List, [], ◌∷◌, Option, Some, None, refl, ap, sym, ◌∙◌, subst, unwrap_or}
-use Rattle.std.specs.Prelude.{if◌then◌else◌, ⊤}
+use Rattle.std.proofs.Common.{◌≡◌, ℕ, ◌+◌, ◌≤◌, arith, Bool, true, false, List, [], ◌∷◌, Option, Some, None, refl, ap, sym, ◌∙◌, subst}
+use Rattle.std.specs.Prelude.{if◌then◌else◌, IfSome, ⊤}
 use Rattle.std.specs.List.{AllByRecursion}
 use Rattle.std.specs.Str.{encode_utf8_all, bytes_eq}
 use Rattle.xi_plain.specs.declared.command.EditAct.{EditAct}
@@ -11,25 +11,28 @@ use Rattle.plain_edits.specs.Edits.{Refusal}
 use Rattle.plain_edits.specs.Collection.{Collection}
 use Rattle.plain_edits.specs.History.{head}
 use Rattle.plain_screen.specs.Screen.{Screen, screen_after}
-use Rattle.plain_screen.specs.Plan.{shown_lines}
 use Rattle.plain_screen.specs.declared.screen.Update.{Update}
-use Rattle.plain_screen.proofs.callers.PlanLemmas.{screen_after-plan_from}
+use Rattle.doc_layout.specs.Told.{planned, screen_of}
+use Rattle.doc_view.specs.declared.told.Pristine.{Pristine}
+use Rattle.doc_view.specs.Told.{is_lacking, told}
+use Rattle.doc_view.specs.View.{View, asked_in, layout_in}
 use Rattle.plain_text.specs.declared.run.Run.{Run}
 use Rattle.view_update.specs.Reading.{Scroll}
 use Rattle.xi_plain.specs.declared.entry.Entry.{Entry}
 use Rattle.doc_session.specs.declared.event.Event.TheVariants.{Config as Configured, Front, Other}
 use Rattle.doc_session.specs.Document.{Document, layout_of, no_request}
-use Rattle.doc_session.specs.ScreenOf.{IsScreenOf, IsUpToDate}
+use Rattle.doc_session.specs.declared.looking.Viewing.TheVariants.{Layout, Other as NoCommand}
+use Rattle.doc_session.specs.ScreenOf.{IsUpToDate}
+use Rattle.doc_session.specs.Stands.{IsLastTold}
 use Rattle.doc_session.specs.Collecting.{collected_document, collection_after, with_collection}
-use Rattle.doc_session.specs.Effects.{ops_of, settled, update_after, update_of, updated, wants_update}
+use Rattle.doc_session.specs.Effects.{pristine_from, screen_told, settled, update_after}
 use Rattle.doc_session.specs.Refusal.{edit_refused}
-use Rattle.doc_session.specs.Step.{EventStep, event_step, act_step, command_refusal, configured_document, effect_on, going_on, refusal_at, request_of}
-use Rattle.doc_session.proofs.ForCallers.{by_front, IsScreenOf-shown, request_of-refused}
+use Rattle.doc_session.specs.Step.{EventStep, event_step, act_step, command_refusal, effect_on, refusal_at, request_of, viewed_document}
+use Rattle.doc_session.proofs.ForCallers.{by_front, IsLastTold-settled, IsUpToDate-settled, part-settled, request_of-refused, updates_show}
 use Rattle.xi_top.specs.Answer.{Reply, spent}
-use Rattle.xi_top.specs.Session.{OpenView, Session, first_session, view_of, named_view, views_of, Outcome, outcome, config_with, config_step, taking, leaving, keeping, open_outcome, opening_outcome, first_view, other_step, own_step, edit_came, edit_outcome, undone_outcome, spent_total, step, session_after}
+use Rattle.xi_top.specs.Session.{OpenView, Session, first_session, view_of, named_view, views_of, Outcome, outcome, config_with, config_step, taking, leaving, keeping, open_outcome, opening_outcome, first_view, other_step, own_step, edit_came, edit_outcome, undone_outcome, spent_total, step, stepped, session_after}
 use Rattle.xi_top.specs.Shows.{SendsWithin, requested}
 use Rattle.xi_top.proofs.PlanLemmas.{sends-plan_from}
-use Rattle.xi_top.proofs.ScreenLemmas.{IsUpToDate-kept}
 use Rattle.xi_top.proofs.ViewLemmas.{same_id, found_id, found_only, no_found, AtMostFirst, Stays, stays_same, first_stepped}
 
 -- the update, where there is one, makes this screen of that, and sends lines of this window, or requested, alone
@@ -42,44 +45,58 @@ UpdateWithin None window request = ⊤
 UpdateWithin (Some update) window request = SendsWithin window request 0 update.ops
 
 -- after a step there is one revision more at most; the front end has the document's screen by the update, and was sent its window and
--- what was requested alone; and it has these, where it was told or had what it was asked for before
+-- what was requested alone; and where its screen was as the last update left it, it is so then, and has what was asked for
 pub record Keeps (request : Run) (before after : Document) (update : Option Update) : Type 0 where
   pub few : head after.history ≤ head before.history + 1
   pub screen : MakesScreen update before.screen after.screen
-  pub sends : UpdateWithin update after.window request
-  pub shown : (last : Run) → (update ≡ None → IsUpToDate last before) → IsUpToDate request after
+  pub sends : UpdateWithin update after.view.window request
+  pub last : IsLastTold before → IsLastTold after
+  pub shown : IsLastTold before → IsUpToDate request after
 
 unfoldable pub KeepsStep : Run → Document → EventStep → Type 0
 KeepsStep request document step = Keeps request document step.document step.update
 
-screen_after-ops_of : (request : Run) (document : Document) (screen : Screen) →
-    screen_after screen (ops_of request document) ≡ Some (shown_lines document.window request (layout_of document))
-screen_after-ops_of request document screen = screen_after-plan_from document.window request (layout_of document) 0 0 screen
+-- an update that is told makes the screen, and where none is told it stays
+makes_screen : (update : Option Update) (before next : Screen) → next ≡ before →
+    IfSome update (λ (update : Update). screen_after before update.ops ≡ Some (screen_told (Some update) next)) →
+    MakesScreen update before (screen_told update next)
+unfolding MakesScreen
+makes_screen None before next same made = same
+makes_screen (Some update) before next same made = made
 
-screen-updated : (request : Run) (document : Document) → shown_lines document.window request (layout_of document) ≡ (updated request document).screen
-screen-updated request document = sym (ap (λ o. unwrap_or o []) (screen_after-ops_of request document document.screen))
+sends_told : (request : Run) (before next : View) (pristine : Pristine) → UpdateWithin (told before next request pristine) next.window request
+unfolding UpdateWithin
+sends_told request before next pristine = by (is_lacking before next request pristine)
+  where
+    by : (b : Bool) → UpdateWithin (if b then Some (planned (asked_in next request) (layout_in next) pristine.after) else None) next.window request
+    by true = sends-plan_from next.window request (layout_in next) 0 0
+    by false = tt
 
-IsUpToDate-updated : (request : Run) (document : Document) → IsUpToDate request (updated request document)
-IsUpToDate-updated request document =
-    let At : Screen → Type 0 = λ screen. IsScreenOf screen document.window request (layout_of document) in
-    subst At (screen-updated request document) (IsScreenOf-shown document.window request (layout_of document))
-
-keeps_by : (request : Run) (wants : Bool) (before next : Document) → wants_update request before next ≡ wants → next.screen ≡ before.screen →
-    head next.history ≤ head before.history + 1 →
-    Keeps request before (if wants then updated request next else next) (if wants then Some (update_of request next) else None)
-unfolding MakesScreen UpdateWithin
-keeps_by request false before next is same one = record {
+keeps_by : (request : Run) (before next : Document) → next.view.shown ≡ before.view.shown → next.screen ≡ before.screen →
+    head next.history ≤ head before.history + 1 → Keeps request before (settled request before next) (update_after request before next)
+keeps_by request before next shown same one = record {
   few = one;
-  screen = same;
-  sends = tt;
-  shown = λ last told. IsUpToDate-kept request last before next is same (told refl);
+  screen = makes_screen (update_after request before next) before.screen next.screen same made;
+  sends = subst (λ window. UpdateWithin (update_after request before next) window request)
+      (sym (part-settled (λ (v : View). v.window) before.view next.view request (pristine_from before next) refl))
+      (sends_told request before.view next.view (pristine_from before next));
+  last = λ was. IsLastTold-settled before next request (was ∙ stays) same;
+  shown = λ was. IsUpToDate-settled before next request (was ∙ stays) same;
 }
-keeps_by request true before next is same one = record {
-  few = one;
-  screen = screen_after-ops_of request next before.screen ∙ ap Some (screen-updated request next);
-  sends = sends-plan_from next.window request (layout_of next) 0 0;
-  shown = λ last told. IsUpToDate-updated request next;
-}
+  where
+    stays : screen_of before.view.shown (layout_of before) ≡ screen_of next.view.shown (layout_of before)
+    stays = ap (λ last. screen_of last (layout_of before)) (sym shown)
+
+    told_by : Bool → Option Update
+    told_by b = if b then Some (planned (asked_in next.view request) (layout_in next.view) (pristine_from before next).after) else None
+
+    by : (b : Bool) → IfSome (told_by b) (λ (update : Update). screen_after before.screen update.ops ≡ Some (screen_told (told_by b) next.screen)) →
+        IfSome (told_by b) (λ (update : Update). screen_after before.screen update.ops ≡ Some (screen_told (Some update) next.screen))
+    by true is = is
+    by false is = tt
+
+    made : IfSome (update_after request before next) (λ (update : Update). screen_after before.screen update.ops ≡ Some (screen_told (Some update) next.screen))
+    made = by (is_lacking before.view next.view request (pristine_from before next)) (updates_show before next request)
 
 -- a collection changes none of this
 keeps_collected : (request : Run) (before next : Document) (update : Option Update) → Keeps request before next update →
@@ -89,32 +106,32 @@ keeps_collected request before next update keeps = by (collection_after next)
   where
     by : (found : Option Collection) → Keeps request before (with_collection next found) update
     by None = keeps
-    by (Some found) = record { few = keeps.few; screen = keeps.screen; sends = keeps.sends; shown = keeps.shown }
+    by (Some found) = record { few = keeps.few; screen = keeps.screen; sends = keeps.sends; last = keeps.last; shown = keeps.shown }
 
--- a step that makes no revision
-keeps_still : (document next : Document) → next.history ≡ document.history → next.screen ≡ document.screen →
+-- a line that only looks, and is no command
+keeps_still : (document next : Document) → next.history ≡ document.history → next.view.shown ≡ document.view.shown → next.screen ≡ document.screen →
     Keeps no_request document (collected_document (settled no_request document next)) (update_after no_request document next)
-keeps_still document next same screen =
+keeps_still document next same shown screen =
     keeps_collected no_request document (settled no_request document next) (update_after no_request document next)
-    (keeps_by no_request (wants_update no_request document next) document next refl screen (omega (arith, ap head same)))
+    (keeps_by no_request document next shown screen (omega (arith, ap head same)))
 
 keeps_other : (document : Document) → KeepsStep no_request document (event_step document Other)
 unfolding KeepsStep
-keeps_other document = keeps_still document (going_on document None) refl refl
+keeps_other document = keeps_still document (viewed_document document NoCommand) refl refl refl
 
 keeps_config : (config : Config) (document : Document) → KeepsStep no_request document (event_step document (Configured config))
 unfolding KeepsStep
-keeps_config config document = keeps_still document (configured_document document config) refl refl
+keeps_config config document = keeps_still document (viewed_document document (Layout config)) refl refl refl
 
 keeps_act : (document : Document) (act : EditAct) → KeepsStep (request_of act) document (event_step document (Front act))
 unfolding KeepsStep
 keeps_act document act =
     keeps_collected (request_of act) document (act_step document act).document (act_step document act).update
     (by_front (λ step. Keeps (request_of act) document step.document step.update) document act
-    (λ next body scroll same config screen.
-    keeps_by (request_of act) (wants_update (request_of act) document next) document next refl screen (omega (arith, ap head same)))
-    (λ next body scroll one_more config screen.
-    keeps_by (request_of act) (wants_update (request_of act) document next) document next refl screen (omega (arith, one_more))))
+    (λ next body scroll same leaves.
+    keeps_by (request_of act) document next leaves.shown leaves.screen (omega (arith, ap head same)))
+    (λ next body scroll one_more leaves.
+    keeps_by (request_of act) document next leaves.shown leaves.screen (omega (arith, one_more))))
 
 -- each view's step keeps this, with what is requested of the view
 unfoldable pub KeepEach : (List ℕ → Run) → (OpenView → EventStep) → List OpenView → Type 0
@@ -271,3 +288,36 @@ first_after session (entry ∷ entries) first = first_after (step session entry.
 pub first_of : (journal : List Entry) → AtMostFirst (views_of journal)
 unfolding AtMostFirst
 first_of journal = first_after first_session journal tt
+
+-- ---- screens are as the last updates left them
+
+unfoldable pub AreLastTold : List OpenView → Type 0
+AreLastTold views = AllByRecursion (λ view. IsLastTold view.document) views
+
+last_each : (requests : List ℕ → Run) (steps : OpenView → EventStep) (views : List OpenView) → KeepEach requests steps views → AreLastTold views →
+    AreLastTold (stepped steps views)
+unfolding AreLastTold KeepEach KeepsStep
+last_each requests steps [] keep last = tt
+last_each requests steps (view ∷ views) keep last = (keep.0.last last.0, last_each requests steps views keep.1 last.1)
+
+last_opened : (config : Config) (requests : List ℕ → Run) → KeepEach requests other_step (first_view config ∷ []) → AreLastTold (opening_outcome config).views
+unfolding AreLastTold KeepEach KeepsStep
+last_opened config requests keep = (keep.0.last refl, tt)
+
+last_stays : (session : Session) (act : Act) → AtMostFirst session.views → AreLastTold session.views → AreLastTold (outcome session act).views
+last_stays session act first =
+    by_outcome (λ requests before done. AreLastTold before → AreLastTold done.views)
+    (λ requests views reply scroll steps at keep. λ last. last_each requests steps views keep last)
+    (λ config requests keep. λ none. last_opened config requests keep) (λ requests views none. λ last. last) session act first
+
+last_after : (session : Session) (entries : List Entry) → AtMostFirst session.views → AreLastTold session.views →
+    AreLastTold (session_after session entries).views
+unfolding FirstStays
+last_after session [] first last = last
+last_after session (entry ∷ entries) first last =
+    let act = entry.command.act in
+    last_after (step session entry.command) entries (first_stays session act first).0 (last_stays session act first last)
+
+pub last_of : (journal : List Entry) → AreLastTold (views_of journal)
+unfolding AtMostFirst AreLastTold
+last_of journal = last_after first_session journal tt tt

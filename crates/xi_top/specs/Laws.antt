@@ -77,4 +77,4 @@ OnlyViewIsShown = (journal front back : List Entry) (bytes : List ℕ) → Shows
 -- all views are laid out and edited as their session is
 abbrev pub AllAreConfigured : Type 0
 AllAreConfigured = (journal : List Entry) →
-    AllByRecursion (λ (view : OpenView). view.document.config ≡ (session_of journal).config) (views_of journal)
+    AllByRecursion (λ (view : OpenView). view.document.view.config ≡ (session_of journal).config) (views_of journal)

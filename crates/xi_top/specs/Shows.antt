@@ -52,7 +52,7 @@ last_requested (entry ∷ next ∷ entries) id = last_requested (next ∷ entrie
 -- each line in the window or the request is valid
 abbrev pub IsShown : Run → Document → Option Screen → Type 0
 IsShown request document None = ⊥
-IsShown request document (Some screen) = IsScreenOf screen document.window request (layout_of document)
+IsShown request document (Some screen) = IsScreenOf screen document.view.window request (layout_of document)
 
 -- THE VIEWS ARE SHOWN: of each view that is open, the screen that is rebuilt from the bytes is that of its document, with the lines that
 -- were requested of it
@@ -75,7 +75,7 @@ SendsWithin window request index (Update ln restyles ∷ ops) =
 -- the operations are of a view that is open, and send lines of its window or of the request alone
 abbrev pub SendsTo : Run → Option OpenView → List Op → Type 0
 SendsTo request None ops = ⊥
-SendsTo request (Some view) ops = SendsWithin view.document.window request 0 ops
+SendsTo request (Some view) ops = SendsWithin view.document.view.window request 0 ops
 
 -- the note can be read, is of one of these views, and sends lines of its window, or requested of it, alone
 abbrev pub NoteSendsTo : (List ℕ → Run) → List OpenView → Option ViewUpdate → Type 0

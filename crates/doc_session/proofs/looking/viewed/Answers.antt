@@ -2,7 +2,7 @@ use Rattle.std.proofs.Common.{◌≡◌, sym, subst}
 use Rattle.std.specs.Prelude.{IfOk}
 use Rattle.doc_view.specs.View.{View}
 use Rattle.doc_session.specs.declared.looking.Viewing.{Viewing}
-use Rattle.doc_session.specs.Inner.{viewed}
+use Rattle.doc_session.specs.Looking.{viewed}
 use Rattle.doc_session.proofs.looking.viewed.Goals as goal
 
 pub returns-in-Window : goal.returns-in-Window

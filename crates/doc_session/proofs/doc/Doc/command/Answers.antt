@@ -4,8 +4,8 @@ use Rattle.selection_core.specs.Mapped.{AreWithin}
 use Rattle.doc_session.specs.Asking.{asked_refusal, front_edit}
 use Rattle.doc_session.specs.Fault.{DocRefuses}
 use Rattle.doc_session.specs.Refusal.{edit_refused}
-use Rattle.doc_session.specs.Inner.{IsStepped, effect_in}
-use Rattle.doc_session.specs.Step.{effect_on, idle_step, typed_step}
+use Rattle.doc_session.specs.Inner.{IsStepped}
+use Rattle.doc_session.specs.Step.{effect_in, effect_on, idle_step, typed_step}
 use Rattle.doc_session.proofs.IdleLemmas.{length-idle}
 use Rattle.doc_session.proofs.StepLemmas.{effect-made, idle-is}
 use Rattle.doc_session.proofs.doc.Doc.command.Goals as goal

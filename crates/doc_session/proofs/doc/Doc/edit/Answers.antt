@@ -135,7 +135,7 @@ returns-clause-stepped c = λ plain stands.
     ap (λ n. n + 1) (c.head-rev.ensures.head plain stands) in
     let given = asked-given plain caller c.in_ok-made.made.group joined edit c.given-edit.result c.given-edit.ensures group_is in
     let is = IsAfter-plain _ plain asked (asked_by c.given-edit.result) taken was given c.in_ok-taken.ensures.taken in
-    let regions_is : left.sel.regions ≡ regions_by plain history edit.after_cursor plain.regions =
+    let regions_is : left.sel.regions ≡ regions_by plain history edit.after_cursor plain.view.regions =
     ap (λ (l : Left). l.sel.regions) c.left_by-left.ensures ∙
     regions-moved _ plain (edits (meant plain.history asked)) caller taken edit.after_cursor Kept c.in_ok-sel.sel.regions was is c.in_ok-sel.ensures in
     let known = subst (JoinsKnown plain.groups) (known_group-named plain.history plain.groups plain.typing c.args.named stands.agree) (JoinsKnown-named plain.groups c.args.named) in
@@ -144,9 +144,9 @@ returns-clause-stepped c = λ plain stands.
     subst (λ (step : EventStep). IsStepped step c.in_ok-settled.field-0)
     (ap₂ (λ n g. revision_step plain (next_document plain history left) caller (Edited n g) None) numbered group_is ∙
     ap (λ d. revision_step plain d caller (Edited (head plain.history + 1) asked.group) None)
-    (next_document-is plain history left (groups_by plain.groups joined) None (regions_by plain history edit.after_cursor plain.regions) stack_is typing_is regions_is))
+    (next_document-is plain history left (groups_by plain.groups joined) None (regions_by plain history edit.after_cursor plain.view.regions) stack_is typing_is regions_is))
     (c.in_ok-settled.ensures.stepped plain history caller stands is agree
-    (λ none. regions_by-some plain history edit.after_cursor plain.regions stands.regions_are.some (sym regions_is ∙ none)))
+    (λ none. regions_by-some plain history edit.after_cursor plain.view.regions stands.regions_are.some (sym regions_is ∙ none)))
 
 pub returns-clause-accepted : goal.returns-clause-accepted
 returns-clause-accepted c = λ plain stands.

@@ -10,9 +10,9 @@ use Rattle.doc_session.specs.Asking.{replacing_edit}
 use Rattle.doc_session.specs.Fault.{DocRefuses}
 use Rattle.doc_session.specs.Refusal.{edit_refused}
 use Rattle.doc_session.specs.InMemory.{Doc}
-use Rattle.doc_session.specs.Inner.{IsTakenFrom, effect_in}
+use Rattle.doc_session.specs.Inner.{IsTakenFrom}
 use Rattle.doc_session.specs.Stands.{DocStandsFor}
-use Rattle.doc_session.specs.Step.{effect_on}
+use Rattle.doc_session.specs.Step.{effect_in, effect_on}
 use Rattle.doc_session.proofs.FrontLemmas.{IsSaidBy-front, IsSaidOfSome-front}
 use Rattle.doc_session.proofs.HeadLemmas.{shown-whole, some-whole, state-whole}
 use Rattle.doc_session.proofs.StepLemmas.{effect-is}

@@ -5,8 +5,7 @@ use Rattle.selection_core.specs.Mapped.{AreWithin}
 use Rattle.selection_core.specs.Selection.{IsSelection}
 use Rattle.edit_groups.specs.declared.typing.Typing.{Typing}
 use Rattle.edit_groups.specs.Typing.{kind_of, run_on}
-use Rattle.doc_view.specs.View.{View}
-use Rattle.doc_session.specs.Document.{pieces_of, head_text}
+use Rattle.doc_view.specs.View.{View, pieces_in}
 use Rattle.doc_session.specs.InMemory.{Doc}
 use Rattle.doc_session.specs.Inner.{IsLeftOf, IsStepped}
 use Rattle.doc_session.specs.Step.{effect_on, scroll_if, selected_document, still_step}
@@ -61,12 +60,12 @@ returns-clause-stepped c = λ plain stands.
     ap₂ (λ (v : View) (t : Option Typing). record now { view = v; typing = t })
     (c.in_ok-view.ensures ∙ ap (λ (d : Doc). record d.view { regions = c.args.sel.regions }) c.self.view_is)
     (c.run_on.ensures ∙ ap₂ run_on (ap (λ (d : Doc). d.typing) c.self.view_is) c.kind_of.ensures) in
-    let are : AreRegionsOf (head_text plain) effect.regions = record {
-      some = effect-some plain.config (head_text plain) (pieces_of plain) plain.regions stands.regions_are.some act;
+    let are : AreRegionsOf plain.view.text effect.regions = record {
+      some = effect-some plain.view.config plain.view.text (pieces_in plain.view) plain.view.regions stands.regions_are.some act;
       sound = subst IsSelection regions_is c.requires.sound;
       inside =
-          subst (AreWithin (length (head_text plain))) regions_is
-          (subst (λ t. AreWithin (length t) c.args.sel.regions) stands.parts.shown_is c.requires.inside);
+          subst (AreWithin (length plain.view.text)) regions_is
+          (subst (λ (v : View). AreWithin (length v.text) c.args.sel.regions) stands.view c.requires.inside);
     } in
     subst (λ step. IfOk c.told.result (IsStepped step))
     (ap₂ (λ body asks. still_step plain next body (scroll_if asks plain next)) (c.in_ok-body.ensures plain stands) c.scrolls.ensures)

@@ -33,7 +33,7 @@ returns-clause-moved c = λ plain history author stands after.
     let layers_are = c.layers.ensures ∙ ap (λ (d : Doc). d.view.layers) c.self.view_is in
     let over = subst (AreOver (length now.view.text)) layers_are (over-kept _ now c.layers.result.now c.self.invariant c.self.view_is layers_are) in
     IfOk-weaker c.map.result (λ (made : List Layer). made ≡ mapped_layers units c.layers.result.now)
-    (λ made. made ≡ moved_layers plain.history history plain.layers)
+    (λ made. made ≡ moved_layers plain.history history plain.view.layers)
     (λ made is. moved-changed now plain history author c.args.taken.now made stands after over (is ∙ ap (mapped_layers units) layers_are)) c.map.ensures
 
 pub returns-clause-over : goal.returns-clause-over

@@ -65,20 +65,20 @@ returns-in_ok-ended-in-Ended c = record {
   plugins = c.in_ok-ended-in-Ended.ensures.plugins;
 }
 
-pub returns-in_ok-looking-in-Config : goal.returns-in_ok-looking-in-Config
-returns-in_ok-looking-in-Config c = record {
+pub returns-in_ok-view_only-in-Config : goal.returns-in_ok-view_only-in-Config
+returns-in_ok-view_only-in-Config c = record {
   stepped = λ plain stands.
-      subst (λ (event : Event). IsStepped (taken_step plain event) c.in_ok-looking-in-Config.field-0) (sym c.in-Config.is) (c.in_ok-looking-in-Config.ensures.stepped plain stands);
+      subst (λ (event : Event). IsStepped (taken_step plain event) c.in_ok-view_only-in-Config.field-0) (sym c.in-Config.is) (c.in_ok-view_only-in-Config.ensures.stepped plain stands);
   accepted = λ plain stands. subst (λ (event : Event). refusal_at plain event ≡ None) (sym c.in-Config.is) refl;
   refused = λ plain stands. tt;
-  plugins = ap length c.in_ok-looking-in-Config.ensures.sessions;
+  plugins = ap length c.in_ok-view_only-in-Config.ensures.sessions;
 }
 
-pub returns-in_ok-looking-in-Other : goal.returns-in_ok-looking-in-Other
-returns-in_ok-looking-in-Other c = record {
+pub returns-in_ok-view_only-in-Other : goal.returns-in_ok-view_only-in-Other
+returns-in_ok-view_only-in-Other c = record {
   stepped = λ plain stands.
-      subst (λ (event : Event). IsStepped (taken_step plain event) c.in_ok-looking-in-Other.field-0) (sym c.in-Other.is) (c.in_ok-looking-in-Other.ensures.stepped plain stands);
+      subst (λ (event : Event). IsStepped (taken_step plain event) c.in_ok-view_only-in-Other.field-0) (sym c.in-Other.is) (c.in_ok-view_only-in-Other.ensures.stepped plain stands);
   accepted = λ plain stands. subst (λ (event : Event). refusal_at plain event ≡ None) (sym c.in-Other.is) refl;
   refused = λ plain stands. tt;
-  plugins = ap length c.in_ok-looking-in-Other.ensures.sessions;
+  plugins = ap length c.in_ok-view_only-in-Other.ensures.sessions;
 }

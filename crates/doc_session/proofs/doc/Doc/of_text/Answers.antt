@@ -7,7 +7,7 @@ use Rattle.rev_engine.specs.State.{State}
 use Rattle.span_styles.specs.Layers.{new_layers}
 use Rattle.undo_groups.specs.Groups.{IsStack, no_groups}
 use Rattle.doc_view.specs.View.{View}
-use Rattle.doc_session.specs.Document.{loaded_document}
+use Rattle.doc_session.specs.Document.{loaded_document, opened_view}
 use Rattle.doc_session.specs.Stands.{DocStandsFor}
 use Rattle.doc_session.specs.Whole.{IsStateOf, IsWhole}
 use Rattle.doc_session.proofs.AgreeLemmas.{Agree-loaded}
@@ -40,15 +40,11 @@ returns c =
             none_left = λ ended. refl;
             typing = refl;
             agree = Agree-loaded stack;
-            regions = ap (λ (v : View). v.regions) c.in_ok-of_text-2.ensures;
+            view = c.in_ok-of_text-2.ensures ∙ ap (λ (t : List ℕ). opened_view t c.args.plugins c.args.config) shown_is;
             regions_are = record { some = λ none. cc; sound = tt; inside = (omega arith, tt) };
-            layers = sym (ap (λ (v : View). v.layers) c.in_ok-of_text-2.ensures ∙ ap (λ (t : List ℕ). new_layers c.args.plugins (length t)) shown_is);
             saved = refl;
             saved_before = omega arith;
-            window = sym (ap (λ (v : View). v.window) c.in_ok-of_text-2.ensures);
-            query = sym (ap (λ (v : View). v.query) c.in_ok-of_text-2.ensures);
-            config = sym (ap (λ (v : View). v.config) c.in_ok-of_text-2.ensures);
-            screen = rw c.in_ok-of_text-2.ensures refl;
+            screen = refl;
           });
     }
 

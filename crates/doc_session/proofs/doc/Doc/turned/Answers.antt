@@ -104,10 +104,10 @@ returns-clause-stepped c = λ plain stands.
     (undone_by-turned plain.history plain.groups stack plain.typing group stands.agree turn)
     (c.in_ok-taken.ensures.taken plain.history was.parts.stands was.parts.within) in
     let agree = Agree-turned plain.history.revisions plain.history.collected plain.groups plain.typing stands.agree stack group turn in
-    let regions_is : left.sel.regions ≡ regions_by plain history false (map without_goal plain.regions) =
+    let regions_is : left.sel.regions ≡ regions_by plain history false (map without_goal plain.view.regions) =
     regions-moved _ plain (undoes stack.undone) 0 taken false Cleared c.in_ok-sel.sel.regions was is c.in_ok-sel.ensures in
     subst (λ (step : EventStep). IfOk c.settled.result (IsStepped step))
     (ap (λ d. revision_step plain d 0 Null (scroll_if true plain d))
-    (next_document-is plain history left stack None (regions_by plain history false (map without_goal plain.regions)) refl refl regions_is))
+    (next_document-is plain history left stack None (regions_by plain history false (map without_goal plain.view.regions)) refl refl regions_is))
     (c.settled.ensures.stepped plain history 0 stands is agree
-    (λ none. regions_by-some plain history false (map without_goal plain.regions) (map-some without_goal plain.regions stands.regions_are.some) (sym regions_is ∙ none)))
+    (λ none. regions_by-some plain history false (map without_goal plain.view.regions) (map-some without_goal plain.view.regions stands.regions_are.some) (sym regions_is ∙ none)))

@@ -16,11 +16,11 @@ use Rattle.edit_groups.specs.declared.left.Left.{Left}
 use Rattle.edit_groups.specs.Grouping.{group_by, groups_by, run_group}
 use Rattle.edit_groups.specs.Typing.{kind_of, run_on, run_with}
 use Rattle.doc_session.specs.Asking.{replacing_edit, front_edit, front_priority}
-use Rattle.doc_session.specs.Document.{pieces_of, head_text}
+use Rattle.doc_view.specs.View.{pieces_in}
 use Rattle.doc_session.specs.InMemory.{Doc}
-use Rattle.doc_session.specs.Inner.{IsAfterEdit, IsOpenGroup, IsStepped, effect_in, head_shown, next_document}
+use Rattle.doc_session.specs.Inner.{IsAfterEdit, IsOpenGroup, IsStepped, head_shown, next_document}
 use Rattle.doc_session.specs.Stands.{DocStandsFor}
-use Rattle.doc_session.specs.Step.{EventStep, answer_to, effect_on, revision_step, scroll_if, scrolls}
+use Rattle.doc_session.specs.Step.{EventStep, answer_to, effect_in, effect_on, revision_step, scroll_if, scrolls}
 use Rattle.doc_session.proofs.FrontLemmas.{IsSaidBy-front, length-front}
 use Rattle.doc_session.proofs.GroupLemmas.{Agree-front, few-whole, open-whole}
 use Rattle.doc_session.proofs.HeadLemmas.{head_shown-stands, shown-whole, state-whole}
@@ -167,7 +167,7 @@ returns-clause-stepped c = λ plain stands.
     ap (λ d. revision_step plain d 0 (answer_to plain act) (scroll_if (scrolls act) plain d))
     (next_document-is plain history left (groups_by plain.groups joined) (run_with kind (group_by plain.groups joined)) effect.regions stack_is typing_is regions_is))
     (c.in_ok-settled.ensures.stepped plain history 0 stands is agree
-    (λ none. effect-some plain.config (head_text plain) (pieces_of plain) plain.regions stands.regions_are.some act (sym regions_is ∙ none)))
+    (λ none. effect-some plain.view.config plain.view.text (pieces_in plain.view) plain.view.regions stands.regions_are.some act (sym regions_is ∙ none)))
 
 pub returns-clause-accepted : goal.returns-clause-accepted
 returns-clause-accepted c = λ plain stands. c.in_ok-taken.ensures.accepted plain stands

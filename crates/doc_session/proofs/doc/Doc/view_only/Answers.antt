@@ -5,12 +5,13 @@ use Rattle.edit_groups.specs.Typing.{run_on}
 use Rattle.doc_view.specs.View.{View}
 use Rattle.doc_session.specs.declared.event.Body.TheVariants.{Null}
 use Rattle.doc_session.specs.InMemory.{Doc}
-use Rattle.doc_session.specs.Inner.{IsLeftOf, IsStepped, IsUntold, viewed, viewed_document}
-use Rattle.doc_session.specs.Step.{scroll_if, step_to}
+use Rattle.doc_session.specs.Inner.{IsLeftOf, IsStepped, IsUntold}
+use Rattle.doc_session.specs.Looking.{viewed}
+use Rattle.doc_session.specs.Step.{scroll_if, step_to, viewed_document}
 use Rattle.doc_session.proofs.GroupLemmas.{IsLeftOf-run}
 use Rattle.doc_session.proofs.LayerLemmas.{as_many-kept, over-kept}
-use Rattle.doc_session.proofs.ViewLemmas.{IsUntold-viewed, layers-viewed, text-viewed}
-use Rattle.doc_session.proofs.doc.Doc.looking.Goals as goal
+use Rattle.doc_session.proofs.UntoldLemmas.{IsUntold-viewed, layers-viewed, text-viewed}
+use Rattle.doc_session.proofs.doc.Doc.view_only.Goals as goal
 
 pub with_view-requires-clause-typing : goal.with_view-requires-clause-typing
 with_view-requires-clause-typing c =
@@ -54,4 +55,4 @@ returns-clause-stepped c = λ plain stands.
     (c.run_on.ensures ∙ ap (λ (d : Doc). run_on d.typing None) c.self.view_is) in
     subst (λ step. IfOk c.told.result (IsStepped step))
     (ap₂ (λ lines asks. step_to lines plain next Null (scroll_if asks plain next) None) c.viewed_lines-request.ensures c.scrolls_at-scrolling.ensures)
-    (c.told.ensures.stepped plain next stands (subst (λ (d : Doc). IsUntold d plain next) (sym next_is) (IsUntold-viewed now plain stands viewing)))
+    (c.told.ensures.stepped plain next stands (subst (λ (d : Doc). IsUntold d plain next) (sym next_is) (IsUntold-viewed now plain viewing stands)))
