@@ -62,7 +62,11 @@ fn after(alloc: Global, mirror: &Mirror, plan: &Plan, steps: &[Step]) -> Option<
 {
     match mirror.after(alloc, plan) {
         Ok(next) => {
-            if agrees(&next, steps) { Some(next) } else { None }
+            if agrees(&next, steps) {
+                Some(next)
+            } else {
+                None
+            }
         }
         Err(_) => None,
     }
@@ -73,7 +77,13 @@ fn entered(alloc: Global, mirror: &Mirror, entry: Entry<'_>) -> Option<Mirror> {
     if !are_stays(entry.stay, mirror.len(), entry.total) {
         return None;
     }
-    match mirror.plan(alloc, entry.stay, entry.total, run(entry.window), run(entry.request)) {
+    match mirror.plan(
+        alloc,
+        entry.stay,
+        entry.total,
+        run(entry.window),
+        run(entry.request),
+    ) {
         Ok(plan) => {
             if plan.as_slice() == entry.steps {
                 after(alloc, mirror, &plan, entry.steps)

@@ -6,5 +6,5 @@ abbrev pub invariant-loop-stay : goal.invariant-loop-stay
 invariant-loop-stay l = record {
   old : l.old ≤ l.count;
   new : l.new ≤ l.total;
-  rest : AreStaysFrom l.old l.new l.count l.total (drop l.stay-index l.stay-items) → AreStays l.count l.total l.stay-items;
+  rest : AreStaysFrom l.old l.new l.count l.total (drop l.stay-index l.stays) → AreStays l.count l.total l.stays;
 }
