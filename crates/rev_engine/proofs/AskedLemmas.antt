@@ -124,7 +124,7 @@ MayEdit-taken limit h asked taken =
 IsOfEngine-asked : (limit : ℕ) (h : History) (step : Asked) → IsOfEngine h → IsTakenStep limit h step → IsOfEngine (after_asked h step)
 IsOfEngine-asked limit h (asks asked) is taken = IsOfEngine-edited h (meant h asked) is (MayEdit-taken limit h asked taken)
 IsOfEngine-asked limit h (undoes groups) is taken = IsOfEngine-undid h groups is taken.allowed
-IsOfEngine-asked limit h (collects floor groups) is taken = IsOfEngine-collected h floor groups is taken.may
+IsOfEngine-asked limit h (collects floor groups) is taken = IsOfEngine-collected h floor groups is taken
 
 IsOfEngine-all : (limit : ℕ) (h : History) (steps : List Asked) → IsOfEngine h → AreTakenSteps limit h steps → IsOfEngine (after_all_asked h steps)
 IsOfEngine-all limit h [] is taken = is

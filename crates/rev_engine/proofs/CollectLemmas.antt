@@ -158,10 +158,8 @@ pub StandsFor-collected : (engine new : State) (h : History) (floor : ℕ) (grou
     IsCollectionTaken engine.revisions floor groups → IsNextLeft engine floor groups new → StandsFor new (collected_at h floor groups)
 StandsFor-collected engine new h floor groups stands taken next = record {
   given =
-      rw next.limit (IsGiven-after engine.limit h (collects floor groups) stands.given (record {
-        may = MayCollect-said engine.union engine.revisions h floor groups (IsLeftOf-stands engine h stands) taken.may;
-        at_place = ap (λ n. floor == n) (sym (head-stands engine h stands)) ∙ taken.at_place;
-      }));
+      rw next.limit (IsGiven-after engine.limit h (collects floor groups) stands.given
+      (MayCollect-said engine.union engine.revisions h floor groups (IsLeftOf-stands engine h stands) taken));
   union = now.union_is;
   revisions = now.revisions_is;
   spent = next.spent ∙ stands.spent;
@@ -169,7 +167,7 @@ StandsFor-collected engine new h floor groups stands taken next = record {
   where
     now : IsLeftOf new.union new.revisions (collected_at h floor groups)
     now =
-        IsLeftOf-collected engine.union engine.revisions h floor groups (IsLeftOf-stands engine h stands) taken.may new.union new.revisions
+        IsLeftOf-collected engine.union engine.revisions h floor groups (IsLeftOf-stands engine h stands) taken new.union new.revisions
         next.union_is next.revisions_is
 
 -- ---- what is collected after an entry may be asked
@@ -194,7 +192,7 @@ module _ (g : History) where
     where
       by : (b : Bool) → is_where_to_collect g floor ≡ b → IfSome (if b then Some (record { floor = floor; groups = group ∷ groups }) else None)
           (λ (collection : Collection). IsCollectionTaken g collection.floor collection.groups)
-      by true is = record { may = may; at_place = is }
+      by true is = may
       by false is = tt
 
   taken-collection_of : (retired : List ℕ) (most : ℕ) → is_clean g.revisions g.floor ≡ true → g.floor ≤ most → most ≤ head g →

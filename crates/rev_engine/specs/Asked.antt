@@ -6,7 +6,7 @@ use Rattle.plain_edits.specs.History.{History, head, loaded}
 use Rattle.plain_edits.specs.HistorySteps.{MayUndoSet}
 use Rattle.plain_edits.specs.Edits.{is_edit_of, undid}
 use Rattle.plain_edits.specs.Undo.{undone_now}
-use Rattle.plain_edits.specs.Collection.{collected_at, is_where_to_collect, MayCollect}
+use Rattle.plain_edits.specs.Collection.{collected_at, MayCollect}
 use Rattle.collection_laws.specs.MayForget.{MayForget}
 use Rattle.rev_undo.specs.Allowed.{HasEdit}
 use Rattle.rev_engine.specs.Given.{AskedEdit, IsTaken, after}
@@ -49,10 +49,9 @@ pub record IsUndoTaken (history : History) (groups : List ℕ) : Type 0 where
   pub allowed : MayUndoSet history groups
   pub has_number : head history < 2 ^ 63 - 1
 
--- the collection is taken: it may come, where groups are collected
-pub record IsCollectionTaken (history : History) (floor : ℕ) (groups : List ℕ) : Type 0 where
-  pub may : MayCollect history floor groups
-  pub at_place : is_where_to_collect history floor ≡ true
+-- the collection is taken: it may come, at any clean floor
+abbrev pub IsCollectionTaken : History → ℕ → List ℕ → Type 0
+IsCollectionTaken history floor groups = MayCollect history floor groups
 
 -- a step is taken
 abbrev pub IsTakenStep : ℕ → History → Asked → Type 0

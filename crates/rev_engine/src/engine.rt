@@ -27,7 +27,7 @@ use crate::{Change, Edit, EditFault, UndoFault, UnitEdit, short};
 use delta_core::{fits, to_units};
 use plain_edits::{Added, UnitDelta};
 use plain_text::{NoMemory, Text};
-use rev_collect::{collect, collectable};
+use rev_collect::{collect, collectable, may_collect};
 use rev_list::{Groups, RevFault, RevList};
 use rev_undo::recompute_by;
 use rope_tree::Rope;
@@ -529,6 +529,19 @@ impl Engine {
     {
         let _floor = self.revs.floor();
         collectable(alloc, &self.revs, acknowledged, retired)
+    }
+
+    /// Whether these groups may be collected at this floor: it is clean and from the present one to the head, and the groups are at rest
+    /// there. It costs what `may_collect` of `rev_collect` does.
+    pub fn may_collect(
+        &self,
+        alloc: Global,
+        floor: u64,
+        groups: &BTreeSet<u64>,
+    ) -> Result<bool, NoMemory>
+        ensures { IfOk result (λ may. IsTrue may ↔ IsCollectionTaken self.now.revisions floor groups.now.keys) }
+    {
+        may_collect(alloc, &self.revs, floor, groups)
     }
 
     /// Collects these groups at the floor: what no revision from there on can show again goes, and the revisions before it. The groups are

@@ -10,7 +10,7 @@ invariant_of-result c =
     rw c.in_ok-text.ensures
     (IsHeld-collected c.self.inside.union c.self.inside.text c.self.inside.revs c.self.inside.limit c.self.inside.spent c.self.invariant c.args.floor
     c.args.groups.now.keys
-    (subst (λ (s : State). MayCollect s.revisions c.args.floor c.args.groups.now.keys) (sym c.self.view_is) c.requires.may)
+    (subst (λ (s : State). MayCollect s.revisions c.args.floor c.args.groups.now.keys) (sym c.self.view_is) c.requires)
     c.in_ok-union.union c.in_ok-revs.revs
     (c.in_ok-union.ensures ∙ ap (λ (flags : List Bool). items_outside flags c.self.inside.union) c.in_ok-revs.ensures.dropped)
     c.in_ok-revs.ensures.left)
