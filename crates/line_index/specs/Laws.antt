@@ -2,6 +2,7 @@
 use Rattle.std.specs.Prelude.{◌≡◌, ℕ, ◌+◌, true, List, [], ◌++◌, length, take, drop, slice_range}
 use Rattle.std.specs.Str.{all_scalars}
 use Rattle.plain_text.specs.Lines.{logical_lines}
+use Rattle.plain_screen.specs.View.{whole_lines}
 use Rattle.line_break.specs.Pieces.{wrapped_pieces}
 use Rattle.line_index.specs.Cuts.{cuts_of, cuts_of_lines, firsts, full_lines, open_line, pieces_at, span}
 use Rattle.rope_metrics.specs.Measure.{IsCut}
@@ -12,6 +13,10 @@ use Rattle.line_index.specs.declared.cut.Cut.{Cut}
 -- the cuts of a text say its pieces, for each width
 abbrev pub CutsSayPieces : Type 0
 CutsSayPieces = (width tab : ℕ) (text : List ℕ) → all_scalars text ≡ true → pieces_at 1 0 (cuts_of width tab text) ≡ wrapped_pieces width tab text
+
+-- with width 0 the pieces are the logical lines
+abbrev pub WidthZeroCutsNothing : Type 0
+WidthZeroCutsNothing = (tab : ℕ) (text : List ℕ) → wrapped_pieces 0 tab text ≡ whole_lines text
 
 -- where front and middle are empty or end with LF, the cuts are those of the lines of the front, then of the middle, then of the rest
 abbrev pub EditsLeaveOtherLines : Type 0

@@ -1,6 +1,6 @@
 //! Laws of cuts, each the contract of a function: they hold of all texts.
 
-ghost use Rattle.line_index.specs.Laws.{CutsSayPieces, EditsLeaveOtherLines, EditsReplace, EditsTouchLines, FeedsEndLines, PiecesGoOn};
+ghost use Rattle.line_index.specs.Laws.{CutsSayPieces, EditsLeaveOtherLines, EditsReplace, EditsTouchLines, FeedsEndLines, PiecesGoOn, WidthZeroCutsNothing};
 
 /// The cuts of a text say its pieces.
 pub fn cuts_say_pieces()
@@ -30,4 +30,9 @@ pub fn feeds_end_lines()
 /// What pieces need of the cuts before them is how many lines and characters these have.
 pub fn pieces_go_on()
     ensures { PiecesGoOn }
+{}
+
+/// With width 0 the pieces of a text are its logical lines, whatever the tab width.
+pub fn width_zero_cuts_nothing()
+    ensures { WidthZeroCutsNothing }
 {}
