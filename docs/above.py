@@ -1,15 +1,17 @@
 #!/usr/bin/env python3
 """Says which crates stand on a crate, and so are proved anew after a change of it; without a name, the longest chain of crates that the
-program stands on, with the four of the base counted as one.
+program stands on, by the processor seconds of their proofs, as docs/ARCHITECTURE.md has them, and by their number, with the four of the base
+counted as one. It ends with status 1 where a chain is longer than it may be.
 
     python3 docs/above.py plain_edits
     python3 docs/above.py
 """
-import os, sys
+import os, re, sys
 
 TOP = os.path.dirname(os.path.dirname(os.path.abspath(__file__)))
 BASE, PROGRAM = "the base", "xi_core"
 PARTS = {"plain_text", "plain_edits", "plain_screen", "xi_plain"}
+SECONDS, CRATES = 1200, 12  # what one chain may take, and how many crates it may have
 
 uses = {}  # each crate stands in the file below those that it uses
 for line in open(f"{TOP}/crates.txt", encoding="utf-8"):
@@ -24,12 +26,23 @@ def above(crate):
     return found[1:]
 
 
-def longest_chain():
+def seconds():
+    """The processor seconds that the proof of each crate took."""
+    took = {}
+    for line in open(f"{TOP}/docs/ARCHITECTURE.md", encoding="utf-8"):
+        row = re.match(r"\| `(\w+)` \| (\d*) \|.*\|.*\|", line)
+        if row: took[row[1]] = int(row[2] or 0)
+    took[BASE] = sum(took.get(it, 0) for it in PARTS)
+    return took
+
+
+def longest_chain(length):
+    """The longest chain of crates that the program stands on, by this length of one."""
     chains = {BASE: [BASE]}
     for name, below in uses.items():
         if name in PARTS: continue
         below = {BASE if it in PARTS else it for it in below}
-        chains[name] = max((chains[it] for it in below if it in chains), key=len, default=[]) + [name]
+        chains[name] = max((chains[it] for it in below if it in chains), key=lambda chain: sum(map(length, chain)), default=[]) + [name]
     return chains[PROGRAM]
 
 
@@ -37,5 +50,9 @@ if sys.argv[1:]:
     crates = above(sys.argv[1])
     print(len(crates), "crates:", *crates)
 else:
-    chain = longest_chain()
-    print(len(chain), "crates:", " > ".join(chain[::-1]))
+    took = seconds()
+    slowest, longest = longest_chain(lambda it: took.get(it, 0)), longest_chain(lambda it: 1)
+    waits = sum(took.get(it, 0) for it in slowest)
+    print(f"{waits} seconds of {SECONDS}:", " > ".join(f"{it} {took.get(it, 0)}" for it in slowest[::-1]))
+    print(f"{len(longest)} crates of {CRATES}:", " > ".join(longest[::-1]))
+    sys.exit(waits > SECONDS or len(longest) > CRATES)
