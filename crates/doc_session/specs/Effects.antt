@@ -1,5 +1,5 @@
 -- What a front end and the plugins are told after a document changed.
-use Rattle.std.specs.Prelude.{ℕ, List, [], Option, Some, None, unwrap_or}
+use Rattle.std.specs.Prelude.{ℕ, [], Option, Some, None, unwrap_or}
 use Rattle.xi_plain.specs.declared.config.Notice.{Notice}
 use Rattle.plain_edits.specs.declared.delta.Delta.{Delta}
 use Rattle.plain_text.specs.declared.run.Run.{Run}

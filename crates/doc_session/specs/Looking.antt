@@ -1,5 +1,5 @@
 -- LINES THAT LEAVE THE TEXT AS IT IS: what a view shows, what is looked for, and how the text is laid out and edited.
-use Rattle.std.specs.Prelude.{◌≡◌, ℕ, ◌<◌, Bool, true, false, List, map, Option, Some, None, ⊤}
+use Rattle.std.specs.Prelude.{◌<◌, Bool, true, false, map, Option, Some, None, ⊤}
 use Rattle.plain_text.specs.declared.run.Run.{Run}
 use Rattle.xi_plain.specs.declared.command.EditAct.{EditAct}
 use Rattle.xi_plain.specs.declared.command.EditAct.TheVariants.{Find, FindNext, FindPrevious, RequestLines, Scroll}

@@ -29,7 +29,7 @@ use Rattle.doc_session.specs.declared.event.Event.{Event}
 use Rattle.doc_session.specs.declared.event.Event.TheVariants.{Ack, Config as Configure, Edit, Ended, Front, Other, Spans}
 use Rattle.doc_session.specs.declared.looking.Viewing.{Viewing}
 use Rattle.doc_session.specs.declared.looking.Viewing.TheVariants.{Layout, Other as NoCommand}
-use Rattle.doc_session.specs.Document.{Document, no_request, head_text}
+use Rattle.doc_session.specs.Document.{Document, no_request}
 use Rattle.doc_session.specs.Looking.{scrolls_at, viewed, viewed_lines, viewing_of}
 use Rattle.stale_spans.specs.declared.asked.AskedSpans.{AskedSpans}
 use Rattle.stale_spans.specs.Asked.{layers_with_spans, moved_layers}

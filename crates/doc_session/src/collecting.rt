@@ -1,14 +1,11 @@
 // What a collection reads of a document, and makes of it.
-ghost use Rattle.std.specs.Prelude.{◌≡◌, ◌≤◌, true, Some, IfOk, IfSome, unwrap_or};
+ghost use Rattle.std.specs.Prelude.{◌≡◌, ◌≤◌, Some, IfOk, IfSome, unwrap_or};
 ghost use Rattle.std.specs.Arc.{arc_value};
-ghost use Rattle.std.specs.List.{fold, AllByRecursion};
-ghost use Rattle.plain_text.specs.Numbers.{has};
 ghost use Rattle.plain_edits.specs.Collection.{collected_at};
 ghost use Rattle.plain_edits.specs.History.{History, head};
 ghost use Rattle.rev_collect.specs.Choice.{collection_said};
 ghost use Rattle.rev_engine.specs.Asked.{IsCollectionTaken};
 ghost use Rattle.rev_engine.specs.Engine.{StandsFor};
-ghost use Rattle.undo_groups.specs.Groups.{IsStack, forgotten};
 ghost use Rattle.doc_session.specs.Collecting.{collected_document, collection_after, least_acknowledged, with_collection};
 ghost use Rattle.doc_session.specs.Document.{Document};
 ghost use Rattle.doc_session.specs.Inner.{IsUncollected, MayCollectIn};

@@ -1,4 +1,4 @@
-ghost use Rattle.std.specs.Prelude.{◌≡◌, ◌≢◌, ◌+◌, ◌-◌, ◌^◌, ◌<◌, ◌≤◌, ℕ, [], true, length, if◌then◌else◌, Some, None, IfOk, IfErr, OnOk, OnErr, option_map};
+ghost use Rattle.std.specs.Prelude.{◌≡◌, ◌≢◌, ◌+◌, ◌-◌, ◌^◌, ◌<◌, ◌≤◌, ℕ, [], length, if◌then◌else◌, Some, None, IfOk, IfErr, OnOk, OnErr, option_map};
 ghost use Rattle.std.specs.Arc.{arc_value};
 ghost use Rattle.plain_edits.specs.Collection.{kept};
 ghost use Rattle.plain_edits.specs.History.{History, head};
@@ -26,10 +26,9 @@ ghost use Rattle.doc_session.specs.Whole.{IsWhole};
 ghost use Rattle.doc_view.specs.Told.{IsTextLeft, settled_view, told};
 ghost use Rattle.doc_view.specs.View.{point_in};
 
-use crate::commands::{copies, scrolls};
 use crate::event::{Body, Effects, Event};
 use crate::fault::DocFault;
-use crate::looking::{Viewing, viewing_of};
+use crate::looking::{Viewing, copies, scrolls, viewing_of};
 use crate::said::{NO_REQUEST, Said, Scrolling};
 use crate::taken::{Taken, taken_by, taken_head, taken_turn};
 use doc_layout::{scroll_of, whole_text};
@@ -226,7 +225,6 @@ impl Doc {
         }
     }
 
-    // A command of the front end.
     fn act(&self, alloc: Global, act: EditAct) -> Result<(Doc, Effects), DocFault>
         requires { head self.now.engine.revisions < 2 ^ 63 - 1 }
         ensures stepped { (plain : Document) → DocStandsFor self.now plain → IfOk result (IsStepped (act_step plain act)) }
@@ -260,7 +258,6 @@ impl Doc {
         }
     }
 
-    // A command on the text and the regions.
     fn command(&self, alloc: Global, act: &EditAct) -> Result<(Doc, Effects), DocFault>
         requires act { IsDoneOnText act.now }
         requires has_number { head self.now.engine.revisions < 2 ^ 63 - 1 }
@@ -348,7 +345,6 @@ impl Doc {
         taken_head(alloc, &self.engine, edit)
     }
 
-    // What a command is answered.
     fn answer(&self, alloc: Global, act: &EditAct) -> Result<Body, NoMemory>
         ensures { (plain : Document) → DocStandsFor self.now plain → IfOk result (λ body. body ≡ answer_to plain act.now) }
     {
@@ -650,7 +646,6 @@ impl Doc {
         Ok(())
     }
 
-    // The session of a plugin ends.
     fn ended(&self, alloc: Global, caller: u32) -> Result<(Doc, Effects), NoMemory>
         requires { (1 ≤ caller) × (caller ≤ length self.now.sessions) }
         ensures stepped { (plain : Document) → DocStandsFor self.now plain
@@ -755,7 +750,6 @@ fn given(edit: Edit, caller: u32, group: u64) -> Edit
     given
 }
 
-// An edit of the front end, in this group.
 fn front_edit(units: UnitDelta, group: u64) -> UnitEdit
     ensures { result ≡ record { units = units; priority = front_priority; author = 0; group = group } }
 {

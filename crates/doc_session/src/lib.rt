@@ -6,7 +6,6 @@
 #![tactic(auto)]
 
 mod collecting;
-mod commands;
 mod doc;
 mod event;
 mod fault;

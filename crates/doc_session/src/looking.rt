@@ -1,10 +1,10 @@
-// Lines that leave the text as it is: what a view shows, what is looked for, and how the text is laid out.
+// Lines that leave the text as it is: what a view shows, what is looked for, and how the text is laid out; and which commands copy and scroll.
 ghost use Rattle.std.specs.Prelude.{◌≡◌, IfOk};
 ghost use Rattle.doc_session.specs.Document.{Document};
 ghost use Rattle.doc_session.specs.Inner.{IsStepped, IsViewingOf, is_scrolling};
 ghost use Rattle.doc_session.specs.Looking.{MayView, scrolls_at, viewed, viewed_lines};
 ghost use Rattle.doc_session.specs.Stands.{DocStandsFor};
-ghost use Rattle.doc_session.specs.Step.{viewing_step};
+ghost use Rattle.doc_session.specs.Step.{copies, scrolls, viewing_step};
 
 use crate::doc::Doc;
 use crate::event::{Body, Effects};
@@ -103,7 +103,6 @@ fn viewed(alloc: Global, view: &ViewState, viewing: Viewing) -> Result<ViewState
     }
 }
 
-// The lines that it requests.
 fn viewed_lines(viewing: &Viewing) -> Run
     ensures { result ≡ viewed_lines viewing.now }
 {
@@ -121,5 +120,26 @@ fn scrolls_at(viewing: &Viewing) -> Scrolling
         Viewing::Layout(_) => Scrolling::Nowhere,
         Viewing::Other => Scrolling::Nowhere,
         _ => Scrolling::ToCaret,
+    }
+}
+
+/// Where the front end scrolls after a command.
+pub(crate) fn scrolls(act: &EditAct) -> Scrolling
+    ensures { is_scrolling result ≡ scrolls act.now }
+{
+    match act {
+        EditAct::SelectAll => Scrolling::Nowhere,
+        _ => Scrolling::ToCaret,
+    }
+}
+
+/// Whether a command copies.
+pub(crate) fn copies(act: &EditAct) -> bool
+    ensures { result ≡ copies act.now }
+{
+    match act {
+        EditAct::Cut => true,
+        EditAct::Copy => true,
+        _ => false,
     }
 }

@@ -185,8 +185,7 @@ run_taken_back (chars ∷ texts) plain is has some = by (run_taken_back texts) (
     by later true idle =
         let next = selected_document plain inserts effect.regions in
         let still : IsBefore next = (is.0, is.1, is.2, ap (λ t. run_on t inserts) is.3) in
-        let left : HasRegions next =
-        (
+        let left : HasRegions next = (
           effect-some plain.view.config plain.view.text (pieces_in plain.view) plain.view.regions has.0 (Insert chars),
           typing-within plain.view.text chars plain.view.regions has.1 idle,
         ) in
