@@ -58,7 +58,7 @@ impl Board {
         reply
     }
 
-    // The line itself is the answer: refused from `n`, closed from `c`, and not sent from `u`.
+    // The line itself is the answer: none to `-`, refused from `n`, closed from `c`, and not sent from `u`.
     fn reply(&mut self, caller: u32, line: Bytes) -> Reply
         ensures grown { Begins self.old.entries.items self.new.entries.items }
         ensures added { AddsEntryIf (has_entry result) self.old.entries.items caller self.new.entries.items }
@@ -68,6 +68,10 @@ impl Board {
             return Reply::NoMemory;
         };
         match first {
+            Some(b'-') => {
+                let none = Text::new(self.alloc);
+                self.add(caller, Act::Ended, true, Reply::Taken(none))
+            }
             Some(b'n') => Reply::Refused(text),
             Some(b'c') => Reply::Closed,
             Some(b'u') => self.add(caller, Act::Ended, false, Reply::SinkFault),

@@ -149,6 +149,13 @@ fn a_plugin_is_given_answers_and_what_was_found(rt: HostRuntime) {
 }
 
 #[test]
+fn a_line_without_an_answer_opens_no_turn(rt: HostRuntime) {
+    let alloc = rt.alloc();
+    assert!(rt; shows(alloc, "-", "-ack", "(start )", "TI+0"));
+    assert!(rt; shows(alloc, "-f", "-ack hi", "(start )(hi )(front )", "TTT++02"));
+}
+
+#[test]
 fn a_session_ends_once(rt: HostRuntime) {
     let alloc = rt.alloc();
     assert!(rt; shows(alloc, "-", ".", "(start )", "O."));
