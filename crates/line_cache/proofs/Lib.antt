@@ -4,3 +4,4 @@ mod StayLemmas
 mod PlanLemmas
 mod TakenLemmas
 mod LawLemmas
+mod OpsLemmas

@@ -119,10 +119,10 @@ joins (Drop n) (Send next more) both is = let broken = is in cc
 standings_of-append : (front back : List Step) → standings_of (front ++ back) ≡ standings_of front ++ standings_of back
 standings_of-append front back = flat_map-append standings_in front back
 
-lines_in-append : (front back : List Step) → lines_in (front ++ back) ≡ lines_in front + lines_in back
+pub lines_in-append : (front back : List Step) → lines_in (front ++ back) ≡ lines_in front + lines_in back
 lines_in-append front back = sum_by-append lines_of front back
 
-lines_in-one : (step : Step) → lines_in (step ∷ []) ≡ lines_of step
+pub lines_in-one : (step : Step) → lines_in (step ∷ []) ≡ lines_of step
 lines_in-one step = omega arith
 
 longest-apart : (rest : List Step) (last step : Step) → 0 < lines_of step → joined_steps last step ≡ None → AreLongest (rest ++ last ∷ []) →

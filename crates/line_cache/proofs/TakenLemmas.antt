@@ -48,11 +48,11 @@ past-left : (used count n : ℕ) (those : List Standing) → Rises used count (r
 past-left used count zero those rises = rises
 past-left used count (suc n) those rises = past-left used count n those rises
 
-longest-first : (step : Step) (plan : List Step) → AreLongest (step ∷ plan) → 0 < lines_of step
+pub longest-first : (step : Step) (plan : List Step) → AreLongest (step ∷ plan) → 0 < lines_of step
 longest-first step [] are = are
 longest-first step (next ∷ plan) are = are.0
 
-longest-rest : (step : Step) (plan : List Step) → AreLongest (step ∷ plan) → AreLongest plan
+pub longest-rest : (step : Step) (plan : List Step) → AreLongest (step ∷ plan) → AreLongest plan
 longest-rest step [] are = tt
 longest-rest step (next ∷ plan) are = are.2
 

@@ -7,7 +7,8 @@ use Rattle.plain_screen.specs.Plan.{with_standings, joined_ops, ops_for, update_
 use Rattle.plain_screen.specs.Screen.{Screen, screen_after}
 use Rattle.line_cache.specs.Mirror.{valid_lines}
 use Rattle.line_cache.specs.Standings.{standings}
-use Rattle.line_cache.specs.Steps.{standings_of, shown_by}
+use Rattle.line_cache.specs.Ops.{lines_at, numbers_at, ops_by}
+use Rattle.line_cache.specs.Steps.{AreLongest, ArePlacedFrom, TakesFrom, lines_in, standings_of, shown_by}
 use Rattle.line_cache.specs.declared.step.Step.{Step}
 
 -- how lines stand needs no lines: the rule gives each line its standing, and an update says what these standings say
@@ -24,3 +25,9 @@ pub record MirrorsAreScreens : Type 0 where
       length partners ≡ length lines → ArePartners screen 0 partners lines → AreNumberedFrom number lines →
       standings_of plan ≡ standings window request 0 partners →
       (shown : Screen) × (screen_after screen (update_plan window request lines partners) ≡ Some shown) × (valid_lines shown ≡ shown_by plan)
+
+-- the operations of an update go by the steps of its plan: of the lines that are sent or restyled, and one number for each step that takes
+-- old lines over, they are those that the rule makes line by line
+pub record OperationsGoBySteps : Type 0 where
+  pub same : (count : ℕ) (plan : List Step) (lines : List Line) → AreLongest plan → ArePlacedFrom 0 plan → TakesFrom 0 count plan →
+      length lines ≡ lines_in plan → ops_by 0 plan (numbers_at plan lines) (lines_at plan lines) ≡ joined_ops (ops_for 0 (zip (standings_of plan) lines))

@@ -1,6 +1,7 @@
 pub mod Mirror
 pub mod Stays
 pub mod Ahead
+pub mod Ops
 pub mod Standings
 pub mod Edges
 pub mod Steps

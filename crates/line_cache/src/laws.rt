@@ -1,6 +1,6 @@
 //! Laws of the definitions, each the contract of a function: they tie runs to the lists of `plain_screen`.
 
-ghost use Rattle.line_cache.specs.Laws.{MirrorsAreScreens, StandingsNeedNoLines};
+ghost use Rattle.line_cache.specs.Laws.{MirrorsAreScreens, OperationsGoBySteps, StandingsNeedNoLines};
 
 /// How lines stand is told without them.
 pub fn standings_need_no_lines()
@@ -10,4 +10,9 @@ pub fn standings_need_no_lines()
 /// What a front end has after an update is what the plan shows.
 pub fn mirrors_are_screens()
     ensures { MirrorsAreScreens }
+{}
+
+/// The operations of an update are told by the steps of its plan.
+pub fn operations_go_by_steps()
+    ensures { OperationsGoBySteps }
 {}
