@@ -1,16 +1,15 @@
 -- Lemmas on the operations of a plan: neighbours of one kind are joined within each step, and no two steps join.
-use Rattle.std.proofs.Common.{◌≡◌, ◌⊎◌, inl, inr, ⊎_elim, ℕ, zero, suc, ◌+◌, ◌-◌, ◌<◌, ◌≤◌, nat_lt, ◌==◌, Bool, true, false, cond, List, [], ◌∷◌, ◌++◌, length, map, take, drop, replicate, Some, None, refl, sym, ap, ap₂, subst, ◌∙◌, arith, append_assoc, append-nil, length-append, length-take-le, take-append-drop, take_at, drop_at}
+use Rattle.std.proofs.Common.{◌≡◌, ⊎_elim, ℕ, zero, suc, ◌+◌, ◌-◌, ◌<◌, ◌≤◌, nat_lt, ◌==◌, Bool, true, false, cond, List, [], ◌∷◌, ◌++◌, length, map, take, drop, replicate, Some, None, refl, sym, ap, ap₂, subst, ◌∙◌, arith, length-append, length-take-le, take-append-drop, take_at, drop_at}
 use Rattle.std.specs.Prelude.{Option}
 use Rattle.std.specs.List.{range_with_len, zip}
 use Rattle.std.proofs.lemmas.Bool.{cases_lt, lt-ltb, le-ltb, eq-eqb}
-use Rattle.std.proofs.lemmas.List.{length-drop}
 use Rattle.std.proofs.lemmas.List.Concat.{flat_map-cons}
 use Rattle.plain_screen.specs.declared.screen.Line.{Line}
 use Rattle.plain_screen.specs.declared.screen.Op.{Op}
 use Rattle.plain_screen.specs.declared.screen.Op.TheVariants.{Copy, Skip, Invalidate, Ins, Update}
-use Rattle.plain_screen.specs.Plan.{Standing, stays, is_restyled, is_sent, is_left, joined_ops, onto_ops, op_for, ops_for, or_number, restyle_of, skip_for}
+use Rattle.plain_screen.specs.Plan.{Standing, stays, is_restyled, is_sent, is_left, joined_ops, onto_ops, ops_for, or_number, restyle_of, skip_for}
 use Rattle.line_cache.specs.Ops.{first_number, first_of, lines_at, numbers_at, ops_by}
-use Rattle.line_cache.specs.Steps.{AreLongest, ArePlacedFrom, TakesFrom, if_next, joined_steps, lines_in, lines_of, standings_in, standings_of}
+use Rattle.line_cache.specs.Steps.{AreLongest, ArePlacedFrom, TakesFrom, if_next, lines_in, lines_of, standings_in, standings_of}
 use Rattle.line_cache.specs.declared.step.Step.{Step}
 use Rattle.line_cache.specs.declared.step.Step.TheVariants.{Keep, Restyle, Send, Drop}
 use Rattle.line_cache.proofs.StepLemmas.{lines_in-append, lines_in-one}

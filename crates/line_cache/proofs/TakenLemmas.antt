@@ -1,5 +1,5 @@
 -- Lemmas on the old lines that a plan takes over: they rise.
-use Rattle.std.proofs.Common.{◌≡◌, ◌⊎◌, inl, inr, ⊎_elim, ℕ, zero, suc, ◌+◌, ◌-◌, ◌<◌, ◌≤◌, nat_le, nat_lt, ◌&&◌, ◌||◌, Bool, true, false, cond, List, [], ◌∷◌, ◌++◌, length, map, replicate, Some, None, refl, sym, ap, subst, ◌∙◌, arith}
+use Rattle.std.proofs.Common.{◌≡◌, ◌⊎◌, inl, inr, ⊎_elim, ℕ, zero, suc, ◌+◌, ◌-◌, ◌<◌, ◌≤◌, nat_le, nat_lt, ◌&&◌, ◌||◌, Bool, true, false, cond, List, [], ◌∷◌, ◌++◌, map, replicate, Some, None, refl, sym, ap, subst, ◌∙◌, arith}
 use Rattle.std.specs.Prelude.{Option}
 use Rattle.std.specs.List.{range_with_len}
 use Rattle.std.proofs.lemmas.Bool.{cases_Bool, and_parts, leb-true, ltb-true}
@@ -184,8 +184,7 @@ module _ (window request : Run) (truths : List Bool) (count total : ℕ) (runs :
       (λ old taken.
       let found = takes-partner window request index (if_true truths (partner_by runs index)) old taken in
       let own = valid-partner truths (partner_by runs index) old found.0 found.1 in
-      let last = (partner-bounds 0 0 count total runs index old found.0 are own).2 in
-      (
+      let last = (partner-bounds 0 0 count total runs index old found.0 are own).2 in (
         below index old found.0 (omega arith) own,
         stands-rise (old + 1) (index + 1) n (omega arith)
             (λ other next alike le is. let lt = partner-rises 0 0 count total runs index other old next found.0 alike are (omega arith) own is in omega arith),
