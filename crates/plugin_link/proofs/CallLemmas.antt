@@ -1,11 +1,10 @@
 -- Lemmas on several calls of a link, and on turns one after the other.
-use Rattle.std.proofs.Common.{◌≡◌, ◌≢◌, ℕ, ◌≤◌, ◌⊎◌, inl, inr, Bool, true, false, List, [], ◌∷◌, ◌++◌, map, Option, Some, None, refl, ap, sym, subst, ◌∙◌, append_assoc, append-nil, arith}
+use Rattle.std.proofs.Common.{◌≡◌, ℕ, inl, inr, false, List, [], ◌∷◌, ◌++◌, Option, Some, None, refl, ap, sym, subst, ◌∙◌, append_assoc, arith}
 use Rattle.std.specs.Prelude.{is_some}
 use Rattle.std.specs.List.{flat_map}
 use Rattle.std.specs.Option.{option_map}
 use Rattle.outside.specs.Source.{Gives}
 use Rattle.outside.specs.Sink.{Gains}
-use Rattle.outside.specs.Faults.{Rose}
 use Rattle.outside.proofs.ForCallers.{Gains-append, Gains-none, Gives-append, Rose-earlier}
 use Rattle.std.specs.List.{AllByRecursion}
 use Rattle.plugin_link.specs.Turns.{IsLine, lined, framed, turns}
@@ -13,25 +12,15 @@ use Rattle.plugin_link.specs.Link.{LinkTold, Pulls, Pushes}
 use Rattle.plugin_link.specs.Pulling.{IsShortLine}
 use Rattle.plugin_link.specs.Pushing.{IsPartly}
 use Rattle.plugin_link.specs.Turning.{Standing, HasTurned, HasTurnedBy, IsAnswered, Trades, to_come}
-use Rattle.plugin_link.specs.Laws.{AreTurns, ManyTurns}
+use Rattle.plugin_link.specs.Laws.{ManyTurns}
 use Rattle.plugin_link.specs.declared.link_end.LinkEnd.{LinkEnd}
 use Rattle.plugin_link.proofs.TurnLemmas.{turns-first}
 
 -- ---- calls
 
-Gives-none : (told : Option (List ℕ)) → Gives told told []
-Gives-none None = tt
-Gives-none (Some bytes) = refl
-
-pub Pulls-none : (told : LinkTold) → Pulls told told []
-Pulls-none told = record { gives = Gives-none told.left; held = refl; faults = omega arith }
-
 pub Pulls-append : (a b c : LinkTold) (xs ys : List ℕ) → Pulls a b xs → Pulls b c ys → Pulls a c (xs ++ ys)
 Pulls-append a b c xs ys p q =
     record { gives = Gives-append a.left b.left c.left xs ys p.gives q.gives; held = q.held ∙ p.held; faults = omega (arith, p.faults, q.faults) }
-
-pub Pushes-none : (told : LinkTold) → Pushes told told []
-Pushes-none told = record { gains = Gains-none told.held; left = refl; faults = omega arith }
 
 pub Pushes-append : (a b c : LinkTold) (xs ys : List ℕ) → Pushes a b xs → Pushes b c ys → Pushes a c (xs ++ ys)
 Pushes-append a b c xs ys p q =
@@ -49,22 +38,6 @@ partly_later a b c whole xs ys is p q =
       rose = Rose-earlier a.faults b.faults c.faults p.faults q.rose;
     }
 
-append_some : (xs ys : List ℕ) → xs ≢ [] → (xs ++ ys) ≢ []
-append_some [] ys some = λ is. some refl
-append_some (x ∷ xs) ys some = λ is. absurd cc
-
--- a beginning of the first of two pieces
-pub partly_first : (a b : LinkTold) (whole xs ys : List ℕ) → whole ≡ xs ++ ys → IsPartly a b xs → IsPartly a b whole
-partly_first a b whole xs ys is p =
-    record {
-      put = p.put;
-      missing = p.missing ++ ys;
-      pushes = p.pushes;
-      parts = is ∙ ap (λ first. first ++ ys) p.parts ∙ append_assoc p.put p.missing ys;
-      some = append_some p.missing ys p.some;
-      rose = p.rose;
-    }
-
 -- ---- turns one after the other
 
 abbrev bytes_in : Option (List ℕ) → List ℕ
@@ -77,10 +50,12 @@ came : (l m : Option (List ℕ)) (kept after got bytes : List ℕ) (given : List
     (rest : List ℕ) × (option_map (λ left. after ++ left) m ≡ Some rest) × (bytes ≡ framed given ++ rest)
 came None m kept after got bytes given gives at parts = absurd cc
 came (Some x) None kept after got bytes given gives at parts = absurd gives
-came (Some x) (Some y) kept after got bytes given gives at parts =
-    (after ++ y, refl,
-      sym (ap bytes_in at) ∙ ap (λ left. kept ++ left) gives ∙ sym (append_assoc kept got y) ∙ ap (λ first. first ++ y) parts ∙
-      append_assoc (framed given) after y)
+came (Some x) (Some y) kept after got bytes given gives at parts = (
+  after ++ y,
+  refl,
+  sym (ap bytes_in at) ∙ ap (λ left. kept ++ left) gives ∙ sym (append_assoc kept got y) ∙ ap (λ first. first ++ y) parts ∙
+      append_assoc (framed given) after y,
+)
 
 each_line : (lines : List (List ℕ)) → AllByRecursion IsShortLine lines → AllByRecursion IsLine lines
 each_line [] each = tt
@@ -120,8 +95,7 @@ many_turns old new (turn ∷ more) bytes none (next, turned, later) at =
     let (rest, to, is) = came old.told.left next.told.left old.kept next.kept has.got bytes turn.1 gives at parts in
     let ((last, end, turned_all), gained) = many_turns next new more rest still later to in
     let first : Gains old.told.held next.told.held (framed turn.0) =
-    subst (λ held. Gains old.told.held held (framed turn.0)) (sym has.pulls.held) did.pushes.gains in
-    (
+    subst (λ held. Gains old.told.held held (framed turn.0)) (sym has.pulls.held) did.pushes.gains in (
       (last, end, ap turns is ∙ turns-first turn.1 rest (each_line turn.1 has.lines) ∙ ap (λ all. turn.1 ∷ all) turned_all),
       Gains-append old.told.held next.told.held new.told.held (framed turn.0) (flat_map (λ one. framed one.0) more) first gained,
     )

@@ -1,8 +1,8 @@
 -- Lemmas on bytes that are pushed and pulled, and on the lines among them.
-use Rattle.std.proofs.Common.{◌≡◌, ◌≢◌, ℕ, zero, suc, Bool, ◌+◌, ◌-◌, ◌^◌, ◌<◌, ◌≤◌, ◌⊎◌, inl, inr, true, false, List, [], ◌∷◌, ◌++◌, length, take, drop, map, Option, Some, None, Result, Ok, Err, refl, ap, sym, subst, ◌∙◌, append_assoc, append-nil, arith, length-drop, length-append, take_all, get_or}
+use Rattle.std.proofs.Common.{◌≡◌, ◌≢◌, ℕ, zero, suc, Bool, ◌+◌, ◌-◌, ◌<◌, ◌≤◌, inl, true, false, List, [], ◌∷◌, ◌++◌, length, take, drop, Some, None, Result, Ok, Err, refl, ap, sym, subst, ◌∙◌, append_assoc, append-nil, arith, length-drop, take_all, get_or}
 use Rattle.std.specs.Prelude.{if◌then◌else◌, ◌==◌}
 use Rattle.std.specs.Result.{IsErrAnd}
-use Rattle.std.specs.List.{AllByRecursion, flat_map}
+use Rattle.std.specs.List.{AllByRecursion}
 use Rattle.std.specs.Str.{encode_utf8_all, IsUtf8}
 use Rattle.std.proofs.lemmas.Bool.Decides.{nat_tests}
 use Rattle.std.proofs.lemmas.List.{take-append-drop, drop-append-le, length-take-le}
@@ -12,14 +12,14 @@ use Rattle.memchr.specs.Find.{Nowhere, Passes, is_byte}
 use Rattle.outside.specs.Source.{filled}
 use Rattle.outside.specs.Faults.{Rose}
 use Rattle.outside.proofs.ForCallers.{Rose-earlier}
-use Rattle.plugin_link.specs.Turns.{HasNoLf, IsLine, lined, framed, utf8_of}
+use Rattle.plugin_link.specs.Turns.{HasNoLf, lined, framed, utf8_of}
 use Rattle.plugin_link.specs.Link.{LinkTold, Pulls, Pushes}
 use Rattle.plugin_link.specs.Cut.{HasLfAt}
 use Rattle.plugin_link.specs.Pushing.{IsPartly}
-use Rattle.plugin_link.specs.Pulling.{line_limit, IsTooLong, IsNotText, StopsBy, IsCut, NextBy, Comes, TextBy, IsShortLine, HasLines, Reads, lines_limit, end_of}
+use Rattle.plugin_link.specs.Pulling.{line_limit, IsTooLong, IsNotText, StopsBy, NextBy, Comes, TextBy, IsShortLine, HasLines, Reads, lines_limit, end_of}
 use Rattle.plugin_link.specs.declared.link_end.LinkEnd.{LinkEnd}
 use Rattle.plugin_link.specs.declared.link_end.LinkEnd.TheVariants.{Ended, PullFailed, PushFailed, TooLong, TooMany, NotText, NoMemory}
-use Rattle.plugin_link.proofs.CallLemmas.{Pulls-none, Pulls-append, Pushes-append, partly_later}
+use Rattle.plugin_link.proofs.CallLemmas.{Pulls-append, Pushes-append, partly_later}
 use Rattle.plugin_link.proofs.TurnLemmas.{framed-next}
 
 -- ---- where a search finds the LF
@@ -119,10 +119,12 @@ framed-item whole put bytes text texts i is below item same =
 pub pushed_line : (a b c : LinkTold) (whole put bytes text : List ℕ) (texts : List (List ℕ)) (i : ℕ) → Pushes a b put →
     whole ≡ put ++ framed (utf8_of (drop i texts)) → i < length texts → text ≡ get_or texts i text → bytes ≡ encode_utf8_all text →
     Pushes b c (bytes ++ 10 ∷ []) → (x : List ℕ) × Pushes a c x × (whole ≡ x ++ framed (utf8_of (drop (i + 1) texts)))
-pushed_line a b c whole put bytes text texts i p is below item same q =
-    (put ++ (bytes ++ 10 ∷ []), Pushes-append a b c put (bytes ++ 10 ∷ []) p q,
-      framed-item whole put bytes text texts i is below item same ∙
-      sym (append_assoc put (bytes ++ 10 ∷ []) (framed (utf8_of (drop (i + 1) texts)))))
+pushed_line a b c whole put bytes text texts i p is below item same q = (
+  put ++ (bytes ++ 10 ∷ []),
+  Pushes-append a b c put (bytes ++ 10 ∷ []) p q,
+  framed-item whole put bytes text texts i is below item same ∙
+      sym (append_assoc put (bytes ++ 10 ∷ []) (framed (utf8_of (drop (i + 1) texts)))),
+)
 
 append_some : (xs ys : List ℕ) → xs ≢ [] → (xs ++ ys) ≢ []
 append_some [] ys some = λ is. some refl
@@ -158,14 +160,6 @@ filled-take buf bytes room n within fits =
 
 -- ---- the next line
 
-pub line_taken : (all text : List ℕ) (at : ℕ) → HasLfAt all at → TextBy (Ok text) (take at all) → IsCut (encode_utf8_all text) all (drop (at + 1) all)
-line_taken all text at has by =
-    record {
-      parts = has.parts ∙ ap (λ line. line ++ 10 ∷ drop (at + 1) all) (sym by.0);
-      no_lf = subst HasNoLf (sym by.0) has.no_lf;
-      short = subst (λ line. length line < line_limit) (sym by.0) by.1;
-    }
-
 too_long : (all : List ℕ) (at : ℕ) → HasLfAt all at → line_limit ≤ length (take at all) → IsTooLong all
 too_long all at has long =
     record { front = take at all; more = 10 ∷ drop (at + 1) all; parts = has.parts; no_lf = has.no_lf; long = long }
@@ -184,11 +178,6 @@ line_refused PushFailed all after at has by = absurd by
 line_refused TooMany all after at has by = absurd by
 
 -- ---- the lines of a turn, pulled one after the other
-
-pub has_none : (told : LinkTold) (kept : List ℕ) (texts : List (List ℕ)) → texts ≡ [] → HasLines told told kept kept (utf8_of texts)
-has_none told kept texts none =
-    subst (λ lines. HasLines told told kept kept (utf8_of lines)) (sym none)
-    (record { got = []; pulls = Pulls-none told; lines = tt; parts = append-nil kept })
 
 has_more : (a b c : LinkTold) (before kept more : List ℕ) (given : List (List ℕ)) → HasLines a b before kept given → Pulls b c more →
     HasLines a c before (kept ++ more) given
@@ -283,11 +272,6 @@ reads_no_memory a b c before kept after texts same outcome count has comes is co
       has = has_more a b c before kept comes.got (utf8_of texts) has comes.pulls;
       by = inl (tt, omega (arith, few, counted, length-utf8_of texts));
     })
-
-pub reads_too_many : (a b : LinkTold) (before kept : List ℕ) (texts : List (List ℕ)) (count : ℕ) → HasLines a b before kept (utf8_of texts) →
-    length texts ≡ count → count ≡ lines_limit → Reads a b before kept (utf8_of texts) (Some TooMany)
-reads_too_many a b before kept texts count has counted many =
-    record { rest = kept; has = has; by = inr (refl, length-utf8_of texts ∙ counted ∙ many) }
 
 -- how the pulling ended where `?` handed on why
 pub failed_end : (outcome : Result (Unit {0}) LinkEnd) (end : LinkEnd) → IsErrAnd outcome (λ e. e ≡ end) → end_of outcome ≡ Some end

@@ -1,5 +1,5 @@
 -- What turns of bytes mean, and what many turns over a link give.
-use Rattle.std.specs.Prelude.{◌≡◌, ℕ, false, List, [], ◌∷◌, ◌++◌, map, Option, Some, None}
+use Rattle.std.specs.Prelude.{◌≡◌, ℕ, false, List, [], ◌∷◌, ◌++◌, map, Some, None}
 use Rattle.std.specs.List.{AllByRecursion, flat_map}
 use Rattle.outside.specs.Sink.{Gains}
 use Rattle.plugin_link.specs.Turns.{IsLine, framed, turns, rest_of}

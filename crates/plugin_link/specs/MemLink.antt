@@ -1,5 +1,5 @@
 -- A link in memory, exactly.
-use Rattle.std.specs.Prelude.{ℕ, Bool, ◌==◌, min, List, length, drop, Option, if◌then◌else◌}
+use Rattle.std.specs.Prelude.{ℕ, Bool, ◌==◌, min, List, length, drop, if◌then◌else◌}
 use Rattle.std.specs.List.{list_any}
 use Rattle.outside.specs.Faults.{counted}
 use Rattle.outside.specs.CalmSink.{Kept}

@@ -1,5 +1,4 @@
-use Rattle.std.proofs.Common.{◌≡◌, length, List, ℕ, sym, subst}
-use Rattle.memchr.specs.Find.{IsFirstByte, is_byte}
+use Rattle.std.proofs.Common.{List, ℕ, subst}
 use Rattle.plugin_link.specs.Turns.{HasNoLf}
 use Rattle.plugin_link.specs.Cut.{HasLfAt}
 use Rattle.plugin_link.proofs.PullLemmas.{none_found, lf_found, later_lf, later_none}

@@ -1,9 +1,9 @@
-use Rattle.std.proofs.Common.{◌≡◌, ◌≢◌, ◌<◌, length, [], ◌∷◌, ◌++◌, ap, sym, subst, ◌∙◌, Option, Some, None, arith, rules, length-append}
+use Rattle.std.proofs.Common.{◌≡◌, ◌≢◌, length, [], ◌∷◌, ◌++◌, ap, sym, subst, Option, Ok, arith, rules, length-append}
 use Rattle.plugin_link.specs.Turns.{utf8_of}
 use Rattle.plugin_link.specs.Link.{link_told}
 use Rattle.plugin_link.specs.Pulling.{Reads}
 use Rattle.plugin_link.specs.declared.link_end.LinkEnd.{LinkEnd}
-use Rattle.plugin_link.proofs.PullLemmas.{has_none, has_line, reads_turn, reads_stopped, reads_no_memory, reads_too_many, failed_end}
+use Rattle.plugin_link.proofs.PullLemmas.{has_line, reads_turn, reads_stopped, reads_no_memory, failed_end}
 use Rattle.plugin_link.proofs.pull.pull_turn.Goals as goal
 
 pub returns-in_err-line : goal.returns-in_err-line
@@ -28,7 +28,7 @@ returns-then-is_err g c =
     let told = link_told g.L.Link.left g.L.Link.held g.L.Link.faults in
     let same : c.push.new.self ≡ c.loop.lines = search rules in
     reads_no_memory (told c.args.link.now) (told c.loop.link) (told c.pull_line.new.link) c.args.kept.now c.loop.kept c.pull_line.new.kept c.loop.lines
-    c.push.new.self _ c.loop.counter c.loop.invariant.has c.in_ok-line.ensures same c.loop.invariant.count (omega (arith, c.loop-test.true))
+    c.push.new.self (Ok c.in_ok-line.line) c.loop.counter c.loop.invariant.has c.in_ok-line.ensures same c.loop.invariant.count (omega (arith, c.loop-test.true))
 
 pub loop-preserved : goal.loop-preserved
 loop-preserved g c =

@@ -1,4 +1,4 @@
-use Rattle.std.proofs.Common.{◌≡◌, ℕ, List, take, subst, Err}
+use Rattle.std.proofs.Common.{ℕ, List, take, subst, Err}
 use Rattle.plugin_link.specs.Pulling.{TextBy}
 use Rattle.plugin_link.proofs.PullLemmas.{line_refused}
 use Rattle.plugin_link.proofs.pull.take_line.Goals as goal

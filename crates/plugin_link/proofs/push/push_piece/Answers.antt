@@ -1,4 +1,4 @@
-use Rattle.std.proofs.Common.{◌≡◌, refl, arith, length-drop}
+use Rattle.std.proofs.Common.{refl, arith, length-drop}
 use Rattle.plugin_link.specs.Link.{link_told}
 use Rattle.plugin_link.proofs.PullLemmas.{pushed_more, stopped_within}
 use Rattle.plugin_link.proofs.push.push_piece.Goals as goal

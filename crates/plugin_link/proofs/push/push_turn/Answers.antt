@@ -1,4 +1,4 @@
-use Rattle.std.proofs.Common.{◌≡◌, arith, sym, ◌∙◌}
+use Rattle.std.proofs.Common.{arith, ◌∙◌}
 use Rattle.plugin_link.specs.Turns.{framed, utf8_of}
 use Rattle.plugin_link.specs.Link.{link_told}
 use Rattle.plugin_link.proofs.PullLemmas.{pushed_line, cut_line}
