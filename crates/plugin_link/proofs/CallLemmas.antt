@@ -11,7 +11,7 @@ use Rattle.plugin_link.specs.Turns.{IsLine, lined, framed, turns}
 use Rattle.plugin_link.specs.Link.{LinkTold, Pulls, Pushes}
 use Rattle.plugin_link.specs.Pulling.{IsShortLine}
 use Rattle.plugin_link.specs.Pushing.{IsPartly}
-use Rattle.plugin_link.specs.Turning.{Standing, HasTurned, HasTurnedBy, IsAnswered, Trades, to_come}
+use Rattle.plugin_link.specs.Turning.{LinkStanding, HasTurned, HasTurnedBy, IsAnswered, Trades, to_come}
 use Rattle.plugin_link.specs.Laws.{ManyTurns}
 use Rattle.plugin_link.specs.declared.link_end.LinkEnd.{LinkEnd}
 use Rattle.plugin_link.proofs.TurnLemmas.{turns-first}
@@ -66,14 +66,14 @@ none_from None is = refl
 none_from (Some end) is = absurd cc
 
 -- what a turn that is not done did
-abbrev Went : Standing → Standing → List (List ℕ) → List (List ℕ) → Type 0
+abbrev Went : LinkStanding → LinkStanding → List (List ℕ) → List (List ℕ) → Type 0
 Went old next handed given = IsAnswered old.told next.told old.kept next.kept (framed handed) given None
 
-went_by : (old next : Standing) (handed given : List (List ℕ)) → Trades old.told next.told old.kept next.kept handed given None → Went old next handed given
+went_by : (old next : LinkStanding) (handed given : List (List ℕ)) → Trades old.told next.told old.kept next.kept handed given None → Went old next handed given
 went_by old next handed given (inl short) = let never = short.0 in absurd cc
 went_by old next handed given (inr answered) = answered
 
-went : (old next : Standing) (handed given : List (List ℕ)) → old.end ≡ None → HasTurned old next handed given false → (next.end ≡ None) × Went old next handed given
+went : (old next : LinkStanding) (handed given : List (List ℕ)) → old.end ≡ None → HasTurned old next handed given false → (next.end ≡ None) × Went old next handed given
 went old next handed given none turned =
     let At : Option LinkEnd → Type 0 = λ end. HasTurnedBy end old next handed given false in
     let here = subst At none turned in
@@ -83,7 +83,7 @@ went old next handed given none turned =
 
 pub many_turns : ManyTurns
 many_turns old new [] bytes none had at =
-    let At : Standing → Type 0 = λ standing. Gains old.told.held standing.told.held [] in
+    let At : LinkStanding → Type 0 = λ standing. Gains old.told.held standing.told.held [] in
     ((bytes, ap to_come had ∙ at, refl), subst At (sym had) (Gains-none old.told.held))
 many_turns old new (turn ∷ more) bytes none (next, turned, later) at =
     let (still, did) = went old next turn.0 turn.1 none turned in

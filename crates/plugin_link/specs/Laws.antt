@@ -3,7 +3,7 @@ use Rattle.std.specs.Prelude.{◌≡◌, ℕ, false, List, [], ◌∷◌, ◌++�
 use Rattle.std.specs.List.{AllByRecursion, flat_map}
 use Rattle.outside.specs.Sink.{Gains}
 use Rattle.plugin_link.specs.Turns.{IsLine, framed, turns, rest_of}
-use Rattle.plugin_link.specs.Turning.{Standing, HasTurned, to_come}
+use Rattle.plugin_link.specs.Turning.{LinkStanding, HasTurned, to_come}
 
 -- the turns, each with its LFs, are the bytes up to the last empty line, and what stands after that has no turn
 abbrev pub TurnsJoin : Type 0
@@ -20,15 +20,15 @@ abbrev pub ATurnIsFirst : Type 0
 ATurnIsFirst = (lines : List (List ℕ)) (rest : List ℕ) → AllByRecursion IsLine lines → turns (framed lines ++ rest) ≡ lines ∷ turns rest
 
 -- turns one after the other, none of them done, each with the lines that it was handed and gave
-abbrev pub AreTurns : Standing → Standing → List (List (List ℕ) × List (List ℕ)) → Type 0
+abbrev pub AreTurns : LinkStanding → LinkStanding → List (List (List ℕ) × List (List ℕ)) → Type 0
 AreTurns old new [] = new ≡ old
-AreTurns old new (turn ∷ more) = (next : Standing) × HasTurned old next turn.0 turn.1 false × AreTurns next new more
+AreTurns old new (turn ∷ more) = (next : LinkStanding) × HasTurned old next turn.0 turn.1 false × AreTurns next new more
 
 -- MANY TURNS over a link that tells what it has left: what they gave are the first turns of what was to come, in order, and they put the
 -- lines that they were handed
 abbrev pub ManyTurns : Type 0
 ManyTurns =
-    (old new : Standing) (had : List (List (List ℕ) × List (List ℕ))) (bytes : List ℕ) → old.end ≡ None → AreTurns old new had →
+    (old new : LinkStanding) (had : List (List (List ℕ) × List (List ℕ))) (bytes : List ℕ) → old.end ≡ None → AreTurns old new had →
     to_come old ≡ Some bytes →
     ((rest : List ℕ) × (to_come new ≡ Some rest) × (turns bytes ≡ map (λ turn. turn.1) had ++ turns rest)) ×
     Gains old.told.held new.told.held (flat_map (λ turn. framed turn.0) had)

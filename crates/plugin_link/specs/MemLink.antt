@@ -1,7 +1,6 @@
 -- A link in memory, exactly.
-use Rattle.std.specs.Prelude.{ℕ, Bool, ◌==◌, min, List, length, drop, if◌then◌else◌}
-use Rattle.std.specs.List.{list_any}
-use Rattle.outside.specs.Faults.{counted}
+use Rattle.std.specs.Prelude.{ℕ, min, List, length, drop, if◌then◌else◌}
+use Rattle.outside.specs.Schedule.{FaultSchedule, is_due, next}
 use Rattle.outside.specs.CalmSink.{Kept}
 use Rattle.outside.specs.MemSource.{got}
 use Rattle.outside.specs.declared.source.Pulled.{Pulled}
@@ -9,27 +8,14 @@ use Rattle.outside.specs.declared.source.Pulled.TheVariants as pulled
 use Rattle.outside.specs.declared.sink.Pushed.{Pushed}
 use Rattle.outside.specs.declared.sink.Pushed.TheVariants as pushed
 
--- which calls fail, pulls and pushes counted together from 1, and what the calls so far came to
-pub record Calls : Type 0 where
-  pub failing : List ℕ
-  pub calls : ℕ
-  pub faults : ℕ
-
--- the bytes left and those kept, the greatest piece that one pull gives and one push takes, and the calls
+-- the bytes left and those kept, the greatest piece that one pull gives and one push takes, and the schedule of the calls,
+-- pulls and pushes counted together from 1
 pub record Pipe : Type 0 where
   pub left : List ℕ
   pub kept : Kept
   pub most_pulled : ℕ
   pub most_pushed : ℕ
-  pub calls : Calls
-
--- the next call is to fail
-abbrev pub is_due : Calls → Bool
-is_due calls = list_any (λ number. number == counted calls.calls) calls.failing
-
--- the calls with one more
-abbrev pub next : Calls → Calls
-next calls = record calls { calls = counted calls.calls; faults = if is_due calls then counted calls.faults else calls.faults }
+  pub calls : FaultSchedule
 
 -- how many bytes the next pull gives: none where it fails, else the least of the room, the greatest piece and what is left
 abbrev pub given_len : Pipe → ℕ → ℕ

@@ -15,12 +15,13 @@ pub record Linked (L : Type 0) : Type 0 where
   pub end : Option LinkEnd
 
 -- the same, by what the link tells
-pub record Standing : Type 0 where
+pub record LinkStanding : Type 0 where
   pub told : LinkTold
   pub kept : List ℕ
   pub end : Option LinkEnd
 
-abbrev pub standing_of : {L : Type 0} → (L → Option (List ℕ)) → (L → Option (List ℕ)) → (L → ℕ) → Linked L → Standing
+-- the same, put together from what the link tells
+abbrev pub standing_of : {L : Type 0} → (L → Option (List ℕ)) → (L → Option (List ℕ)) → (L → ℕ) → Linked L → LinkStanding
 standing_of left held faults plugin =
     record { told = link_told left held faults plugin.link; kept = plugin.kept; end = plugin.end }
 
@@ -43,14 +44,15 @@ Trades old new before after handed given end =
     IsAnswered old new before after (framed handed) given end
 
 -- A TURN: done without lines, touching nothing, where the link had ended; else done exactly where the link ends in it
-abbrev pub HasTurnedBy : Option LinkEnd → Standing → Standing → List (List ℕ) → List (List ℕ) → Bool → Type 0
+abbrev pub HasTurnedBy : Option LinkEnd → LinkStanding → LinkStanding → List (List ℕ) → List (List ℕ) → Bool → Type 0
 HasTurnedBy (Some end) old new handed given done = (new ≡ old) × (given ≡ []) × (done ≡ true)
 HasTurnedBy None old new handed given done =
     Trades old.told new.told old.kept new.kept handed given new.end × (done ≡ is_some new.end)
 
-abbrev pub HasTurned : Standing → Standing → List (List ℕ) → List (List ℕ) → Bool → Type 0
+-- the same, by how the link stood
+abbrev pub HasTurned : LinkStanding → LinkStanding → List (List ℕ) → List (List ℕ) → Bool → Type 0
 HasTurned old new handed given done = HasTurnedBy old.end old new handed given done
 
 -- what is to come: what is kept, in front of what the link has left, where it tells that
-abbrev pub to_come : Standing → Option (List ℕ)
+abbrev pub to_come : LinkStanding → Option (List ℕ)
 to_come standing = option_map (λ left. standing.kept ++ left) standing.told.left

@@ -11,9 +11,9 @@ pub(crate) struct CallList {
 }
 
 impl Model for CallList {
-    ghost use Rattle.plugin_link.specs.MemLink.{Calls};
+    ghost use Rattle.outside.specs.Schedule.{FaultSchedule};
 
-    ghost Value = { Calls };
+    ghost Value = { FaultSchedule };
 
     ghost view = { λ c. record {
       failing = c.failing.items;
@@ -23,10 +23,10 @@ impl Model for CallList {
 }
 
 impl CallList {
-    ghost use Rattle.plugin_link.specs.MemLink.{is_due, next};
+    ghost use Rattle.outside.specs.Schedule.{is_due, next, schedule_of};
 
     pub(crate) fn new(failing: Vec<u64>) -> CallList
-        ensures { result ≡ record { failing = failing.items; calls = 0; faults = 0 } }
+        ensures { result ≡ schedule_of failing.items }
     {
         CallList {
             failing,

@@ -4,7 +4,8 @@ ghost use Rattle.outside.specs.Source.{Gives, IsPiece, pulled, filled};
 ghost use Rattle.outside.specs.Sink.{Gains, IsPart, pushed};
 ghost use Rattle.outside.specs.CalmSink.{KeepsUnlessRefused};
 ghost use Rattle.outside.specs.Faults.{Rose};
-ghost use Rattle.plugin_link.specs.MemLink.{given_len, is_due, next, pull_answer, pulled_from, push_answer};
+ghost use Rattle.outside.specs.Schedule.{next, schedule_of};
+ghost use Rattle.plugin_link.specs.MemLink.{given_len, pull_answer, pulled_from, push_answer};
 
 use crate::calls::CallList;
 use crate::link::Link;
@@ -56,7 +57,7 @@ impl MemLink {
         ensures left { result.left ≡ bytes.items }
         ensures kept { result.kept ≡ record { held = Some []; refused = 0 } }
         ensures most { (result.most_pulled ≡ most_pulled) × (result.most_pushed ≡ most_pushed) }
-        ensures calls { result.calls ≡ record { failing = failing.items; calls = 0; faults = 0 } }
+        ensures calls { result.calls ≡ schedule_of failing.items }
     {
         MemLink {
             source: CalmSource::new(bytes),
