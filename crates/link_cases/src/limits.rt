@@ -1,12 +1,12 @@
-//! Rows of limits: long lines, many lines, and want of memory.
+//! Rows of limits: long lines, and many lines.
 
-use plain_text::{NoMemory, Text};
+use plain_text::NoMemory;
 use plugin_link::{LinkEnd, LinkPlugin, MemLink, Plugin};
 use std::alloc::Global;
 
 // How many lines a turn gives that has so many lines of one byte, and how the link ended.
 fn many(alloc: Global, lines: usize) -> Result<(usize, Option<LinkEnd>), NoMemory> {
-    let mut bytes = Vec::with_capacity(alloc, 2 * lines + 1)?;
+    let mut bytes = Vec::new(alloc);
     for _ in 0..lines {
         bytes.extend_from_slice(b"a\n")?;
     }
@@ -19,14 +19,17 @@ fn many(alloc: Global, lines: usize) -> Result<(usize, Option<LinkEnd>), NoMemor
 
 // How long the one line of a turn is that has a line of so many bytes, and how the link ended.
 fn long(alloc: Global, length: usize) -> Result<(u64, Option<LinkEnd>), NoMemory> {
-    let mut bytes = Vec::with_capacity(alloc, length + 2)?;
+    let mut bytes = Vec::new(alloc);
     bytes.resize(length, b'a')?;
     bytes.extend_from_slice(b"\n\n")?;
     let link = MemLink::new(alloc, bytes, 65_536, 9, Vec::new(alloc));
     let mut plugin = LinkPlugin::new(alloc, link);
     let turn = plugin.turn(&[]);
-    let first = turn.lines.get(0).map(Text::byte_len);
-    Ok((first.unwrap_or(0), plugin.end()))
+    let given = match turn.lines.get(0) {
+        Some(line) => line.byte_len(),
+        None => 0,
+    };
+    Ok((given, plugin.end()))
 }
 
 // Whether so many lines and this end come of it.
