@@ -1,5 +1,5 @@
 -- A request that is over.
-use Rattle.std.proofs.Common.{◌≡◌, ℕ, ◌||◌, arith, Bool, true, false}
+use Rattle.std.proofs.Common.{◌≡◌, ℕ, ◌||◌, refl, arith, Bool, true, false}
 use Rattle.std.proofs.lemmas.Bool.Decides.{nat_tests}
 use Rattle.plain_text.specs.declared.run.Run.{Run}
 use Rattle.plain_screen.specs.Plan.{is_within}

@@ -257,7 +257,7 @@ pub Sends : (List ℕ → Run) → Outcome → Type 0
 Sends requests done = NotesSendTo requests done.views (note_list done.updates)
 
 sends_one : (requests : List ℕ → Run) (view : OpenView) (after : Document) (update : Option Update) →
-    UpdateWithin update after.window (requests view.id) →
+    UpdateWithin update after.view.window (requests view.id) →
     NotesSendTo requests (record view { document = after } ∷ []) (note_list (updates_for view.id update ++ []))
 unfolding note_list UpdateWithin
 sends_one requests view after None within = tt
