@@ -34,13 +34,13 @@ fn reads(
 {
     let mut given = Vec::new(alloc);
     let mut buf = Vec::from_elem(alloc, 0, room)?;
-    let mut ends = 0;
-    let mut failures = 0;
+    let mut ends = 0usize;
+    let mut failures = 0usize;
     for _ in 0..count {
         match source.read(&mut buf) {
             Pulled::Got(len) => given.extend_from_slice(&buf[..len])?,
-            Pulled::End => ends += 1,
-            Pulled::Failed => failures += 1,
+            Pulled::End => ends = ends.saturating_add(1),
+            Pulled::Failed => failures = failures.saturating_add(1),
         }
     }
     Ok((given, ends, failures))
