@@ -497,21 +497,3 @@ fn a_gate_is_passed_around_each_ask(rt: HostRuntime) {
     assert!(rt; gate.enters.load(Ordering::SeqCst) == 16);
     assert!(rt; gate.leaves.load(Ordering::SeqCst) == 16);
 }
-
-fn boxed(alloc: Global, line: &'static str) -> Option<Box<dyn Plugin + Send>> {
-    let boxed: Box<dyn Plugin + Send> = Box::new(alloc, Talker::new(alloc, line, 9, true)).ok()?;
-    Some(boxed)
-}
-
-// How many entries two boxed plugins made.
-fn boxed_entries<R: Threads + Wait + Clock + Sync>(rt: &R, alloc: Global) -> Option<usize> {
-    let first = boxed(alloc, "first ")?;
-    let second = boxed(alloc, "second ")?;
-    let outcome = run_both(rt, alloc, &FreeGate, first, second, Work::Nothing)?;
-    Some(outcome.post.entries.len())
-}
-
-#[test]
-fn boxed_plugins_have_their_turns(rt: HostRuntime) {
-    assert!(rt; boxed_entries(&rt, rt.alloc()) == Some(20));
-}
