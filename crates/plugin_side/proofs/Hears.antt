@@ -16,8 +16,7 @@ use Rattle.json_rpc.specs.Request.{IsTextId, value_id, request_from, request_of,
 use Rattle.json_rpc.specs.Response.{Answer, given, failed, Response, text_data, id_data, reply_data, error_data, answered_id, error_from, answer_from, response_of, line_response}
 use Rattle.plugin_wire.specs.Shapes.{text_shape}
 use Rattle.plugin_wire.specs.Hearing.{heard, heard_request, line_told}
-use Rattle.plugin_wire.proofs.ForCallers.{answers_are_no_notices}
-use Rattle.plugin_wire.proofs.ReadBack.{whole_shape-whole_data, text_shape-text_data}
+use Rattle.plugin_wire.proofs.ForCallers.{answers_are_no_notices, whole_shape-whole_data, text_shape-text_data}
 use Rattle.plugin_side.specs.declared.heard.Told.{Told}
 use Rattle.plugin_side.specs.declared.heard.Answered.{Answered}
 use Rattle.plugin_side.specs.declared.heard.Answered.TheVariants.{Chunk, Edited}

@@ -29,7 +29,7 @@ use Rattle.plugin_wire.specs.Asked.{plugin_edit_from, data_from, spans_from, ack
 use Rattle.plugin_wire.specs.Fair.{HasScalars, IsFairEl, IsFairDelta}
 use Rattle.plugin_wire.specs.Shapes.{whole_shape, optional_shape, style_from, style_shape, each_shape, span_from, span_shape, spans_shape}
 use Rattle.plugin_wire.specs.Told.{whole_data}
-use Rattle.plugin_wire.proofs.ReadBack.{whole_shape-whole_data, text_shape-text_data, delta_shape-delta_data}
+use Rattle.plugin_wire.proofs.ForCallers.{whole_shape-whole_data, text_shape-text_data, delta_shape-delta_data}
 use Rattle.plugin_side.specs.Asking.{IsAsk, after_if, style_data, span_data, spans_data, edit_params, data_params, spans_params, count_params, alert_params, ack_params, ask_method, ask_params, id_number, id_member, command_data}
 use Rattle.plugin_side.specs.Range.{IsUnder, IsHeldStyle, IsHeldSpan, IsHeldAct, IsHeldCommand, IsTakenEl, IsTakenDelta, IsTakenSpan, IsTakenAct, IsTakenCommand}
 use Rattle.plugin_side.specs.Laws.{CommandsReadBack}

@@ -1,4 +1,4 @@
-use Rattle.plugin_wire.proofs.Made.{MadeOfEls}
+use Rattle.plugin_wire.proofs.ForCallers.{MadeOfEls}
 use Rattle.plugin_side.proofs.delta_value.els_value.Given as goal
 
 abbrev pub invariant-loop-el : goal.invariant-loop-el

@@ -1,6 +1,6 @@
 use Rattle.std.proofs.Common.{◌^◌, vec_len}
 use Rattle.plugin_wire.specs.Shapes.{el_shape}
-use Rattle.plugin_wire.proofs.Each.{EachLeft}
+use Rattle.plugin_wire.proofs.ForCallers.{EachLeft}
 use Rattle.std.specs.Prelude.{reverse}
 use Rattle.plugin_side.proofs.read_delta.els_in.Given as goal
 
