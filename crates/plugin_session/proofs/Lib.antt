@@ -2,6 +2,7 @@ mod AloneLemmas
 mod AskingLemmas
 mod CallLemmas
 mod DoorLemmas
+pub mod ForCallers
 mod PortLemmas
 mod SessionLemmas
 mod ShortLemmas
