@@ -126,6 +126,37 @@ pub fn hire<
     }
 }
 
+/// A worker that gets no thread: pass and plugin come back untouched, as they do from [`hire`] where no thread can be started. Nothing waits
+/// here.
+pub fn turned_away<O: Object, P: Plugin, G: Gate, R: Wait>(
+    rt: &R,
+    alloc: Global,
+    room: &Room<O>,
+    pass: Pass,
+    plugin: P,
+    gate: &G,
+) -> Hired<O, P>
+    requires { MayWork O.fits O.legal room.now.table.shared.table_id room.now.table.shared.key.first.value pass }
+    ensures { result ≡ record { first = room.now.table.shared.key.first.value; pass = pass; plugin = plugin } }
+{
+    let given = Given {
+        room: Snapshot::of(room),
+        pass: Snapshot::of(&pass),
+        plugin: Snapshot::of(&plugin),
+    };
+    let stays = AtomicU64::new(1);
+    let handed = serve_unless(rt, alloc, &stays, room, pass, plugin, gate);
+    Hired {
+        given,
+        thread: Err(handed),
+    }
+}
+
+/// Whether the worker has a thread. Where it has none, [`finish`] waits for nobody.
+pub fn has_thread<O: Object, P: Plugin>(hired: &Hired<O, P>) -> bool {
+    hired.thread.is_ok()
+}
+
 /// What became of a worker, once its thread has ended: what it came to; or pass and plugin, where no thread was started.
 pub fn finish<O: Object, P: Plugin, R: Threads>(
     rt: &R,

@@ -23,7 +23,7 @@ pub use after::After;
 pub use alone::AloneDoor;
 pub use door::Door;
 pub use gated::GatedDoor;
-pub use hired::{Hired, finish, hire};
+pub use hired::{Hired, finish, has_thread, hire, turned_away};
 pub use noted::{Noted, NotedDoor};
 pub use plugin::{Plugin, Turn};
 pub use port::Port;

@@ -1,5 +1,4 @@
 ghost use Rattle.std.specs.Prelude.{◌≡◌};
-ghost use Rattle.plugin_session.specs.Seat.{IsUsable};
 
 use crate::after::After;
 use crate::door::Door;
@@ -27,10 +26,9 @@ impl<'a, O: Object, R> Model for RoomDoor<'a, O, R> {
 }
 
 impl<'a, O: Object, R: Wait> RoomDoor<'a, O, R> {
-    /// The door of a pass of the room, whose caller is one of plugins, which may ask what plugins ask; and what it has seen is a legal journal.
+    /// The door of a pass of the room.
     pub fn new(rt: &'a R, room: &'a Room<O>, pass: Pass) -> RoomDoor<'a, O, R>
         requires room { pass.room ≡ room.now.table.shared.table_id }
-        requires ready { IsUsable O.fits O.legal room.now.table.shared.key.first.value pass }
         ensures { result ≡ record { first = room.now.table.shared.key.first.value; pass = pass } }
     {
         RoomDoor { rt, room, pass }
