@@ -1,2 +1,3 @@
 pub mod OffsetLemmas
+pub mod GapLemmas
 pub mod ForCallers

@@ -34,7 +34,7 @@ long-append m xs ys = ap (long_by m) (lengths_sum.joined xs ys) ∙ long_by-toge
 
 -- ---- two cuts of one list
 
-prefix : (front : List ℕ) (c : ℕ) (shorter longer : List ℕ) (d : ℕ) → front ++ (c ∷ []) ≡ shorter ++ d ∷ longer → (more : List ℕ) × (front ≡ shorter ++ more)
+pub prefix : (front : List ℕ) (c : ℕ) (shorter longer : List ℕ) (d : ℕ) → front ++ (c ∷ []) ≡ shorter ++ d ∷ longer → (more : List ℕ) × (front ≡ shorter ++ more)
 prefix [] c [] longer d same = ([], refl)
 prefix [] c (x ∷ shorter) longer d same = absurd (omega (arith, ap length same, length-append shorter (d ∷ longer)))
 prefix (y ∷ front) c [] longer d same = (y ∷ front, refl)
@@ -44,7 +44,7 @@ prefix (y ∷ front) c (x ∷ shorter) longer d same =
     let below = prefix front c shorter longer d rest in
     (below.0, rw first (ap (λ xs. x ∷ xs) below.1))
 
-two_cuts : (a b f g : List ℕ) → a ++ b ≡ f ++ g → ((more : List ℕ) × (f ≡ a ++ more) × (b ≡ more ++ g)) ⊎ ((more : List ℕ) × (a ≡ f ++ more))
+pub two_cuts : (a b f g : List ℕ) → a ++ b ≡ f ++ g → ((more : List ℕ) × (f ≡ a ++ more) × (b ≡ more ++ g)) ⊎ ((more : List ℕ) × (a ≡ f ++ more))
 two_cuts [] b f g same = inl (f, refl, same)
 two_cuts (x ∷ a) b [] g same = inr (x ∷ a, refl)
 two_cuts (x ∷ a) b (y ∷ f) g same =
@@ -249,7 +249,7 @@ module _ (own : List ℕ) (plain : byte_len own ≡ length own) where
   plain-front seen rest cut =
       omega (arith, plain, ap byte_len cut, ap length cut, long-append Bytes seen rest, length-append seen rest, length-short seen, length-short rest)
 
-  plain-long : (m : Measure) → is_plain m ≡ true → (seen rest : List ℕ) → own ≡ seen ++ rest → long m seen ≡ length seen
+  pub plain-long : (m : Measure) → is_plain m ≡ true → (seen rest : List ℕ) → own ≡ seen ++ rest → long m seen ≡ length seen
   plain-long Chars is seen rest cut = refl
   plain-long Bytes is seen rest cut = plain-front seen rest cut
   plain-long Utf16 is seen rest cut = absurd cc

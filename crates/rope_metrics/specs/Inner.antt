@@ -1,5 +1,5 @@
 -- What private functions say: a leaf on the way to an offset, and an offset in a leaf.
-use Rattle.std.specs.Prelude.{◌≡◌, ◌≢◌, ℕ, ◌+◌, ◌<◌, ◌≤◌, IsTrue, List, ◌∷◌, ◌++◌}
+use Rattle.std.specs.Prelude.{◌≡◌, ◌≢◌, ℕ, ◌+◌, ◌<◌, ◌≤◌, IsTrue, List, [], ◌∷◌, ◌++◌, length}
 use Rattle.rope_metrics.specs.declared.measure.Measure.{Measure}
 use Rattle.rope_metrics.specs.Measure.{long, long_by}
 use Rattle.rope_node.specs.declared.lengths.Lengths.{Lengths}
@@ -27,3 +27,13 @@ pub record IsConvertedIn (from to : Measure) (before : Lengths) (own : List ℕ)
 -- no gap of the leaf has this offset
 abbrev pub HasNoneIn : Measure → Lengths → List ℕ → ℕ → Type 0
 HasNoneIn measure before own at = (seen rest : List ℕ) → own ≡ seen ++ rest → long_by measure before + long measure seen ≢ at
+
+-- the greatest gap of a leaf whose offset is at most `at`, where `before` are the lengths of all before the leaf, which goes on behind it
+pub record IsGapWithinIn (measure : Measure) (before : Lengths) (own : List ℕ) (at gap : ℕ) : Type 0 where
+  pub seen : List ℕ
+  pub next : ℕ
+  pub rest : List ℕ
+  pub cut : own ≡ seen ++ next ∷ rest
+  pub is : gap ≡ before.chars + length seen
+  pub within : long_by measure before + long measure seen ≤ at
+  pub past : at < long_by measure before + long measure (seen ++ next ∷ [])

@@ -1,5 +1,5 @@
 -- How long a text is in a measure, and the front of a text that an offset ends.
-use Rattle.std.specs.Prelude.{◌≡◌, ◌≢◌, ℕ, ◌<◌, Bool, true, false, List, ◌∷◌, ◌++◌, refl}
+use Rattle.std.specs.Prelude.{◌≡◌, ◌≢◌, ℕ, ◌<◌, ◌≤◌, Bool, true, false, List, ◌∷◌, ◌++◌, length, refl}
 use Rattle.rope_metrics.specs.declared.measure.Measure.{Measure}
 use Rattle.rope_metrics.specs.declared.measure.Measure.TheVariants.{Chars, Bytes, Utf16, Lines}
 use Rattle.rope_node.specs.declared.lengths.Lengths.{Lengths}
@@ -45,3 +45,13 @@ pub record IsConverted (from to : Measure) (text : List ℕ) (at offset : ℕ) :
 -- no gap of the text has this offset
 abbrev pub HasNone : Measure → List ℕ → ℕ → Type 0
 HasNone measure text at = (front back : List ℕ) → text ≡ front ++ back → long measure front ≢ at
+
+-- THE GREATEST GAP of the text whose offset in this measure is at most `at`: the front up to it is no longer than that, and so is none that
+-- ends behind it
+pub record IsGapWithin (measure : Measure) (text : List ℕ) (at gap : ℕ) : Type 0 where
+  pub front : List ℕ
+  pub back : List ℕ
+  pub cut : text ≡ front ++ back
+  pub is : gap ≡ length front
+  pub within : long measure front ≤ at
+  pub greatest : (other rest : List ℕ) → text ≡ other ++ rest → long measure other ≤ at → length other ≤ gap

@@ -1,10 +1,13 @@
-//! Offsets of a rope in each unit: how long a node's text is, and where one offset stands in another unit, in the time of the height.
+//! Offsets of a rope in each unit: how long a node's text is, where one offset stands in another unit, and the greatest gap within an
+//! offset, in the time of the height.
 //!
 //! To a contract an offset of a measure is a cut of the text in two: its front is as long as the offset says.
 #![tactic(auto)]
 
+mod gap;
 mod measure;
 mod offset;
 
+pub use gap::gap_within;
 pub use measure::Measure;
 pub use offset::{convert, total};

@@ -43,7 +43,7 @@ pub fn convert<L: Ledger>(
 }
 
 /// The leaf in which the measure passes `at`, and the lengths of all before it.
-fn chunk_at<'a, L: Ledger>(
+pub(crate) fn chunk_at<'a, L: Ledger>(
     node: &'a Node,
     from: Measure,
     at: u64,
@@ -86,7 +86,7 @@ fn in_chunk(chunk: &Chunk, from: Measure, to: Measure, at: u64, before: &Lengths
 }
 
 /// Whether each character takes one byte.
-fn is_plain(chunk: &Chunk) -> bool
+pub(crate) fn is_plain(chunk: &Chunk) -> bool
     ensures { IsTrue result → byte_len chunk.now ≡ length chunk.now }
 {
     chunk.text().byte_len() == chunk.len()
