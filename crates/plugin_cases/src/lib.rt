@@ -5,6 +5,8 @@
 #[cfg(test)]
 mod board;
 #[cfg(test)]
+mod linked;
+#[cfg(test)]
 mod made;
 #[cfg(test)]
 mod player;

@@ -82,7 +82,7 @@ fn visits<D: Door, P: Plugin>(
 }
 
 // What came of the visits, and what went through the door.
-fn played<P: Plugin>(
+pub(crate) fn played<P: Plugin>(
     alloc: Global,
     looks: &str,
     most: usize,
@@ -97,7 +97,7 @@ fn played<P: Plugin>(
     Ok(told)
 }
 
-fn is(made: Result<Text, NoMemory>, expected: &str) -> bool {
+pub(crate) fn is(made: Result<Text, NoMemory>, expected: &str) -> bool {
     match made {
         Ok(text) => text.as_str() == expected,
         Err(_) => false,
