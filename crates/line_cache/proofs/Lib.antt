@@ -1,7 +1,10 @@
 mod RangeLemmas
 mod StepLemmas
 mod StayLemmas
+mod AheadLemmas
 mod PlanLemmas
+mod TurnLemmas
+mod FewLemmas
 mod TakenLemmas
 mod LawLemmas
 mod OpsLemmas

@@ -18,12 +18,12 @@ use Rattle.line_cache.proofs.RangeLemmas.{map-range, map-replicate, range-parts}
 -- ---- lines that stand alike
 
 -- the rule, by what it asks
-stand_by : Bool → Bool → Bool → Option (ℕ × Bool) → Standing
+unfoldable pub stand_by : Bool → Bool → Bool → Option (ℕ × Bool) → Standing
 stand_by near within asked None = cond (within || asked) is_sent is_left
 stand_by near within asked (Some (old, true)) = cond (near || asked) (stays old) (cond (within || asked) is_sent is_left)
 stand_by near within asked (Some (old, false)) = cond (within || asked) (is_restyled old) (cond (within || asked) is_sent is_left)
 
-stand-is : (window request : Run) (index : ℕ) (partner : Option (ℕ × Bool)) →
+pub stand-is : (window request : Run) (index : ℕ) (partner : Option (ℕ × Bool)) →
     standing window request index partner ≡ stand_by (is_near window index) (is_within window index) (is_within request index) partner
 unfolding stand_by
 stand-is window request index None = refl

@@ -112,7 +112,7 @@ partner-bounds low new count total (stay ∷ runs) index old same are is =
     (omega arith, omega arith, rest.2))
     (partner-cases stay runs index old same is)
 
-partner-rises : (low new count total : ℕ) (runs : List Stay) (index other old next : ℕ) (same alike : Bool) → AreStaysFrom low new count total runs →
+pub partner-rises : (low new count total : ℕ) (runs : List Stay) (index other old next : ℕ) (same alike : Bool) → AreStaysFrom low new count total runs →
     index < other → partner_by runs index ≡ Some (old, same) → partner_by runs other ≡ Some (next, alike) → old < next
 partner-rises low new count total [] index other old next same alike are lt is too = let broken = is in cc
 partner-rises low new count total (stay ∷ runs) index other old next same alike are lt is too =

@@ -1,4 +1,5 @@
 pub mod Mirror
+pub mod Runs
 pub mod Stays
 pub mod Ahead
 pub mod Ops

@@ -9,6 +9,7 @@
 mod edges;
 pub mod laws;
 mod mirror;
+mod old_lines;
 mod partner;
 mod plan;
 mod stay;

@@ -1,5 +1,6 @@
-ghost use Rattle.std.specs.Prelude.{◌≡◌, ◌^◌, ◌<◌, [], length, IfOk};
+ghost use Rattle.std.specs.Prelude.{◌≡◌, ◌+◌, ◌*◌, ◌^◌, ◌<◌, ◌≤◌, [], length, IfOk};
 ghost use Rattle.subset_runs.specs.Subset.{contains};
+ghost use Rattle.line_cache.specs.Runs.{run_count};
 ghost use Rattle.line_cache.specs.Stays.{AreStays, partners_by, valid_by};
 ghost use Rattle.line_cache.specs.Standings.{standings};
 ghost use Rattle.line_cache.specs.Steps.{AreLongest, ArePlacedFrom, TakesFrom, lines_in, shown_by, standings_of};
@@ -58,7 +59,7 @@ impl Mirror {
 
     /// What becomes of the lines of a layout of `total` lines, for the window and the lines requested. Want of memory is its only error.
     ///
-    /// It takes the time of the lines that stay, as runs, and for each step of the plan that of the runs of this mirror.
+    /// One walk over the lines that stay, as runs, over the runs of this mirror and over the steps.
     pub fn plan(
         &self,
         alloc: Global,
@@ -73,6 +74,7 @@ impl Mirror {
         ensures longest { IfOk result AreLongest }
         ensures placed { IfOk result (ArePlacedFrom 0) }
         ensures olds { IfOk result (TakesFrom 0 (length self.now)) }
+        ensures few { IfOk result (λ plan. length plan ≤ 2 * (run_count self.now + length stay.now) + 5) }
     {
         match &self.lines {
             None => planned(alloc, &Subset::none(alloc, 0), stay, total, window, request),
@@ -83,7 +85,8 @@ impl Mirror {
     /// The screen after a plan, in the time of its steps.
     pub fn after(&self, alloc: Global, plan: &Plan) -> Result<Mirror, NoMemory>
         requires { lines_in plan.now < 2 ^ 64 }
-        ensures { IfOk result (λ mirror. mirror ≡ shown_by plan.now) }
+        ensures shown { IfOk result (λ mirror. mirror ≡ shown_by plan.now) }
+        ensures few { IfOk result (λ mirror. run_count mirror ≤ length plan.now) }
     {
         let mut lines = Subset::none(alloc, 0);
         for step in plan.as_slice() {

@@ -1,10 +1,9 @@
-ghost use Rattle.std.specs.Prelude.{◌≡◌, ℕ, ◌+◌, ◌-◌, ◌^◌, ◌<◌, ◌≤◌, cond, length, Some, None};
-ghost use Rattle.subset_runs.specs.Subset.{contains};
+ghost use Rattle.std.specs.Prelude.{◌≡◌, ◌⊎◌, ℕ, ◌+◌, ◌-◌, ◌^◌, ◌<◌, ◌≤◌, List, Bool, cond, length, Some, None};
 ghost use Rattle.line_cache.specs.Stays.{AreStays, if_true, partner_by};
-ghost use Rattle.line_cache.specs.Ahead.{EndsPast, FitsNumbers, moved_by};
+ghost use Rattle.line_cache.specs.Ahead.{EndsPast, FitsNumbers, IsAheadOf, IsLeftOf, moved_by};
 
+use crate::old_lines::OldLines;
 use crate::stay::Stay;
-use subset_runs::{Stretch, Subset};
 
 /// The partner of a line, where it has one that is valid, and how many lines from there on go on so, one after the other.
 #[derive(Clone, Copy)]
@@ -14,14 +13,19 @@ pub(crate) struct Part {
 }
 
 /// The partners of the first of `most` lines, the first of which has the index `at`.
-pub(crate) fn partner_from(lines: &Subset, stays: &[Stay], at: u64, most: u64) -> Part
+pub(crate) fn partner_from(lines: &mut OldLines<'_>, stays: &[Stay], at: u64, most: u64) -> Part
     requires some { 0 < most }
     requires room { at + most < 2 ^ 64 }
-    requires partners { AreStays (length lines.now) (at + most) stays.now }
+    requires fits { lines.old.done + length lines.old.truths < 2 ^ 64 }
+    requires partners { AreStays (lines.old.done + length lines.old.truths) (at + most) stays.now }
     requires ahead { EndsPast at stays.now }
+    requires behind { IsAheadOf stays.now at lines.old.done }
     ensures some { 0 < result.n }
     ensures within { result.n ≤ most }
-    ensures partners { (k : ℕ) → k < result.n → if_true lines.now (partner_by stays.now (at + k)) ≡ moved_by k result.partner }
+    ensures left { (all : List Bool) → IsLeftOf all lines.old → IsLeftOf all lines.new }
+    ensures done { (lines.new.done ≡ lines.old.done) ⊎ ((same : Bool) × (partner_by stays.now at ≡ Some (lines.new.done, same))) }
+    ensures partners { (all : List Bool) → IsLeftOf all lines.old →
+        (k : ℕ) → k < result.n → if_true all (partner_by stays.now (at + k)) ≡ moved_by k result.partner }
 {
     match stays.first() {
         None => Part {
@@ -33,17 +37,21 @@ pub(crate) fn partner_from(lines: &Subset, stays: &[Stay], at: u64, most: u64) -
 }
 
 /// The same, where the line stands before the end of this run.
-fn partner_in(lines: &Subset, stay: Stay, at: u64, most: u64) -> Part
+fn partner_in(lines: &mut OldLines<'_>, stay: Stay, at: u64, most: u64) -> Part
     requires some { 0 < most }
     requires ahead { at < stay.new + stay.n }
-    requires old { stay.old + stay.n ≤ length lines.now }
+    requires behind { stay.new ≤ at → lines.old.done ≤ stay.old + (at - stay.new) }
+    requires old { stay.old + stay.n ≤ lines.old.done + length lines.old.truths }
     requires new { stay.new + stay.n ≤ at + most }
     requires room { at + most < 2 ^ 64 }
+    requires fits { lines.old.done + length lines.old.truths < 2 ^ 64 }
     ensures some { 0 < result.n }
     ensures within { result.n ≤ most }
-    ensures before { at < stay.new → (result.partner ≡ None) × (at + result.n ≤ stay.new) }
-    ensures inside { stay.new ≤ at → (at + result.n ≤ stay.new + stay.n)
-        × ((k : ℕ) → k < result.n → if_true lines.now (Some (stay.old + (at - stay.new) + k, stay.same)) ≡ moved_by k result.partner) }
+    ensures left { (all : List Bool) → IsLeftOf all lines.old → IsLeftOf all lines.new }
+    ensures before { at < stay.new → (result.partner ≡ None) × (at + result.n ≤ stay.new) × (lines.new.done ≡ lines.old.done) }
+    ensures inside { stay.new ≤ at → (at + result.n ≤ stay.new + stay.n) × (lines.new.done ≡ stay.old + (at - stay.new)) }
+    ensures partners { (all : List Bool) → IsLeftOf all lines.old → stay.new ≤ at →
+        (k : ℕ) → k < result.n → if_true all (Some (stay.old + (at - stay.new) + k, stay.same)) ≡ moved_by k result.partner }
 {
     if at < stay.new {
         return Part {
@@ -51,9 +59,8 @@ fn partner_in(lines: &Subset, stay: Stay, at: u64, most: u64) -> Part
             partner: None,
         };
     }
-    let _old_lines = lines.len();
     let old = stay.old + (at - stay.new);
-    let front = stretch_from(lines, old);
+    let front = lines.stretch_from(old);
     Part {
         n: front.len.min(stay.new + stay.n - at),
         partner: if_member(front.member, old, stay.same),
@@ -64,17 +71,6 @@ fn if_member(member: bool, old: u64, same: bool) -> Option<(u64, bool)>
     ensures { result ≡ cond member (Some (old, same)) None }
 {
     if member { Some((old, same)) } else { None }
-}
-
-/// The old lines from one on that are all valid, or all not.
-fn stretch_from(lines: &Subset, old: u64) -> Stretch
-    requires { old < length lines.now }
-    ensures some { 0 < result.len }
-    ensures same { (k : ℕ) → k < result.len → contains lines.now (old + k) ≡ result.member }
-{
-    let mut walk = lines.walk();
-    walk.skip(old);
-    walk.front()
 }
 
 /// The runs that end behind a line.

@@ -1,13 +1,15 @@
-ghost use Rattle.std.specs.Prelude.{◌≡◌, ℕ, ◌+◌, ◌^◌, ◌<◌, ◌≤◌, length, map, Bool, Option, IfOk};
+ghost use Rattle.std.specs.Prelude.{◌≡◌, ℕ, ◌+◌, ◌*◌, ◌^◌, ◌<◌, ◌≤◌, length, map, Bool, Option, IfOk};
 ghost use Rattle.std.specs.List.{range_with_len};
 ghost use Rattle.plain_screen.specs.Plan.{standing};
 ghost use Rattle.line_cache.specs.Ahead.{moved_by};
+ghost use Rattle.line_cache.specs.Runs.{run_count};
 ghost use Rattle.line_cache.specs.Inner.{kept_step, restyled_step, sent_step};
 ghost use Rattle.line_cache.specs.Stays.{AreStays, if_true, partner_by, partners_by, valid_by};
 ghost use Rattle.line_cache.specs.Standings.{standings};
 ghost use Rattle.line_cache.specs.Steps.{AreLongest, ArePlacedFrom, IsPlacedAt, TakesFrom, lines_in, lines_of, standings_in, standings_of};
 
 use crate::edges::{alike, is_kept, is_shown};
+use crate::old_lines::OldLines;
 use crate::partner::{Part, partner_from, rest_past};
 use crate::stay::Stay;
 use crate::step::{Plan, Step, put};
@@ -30,13 +32,15 @@ pub(crate) fn planned(
     ensures longest { IfOk result AreLongest }
     ensures placed { IfOk result (ArePlacedFrom 0) }
     ensures olds { IfOk result (TakesFrom 0 (length lines.now)) }
+    ensures few { IfOk result (λ plan. length plan ≤ 2 * (run_count lines.now + length stays.now) + 5) }
 {
     let mut plan = Plan::new(alloc);
+    let mut ahead = OldLines::new(lines);
     let mut rest = stays;
     let mut at = 0;
     while at < total {
         rest = rest_past(rest, at);
-        let part = partner_from(lines, rest, at, total - at);
+        let part = partner_from(&mut ahead, rest, at, total - at);
         let step = step_at(window, request, at, part);
         put(&mut plan, step)?;
         at += step.lines();
