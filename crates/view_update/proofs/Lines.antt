@@ -4,6 +4,7 @@ use Rattle.std.specs.Str.{all_scalars, bytes_eq}
 use Rattle.std.proofs.lemmas.Bool.{false≢true}
 use Rattle.std.proofs.lemmas.Slice.Eq.{bytes_eq-Decides}
 use Rattle.xi_plain.specs.declared.command.Id.{Id}
+use Rattle.plain_edits.specs.declared.style.Style.{Style}
 use Rattle.plain_screen.specs.declared.screen.Update.{Update}
 use Rattle.serde_json.specs.Data.{Data, object, no_members}
 use Rattle.json_rpc.specs.Line.{line_of, IsLineOf}
@@ -12,12 +13,12 @@ use Rattle.json_rpc.specs.Response.{note_data, reply_data, error_data}
 use Rattle.json_rpc.proofs.ForCallers.{IsLineOf-line_of}
 use Rattle.json_rpc.proofs.ForCallers.{line_request-note}
 use Rattle.view_update.specs.Written.{update_params, update_data}
-use Rattle.view_update.specs.Reading.{as_chars, member_as, note_params, read_params, read_scroll, line_update, line_scroll, line_alert}
+use Rattle.view_update.specs.Reading.{as_chars, member_as, note_params, read_params, read_scroll, read_style, line_update, line_scroll, line_alert, line_style}
 use Rattle.view_update.specs.Fair.{IsFairUpdate}
-use Rattle.view_update.specs.Notes.{scroll_params, scroll_data, alert_params, alert_data}
-use Rattle.view_update.specs.Laws.{UpdatesReadBack, UpdatesAreRead, ScrollsReadBack, AlertsReadBack, OthersAreNoUpdates}
-use Rattle.view_update.proofs.Plain.{ArePlain-none, IsPlain, IsPlain-object, IsPlain-update_params, IsPlain-scroll_params, IsPlain-alert_params, IsPlain-note_data}
-use Rattle.view_update.proofs.ReadBack.{as_chars-text_data, read_params-update_params, read_scroll-scroll_params}
+use Rattle.view_update.specs.Notes.{scroll_params, scroll_data, alert_params, alert_data, style_params, style_data}
+use Rattle.view_update.specs.Laws.{UpdatesReadBack, UpdatesAreRead, ScrollsReadBack, AlertsReadBack, StylesReadBack, OthersAreNoUpdates}
+use Rattle.view_update.proofs.Plain.{ArePlain-none, IsPlain, IsPlain-object, IsPlain-update_params, IsPlain-scroll_params, IsPlain-alert_params, IsPlain-style_params, IsPlain-note_data}
+use Rattle.view_update.proofs.ReadBack.{as_chars-text_data, read_params-update_params, read_scroll-scroll_params, read_style-style_params}
 
 -- the line of a value that nests at most 127 deep
 IsLineOf-plain : (d : Data) (n : ℕ) → n ≤ 127 → IsPlain n d → IsLineOf d (line_of d)
@@ -62,6 +63,12 @@ unfolding line_alert
 line_alert-alert_data message line is h =
     ap (option_and_then (member_as as_chars (codes "msg"))) (note_params-note (codes "alert") (alert_params message) line is refl) ∙ as_chars-text_data message h
 
+pub line_style-style_data : (id : ℕ) (style : Style) (line : List ℕ) → IsLineOf (style_data id style) line
+    → line_style line ≡ Some (record { id = id; style = style })
+unfolding line_style
+line_style-style_data id style line is =
+    ap (option_and_then read_style) (note_params-note (codes "def_style") (style_params id style) line is refl) ∙ read_style-style_params id style
+
 -- ---- the line of each note
 
 pub updates_read_back : UpdatesReadBack
@@ -82,6 +89,11 @@ pub alerts_read_back : AlertsReadBack
 alerts_read_back message h =
     let is : IsLineOf (alert_data message) (line_of (alert_data message)) = IsLineOf-note (codes "alert") _ 1 (omega arith) refl (IsPlain-alert_params message h) in
     (is, line_alert-alert_data message _ is h)
+
+pub styles_read_back : StylesReadBack
+styles_read_back id style h k =
+    let is : IsLineOf (style_data id style) (line_of (style_data id style)) = IsLineOf-note (codes "def_style") _ 1 (omega arith) refl (IsPlain-style_params id style h k) in
+    (is, line_style-style_data id style _ is)
 
 -- ---- no other line is an update
 
@@ -122,4 +134,5 @@ others_are_no_updates = record {
   note = line_update-other;
   scroll = λ view at col line is. line_update-other (codes "scroll_to") (scroll_params view at col) line is refl (method≢update (codes "scroll_to") refl);
   alert = λ message line is. line_update-other (codes "alert") (alert_params message) line is refl (method≢update (codes "alert") refl);
+  style = λ id style line is. line_update-other (codes "def_style") (style_params id style) line is refl (method≢update (codes "def_style") refl);
 }

@@ -1,23 +1,27 @@
 -- The values of an update are proper, have no float and nest a few levels deep.
-use Rattle.std.proofs.Common.{◌≡◌, ℕ, ◌+◌, ◌-◌, ◌≤◌, ◌^◌, ◌||◌, pos, negsuc, ◌≤ℤ◌, ℤ, List, [], ◌∷◌, map, length, Bool, true, false, Option, Some, None, IsUtf8, codes, refl, arith}
+use Rattle.std.proofs.Common.{◌≡◌, ℕ, ◌+◌, ◌-◌, ◌≤◌, ◌^◌, ◌||◌, pos, negsuc, ◌≤ℤ◌, ℤ, List, [], ◌∷◌, map, length, Bool, true, false, Option, Some, None, option_map, IsUtf8, codes, refl, arith}
 use Rattle.std.specs.List.{AllByRecursion}
 use Rattle.std.specs.Str.{all_scalars}
 use Rattle.std.proofs.lemmas.Int.{ints}
 use Rattle.json.proofs.Printed.Utf8.{IsUtf8-are_ascii}
+use Rattle.std.specs.Ordering.{nat_cmp}
+use Rattle.std.specs.Cmp.Lexicographic.{slice_cmp}
+use Rattle.std.specs.declared.cmp.Ordering.TheVariants.{Less}
+use Rattle.plain_edits.specs.declared.style.Style.{Style}
 use Rattle.plain_screen.specs.declared.screen.Triple.{Triple}
 use Rattle.plain_screen.specs.declared.screen.Line.{Line}
 use Rattle.plain_screen.specs.declared.screen.Restyle.{Restyle}
 use Rattle.plain_screen.specs.declared.screen.Op.{Op}
 use Rattle.plain_screen.specs.declared.screen.Op.TheVariants.{Copy, Skip, Invalidate, Ins, Update as Restyling}
 use Rattle.plain_screen.specs.declared.screen.Update.{Update}
-use Rattle.serde_json.specs.Data.{Data, number, object, Members, no_members, member, depth, members_depth}
+use Rattle.serde_json.specs.Data.{Data, boolean, number, object, Members, no_members, member, depth, members_depth}
 use Rattle.serde_json.specs.Find.{of_integer}
 use Rattle.serde_json.specs.Written.{has_float, members_have_float}
 use Rattle.json_rpc.specs.Proper.{IsProper, HasProper, IsBelow}
 use Rattle.json_rpc.specs.Response.{text_data, note_data}
-use Rattle.view_update.specs.Written.{count_data, list_data, triple_items, after_ln, line_data, restyle_data, op_members, op_data, ops_data, update_params}
-use Rattle.view_update.specs.Fair.{IsCount, IsLn, IsFairTriple, IsFairLine, IsFairRestyle, IsFairOp, IsFairUpdate}
-use Rattle.view_update.specs.Notes.{scroll_params, alert_params}
+use Rattle.view_update.specs.Written.{count_data, list_data, triple_items, after_member, after_ln, line_data, restyle_data, op_members, op_data, ops_data, update_params}
+use Rattle.view_update.specs.Fair.{IsCount, IsLn, IsFairTriple, IsFairLine, IsFairRestyle, IsFairOp, IsFairStyle, IsFairUpdate}
+use Rattle.view_update.specs.Notes.{scroll_params, alert_params, style_params}
 
 -- a proper value with no float, nested at most n deep
 pub record IsPlain (n : ℕ) (d : Data) : Type 0 where
@@ -157,6 +161,78 @@ IsPlain-scroll_params view line col name h k =
 pub IsPlain-alert_params : (message : List ℕ) → all_scalars message ≡ true → IsPlain 1 (alert_params message)
 IsPlain-alert_params message h =
     IsPlain-object 0 _ (ArePlain-member 0 (codes "msg") _ _ (IsUtf8-are_ascii _ refl) tt (IsPlain-text 0 message h) (ArePlain-none 0))
+
+-- a name that is below one more, and below those after it
+pub IsBelow-after_member : (key name : List ℕ) (value : Option Data) (ms : Members) → slice_cmp nat_cmp key name ≡ Less → IsBelow key ms → IsBelow key (after_member name value ms)
+IsBelow-after_member key name None ms less below = below
+IsBelow-after_member key name (Some d) ms less below = (less, below)
+
+ArePlain-count : (n : ℕ) (name : List ℕ) (k : Option ℕ) (ms : Members) → IsUtf8 name → IsLn k → IsBelow name ms → ArePlain n ms
+    → ArePlain n (after_member name (option_map count_data k) ms)
+ArePlain-count n name None ms utf8 h below all = all
+ArePlain-count n name (Some k) ms utf8 h below all = ArePlain-member n name _ ms utf8 below (IsPlain-count n k h) all
+
+ArePlain-truth : (n : ℕ) (name : List ℕ) (b : Option Bool) (ms : Members) → IsUtf8 name → IsBelow name ms → ArePlain n ms
+    → ArePlain n (after_member name (option_map boolean b) ms)
+ArePlain-truth n name None ms utf8 below all = all
+ArePlain-truth n name (Some b) ms utf8 below all = ArePlain-member n name _ ms utf8 below (record { proper = tt; whole = refl; shallow = omega arith }) all
+
+-- the members of a style from each of its names on
+abbrev pub from_weight : Style → Members
+from_weight style = after_member (codes "weight") (option_map count_data style.weight) no_members
+
+abbrev pub from_underline : Style → Members
+from_underline style = after_member (codes "underline") (option_map boolean style.underline) (from_weight style)
+
+abbrev pub from_italic : Style → Members
+from_italic style = after_member (codes "italic") (option_map boolean style.italic) (from_underline style)
+
+abbrev pub from_id : ℕ → Style → Members
+from_id id style = member (codes "id") (count_data id) (from_italic style)
+
+abbrev pub from_fg : ℕ → Style → Members
+from_fg id style = after_member (codes "fg_color") (option_map count_data style.fg_color) (from_id id style)
+
+-- a name that is below each of them is below all that follow it
+below_weight : (name : List ℕ) (style : Style) → slice_cmp nat_cmp name (codes "weight") ≡ Less → IsBelow name (from_weight style)
+below_weight name style less = IsBelow-after_member name (codes "weight") (option_map count_data style.weight) no_members less tt
+
+pub below_underline : (style : Style) → IsBelow (codes "underline") (from_weight style)
+below_underline style = below_weight (codes "underline") style refl
+
+past_italic : (name : List ℕ) (style : Style) → slice_cmp nat_cmp name (codes "underline") ≡ Less → slice_cmp nat_cmp name (codes "weight") ≡ Less
+    → IsBelow name (from_underline style)
+past_italic name style less least =
+    IsBelow-after_member name (codes "underline") (option_map boolean style.underline) (from_weight style) less (below_weight name style least)
+
+pub below_italic : (style : Style) → IsBelow (codes "italic") (from_underline style)
+below_italic style = past_italic (codes "italic") style refl refl
+
+past_id : (name : List ℕ) (style : Style) → slice_cmp nat_cmp name (codes "italic") ≡ Less → slice_cmp nat_cmp name (codes "underline") ≡ Less
+    → slice_cmp nat_cmp name (codes "weight") ≡ Less → IsBelow name (from_italic style)
+past_id name style first second third =
+    IsBelow-after_member name (codes "italic") (option_map boolean style.italic) (from_underline style) first (past_italic name style second third)
+
+pub below_id : (style : Style) → IsBelow (codes "id") (from_italic style)
+below_id style = past_id (codes "id") style refl refl refl
+
+pub below_fg : (id : ℕ) (style : Style) → IsBelow (codes "fg_color") (from_id id style)
+below_fg id style = (refl, past_id (codes "fg_color") style refl refl refl)
+
+pub below_bg : (id : ℕ) (style : Style) → IsBelow (codes "bg_color") (from_fg id style)
+below_bg id style =
+    IsBelow-after_member (codes "bg_color") (codes "fg_color") (option_map count_data style.fg_color) (from_id id style) refl
+    (refl, past_id (codes "bg_color") style refl refl refl)
+
+pub IsPlain-style_params : (id : ℕ) (style : Style) → IsCount id → IsFairStyle style → IsPlain 1 (style_params id style)
+IsPlain-style_params id style h k =
+    IsPlain-object 0 _
+    (ArePlain-count 0 (codes "bg_color") style.bg_color (from_fg id style) (IsUtf8-are_ascii _ refl) k.bg_color (below_bg id style)
+    (ArePlain-count 0 (codes "fg_color") style.fg_color (from_id id style) (IsUtf8-are_ascii _ refl) k.fg_color (below_fg id style)
+    (ArePlain-member 0 (codes "id") _ (from_italic style) (IsUtf8-are_ascii _ refl) (below_id style) (IsPlain-count 0 id h)
+    (ArePlain-truth 0 (codes "italic") style.italic (from_underline style) (IsUtf8-are_ascii _ refl) (below_italic style)
+    (ArePlain-truth 0 (codes "underline") style.underline (from_weight style) (IsUtf8-are_ascii _ refl) (below_underline style)
+    (ArePlain-count 0 (codes "weight") style.weight no_members (IsUtf8-are_ascii _ refl) k.weight tt (ArePlain-none 0)))))))
 
 pub IsPlain-note_data : (n : ℕ) (method : List ℕ) (params : Data) → all_scalars method ≡ true → IsPlain n params → IsPlain (n + 1) (note_data method params)
 IsPlain-note_data n method params name h =

@@ -1,23 +1,26 @@
 -- What the values of an update are to their reader.
-use Rattle.std.proofs.Common.{◌≡◌, ℕ, ◌-◌, ◌<◌, ◌^◌, pos, negsuc, ◌≤ℤ◌, ℤ, List, [], ◌∷◌, map, length, true, cond, Option, Some, None, option_map, option_and_then, refl, ap, ◌∙◌, arith}
+use Rattle.std.proofs.Common.{◌≡◌, ℕ, ◌-◌, ◌<◌, ◌^◌, pos, negsuc, ◌≤ℤ◌, ℤ, List, [], ◌∷◌, map, length, Bool, true, cond, Option, Some, None, option_map, option_and_then, codes, refl, ap, ◌∙◌, arith}
 use Rattle.std.specs.List.{AllByRecursion}
 use Rattle.std.specs.Str.{all_scalars}
 use Rattle.std.proofs.lemmas.Bool.{lt-ltb, eq-eqb}
 use Rattle.std.proofs.lemmas.Str.{chars-encodes}
 use Rattle.std.proofs.lemmas.Int.{ints}
+use Rattle.plain_edits.specs.declared.style.Style.{Style}
 use Rattle.plain_screen.specs.declared.screen.Triple.{Triple}
 use Rattle.plain_screen.specs.declared.screen.Line.{Line}
 use Rattle.plain_screen.specs.declared.screen.Restyle.{Restyle}
 use Rattle.plain_screen.specs.declared.screen.Op.{Op}
 use Rattle.plain_screen.specs.declared.screen.Op.TheVariants.{Copy, Skip, Invalidate, Ins, Update as Restyling}
 use Rattle.plain_screen.specs.declared.screen.Update.{Update}
-use Rattle.serde_json.specs.Data.{Data, number}
-use Rattle.serde_json.specs.Find.{of_integer}
+use Rattle.serde_json.specs.Data.{Data, boolean, number, Members, no_members, member}
+use Rattle.serde_json.specs.Find.{get_member, as_bool, of_integer}
 use Rattle.serde_json.specs.View.{items_of}
+use Rattle.json_rpc.specs.Proper.{IsBelow}
 use Rattle.json_rpc.specs.Response.{text_data}
-use Rattle.view_update.specs.Written.{count_data, triple_items, line_data, restyle_data, op_data, ops_data, update_params}
-use Rattle.view_update.specs.Reading.{as_count, as_offset, as_chars, each_as, triple_from, triples_of, line_from, read_line_data, restyle_from, read_restyle_data, ins_from, restyling_from, read_op, update_from, read_update, view_update_from, read_params, scroll_from, read_scroll}
-use Rattle.view_update.specs.Notes.{scroll_params}
+use Rattle.view_update.specs.Written.{count_data, after_member, triple_items, line_data, restyle_data, op_data, ops_data, update_params}
+use Rattle.view_update.specs.Reading.{as_count, as_offset, as_chars, if_present, each_as, triple_from, triples_of, line_from, read_line_data, restyle_from, read_restyle_data, ins_from, restyling_from, read_op, update_from, read_update, view_update_from, read_params, scroll_from, read_scroll, style_from, read_style}
+use Rattle.view_update.specs.Notes.{scroll_params, style_params}
+use Rattle.view_update.proofs.Plain.{from_weight, from_underline, from_id, from_fg, below_underline, below_italic, below_fg, below_bg}
 use Rattle.view_update.specs.Fair.{IsCount, IsFairTriple, IsFairLine, IsFairRestyle, IsFairOp, IsFairUpdate}
 
 pub as_chars-text_data : (text : List ℕ) → all_scalars text ≡ true → as_chars (text_data text) ≡ Some text
@@ -97,3 +100,69 @@ read_params-update_params view update h =
 
 pub read_scroll-scroll_params : (view : List ℕ) (line col : ℕ) → all_scalars view ≡ true → read_scroll (scroll_params view line col) ≡ Some (record { view = view; line = line; col = col })
 read_scroll-scroll_params view line col h = ap (λ v. scroll_from v (Some line) (Some col)) (as_chars-text_data view h)
+
+-- ---- a style
+
+-- a name that is below all others is not among them
+get_member-below : (key : List ℕ) (ms : Members) → IsBelow key ms → get_member key ms ≡ None
+get_member-below key no_members below = refl
+get_member-below key (member k d ms) below = rw below.0 (get_member-below key ms below.1)
+
+-- what stands first is found, and what has another name is passed over
+get_first : (name : List ℕ) (value : Option Data) (ms : Members) → ((d : Data) → get_member name (member name d ms) ≡ Some d) → IsBelow name ms
+    → get_member name (after_member name value ms) ≡ value
+get_first name None ms same below = get_member-below name ms below
+get_first name (Some d) ms same below = same d
+
+get_past : (key name : List ℕ) (value : Option Data) (ms : Members) → ((d : Data) → get_member key (member name d ms) ≡ get_member key ms)
+    → get_member key (after_member name value ms) ≡ get_member key ms
+get_past key name None ms other = refl
+get_past key name (Some d) ms other = other d
+
+if_present-count : (n : Option ℕ) → if_present as_count (option_map count_data n) ≡ Some n
+if_present-count None = refl
+if_present-count (Some n) = refl
+
+if_present-truth : (b : Option Bool) → if_present as_bool (option_map boolean b) ≡ Some b
+if_present-truth None = refl
+if_present-truth (Some b) = refl
+
+-- what stands after the two colours is found past them
+past_colours : (key : List ℕ) (id : ℕ) (style : Style)
+    → ((d : Data) → get_member key (member (codes "bg_color") d (from_fg id style)) ≡ get_member key (from_fg id style))
+    → ((d : Data) → get_member key (member (codes "fg_color") d (from_id id style)) ≡ get_member key (from_id id style))
+    → get_member key (after_member (codes "bg_color") (option_map count_data style.bg_color) (from_fg id style)) ≡ get_member key (from_id id style)
+past_colours key id style first second =
+    get_past key (codes "bg_color") (option_map count_data style.bg_color) (from_fg id style) first
+    ∙ get_past key (codes "fg_color") (option_map count_data style.fg_color) (from_id id style) second
+
+pub read_style-style_params : (id : ℕ) (style : Style) → read_style (style_params id style) ≡ Some (record { id = id; style = style })
+read_style-style_params id style =
+    let bg =
+    ap (if_present as_count) (get_first (codes "bg_color") (option_map count_data style.bg_color) (from_fg id style) (λ d. refl) (below_bg id style))
+    ∙ if_present-count style.bg_color in
+    let fg =
+    ap (if_present as_count)
+    (get_past (codes "fg_color") (codes "bg_color") (option_map count_data style.bg_color) (from_fg id style) (λ d. refl)
+    ∙ get_first (codes "fg_color") (option_map count_data style.fg_color) (from_id id style) (λ d. refl) (below_fg id style))
+    ∙ if_present-count style.fg_color in
+    let number = ap (option_and_then as_count) (past_colours (codes "id") id style (λ d. refl) (λ d. refl)) in
+    let italic =
+    ap (if_present as_bool)
+    (past_colours (codes "italic") id style (λ d. refl) (λ d. refl)
+    ∙ get_first (codes "italic") (option_map boolean style.italic) (from_underline style) (λ d. refl) (below_italic style))
+    ∙ if_present-truth style.italic in
+    let underline =
+    ap (if_present as_bool)
+    (past_colours (codes "underline") id style (λ d. refl) (λ d. refl)
+    ∙ get_past (codes "underline") (codes "italic") (option_map boolean style.italic) (from_underline style) (λ d. refl)
+    ∙ get_first (codes "underline") (option_map boolean style.underline) (from_weight style) (λ d. refl) (below_underline style))
+    ∙ if_present-truth style.underline in
+    let weight =
+    ap (if_present as_count)
+    (past_colours (codes "weight") id style (λ d. refl) (λ d. refl)
+    ∙ get_past (codes "weight") (codes "italic") (option_map boolean style.italic) (from_underline style) (λ d. refl)
+    ∙ get_past (codes "weight") (codes "underline") (option_map boolean style.underline) (from_weight style) (λ d. refl)
+    ∙ get_first (codes "weight") (option_map count_data style.weight) no_members (λ d. refl) tt)
+    ∙ if_present-count style.weight in
+    λ i. style_from (number i) (fg i) (bg i) (weight i) (italic i) (underline i)

@@ -2,6 +2,7 @@
 use Rattle.std.specs.Prelude.{◌≡◌, ℕ, ◌^◌, ◌<◌, ◌-◌, pos, negsuc, ◌≤ℤ◌, List, length, true, Option, Some, None, ⊤}
 use Rattle.std.specs.List.{AllByRecursion}
 use Rattle.std.specs.Str.{all_scalars}
+use Rattle.plain_edits.specs.declared.style.Style.{Style}
 use Rattle.plain_screen.specs.declared.screen.Triple.{Triple}
 use Rattle.plain_screen.specs.declared.screen.Line.{Line}
 use Rattle.plain_screen.specs.declared.screen.Restyle.{Restyle}
@@ -49,3 +50,9 @@ IsFairOp (Restyling ln restyles) = IsCount (length restyles) × IsLn ln × AllBy
 pub record IsFairUpdate (view : List ℕ) (update : Update) : Type 0 where
   pub id : all_scalars view ≡ true
   pub ops : AllByRecursion IsFairOp update.ops
+
+-- a style: its numbers are in range
+pub record IsFairStyle (style : Style) : Type 0 where
+  pub fg_color : IsLn style.fg_color
+  pub bg_color : IsLn style.bg_color
+  pub weight : IsLn style.weight

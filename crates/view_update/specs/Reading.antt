@@ -10,6 +10,9 @@ use Rattle.plain_screen.specs.declared.screen.Restyle.{Restyle}
 use Rattle.plain_screen.specs.declared.screen.Op.{Op}
 use Rattle.plain_screen.specs.declared.screen.Op.TheVariants.{Copy, Skip, Invalidate, Ins, Update as Restyling}
 use Rattle.plain_screen.specs.declared.screen.Update.{Update}
+pub use Rattle.view_update.specs.declared.note.ViewUpdate.{ViewUpdate}
+pub use Rattle.view_update.specs.declared.note.Scroll.{Scroll}
+pub use Rattle.view_update.specs.declared.note.NumberedStyle.{NumberedStyle}
 use Rattle.serde_json.specs.Data.{Data, Items, no_items, item}
 use Rattle.serde_json.specs.Find.{get, as_bool, as_number, as_str, as_array, as_u64, as_i64}
 use Rattle.json_rpc.specs.Request.{Request, LineRefusal, line_request}
@@ -128,11 +131,6 @@ update_from ops pristine = None
 abbrev pub read_update : Data → Option Update
 read_update d = update_from (member_as (list_as read_op) (codes "ops") d) (member_as as_bool (codes "pristine") d)
 
--- an update, and the id of the view that it is for
-pub record ViewUpdate : Type 0 where
-  pub view : List ℕ
-  pub update : Update
-
 -- the update of a view, of these members
 abbrev pub view_update_from : Option (List ℕ) → Option Update → Option ViewUpdate
 view_update_from (Some view) (Some update) = Some (record { view = view; update = update })
@@ -161,12 +159,6 @@ line_update line = option_map read_params (note_params (codes "update") (line_re
 
 -- ---- the other notes
 
--- a place of a view that is asked to be shown: the line's number from 0 on, and a byte column
-pub record Scroll : Type 0 where
-  pub view : List ℕ
-  pub line : ℕ
-  pub col : ℕ
-
 -- the place of these members
 abbrev pub scroll_from : Option (List ℕ) → Option ℕ → Option ℕ → Option Scroll
 scroll_from (Some view) (Some line) (Some col) = Some (record { view = view; line = line; col = col })
@@ -183,3 +175,26 @@ line_scroll line = option_and_then read_scroll (note_params (codes "scroll_to") 
 -- the message that a line has for the user, where it is such a note
 unfoldable pub line_alert : List ℕ → Option (List ℕ)
 line_alert line = option_and_then (member_as as_chars (codes "msg")) (note_params (codes "alert") (line_request line))
+
+-- the style of these members: its number, its two colours, its weight, and whether it is italic and underlined
+abbrev pub style_from : Option ℕ → Option (Option ℕ) → Option (Option ℕ) → Option (Option ℕ) → Option (Option Bool) → Option (Option Bool) → Option NumberedStyle
+style_from (Some id) (Some fg) (Some bg) (Some weight) (Some italic) (Some underline) =
+    Some (record { id = id; style = record { fg_color = fg; bg_color = bg; weight = weight; italic = italic; underline = underline } })
+style_from id fg bg weight italic underline = None
+
+-- a member of a style: a number or a truth value, which may be left out
+abbrev pub number_if_named : List ℕ → Data → Option (Option ℕ)
+number_if_named name d = if_present as_count (get name d)
+
+abbrev pub truth_if_named : List ℕ → Data → Option (Option Bool)
+truth_if_named name d = if_present as_bool (get name d)
+
+-- the style that the params of a note say
+abbrev pub read_style : Data → Option NumberedStyle
+read_style d =
+    style_from (member_as as_count (codes "id") d) (number_if_named (codes "fg_color") d) (number_if_named (codes "bg_color") d)
+    (number_if_named (codes "weight") d) (truth_if_named (codes "italic") d) (truth_if_named (codes "underline") d)
+
+-- the style that a line defines, where it is such a note
+unfoldable pub line_style : List ℕ → Option NumberedStyle
+line_style line = option_and_then read_style (note_params (codes "def_style") (line_request line))

@@ -1,5 +1,5 @@
 -- An update on the wire: the value of its note.
-use Rattle.std.specs.Prelude.{ℕ, List, [], ◌∷◌, length, map, codes, Option, Some, None}
+use Rattle.std.specs.Prelude.{ℕ, List, [], ◌∷◌, length, map, codes, Option, Some, None, option_map}
 use Rattle.plain_screen.specs.declared.screen.Triple.{Triple}
 use Rattle.plain_screen.specs.declared.screen.Line.{Line}
 use Rattle.plain_screen.specs.declared.screen.Restyle.{Restyle}
@@ -24,10 +24,14 @@ abbrev pub triple_items : List Triple → List Data
 triple_items [] = []
 triple_items (t ∷ triples) = number (of_integer t.start) ∷ count_data t.len ∷ count_data t.id ∷ triple_items triples
 
+-- the members, and before them one of this name, where there is a value for it
+abbrev pub after_member : List ℕ → Option Data → Members → Members
+after_member name None members = members
+after_member name (Some value) members = member name value members
+
 -- the members, and before them `ln`, where there is a number for it
 abbrev pub after_ln : Option ℕ → Members → Members
-after_ln None members = members
-after_ln (Some n) members = member (codes "ln") (count_data n) members
+after_ln ln members = after_member (codes "ln") (option_map count_data ln) members
 
 -- a line: the offsets of its carets, its number where it has one, its styles and its text
 abbrev pub line_data : Line → Data

@@ -1,6 +1,6 @@
 //! Laws of the written notes on data alone, each the contract of a function: the layers above speak of bytes that definitions give.
 
-ghost use Rattle.view_update.specs.Laws.{UpdatesReadBack, UpdatesAreRead, ScrollsReadBack, AlertsReadBack, OthersAreNoUpdates};
+ghost use Rattle.view_update.specs.Laws.{UpdatesReadBack, UpdatesAreRead, ScrollsReadBack, AlertsReadBack, StylesReadBack, OthersAreNoUpdates};
 
 /// The line of an update says the same update of the same view to a front end.
 pub fn updates_read_back()
@@ -20,6 +20,11 @@ pub fn scrolls_read_back()
 /// The line of an alert says the same message.
 pub fn alerts_read_back()
     ensures { AlertsReadBack }
+{}
+
+/// The line of a style says the same style, with its number.
+pub fn styles_read_back()
+    ensures { StylesReadBack }
 {}
 
 /// Responses and notes of other methods say no update.

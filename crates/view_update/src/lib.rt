@@ -1,4 +1,4 @@
-//! The notes that tell a front end what its view shows: updates, asked places and alerts, written and read back.
+//! The notes that tell a front end what its view shows: updates, asked places, alerts and styles, written and read back.
 //!
 //! An update of a view is one line of JSON. `specs/Written.antt` says which value of JSON an update is, member for member, and
 //! `specs/Reading.antt` says on its own what a front end takes from a line. [`write_update`] writes exactly the first, and its line
@@ -7,7 +7,9 @@
 #![tactic(auto)]
 
 pub mod laws;
+mod note;
 mod values;
 mod write;
 
-pub use write::{write_alert, write_scroll, write_update};
+pub use note::{NumberedStyle, Scroll, ViewUpdate};
+pub use write::{write_alert, write_scroll, write_style, write_update};

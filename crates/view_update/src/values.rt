@@ -1,14 +1,16 @@
-ghost use Rattle.std.specs.Prelude.{◌≡◌, IfOk, OnOk, map, codes, true};
+ghost use Rattle.std.specs.Prelude.{◌≡◌, IfOk, OnOk, map, option_map, true};
 ghost use Rattle.std.specs.List.{AllByRecursion};
 ghost use Rattle.std.specs.Str.{all_scalars};
+ghost use Rattle.serde_json.specs.Data.{boolean};
 ghost use Rattle.serde_json.specs.View.{view, members_view};
 ghost use Rattle.json_rpc.specs.Proper.{IsBelow};
 ghost use Rattle.json_rpc.specs.Response.{text_data};
-ghost use Rattle.view_update.specs.Written.{count_data, list_data, triple_items, op_members, after_ln, line_data, restyle_data, op_data, ops_data, update_params};
-ghost use Rattle.view_update.specs.Notes.{scroll_params, alert_params};
-ghost use Rattle.view_update.specs.Fair.{IsCount, IsLn, IsFairTriple, IsFairLine, IsFairRestyle, IsFairOp, IsFairUpdate};
+ghost use Rattle.view_update.specs.Written.{count_data, list_data, triple_items, op_members, after_member, line_data, restyle_data, op_data, ops_data, update_params};
+ghost use Rattle.view_update.specs.Notes.{scroll_params, alert_params, style_params};
+ghost use Rattle.view_update.specs.Fair.{IsCount, IsLn, IsFairTriple, IsFairLine, IsFairRestyle, IsFairOp, IsFairStyle, IsFairUpdate};
 
 use json_rpc::{pair, text_value};
+use plain_edits::Style;
 use plain_screen::{Line, Op, Restyle, Triple, Update};
 use plain_text::{NoMemory, Text};
 use serde_json::{Map, Value, json, put};
@@ -39,6 +41,21 @@ pub fn alert_value(alloc: Global, message: &Text) -> Result<Value, NoMemory>
     ensures characters { IfOk result (λ _. all_scalars message.now ≡ true) }
 {
     Ok(json!(in alloc; {"msg": message.as_str()})?)
+}
+
+/// The params of the note that tells how a style looks.
+pub fn style_value(alloc: Global, id: u64, style: Style) -> Result<Value, NoMemory>
+    ensures value { IfOk result (λ value. view value ≡ style_params id style) }
+    ensures fair { IfOk result (λ _. IsCount id × IsFairStyle style) }
+{
+    let mut members = Map::new(alloc);
+    put_count(&mut members, alloc, "weight", wide(style.weight))?;
+    put_truth(&mut members, alloc, "underline", style.underline)?;
+    put_truth(&mut members, alloc, "italic", style.italic)?;
+    put(&mut members, alloc, "id", Value::from(id))?;
+    put_count(&mut members, alloc, "fg_color", wide(style.fg_color))?;
+    put_count(&mut members, alloc, "bg_color", wide(style.bg_color))?;
+    Ok(Value::Object(members))
 }
 
 fn update_value(alloc: Global, update: &Update) -> Result<Value, NoMemory>
@@ -79,7 +96,7 @@ fn copy_value(alloc: Global, n: u64, ln: Option<u64>) -> Result<Value, NoMemory>
     ensures fair { IfOk result (λ _. IsFairOp (Op.Copy n ln)) }
 {
     let mut members = op_members(alloc, n, "copy")?;
-    put_ln(&mut members, alloc, ln)?;
+    put_count(&mut members, alloc, "ln", ln)?;
     Ok(Value::Object(members))
 }
 
@@ -97,7 +114,7 @@ fn restyling_value(alloc: Global, ln: Option<u64>, lines: &[Restyle]) -> Result<
     ensures fair { IfOk result (λ _. IsFairOp (Op.Update ln lines.now)) }
 {
     let mut members = op_members(alloc, lines.len() as u64, "update")?;
-    put_ln(&mut members, alloc, ln)?;
+    put_count(&mut members, alloc, "ln", ln)?;
     put(&mut members, alloc, "lines", restyles_value(alloc, lines)?)?;
     Ok(Value::Object(members))
 }
@@ -132,7 +149,7 @@ fn line_value(alloc: Global, line: &Line) -> Result<Value, NoMemory>
     put(&mut members, alloc, "text", text_value(alloc, &line.text)?)?;
     let styles = styles_value(alloc, line.styles.as_slice())?;
     put(&mut members, alloc, "styles", styles)?;
-    put_ln(&mut members, alloc, line.ln)?;
+    put_count(&mut members, alloc, "ln", line.ln)?;
     let cursor = offsets_value(alloc, line.cursor.as_slice())?;
     put(&mut members, alloc, "cursor", cursor)?;
     Ok(Value::Object(members))
@@ -186,14 +203,43 @@ fn styles_value(alloc: Global, triples: &[Triple]) -> Result<Value, NoMemory>
 }
 
 /// Puts the number in front of members that come after it, where there is one.
-fn put_ln(members: &mut Map<String, Value>, alloc: Global, ln: Option<u64>) -> Result<(), NoMemory>
-    requires first { IsBelow (codes "ln") (members_view members.old.entries) }
+fn put_count(
+    members: &mut Map<String, Value>,
+    alloc: Global,
+    name: &str,
+    n: Option<u64>,
+) -> Result<(), NoMemory>
+    requires first { IsBelow name.now (members_view members.old.entries) }
     ensures put { OnOk result (members_view members.new.entries
-        ≡ after_ln ln (members_view members.old.entries)) }
-    ensures fair { OnOk result (IsLn ln) }
+        ≡ after_member name.now (option_map count_data n) (members_view members.old.entries)) }
+    ensures fair { OnOk result (IsLn n) }
 {
-    match ln {
-        Some(n) => Ok(put(members, alloc, "ln", Value::from(n))?),
+    match n {
+        Some(n) => Ok(put(members, alloc, name, Value::from(n))?),
         None => Ok(()),
     }
+}
+
+/// Puts the truth value in front of members that come after it, where there is one.
+fn put_truth(
+    members: &mut Map<String, Value>,
+    alloc: Global,
+    name: &str,
+    truth: Option<bool>,
+) -> Result<(), NoMemory>
+    requires first { IsBelow name.now (members_view members.old.entries) }
+    ensures { OnOk result (members_view members.new.entries
+        ≡ after_member name.now (option_map boolean truth) (members_view members.old.entries)) }
+{
+    match truth {
+        Some(truth) => Ok(put(members, alloc, name, Value::from(truth))?),
+        None => Ok(()),
+    }
+}
+
+/// The number, in more bits.
+fn wide(n: Option<u32>) -> Option<u64>
+    ensures { result ≡ n }
+{
+    Some(u64::from(n?))
 }

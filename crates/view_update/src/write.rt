@@ -6,11 +6,12 @@ ghost use Rattle.serde_json.specs.Written.{has_float};
 ghost use Rattle.json_rpc.specs.Line.{IsLineOf};
 ghost use Rattle.json_rpc.specs.Response.{note_data};
 ghost use Rattle.view_update.specs.Written.{update_data};
-ghost use Rattle.view_update.specs.Notes.{scroll_data, alert_data};
-ghost use Rattle.view_update.specs.Reading.{line_update, line_scroll, line_alert};
+ghost use Rattle.view_update.specs.Notes.{scroll_data, alert_data, style_data};
+ghost use Rattle.view_update.specs.Reading.{line_update, line_scroll, line_alert, line_style};
 
-use crate::values::{alert_value, params_value, scroll_value};
+use crate::values::{alert_value, params_value, scroll_value, style_value};
 use json_rpc::write_note;
+use plain_edits::Style;
 use plain_screen::Update;
 use plain_text::{NoMemory, Text};
 use serde_json::Value;
@@ -47,6 +48,17 @@ pub fn write_alert(alloc: Global, message: &Text) -> Result<Text, NoMemory>
 {
     let params = alert_value(alloc, message)?;
     note(alloc, "alert", params)
+}
+
+/// The line of the note that tells how the style of this number looks. A member of the style that is not named is left out.
+pub fn write_style(alloc: Global, id: u64, style: Style) -> Result<Text, NoMemory>
+    ensures line { IfOk result (λ text.
+        IsLineOf (style_data id style) (encode_utf8_all text)) }
+    ensures reads_back { IfOk result (λ text. line_style (encode_utf8_all text)
+        ≡ Some (record { id = id; style = style })) }
+{
+    let params = style_value(alloc, id, style)?;
+    note(alloc, "def_style", params)
 }
 
 fn note(alloc: Global, method: &str, params: Value) -> Result<Text, NoMemory>
