@@ -10,5 +10,6 @@ pub mod UpToFloorLemmas
 pub mod CharacterLemmas
 pub mod RecordLemmas
 pub mod UntilLemmas
+pub mod GoOnLemmas
 pub mod TextLemmas
 pub mod ForCallers

@@ -44,19 +44,19 @@ pub head-fold : (h : History) (steps : List RevStep) → head (fold after_revisi
 head-fold h [] = omega arith
 head-fold h (r ∷ steps) = omega (arith, head-fold (after_revision h r) steps, head-after h r)
 
-floor-after : (h : History) (r : RevStep) → (after_revision h r).floor ≡ h.floor
+pub floor-after : (h : History) (r : RevStep) → (after_revision h r).floor ≡ h.floor
 floor-after h (Edit e) = refl
 floor-after h (Undo groups) = refl
 
-collected-after : (h : History) (r : RevStep) → (after_revision h r).collected ≡ h.collected
+pub collected-after : (h : History) (r : RevStep) → (after_revision h r).collected ≡ h.collected
 collected-after h (Edit e) = refl
 collected-after h (Undo groups) = refl
 
-floor-fold : (h : History) (steps : List RevStep) → (fold after_revision h steps).floor ≡ h.floor
+pub floor-fold : (h : History) (steps : List RevStep) → (fold after_revision h steps).floor ≡ h.floor
 floor-fold h [] = refl
 floor-fold h (r ∷ steps) = floor-fold (after_revision h r) steps ∙ floor-after h r
 
-collected-fold : (h : History) (steps : List RevStep) → (fold after_revision h steps).collected ≡ h.collected
+pub collected-fold : (h : History) (steps : List RevStep) → (fold after_revision h steps).collected ≡ h.collected
 collected-fold h [] = refl
 collected-fold h (r ∷ steps) = collected-fold (after_revision h r) steps ∙ collected-after h r
 
@@ -76,7 +76,7 @@ steps_of-drop_all records zero = refl
 steps_of-drop_all [] (suc i) = refl
 steps_of-drop_all (r ∷ records) (suc i) = steps_of-drop_all records i
 
-AreKept-append : (h : History) (records more : List RevRecord) → AreKept h records → AreKept (fold after_revision h (steps_of records)) more → AreKept h (records ++ more)
+pub AreKept-append : (h : History) (records more : List RevRecord) → AreKept h records → AreKept (fold after_revision h (steps_of records)) more → AreKept h (records ++ more)
 AreKept-append h [] more kept rest = rest
 AreKept-append h (r ∷ records) more kept rest = (kept.0, kept.1, AreKept-append (after_revision h r.step) records more kept.2 rest)
 

@@ -8,16 +8,15 @@ use Rattle.std.proofs.lemmas.List.{drop-append-le, length-take-le, take-append-d
 use Rattle.std.proofs.lemmas.List.Folds.{list_all-append}
 use Rattle.subset_runs.specs.Subset.{symmetric_difference}
 use Rattle.subset_runs.proofs.ForCallers.{length-expand_as, symmetric_difference-back}
-use Rattle.plain_text.specs.Numbers.{has, flipped, IsRising}
-use Rattle.plain_text.proofs.callers.ListLemmas.{AllByRecursion-append, AllByRecursion-take}
-use Rattle.plain_edits.specs.History.{Tagged, Revision, edit, undo, History, head, group_of, undone, is_there, is_visible, visible_at, text_at, IsTaggedBy, IsSound}
+use Rattle.plain_text.specs.Numbers.{has, IsRising}
+use Rattle.plain_text.proofs.callers.ListLemmas.{AllByRecursion-take}
+use Rattle.plain_edits.specs.History.{Tagged, Revision, undo, History, head, group_of, undone, is_there, is_visible, text_at, IsTaggedBy, IsSound}
 use Rattle.plain_edits.specs.Edits.{with_deletion, undid}
 use Rattle.plain_edits.specs.Collection.{is_based_from, is_clean}
 use Rattle.plain_edits.specs.HistorySteps.{HasRisingSet}
 use Rattle.plain_edits.specs.Undo.{undone_now}
 use Rattle.plain_edits.proofs.callers.FirstLemmas.{is_visible-take}
 use Rattle.plain_edits.proofs.callers.HistoryLemmas.{is_visible-later}
-use Rattle.rev_list.specs.declared.edit.RevEdit.{RevEdit}
 use Rattle.rev_list.specs.declared.step.RevStep.{RevStep}
 use Rattle.rev_list.specs.declared.step.RevStep.TheVariants.{Edit, Undo}
 use Rattle.rev_list.specs.declared.records.RevRecord.{RevRecord}
@@ -28,7 +27,6 @@ use Rattle.rev_list.specs.Kept.{history_of, steps_of, dead_now, grown_by, turned
 use Rattle.rev_list.specs.Until.{tagged_until, history_until, revision_of, undone_after_step, IsRecordAt, MayFollow}
 use Rattle.rev_list.proofs.TagLemmas.{there_by, there_new_before}
 use Rattle.rev_list.proofs.StepLemmas.{filter-there, filter-with_new}
-use Rattle.rev_list.proofs.FlagLemmas.{length-steps_of}
 use Rattle.rev_list.proofs.FirstLemmas.{IsFirstEdit-undid}
 use Rattle.rev_list.proofs.HistoryLemmas.{head-after, length-after_edit, length-dead_now, undone_now-edit, undone_now-undid}
 use Rattle.rev_list.proofs.RecordLemmas.{until_record, until_all, sound-fold, head-then_of, AreKept-drop, AreFirstEdits-edit, HoldsRevisions-push, IsPushed, all-push, clean-push, collected-history_of, floor-history_of, head-history_of, steps_of-push, undone_rises}
@@ -161,7 +159,7 @@ AreKept-take h records zero kept = tt
 AreKept-take h [] (suc i) kept = tt
 AreKept-take h (r ∷ records) (suc i) kept = (kept.0, kept.1, AreKept-take (after_revision h r.step) records i kept.2)
 
-until_record-next : (h : History) (records : List RevRecord) (i : ℕ) (r : RevRecord) → i < length records → r ≡ get_or records i r →
+pub until_record-next : (h : History) (records : List RevRecord) (i : ℕ) (r : RevRecord) → i < length records → r ≡ get_or records i r →
     until_record h records (suc i) ≡ after_revision (until_record h records i) r.step
 until_record-next h [] i r within is = absurd (omega (arith, within))
 until_record-next h (x ∷ records) zero r within is = ap (λ (y : RevRecord). after_revision h y.step) (sym is)
@@ -230,7 +228,7 @@ module _ (settled : Settled) (records : List RevRecord) (sound : IsSound (settle
       by (Undo groups) = undone_now-undid (up_to i) (undone_by (up_to i) groups)
 
 -- the first edits after one more step
-AreFirstEdits-after : (h : History) (step : RevStep) (first more : Firsts) → AreFirstEdits h.revisions first →
+pub AreFirstEdits-after : (h : History) (step : RevStep) (first more : Firsts) → AreFirstEdits h.revisions first →
     ((group : ℕ) → rev_of more.groups more.revs group ≡ first_after_step (rev_of first.groups first.revs group) step (head h + 1) group) →
     AreFirstEdits (after_revision h step).revisions more
 AreFirstEdits-after h (Edit e) first more are made = AreFirstEdits-edit h e first more are made

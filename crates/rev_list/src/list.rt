@@ -12,7 +12,7 @@ ghost use Rattle.rev_list.specs.Hidden.{AreDeletedLater, AreRevisionsAfter, IsCo
 ghost use Rattle.rev_list.specs.Kept.{IsOpen};
 ghost use Rattle.rev_list.specs.Settled.{AreSettledGroups, HasLengths, MaySettle, hidden_by_groups, settled_at_head, settled_history};
 ghost use Rattle.rev_list.specs.Under.{is_hidden_under};
-ghost use Rattle.rev_list.specs.Until.{history_until, undone_after_step, IsRecordAt, MayFollow};
+ghost use Rattle.rev_list.specs.Until.{after_records, history_until, undone_after_step, IsGoneOn, IsRecordAt, MayAllFollow, MayFollow, MayGoOn};
 
 use crate::carry::{after, before, carried, recorded_edit, recorded_undo};
 use crate::firsts::FirstEdits;
@@ -396,6 +396,38 @@ impl RevList {
         self.firsts = firsts;
         self.undone = undone;
         Ok(())
+    }
+
+    /// The list with the revisions of another one after its own head, which are shared with that. It costs the height of the lists, and for each
+    /// of these revisions the logarithm of the number of groups: nothing of what it changes or of what is dead.
+    pub fn going_on(&self, alloc: Global, other: &RevList) -> Result<RevList, NoMemory>
+        requires { MayGoOn self.now other.now }
+        ensures { IfOk result (IsGoneOn self.now other.now) }
+    {
+        let later = other.records.back(alloc, self.head() - other.floor())?;
+        let firsts = self.firsts_with(alloc, &later)?;
+        Ok(RevList {
+            settled: Arc::try_clone(&self.settled)?,
+            records: self.records.joined(alloc, &later)?,
+            dead: Arc::try_clone(&other.dead)?,
+            firsts,
+            undone: other.undone.copy(alloc)?,
+        })
+    }
+
+    // The first edit of each group, after these records.
+    fn firsts_with(&self, alloc: Global, later: &Records) -> Result<FirstEdits, NoMemory>
+        requires { MayAllFollow self.now later.now }
+        ensures { IfOk result (λ firsts. AreFirstEdits (after_records self.now later.now).revisions firsts) }
+    {
+        let head = self.head();
+        let mut firsts = self.firsts.copy(alloc)?;
+        let mut at = 0;
+        while at < later.len() {
+            firsts = firsts.after(alloc, &later.get(at).step, head + at + 1)?;
+            at += 1;
+        }
+        Ok(firsts)
     }
 
     /// The list whose floor is the head, with these groups up to there, where the groups of `collected` are collected beside those that

@@ -1,5 +1,5 @@
 // What a list of revisions keeps of each of them, behind shared pointers.
-ghost use Rattle.std.specs.Prelude.{◌≡◌, ◌+◌, ◌^◌, ◌<◌, [], ◌∷◌, ◌++◌, length, ◌≤◌, slice_index_or, take, IfOk, OnOk, OnErr};
+ghost use Rattle.std.specs.Prelude.{◌≡◌, ◌+◌, ◌^◌, ◌<◌, [], ◌∷◌, ◌++◌, length, ◌≤◌, slice_index_or, take, drop, IfOk, OnOk, OnErr};
 
 use crate::RevStep;
 use shared_tree::{Batch, Tree};
@@ -71,6 +71,27 @@ impl Records {
     {
         Ok(Records {
             tree: self.tree.front(alloc, to)?,
+        })
+    }
+
+    // The records from `from` on, shared, in O(height).
+    pub(crate) fn back(&self, alloc: Global, from: u64) -> Result<Records, AllocError>
+        requires { from ≤ length self.now }
+        ensures { IfOk result (λ made. made ≡ drop from self.now) }
+    {
+        Ok(Records {
+            tree: self.tree.back(alloc, from)?,
+        })
+    }
+
+    // These records and then the others, shared, in O(height).
+    #[tactic(auto, using(shared_tree::proofs::ForCallers::few_fit))]
+    pub(crate) fn joined(&self, alloc: Global, others: &Records) -> Result<Records, AllocError>
+        requires { length (self.now ++ others.now) < 2 ^ 64 }
+        ensures { IfOk result (λ made. made ≡ self.now ++ others.now) }
+    {
+        Ok(Records {
+            tree: self.tree.joined(alloc, &others.tree)?,
         })
     }
 
