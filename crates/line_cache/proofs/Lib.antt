@@ -8,3 +8,4 @@ mod FewLemmas
 mod TakenLemmas
 mod LawLemmas
 mod OpsLemmas
+mod ToldLemmas

@@ -6,5 +6,6 @@ pub mod Ops
 pub mod Standings
 pub mod Edges
 pub mod Steps
+pub mod OneStep
 pub mod Inner
 pub mod Laws
