@@ -14,14 +14,12 @@ pub(crate) struct Part {
 
 /// The partners of the first of `most` lines, the first of which has the index `at`.
 pub(crate) fn partner_from(lines: &mut OldLines<'_>, stays: &[Stay], at: u64, most: u64) -> Part
-    requires some { 0 < most }
-    requires room { at + most < 2 ^ 64 }
+    requires room { (0 < most) × (at + most < 2 ^ 64) }
     requires fits { lines.old.done + length lines.old.truths < 2 ^ 64 }
     requires partners { AreStays (lines.old.done + length lines.old.truths) (at + most) stays.now }
     requires ahead { EndsPast at stays.now }
     requires behind { IsAheadOf stays.now at lines.old.done }
-    ensures some { 0 < result.n }
-    ensures within { result.n ≤ most }
+    ensures some { (0 < result.n) × (result.n ≤ most) }
     ensures left { (all : List Bool) → IsLeftOf all lines.old → IsLeftOf all lines.new }
     ensures done { (lines.new.done ≡ lines.old.done) ⊎ ((same : Bool) × (partner_by stays.now at ≡ Some (lines.new.done, same))) }
     ensures partners { (all : List Bool) → IsLeftOf all lines.old →
@@ -38,15 +36,12 @@ pub(crate) fn partner_from(lines: &mut OldLines<'_>, stays: &[Stay], at: u64, mo
 
 /// The same, where the line stands before the end of this run.
 fn partner_in(lines: &mut OldLines<'_>, stay: Stay, at: u64, most: u64) -> Part
-    requires some { 0 < most }
+    requires room { (0 < most) × (at + most < 2 ^ 64) }
+    requires fits { lines.old.done + length lines.old.truths < 2 ^ 64 }
+    requires within { (stay.old + stay.n ≤ lines.old.done + length lines.old.truths) × (stay.new + stay.n ≤ at + most) }
     requires ahead { at < stay.new + stay.n }
     requires behind { stay.new ≤ at → lines.old.done ≤ stay.old + (at - stay.new) }
-    requires old { stay.old + stay.n ≤ lines.old.done + length lines.old.truths }
-    requires new { stay.new + stay.n ≤ at + most }
-    requires room { at + most < 2 ^ 64 }
-    requires fits { lines.old.done + length lines.old.truths < 2 ^ 64 }
-    ensures some { 0 < result.n }
-    ensures within { result.n ≤ most }
+    ensures some { (0 < result.n) × (result.n ≤ most) }
     ensures left { (all : List Bool) → IsLeftOf all lines.old → IsLeftOf all lines.new }
     ensures before { at < stay.new → (result.partner ≡ None) × (at + result.n ≤ stay.new) × (lines.new.done ≡ lines.old.done) }
     ensures inside { stay.new ≤ at → (at + result.n ≤ stay.new + stay.n) × (lines.new.done ≡ stay.old + (at - stay.new)) }

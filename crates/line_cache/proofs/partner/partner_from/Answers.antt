@@ -12,19 +12,12 @@ partner_in-requires-clause-behind c =
     first-ahead c.in-Some.stay.now first.0 c.args.at done (subst (EndsPast c.args.at) first.1 c.requires.ahead)
     (subst (λ stays. IsAheadOf stays c.args.at done) first.1 c.requires.behind)
 
-pub partner_in-requires-clause-old : goal.partner_in-requires-clause-old
-partner_in-requires-clause-old c =
+pub partner_in-requires-clause-within : goal.partner_in-requires-clause-within
+partner_in-requires-clause-within c =
     let count = c.args.lines.now.done + length c.args.lines.now.truths in
     let total = c.args.at + c.args.most in
     let first = stays-first c.args.stays.now c.in-Some.stay.now (sym c.in-Some.ensures.value) in
-    (stay-within count total c.in-Some.stay.now first.0 (subst (AreStays count total) first.1 c.requires.partners)).0
-
-pub partner_in-requires-clause-new : goal.partner_in-requires-clause-new
-partner_in-requires-clause-new c =
-    let count = c.args.lines.now.done + length c.args.lines.now.truths in
-    let total = c.args.at + c.args.most in
-    let first = stays-first c.args.stays.now c.in-Some.stay.now (sym c.in-Some.ensures.value) in
-    (stay-within count total c.in-Some.stay.now first.0 (subst (AreStays count total) first.1 c.requires.partners)).1
+    stay-within count total c.in-Some.stay.now first.0 (subst (AreStays count total) first.1 c.requires.partners)
 
 pub returns-in-Some-clause-done : goal.returns-in-Some-clause-done
 returns-in-Some-clause-done c =

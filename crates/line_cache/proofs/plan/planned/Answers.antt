@@ -43,7 +43,7 @@ loop-at-preserved c =
     let own = c.step_at-step.ensures.standings partners
     (λ k lt. ap (if_true lines) (sym (same (at + k) (omega arith))) ∙ c.partner_from-part.ensures.partners lines before.left k lt) in
     record {
-      within = omega (arith, count, c.step_at-step.ensures.within, c.partner_from-part.ensures.within, before.within);
+      within = omega (arith, count, c.step_at-step.ensures.within, c.partner_from-part.ensures.some.1, before.within);
       partners = λ index le. same index (omega arith);
       stays = c.rest_past-rest.ensures.stays (length lines) c.args.total before.stays;
       left = c.partner_from-part.ensures.left lines before.left;
