@@ -7,7 +7,8 @@ use Rattle.serde_json.specs.Data.{Data}
 use Rattle.json_rpc.specs.Line.{line_of}
 use Rattle.json_rpc.specs.Response.{note_data}
 use Rattle.view_update.specs.Fair.{IsFairUpdate}
-use Rattle.view_update.specs.Reading.{ViewUpdate, read_params, line_update}
+use Rattle.view_update.specs.declared.note.ViewUpdate.{ViewUpdate}
+use Rattle.view_update.specs.Reading.{read_params, line_update}
 use Rattle.view_update.specs.Written.{update_data}
 use Rattle.view_update.proofs.ForCallers.{updates_are_read, updates_read_back}
 use Rattle.doc_session.specs.Collecting.{AreEnded}

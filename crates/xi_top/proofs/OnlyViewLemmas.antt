@@ -7,7 +7,7 @@ use Rattle.xi_plain.specs.declared.entry.Entry.{Entry}
 use Rattle.plain_text.specs.declared.run.Run.{Run}
 use Rattle.plain_screen.specs.declared.screen.Op.{Op}
 use Rattle.plain_screen.specs.Screen.{Screen, screen_after}
-use Rattle.view_update.specs.Reading.{ViewUpdate}
+use Rattle.view_update.specs.declared.note.ViewUpdate.{ViewUpdate}
 use Rattle.xi_top.specs.Session.{OpenView, first_session, view_id, outcome, session_of, views_of, written, piece_of}
 use Rattle.xi_top.specs.Shows.{updates_in, rebuilt_from, rebuilt, IsShown, AreShown, SendsTo, NotesSendTo, requested, last_requested}
 use Rattle.xi_top.specs.Laws.{only_rebuilt_from, only_rebuilt, IsOnlyShown, OnlyViewIsShown}

@@ -20,7 +20,9 @@ use Rattle.plain_screen.specs.Screen.{Screen, screen_after}
 use Rattle.json_rpc.specs.Response.{reply_data, error_data}
 use Rattle.view_update.specs.Notes.{scroll_data, alert_data}
 use Rattle.view_update.specs.Written.{update_data}
-use Rattle.view_update.specs.Reading.{ViewUpdate, Scroll, line_update}
+use Rattle.view_update.specs.declared.note.ViewUpdate.{ViewUpdate}
+use Rattle.view_update.specs.declared.note.Scroll.{Scroll}
+use Rattle.view_update.specs.Reading.{line_update}
 use Rattle.view_update.proofs.ForCallers.{others_are_no_updates}
 use Rattle.doc_session.specs.InMemory.{Doc}
 use Rattle.doc_session.specs.Document.{Document, no_request}

@@ -17,7 +17,7 @@ use Rattle.doc_view.specs.declared.told.Pristine.{Pristine}
 use Rattle.doc_view.specs.Told.{is_lacking, told}
 use Rattle.doc_view.specs.View.{View, asked_in, layout_in}
 use Rattle.plain_text.specs.declared.run.Run.{Run}
-use Rattle.view_update.specs.Reading.{Scroll}
+use Rattle.view_update.specs.declared.note.Scroll.{Scroll}
 use Rattle.xi_plain.specs.declared.entry.Entry.{Entry}
 use Rattle.doc_session.specs.declared.event.Event.TheVariants.{Config as Configured, Front, Other}
 use Rattle.doc_session.specs.Document.{Document, layout_of, no_request}

@@ -7,7 +7,8 @@ use Rattle.serde_json.specs.Data.{Data, null}
 use Rattle.plain_edits.specs.History.{head}
 use Rattle.json_rpc.specs.Line.{line_of, IsLineOf}
 use Rattle.view_update.specs.Written.{update_data}
-use Rattle.view_update.specs.Reading.{ViewUpdate, line_update}
+use Rattle.view_update.specs.declared.note.ViewUpdate.{ViewUpdate}
+use Rattle.view_update.specs.Reading.{line_update}
 use Rattle.doc_session.specs.InMemory.{Doc}
 use Rattle.doc_session.specs.Document.{Document}
 use Rattle.doc_session.specs.Stands.{DocStandsFor}

@@ -11,7 +11,8 @@ use Rattle.plain_text.specs.declared.run.Run.{Run}
 use Rattle.json_rpc.specs.Line.{line_of, IsLineOf}
 use Rattle.json_rpc.specs.Response.{note_data}
 use Rattle.view_update.specs.Fair.{IsFairUpdate}
-use Rattle.view_update.specs.Reading.{ViewUpdate, read_params}
+use Rattle.view_update.specs.declared.note.ViewUpdate.{ViewUpdate}
+use Rattle.view_update.specs.Reading.{read_params}
 use Rattle.view_update.specs.Written.{update_data}
 use Rattle.doc_session.specs.InMemory.{Doc}
 use Rattle.xi_top.specs.Core.{Stands}

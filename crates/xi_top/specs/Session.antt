@@ -20,7 +20,8 @@ use Rattle.json_rpc.specs.Line.{line_of}
 use Rattle.json_rpc.specs.Response.{text_data}
 use Rattle.view_update.specs.Written.{update_data}
 use Rattle.view_update.specs.Notes.{scroll_data}
-use Rattle.view_update.specs.Reading.{ViewUpdate, Scroll}
+use Rattle.view_update.specs.declared.note.ViewUpdate.{ViewUpdate}
+use Rattle.view_update.specs.declared.note.Scroll.{Scroll}
 use Rattle.doc_session.specs.declared.event.Event.TheVariants.{Config as Configured, Front, Other}
 use Rattle.doc_session.specs.Document.{Document, loaded_document}
 use Rattle.doc_session.specs.Refusal.{DocRefusal, of_edit}

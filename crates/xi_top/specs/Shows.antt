@@ -11,7 +11,8 @@ use Rattle.plain_screen.specs.declared.screen.Op.TheVariants.{Copy, Skip, Invali
 use Rattle.plain_screen.specs.Screen.{Screen, screen_after}
 use Rattle.plain_screen.specs.Plan.{is_within}
 use Rattle.plain_text.specs.InputLines.{lines_of}
-use Rattle.view_update.specs.Reading.{ViewUpdate, line_update}
+use Rattle.view_update.specs.declared.note.ViewUpdate.{ViewUpdate}
+use Rattle.view_update.specs.Reading.{line_update}
 use Rattle.doc_session.specs.Document.{Document, layout_of, no_request}
 use Rattle.doc_session.specs.ScreenOf.{IsScreenOf}
 use Rattle.doc_session.specs.Step.{request_of}
