@@ -7,7 +7,9 @@ ghost use Rattle.worker_cases.specs.Crew.{MayPost};
 use crate::post::Post;
 use crate::talker::Talker;
 use outside::{FreeGate, Gate, Point};
-use plugin_session::{Ask, Hired, Plugin, Text, Texts, Turn, Worked, finish, hire};
+use plugin_session::{
+    Ask, Hired, Plugin, Text, Texts, Turn, Worked, finish, has_thread, hire, turned_away,
+};
 use room_lock::{Pass, Room};
 use std::alloc::Global;
 use std::sync::Wait;
@@ -496,4 +498,26 @@ fn a_gate_is_passed_around_each_ask(rt: HostRuntime) {
     assert!(rt; gate.turns.load(Ordering::SeqCst) == 14);
     assert!(rt; gate.enters.load(Ordering::SeqCst) == 16);
     assert!(rt; gate.leaves.load(Ordering::SeqCst) == 16);
+}
+
+// A worker that gets no thread: whether it has one, whether its session is over, and how many lines its plugin was given.
+fn without_thread<R: Threads + Wait>(rt: &R, alloc: Global) -> Option<(bool, bool, usize)> {
+    let mut passes = Vec::with_capacity(alloc, 2).ok()?;
+    let Ok((room, mut front)) = Room::make(alloc, Post::new(alloc), 2) else {
+        return None;
+    };
+    let pass = room.split(&mut front);
+    let talker = Talker::new(alloc, "first ", 7, true);
+    let hired = turned_away(rt, alloc, &room, pass, talker, &FreeGate);
+    let has = has_thread(&hired);
+    let Ended { pass, plugin, over } = finished(rt, hired);
+    passes.push_reserved(front);
+    passes.push_reserved(pass);
+    let _post = room.close(passes);
+    Some((has, over, plugin.given.len()))
+}
+
+#[test]
+fn a_worker_without_a_thread_comes_back_at_once(rt: HostRuntime) {
+    assert!(rt; without_thread(&rt, rt.alloc()) == Some((false, false, 0)));
 }
