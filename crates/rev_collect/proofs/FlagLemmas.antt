@@ -1,7 +1,7 @@
 -- Lists without some of their items, where more items are put in and deleted.
-use Rattle.std.proofs.Common.{◌≡◌, ℕ, ◌+◌, Bool, true, false, cond, not, ◌&&◌, ◌||◌, List, [], ◌∷◌, length, map, filter, refl, ap, ap₂, sym, ◌∙◌, arith}
+use Rattle.std.proofs.Common.{◌≡◌, ℕ, ◌+◌, Bool, true, false, cond, not, List, [], ◌∷◌, length, map, filter, refl, ap, ap₂, ◌∙◌, arith}
 use Rattle.std.specs.List.{AllByRecursion}
-use Rattle.subset_runs.specs.Subset.{at_each, count, expand, items_outside, shrink, symmetric_difference}
+use Rattle.subset_runs.specs.Subset.{at_each, count, expand, shrink}
 use Rattle.subset_runs.proofs.ForCallers.{count_le_length}
 use Rattle.plain_edits.specs.History.{Tagged}
 use Rattle.plain_edits.specs.Edits.{with_deletion}

@@ -1,8 +1,7 @@
 -- What is left after a collection below the head, from one revision to the next.
-use Rattle.std.proofs.Common.{◌≡◌, ℕ, ◌+◌, ◌-◌, ◌<◌, ◌≤◌, not, ◌&&◌, ◌||◌, false, Bool, List, [], ◌∷◌, length, map, ap, sym, ◌∙◌, subst, arith}
+use Rattle.std.proofs.Common.{◌≡◌, ℕ, ◌-◌, ◌<◌, ◌≤◌, not, ◌&&◌, ◌||◌, false, Bool, List, [], ◌∷◌, length, map, ap, sym, ◌∙◌, subst, arith}
 use Rattle.std.specs.List.{AllByRecursion}
 use Rattle.std.proofs.lemmas.List.{length-map}
-use Rattle.subset_runs.specs.Subset.{symmetric_difference}
 use Rattle.subset_runs.proofs.ForCallers.{length-at_each, length-expand_as}
 use Rattle.plain_edits.specs.History.{History, head}
 use Rattle.plain_edits.specs.Collection.{is_dropped, MayCollect}

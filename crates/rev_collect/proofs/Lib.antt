@@ -1,3 +1,4 @@
+pub mod ChoiceLemmas
 pub mod FloorLemmas
 pub mod RestLemmas
 pub mod LeftLemmas
@@ -11,3 +12,4 @@ pub mod FlagLemmas
 pub mod StepLemmas
 pub mod UntilLemmas
 pub mod LaterLemmas
+pub mod ShareLemmas

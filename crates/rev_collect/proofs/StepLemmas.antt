@@ -1,5 +1,5 @@
 -- One more revision after a collection: what is left goes along with it.
-use Rattle.std.proofs.Common.{◌≡◌, ℕ, ◌+◌, ◌-◌, ◌^◌, ◌<◌, ◌≤◌, Bool, true, false, cond, not, ◌&&◌, ◌||◌, List, [], ◌∷◌, ◌++◌, length, map, filter, refl, ap, ap₂, sym, ◌∙◌, arith}
+use Rattle.std.proofs.Common.{◌≡◌, ℕ, ◌+◌, ◌≤◌, Bool, true, false, cond, not, ◌&&◌, ◌||◌, List, [], ◌∷◌, length, map, filter, refl, ap, ap₂, sym, ◌∙◌, arith}
 use Rattle.std.specs.List.{AllByRecursion}
 use Rattle.std.proofs.lemmas.List.{length-map}
 use Rattle.subset_runs.specs.Subset.{count, expand, expand_as, shrink, symmetric_difference}
@@ -11,7 +11,7 @@ use Rattle.plain_edits.specs.Collection.{is_dropped, is_based_from}
 use Rattle.plain_edits.specs.HistorySteps.{HasRisingSet, IsByEdits}
 use Rattle.plain_edits.specs.Undo.{undone_now}
 use Rattle.collection_laws.specs.Left.{left_of, settled}
-use Rattle.collection_laws.proofs.ForCallers.{HasFloor, LeavesUndone, head-left, is_dropped-later, is_kept-deleted, is_kept-new, is_kept-new_deleted, is_kept-old, is_visible-left, leaves-edit, left_of-undid_by, revisions-later, settled-deleted, settled-later, settled-new, settled-new_deleted, sifted-later, undone-left}
+use Rattle.collection_laws.proofs.ForCallers.{HasFloor, LeavesUndone, head-left, is_dropped-later, is_kept-deleted, is_kept-new, is_kept-new_deleted, is_visible-left, leaves-edit, left_of-undid_by, revisions-later, settled-deleted, settled-later, settled-new, settled-new_deleted, sifted-later, undone-left}
 use Rattle.rev_list.specs.declared.edit.RevEdit.{RevEdit}
 use Rattle.rev_list.specs.declared.step.RevStep.{RevStep}
 use Rattle.rev_list.specs.declared.step.RevStep.TheVariants.{Edit, Undo}
@@ -163,7 +163,7 @@ module _ (h : History) (within : h.floor ≤ head h) (sound : IsSound h) where
 
   -- ---- an undo
 
-  undone_left : undone_now (left_of h) ≡ undone_now h
+  pub undone_left : undone_now (left_of h) ≡ undone_now h
   undone_left = ap (undone (left_of h).revisions) (head-left h within) ∙ undone-left h within (head h) within
 
   module _ (groups : List ℕ) (leaves : LeavesUndone h (undo (undone_by h groups)) h.characters within) where

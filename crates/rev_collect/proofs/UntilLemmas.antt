@@ -1,5 +1,5 @@
 -- The history up to a revision after a clean floor, and the next record after it, where some groups are collected at that floor.
-use Rattle.std.proofs.Common.{◌≡◌, ℕ, ◌+◌, ◌-◌, ◌^◌, ◌<◌, ◌≤◌, Bool, true, false, cond, not, ◌&&◌, ◌||◌, if◌then◌else◌, ◌==◌, nat_le, List, [], ◌∷◌, ◌++◌, length, map, take, drop, filter, fold, Option, Some, None, inl, inr, refl, ap, ap₂, sym, ◌∙◌, subst, arith}
+use Rattle.std.proofs.Common.{◌≡◌, ℕ, ◌-◌, ◌<◌, ◌≤◌, Bool, true, false, cond, ◌||◌, ◌==◌, nat_le, List, [], ◌∷◌, ◌++◌, length, map, take, drop, filter, fold, Option, Some, None, inl, inr, refl, ap, ap₂, sym, ◌∙◌, arith}
 use Rattle.std.specs.Prelude.{◌⊎◌}
 use Rattle.std.specs.List.{AllByRecursion, list_all, list_any}
 use Rattle.std.proofs.lemmas.Bool.{and_parts, both_ways, cases_lt, eq-eqb, leb-true, or_cases}
@@ -9,17 +9,16 @@ use Rattle.plain_text.specs.Numbers.{has, with_number, IsRising}
 use Rattle.plain_text.proofs.callers.ListLemmas.{AllByRecursion-take}
 use Rattle.plain_text.proofs.callers.NumberLemmas.{has-with_numbers}
 use Rattle.plain_edits.specs.History.{Tagged, Revision, edit, undo, History, head, revision_at, edit_group, group_of, undone, undone_after, is_undone, is_there, IsTaggedBy, IsSound}
-use Rattle.plain_edits.specs.Edits.{is_edit_of, undid}
-use Rattle.plain_edits.specs.Collection.{collected_at, is_based_from, is_clean, is_collected, IsAtRest, MayCollect}
+use Rattle.plain_edits.specs.Edits.{is_edit_of}
+use Rattle.plain_edits.specs.Collection.{collected_at, is_based_from, is_collected, IsAtRest, MayCollect}
 use Rattle.plain_edits.specs.HistorySteps.{is_edit, HasRisingSet, IsByEdits}
 use Rattle.plain_edits.proofs.callers.CollectionLemmas.{all_has}
 use Rattle.plain_edits.proofs.callers.HistoryLemmas.{revision_at-append}
-use Rattle.collection_laws.proofs.ForCallers.{HasFloor, HasRisingSet-undone_by, LeavesUndone, edit_after}
-use Rattle.rev_list.specs.declared.edit.RevEdit.{RevEdit}
+use Rattle.collection_laws.proofs.ForCallers.{HasFloor, HasRisingSet-undone_by, edit_after}
 use Rattle.rev_list.specs.declared.step.RevStep.{RevStep}
 use Rattle.rev_list.specs.declared.step.RevStep.TheVariants.{Edit, Undo}
 use Rattle.rev_list.specs.declared.records.RevRecord.{RevRecord}
-use Rattle.rev_list.specs.Edit.{edit_revision, undone_by, after_revision}
+use Rattle.rev_list.specs.Edit.{after_revision}
 use Rattle.rev_list.specs.Kept.{IsOpen, Follows, turned_by}
 use Rattle.rev_list.specs.Until.{history_until, tagged_until, revision_of, IsRecordAt, MayFollow}
 use Rattle.rev_list.proofs.ForCallers.{clean-take, revisions-after}

@@ -4,7 +4,7 @@ ghost use Rattle.plain_edits.specs.Collection.{collection_of, is_where_to_collec
 ghost use Rattle.rev_collect.specs.Choice.{collection_said};
 
 use crate::floors::clean_floor;
-use crate::rest::resting_groups;
+use crate::rest::{none_rests, resting_groups};
 use plain_text::NoMemory;
 use rev_list::RevList;
 use std::alloc::Global;
@@ -12,8 +12,9 @@ use std::collections::BTreeSet;
 
 /// What is collected after an entry, where these groups are retired and `acknowledged` is the least revision that an open session has
 /// acknowledged, or the head where none is open: a floor, and the groups that are collected there. `None` comes exactly where that is
-/// nothing. Groups that were collected before are passed over. It costs the height of the list for each revision after the greatest
-/// clean floor up to `acknowledged`, and, where groups are collected at that floor, one pass over the retired ones.
+/// nothing. Groups that were collected before are passed over. It costs the logarithm of the number of groups for each retired one, and
+/// no more where each of them is collected or has its first edit after `acknowledged`; else the height of the list for each revision
+/// after the greatest clean floor up to there, and, where groups are collected at that floor, one pass over the retired ones.
 pub fn collectable(
     alloc: Global,
     revs: &RevList,
@@ -25,6 +26,9 @@ pub fn collectable(
     ensures { IfOk result (λ found. collection_said found
         ≡ collection_of revs.now retired.now.keys acknowledged) }
 {
+    if none_rests(revs, retired, acknowledged) {
+        return Ok(None);
+    }
     let floor = clean_floor(revs, acknowledged);
     if !is_where_to_collect(revs, floor) {
         return Ok(None);

@@ -1,5 +1,6 @@
 // A collection below the head: the revisions after the floor, without what is dropped.
 ghost use Rattle.std.specs.Prelude.{◌≡◌, [], ◌∷◌, length, IfOk, OnOk};
+ghost use Rattle.subset_runs.specs.Subset.{count};
 ghost use Rattle.plain_edits.specs.History.{head};
 ghost use Rattle.plain_edits.specs.Collection.{MayCollect};
 ghost use Rattle.rev_list.specs.Edit.{after_revision};
@@ -13,9 +14,49 @@ use std::alloc::{AllocError, Global};
 use std::collections::BTreeSet;
 use subset_runs::Subset;
 
-// With the revisions after the floor, where `left` is what is left up to there and `dropped` what goes of the union as it was there: for each
-// of them the runs of its edit, of what is dropped and of what is dead.
+// With the revisions after the floor, where `left` is what is left up to there and `dropped` what goes of the union as it was there. Where that
+// is nothing, the revisions are shared.
 pub(crate) fn with_later(
+    alloc: Global,
+    revs: &RevList,
+    floor: u64,
+    groups: &BTreeSet<u64>,
+    left: RevList,
+    dropped: Subset,
+) -> Result<(RevList, Subset), NoMemory>
+    requires may { MayCollect revs.now floor groups.now.keys }
+    requires left { IsLeftUntil revs.now floor groups.now.keys floor left dropped }
+    ensures { IfOk result (λ made. IsLeftUntil revs.now floor groups.now.keys (head revs.now) made.0 made.1) }
+{
+    if dropped.count() == 0 {
+        return with_shared(alloc, revs, floor, groups, &left, &dropped);
+    }
+    with_each(alloc, revs, floor, groups, left, dropped)
+}
+
+// The same where nothing is dropped: for each revision the logarithm of the number of groups.
+fn with_shared(
+    alloc: Global,
+    revs: &RevList,
+    floor: u64,
+    groups: &BTreeSet<u64>,
+    left: &RevList,
+    dropped: &Subset,
+) -> Result<(RevList, Subset), NoMemory>
+    requires may { MayCollect revs.now floor groups.now.keys }
+    requires left { IsLeftUntil revs.now floor groups.now.keys floor left.now dropped.now }
+    requires none { count dropped.now ≡ 0 }
+    ensures { IfOk result (λ made. IsLeftUntil revs.now floor groups.now.keys (head revs.now) made.0 made.1) }
+{
+    let _walk = revs.revisions_after(floor);
+    let _open = revs.is_collected(0);
+    let _sets = revs.undone();
+    let made = left.going_on(alloc, revs)?;
+    Ok((made, Subset::none(alloc, revs.union_len())))
+}
+
+// The same, one by one: for each of them the runs of its edit, of what is dropped and of what is dead.
+fn with_each(
     alloc: Global,
     revs: &RevList,
     floor: u64,

@@ -21,7 +21,8 @@ use subset_runs::Subset;
 /// The list that is left after the collection of these groups at a clean floor, and the positions of the present union that are dropped.
 /// It costs, for each revision from the old floor to the new one, the runs of its edit and of what came later up to there, for each group that
 /// has an edit by then its runs and those of what is dropped, and for each revision after the new floor the runs of its edit, of what is
-/// dropped and of what is dead: nothing of what was collected before, and nothing of the text.
+/// dropped and of what is dead, or the logarithm of the number of groups where nothing is dropped: then these revisions are shared. It
+/// costs nothing of what was collected before, and nothing of the text.
 pub fn collect(
     alloc: Global,
     revs: &RevList,

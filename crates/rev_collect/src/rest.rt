@@ -1,6 +1,6 @@
 // Groups at rest at a floor.
 ghost use Rattle.std.specs.List.{AllByRecursion};
-ghost use Rattle.std.specs.Prelude.{◌≡◌, ℕ, ◌≤◌, ◌↔◌, false, not, ◌&&◌, IfOk, IsTrue};
+ghost use Rattle.std.specs.Prelude.{◌≡◌, ℕ, ◌≤◌, ◌↔◌, false, not, ◌&&◌, [], IfOk, IsTrue};
 ghost use Rattle.plain_text.specs.Numbers.{has};
 ghost use Rattle.plain_edits.specs.History.{head};
 ghost use Rattle.plain_edits.specs.Collection.{is_at_rest, resting_groups, MayCollect};
@@ -34,6 +34,32 @@ pub(crate) fn resting_groups(
         }
     }
     Ok(groups)
+}
+
+// Whether each of the groups is collected, or has its first edit after the revision: then none is at rest up to there. It costs the logarithm
+// of the number of groups for each.
+pub(crate) fn none_rests(revs: &RevList, groups: &BTreeSet<u64>, most: u64) -> bool
+    ensures { IsTrue result → (floor : ℕ) → floor ≤ most → resting_groups revs.now groups.now.keys floor ≡ [] }
+{
+    for group in groups {
+        if may_rest(revs, *group, most) {
+            return false;
+        }
+    }
+    true
+}
+
+fn may_rest(revs: &RevList, group: u64, most: u64) -> bool
+    ensures { result ≡ false → (floor : ℕ) → floor ≤ most
+        → (not (has revs.now.collected group) && is_at_rest revs.now floor group) ≡ false }
+{
+    if revs.is_collected(group) {
+        return false;
+    }
+    match revs.first_edit(group) {
+        Some(first) => first <= most,
+        None => true,
+    }
 }
 
 fn is_resting(revs: &RevList, moving: &NumberSet, group: u64) -> bool

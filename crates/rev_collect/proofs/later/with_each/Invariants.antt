@@ -1,7 +1,7 @@
 use Rattle.std.proofs.Common.{◌≤◌, ◌-◌}
 use Rattle.plain_edits.specs.History.{head}
 use Rattle.rev_collect.specs.Later.{IsLeftUntil}
-use Rattle.rev_collect.proofs.later.with_later.Given as goal
+use Rattle.rev_collect.proofs.later.with_each.Given as goal
 
 abbrev pub invariant-loop-at : goal.invariant-loop-at
 invariant-loop-at l = record {

@@ -1,8 +1,7 @@
-use Rattle.std.proofs.Common.{◌≡◌, ◌+◌, ◌-◌, ◌<◌, ◌≤◌, List, Bool, arith, ap, sym, ◌∙◌}
-use Rattle.plain_edits.specs.History.{History, head}
-use Rattle.rev_collect.specs.Later.{IsLeftUntil}
+use Rattle.std.proofs.Common.{◌≡◌, ◌+◌, ◌-◌, ◌<◌, ◌≤◌, arith}
+use Rattle.plain_edits.specs.History.{head}
 use Rattle.rev_collect.proofs.LaterLemmas.{next_left}
-use Rattle.rev_collect.proofs.later.with_later.Goals as goal
+use Rattle.rev_collect.proofs.later.with_each.Goals as goal
 
 pub loop-at-init : goal.loop-at-init
 loop-at-init c = record { low = omega arith; high = c.requires.may.known; so_far = c.requires.left }
