@@ -1,14 +1,16 @@
 -- The last step of an undo: it is the undo step of every history that the engine stands for.
-use Rattle.std.proofs.Common.{◌≡◌, ℕ, ◌+◌, ◌-◌, ◌^◌, ◌<◌, true, List, [], ◌∷◌, length-append, inl, inr, ◌⊎◌, refl, ap, sym, ◌∙◌, subst, arith}
+use Rattle.std.proofs.Common.{◌≡◌, ℕ, ◌+◌, ◌-◌, ◌^◌, ◌<◌, true, not, List, [], ◌∷◌, ◌++◌, length, map, take_all, length-append, inl, inr, ◌⊎◌, refl, ap, sym, ◌∙◌, subst, arith}
 use Rattle.std.proofs.Math.Logic.{∥∥₁_map}
 use Rattle.std.specs.List.{AllByRecursion, list_any}
 use Rattle.plain_text.specs.Numbers.{flipped, has, IsRising}
 use Rattle.std.proofs.lemmas.Bool.{or_cases}
+use Rattle.std.proofs.lemmas.List.{take-append-le}
 use Rattle.plain_text.specs.Text.{byte_len}
 use Rattle.plain_edits.specs.declared.delta.UnitDelta.{UnitDelta}
-use Rattle.plain_edits.specs.History.{History, undo, head}
+use Rattle.plain_edits.specs.History.{Tagged, Revision, undo, History, head, is_visible}
 use Rattle.plain_edits.specs.HistorySteps.{MayUndoSet}
 use Rattle.plain_edits.specs.Edits.{undid, is_edit_of}
+use Rattle.plain_edits.proofs.callers.FirstLemmas.{is_visible-take}
 use Rattle.plain_edits.proofs.callers.HistoryLemmas.{IsSound-undid, text_at-undid}
 use Rattle.plain_edits.specs.HistorySteps as Steps
 use Rattle.delta_core.specs.Synthesis.{IsBetween}
@@ -179,11 +181,21 @@ may_push_by state now groups view up may agrees = record {
   rising = IsRising-flipped (undone_now state.revisions) groups up;
 }
 
+-- what the last revision shows does not depend on the next one
+shown-before : (revisions : List Revision) (last : Revision) (t : Tagged) → is_visible (revisions ++ last ∷ []) (length revisions) t ≡ is_visible revisions (length revisions) t
+shown-before revisions last t =
+    sym (is_visible-take (revisions ++ last ∷ []) (length revisions) (length revisions) t (omega arith)) ∙
+    ap (λ rs. is_visible rs (length revisions) t)
+    (take-append-le (length revisions) revisions (last ∷ []) (omega arith) ∙ take_all (length revisions) revisions (omega arith))
+
 module _ (state now : State) (text groups : List ℕ) (view : state ≡ now) (held : IsHeld state.union text state.revisions state.limit state.spent)
     (may : MayAskUndo now.revisions (undone_by now.revisions groups)) (agrees : AgreesOnCollected now.revisions (undone_by now.revisions groups))
-    (up : IsRising (undone_now state.revisions)) (copy pushed : History) (copied : copy ≡ state.revisions) (push : pushed ≡ undid copy (undone_by copy groups)) (from : ℕ)
-    (from_is : from ≡ head now.revisions) (units : UnitDelta)
-    (between : IsBetween state.union (hidden_at pushed from) (hidden_at pushed (head pushed)) units) where
+    (up : IsRising (undone_now state.revisions)) (copy pushed : History) (copied : copy ≡ state.revisions) (push : pushed ≡ undid copy (undone_by copy groups)) (units : UnitDelta)
+    (between : IsBetween state.union (hidden_at state.revisions (head state.revisions)) (hidden_at pushed (head pushed)) units) where
+  -- an undo changes nothing of what was hidden before it
+  hidden-before : (h : History) (set : List ℕ) → hidden_at (undid h set) (head h) ≡ hidden_at h (head h)
+  hidden-before h set = ap (λ f. map f h.characters) (λ i t. not (shown-before h.revisions (undo set) t i))
+
   pushed_is : pushed ≡ undid state.revisions (undone_by state.revisions groups)
   pushed_is = push ∙ ap (λ h. undid h (undone_by h groups)) copied
 
@@ -192,9 +204,11 @@ module _ (state now : State) (text groups : List ℕ) (view : state ≡ now) (he
 
   change : (h : History) → IsHistoryOf state.union state.revisions h → IsChangeBy h (undid h (undone_by state.revisions groups)) units
   change h is =
-      IsChangeBy-undid state.union state.revisions (undone_by state.revisions groups) h is units from
-      (from_is ∙ ap (λ (s : State). head s.revisions) (sym view))
-      (subst (λ g. IsBetween state.union (hidden_at g from) (hidden_at g (head g)) units) pushed_is between)
+      let set : List ℕ = undone_by state.revisions groups in
+      IsChangeBy-undid state.union state.revisions set h is units (head state.revisions) refl
+      (subst (λ flags. IsBetween state.union flags (hidden_at (undid state.revisions set) (head (undid state.revisions set))) units)
+      (sym (hidden-before state.revisions set))
+      (subst (λ g. IsBetween state.union (hidden_at state.revisions (head state.revisions)) (hidden_at g (head g)) units) pushed_is between))
 
   pub goes-on-pushed : GoesOn text state.union pushed state.limit state.spent units
   goes-on-pushed =

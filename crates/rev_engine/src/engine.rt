@@ -21,7 +21,7 @@ ghost use Rattle.rev_engine.specs.State.{IsHistoryOf, shown_at};
 ghost use Rattle.rev_engine.specs.Inner.{IsAnswered, IsFitting, IsNext, IsNextLeft, IsPutIn, IsUnitsFor};
 
 use crate::flat::{alive, whole};
-use crate::step::{Fitting, PutIn, put_in, units_from, without};
+use crate::step::{Fitting, PutIn, put_in, units_from, units_of_heads, without};
 use crate::undo::{are_known, frozen, has_number, is_set_known};
 use crate::{Change, Edit, EditFault, UndoFault, UnitEdit, short};
 use delta_core::{fits, to_units};
@@ -141,6 +141,19 @@ impl Engine {
         self.shown(alloc, rev)
     }
 
+    /// What a revision shows, as a rope: at the head it is shared, in O(1), and for an older revision it costs what [`Engine::text_at`]
+    /// does, and is refused as that is.
+    pub fn rope_at(&self, alloc: Global, rev: u64) -> Result<Rope, RevFault>
+        ensures text { (history : History) → StandsFor self.now history
+            → IfOk result (λ text. text ≡ text_at history rev) }
+        ensures unknown { (history : History) → StandsFor self.now history
+            → (n : ℕ) → (result ≡ Err (RevFault.Unknown n)) ↔ IsUnknown history rev n }
+        ensures collected { (history : History) → StandsFor self.now history
+            → (n : ℕ) → (result ≡ Err (RevFault.Collected n)) ↔ IsCollected history rev n }
+    {
+        self.shown_rope(alloc, rev)
+    }
+
     /// The edit in characters from the text of a revision to the head text, canonical; refused as [`Engine::text_at`] is. It costs what
     /// `RevList::dead_at` does, the runs of what is dead at both, and for each run of characters that appear the height of the union and
     /// these characters: it reads no others.
@@ -180,6 +193,22 @@ impl Engine {
             return Ok(self.shown_now(alloc)?);
         }
         self.shown_then(alloc, rev)
+    }
+
+    // The same as a rope.
+    fn shown_rope(&self, alloc: Global, rev: u64) -> Result<Rope, RevFault>
+        ensures text { IfOk result (λ text. text ≡ shown_at self.now.union self.now.revisions rev) }
+        ensures unknown { (n : ℕ) → (result ≡ Err (RevFault.Unknown n)) ↔ IsUnknown self.now.revisions rev n }
+        ensures collected { (n : ℕ) → (result ≡ Err (RevFault.Collected n)) ↔ IsCollected self.now.revisions rev n }
+        ensures kept { OnOk result (IsKeptAt self.now.revisions rev) }
+    {
+        if self.is_head(rev) {
+            return Ok(self.text.copy(alloc)?);
+        }
+        match self.shown_then(alloc, rev) {
+            Ok(text) => Ok(Rope::of_text(alloc, &text)?),
+            Err(fault) => Err(fault),
+        }
     }
 
     fn is_head(&self, rev: u64) -> bool
@@ -493,8 +522,7 @@ impl Engine {
         let dead = recompute_by(alloc, &self.revs, groups)?;
         let mut revs = self.revs.copy(alloc)?;
         let rev = revs.push_undo_by(alloc, groups, dead)?;
-        let head = self.head();
-        let units = units_from(alloc, &self.union, &revs, head)?;
+        let units = units_of_heads(alloc, &self.union, &self.revs, &revs)?;
         let shown = self.text.edited(alloc, &units)?;
         let union = self.union.copy(alloc)?;
         Ok(Next {

@@ -107,6 +107,21 @@ fn units_between(
     synthesize_of(alloc, &text, before, after)
 }
 
+// The delta from what the head of one list shows to what that of another shows, over one union.
+pub(crate) fn units_of_heads(
+    alloc: Global,
+    union: &Rope,
+    before: &RevList,
+    after: &RevList,
+) -> Result<UnitDelta, NoMemory>
+    requires before { length union.now ≡ length before.now.characters }
+    requires after { length union.now ≡ length after.now.characters }
+    ensures { IfOk result (IsBetween union.now (hidden_at before.now (head before.now))
+        (hidden_at after.now (head after.now))) }
+{
+    units_between(alloc, union, before.dead(), after.dead())
+}
+
 // The union without the characters that are dropped: the height of the rope for each run of them. All others are shared, and where
 // there are none the union is.
 pub(crate) fn without(alloc: Global, union: &Rope, dropped: &Subset) -> Result<Rope, NoMemory>

@@ -23,20 +23,23 @@ pub edited-requires-clause-base : goal.edited-requires-clause-base
 edited-requires-clause-base c =
     (goes-on-pushed _ c.args.self.now _ c.args.groups.now c.self.view_is c.self.invariant c.requires.may c.requires.agrees
     (rw c.undone-undone.ensures.groups at c.undone-undone.ensures.rising) c.in_ok-revs.revs c.push_undo_by.new.self c.in_ok-revs.ensures
-    c.in_ok-rev.ensures.ok c.head-head.result c.head-head.ensures.revisions c.in_ok-units.units c.in_ok-units.ensures).base
+    c.in_ok-rev.ensures.ok c.in_ok-units.units
+    c.in_ok-units.ensures).base
 
 pub edited-requires-clause-fits : goal.edited-requires-clause-fits
 edited-requires-clause-fits c =
     (goes-on-pushed _ c.args.self.now _ c.args.groups.now c.self.view_is c.self.invariant c.requires.may c.requires.agrees
     (rw c.undone-undone.ensures.groups at c.undone-undone.ensures.rising) c.in_ok-revs.revs c.push_undo_by.new.self c.in_ok-revs.ensures
-    c.in_ok-rev.ensures.ok c.head-head.result c.head-head.ensures.revisions c.in_ok-units.units c.in_ok-units.ensures).short
+    c.in_ok-rev.ensures.ok c.in_ok-units.units
+    c.in_ok-units.ensures).short
 
 pub invariant_of-result : goal.invariant_of-result
 invariant_of-result c =
     rw c.in_ok-union.ensures
     ((goes-on-pushed _ c.args.self.now _ c.args.groups.now c.self.view_is c.self.invariant c.requires.may c.requires.agrees
     (rw c.undone-undone.ensures.groups at c.undone-undone.ensures.rising) c.in_ok-revs.revs c.push_undo_by.new.self c.in_ok-revs.ensures
-    c.in_ok-rev.ensures.ok c.head-head.result c.head-head.ensures.revisions c.in_ok-units.units c.in_ok-units.ensures).holds _ c.in_ok-shown.ensures)
+    c.in_ok-rev.ensures.ok c.in_ok-units.units
+    c.in_ok-units.ensures).holds _ c.in_ok-shown.ensures)
 
 pub returns-clause-rising : goal.returns-clause-rising
 returns-clause-rising c =
@@ -47,5 +50,6 @@ pub returns-clause-change : goal.returns-clause-change
 returns-clause-change c =
     change-pushed _ c.args.self.now _ c.args.groups.now c.self.view_is c.self.invariant c.requires.may c.requires.agrees
     (rw c.undone-undone.ensures.groups at c.undone-undone.ensures.rising) c.in_ok-revs.revs c.push_undo_by.new.self c.in_ok-revs.ensures
-    c.in_ok-rev.ensures.ok c.head-head.result c.head-head.ensures.revisions c.in_ok-units.units c.in_ok-units.ensures c.in_ok-rev.rev
+    c.in_ok-rev.ensures.ok c.in_ok-units.units
+    c.in_ok-units.ensures c.in_ok-rev.rev
     c.in_ok-rev.ensures.number
