@@ -1,0 +1,4 @@
+mod SessionLemmas
+mod RoundLemmas
+mod MemberLemmas
+mod AloneLemmas

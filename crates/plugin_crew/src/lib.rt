@@ -1,0 +1,20 @@
+//! All plugins of a run, in turns.
+//!
+//! A taker is where lines of a front end go in. In turns it is an object with a crew: after each line that was taken, and sent, each plugin
+//! whose session goes on has its turn at the object. What each did is a list of visits, which the object's journal serves. To a contract a
+//! crew is its members: each is its port, its plugin, now and at first, and how its session stands.
+#![tactic(auto)]
+
+mod alone_front;
+mod crew;
+mod member;
+mod standing;
+mod taker;
+mod took;
+
+pub use alone_front::AloneFront;
+pub use crew::Crew;
+pub use member::Member;
+pub use standing::Standing;
+pub use taker::LineTaker;
+pub use took::Took;
