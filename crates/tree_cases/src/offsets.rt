@@ -4,7 +4,7 @@ ghost use Rattle.std.specs.Prelude.{◌≡◌, ◌<◌};
 
 use Measure::{Bytes, Chars, Lines, Utf16};
 use plain_text::{NoMemory, Steps, Text};
-use rope_metrics::{Measure, convert, total};
+use rope_metrics::{Measure, convert, gap_within, total};
 use rope_node::Node;
 use rope_tree::Rope;
 use std::alloc::Global;
@@ -37,6 +37,19 @@ fn offset(node: &Node, from: Measure, to: Measure, at: u64) -> Option<u64> {
     counted::<Brand>(Blank::new(1), node, from, to, at)
 }
 
+fn counted_gap<L: Ledger>(blank: Blank, node: &Node, m: Measure, at: u64) -> u64
+    requires name { blank.name ≡ L.name }
+    requires parts { blank.parts ≡ L.parts }
+    requires some { 0 < blank.parts }
+{
+    let mut steps = Steps::<L>::new(blank);
+    gap_within(node, m, at, &mut steps)
+}
+
+fn gap(node: &Node, m: Measure, at: u64) -> u64 {
+    counted_gap::<Brand>(Blank::new(1), node, m, at)
+}
+
 // Whether the node is so long in characters, bytes, UTF-16 units and LFs.
 fn is_long(node: &Node, lengths: (u64, u64, u64, u64)) -> bool {
     (
@@ -58,9 +71,23 @@ fn has_offsets(node: &Node) -> bool {
         && offset(node, Utf16, Bytes, 4) == None
 }
 
+// Whether the greatest gaps within offsets of it are.
+fn has_gaps(node: &Node) -> bool {
+    gap(node, Bytes, 0) == 0
+        && gap(node, Bytes, 2) == 1
+        && gap(node, Bytes, 3) == 2
+        && gap(node, Bytes, 7) == 3
+        && gap(node, Bytes, 8) == 4
+        && gap(node, Bytes, u64::MAX) == 4
+        && gap(node, Utf16, 4) == 3
+        && gap(node, Chars, 3) == 3
+        && gap(node, Lines, 0) == 2
+        && gap(node, Lines, 1) == 4
+}
+
 fn counts(alloc: Global, left: &str, right: &str) -> bool {
     match node_of(alloc, left, right) {
-        Ok(node) => is_long(&node, (4, 8, 5, 1)) && has_offsets(&node),
+        Ok(node) => is_long(&node, (4, 8, 5, 1)) && has_offsets(&node) && has_gaps(&node),
         Err(_) => false,
     }
 }
@@ -81,10 +108,13 @@ fn letters_of(alloc: Global, letters: u64) -> Result<Rope, NoMemory> {
     Rope::of_text(alloc, &text)
 }
 
-// Whether offsets of one measure reach this far in another, and no further.
+// Whether offsets of one measure reach this far in another, and no further, and the gaps within them too.
 fn end_at(node: &Node, letters: u64, from: Measure, to: Measure) -> bool {
     offset(node, from, to, letters) == Some(letters)
         && offset(node, from, to, letters.wrapping_add(1)).is_none()
+        && gap(node, from, letters) == letters
+        && gap(node, from, letters.wrapping_add(1)) == letters
+        && gap(node, to, letters.saturating_sub(1)) == letters.saturating_sub(1)
 }
 
 // Whether they do so in the rope of so many letters.
