@@ -8,7 +8,7 @@ use rev_list::RevFault;
 use std::alloc::{AllocError, Global};
 use std::collections::BTreeSet;
 
-fn set_of(alloc: Global, groups: &[u64]) -> Result<BTreeSet<u64>, AllocError> {
+pub(crate) fn set_of(alloc: Global, groups: &[u64]) -> Result<BTreeSet<u64>, AllocError> {
     let mut set = BTreeSet::new(alloc);
     for group in groups {
         set.insert(*group)?;
@@ -59,7 +59,7 @@ pub(crate) fn collect(
 }
 
 // Whether so many groups insert an LF each at the end of the text.
-fn types_newlines(alloc: Global, engine: &mut Engine, groups: u64) -> bool {
+pub(crate) fn types_newlines(alloc: Global, engine: &mut Engine, groups: u64) -> bool {
     for at in 0..groups {
         let group = at.saturating_add(1);
         if !is_made(take(alloc, engine, insertion(at, at, at, "\n", group))) {

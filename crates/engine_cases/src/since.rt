@@ -1,12 +1,13 @@
-//! The edit since a revision of the engine, before and after a collection.
+//! The edit since a revision of the engine, and its text as a rope, before and after a collection.
 
 use crate::collections::{collect, undo};
-use crate::made::{fails, gives, holds};
+use crate::made::{fails, gives, holds, reads};
 use crate::rows::{deletion, insertion, loaded, takes_all};
 use plain_edits::{Added, UnitDelta};
 use plain_text::Run;
 use rev_engine::Engine;
 use rev_list::RevFault;
+use rope_tree::Rope;
 use std::alloc::Global;
 
 fn run(start: u64, end: u64) -> Run {
@@ -61,6 +62,35 @@ fn tells_since(alloc: Global, engine: &mut Engine) -> bool {
 fn the_edit_since_a_revision_is_told(rt: HostRuntime) {
     let alloc = rt.alloc();
     assert!(rt; holds(alloc, loaded(alloc, "ptq"), tells_since));
+}
+
+// Whether the rope of the revision is this text.
+fn is_rope(alloc: Global, engine: &Engine, rev: u64, shown: &str) -> bool {
+    match engine.rope_at(alloc, rev) {
+        Ok(rope) => is_text(alloc, &rope, shown),
+        Err(_) => false,
+    }
+}
+
+fn is_text(alloc: Global, rope: &Rope, shown: &str) -> bool {
+    reads(rope.slice(alloc, 0, rope.len()), shown)
+}
+
+fn gives_ropes(alloc: Global, engine: &mut Engine) -> bool {
+    takes_two(alloc, engine)
+        && is_rope(alloc, engine, 0, "ptq")
+        && is_rope(alloc, engine, 1, "pq")
+        && is_rope(alloc, engine, 2, "pEq")
+        && fails(engine.rope_at(alloc, 3), RevFault::Unknown(2))
+        && gives(collect(alloc, engine, &[1]), 1)
+        && is_rope(alloc, engine, 2, "pEq")
+        && fails(engine.rope_at(alloc, 1), RevFault::Collected(2))
+}
+
+#[test]
+fn the_text_of_a_revision_is_a_rope(rt: HostRuntime) {
+    let alloc = rt.alloc();
+    assert!(rt; holds(alloc, loaded(alloc, "ptq"), gives_ropes));
 }
 
 // So many of these groups are collected; then group 3 puts `X` behind `E`, and group 2 is undone: the head shows `pXq`.
