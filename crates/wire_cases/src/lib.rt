@@ -3,7 +3,11 @@
 #![tactic(auto)]
 
 #[cfg(test)]
+mod answers;
+#[cfg(test)]
 mod commands;
+#[cfg(test)]
+mod entries;
 #[cfg(test)]
 mod lines;
 #[cfg(test)]

@@ -1,9 +1,11 @@
 //! Notes to a front end, as they are printed.
 
+use crate::made::is;
+use plain_edits::Style;
 use plain_screen::{Line, Op, Restyle, Triple, Update};
 use plain_text::{List, NoMemory, Text};
 use std::alloc::Global;
-use view_update::{write_alert, write_scroll, write_update};
+use view_update::{write_alert, write_scroll, write_style, write_update};
 
 /// A line with these carets and styles.
 fn line(
@@ -39,7 +41,7 @@ fn adding(alloc: Global, new: Line, pristine: bool) -> Result<Update, NoMemory> 
 }
 
 /// The first update of a view: one empty line with a caret.
-fn opening(alloc: Global) -> Result<Update, NoMemory> {
+pub(crate) fn opening(alloc: Global) -> Result<Update, NoMemory> {
     let new = line(alloc, "", Some(1), &[0], &[])?;
     adding(alloc, new, true)
 }
@@ -142,15 +144,7 @@ fn written(alloc: Global, view: &str, update: Result<Update, NoMemory>) -> Resul
     write_update(alloc, &view, &update)
 }
 
-/// Whether the text was made, and is this.
-fn is(made: Result<Text, NoMemory>, expected: &str) -> bool {
-    match made {
-        Ok(text) => text.as_str() == expected,
-        Err(_) => false,
-    }
-}
-
-const OPENING: &str =
+pub(crate) const OPENING: &str =
     "{\"method\":\"update\",\"params\":{\"update\":{\"ops\":[{\"lines\":[{\"cursor\":[0],\"ln\":1,\"styles\":[],\"text\":\"\"}],\"n\":1,\"op\":\"ins\"}],\"pristine\":true},\"view_id\":\"view-id-1\"}}\n";
 
 const EACH_OPERATION: &str =
@@ -199,4 +193,53 @@ fn the_other_notes_are_theirs(rt: HostRuntime) {
     let alloc = rt.alloc();
     assert!(rt; is(scrolled(alloc, "view-id-1", 0, 4), SCROLL));
     assert!(rt; is(alerted(alloc, "method not found: \"\u{e9}\n"), ALERT));
+}
+
+/// A style of which nothing is named.
+pub(crate) const NO_STYLE: Style = Style {
+    fg_color: None,
+    bg_color: None,
+    weight: None,
+    italic: None,
+    underline: None,
+};
+
+const WHOLE_STYLE: Style = Style {
+    fg_color: Some(4294967295),
+    bg_color: Some(0),
+    weight: Some(1000),
+    italic: Some(false),
+    underline: Some(true),
+};
+
+/// Characters in this colour.
+fn coloured(fg: u32) -> Style {
+    let mut style = NO_STYLE;
+    style.fg_color = Some(fg);
+    style
+}
+
+/// Characters of this weight.
+pub(crate) fn weighty(weight: u32) -> Style {
+    let mut style = NO_STYLE;
+    style.weight = Some(weight);
+    style
+}
+
+pub(crate) const BOLD: &str = "{\"method\":\"def_style\",\"params\":{\"id\":2,\"weight\":700}}\n";
+
+const WHOLE: &str =
+    "{\"method\":\"def_style\",\"params\":{\"bg_color\":0,\"fg_color\":4294967295,\"id\":18446744073709551615,\"italic\":false,\"underline\":true,\"weight\":1000}}\n";
+
+pub(crate) const UNNAMED: &str = "{\"method\":\"def_style\",\"params\":{\"id\":3}}\n";
+
+const WHITE: &str = "{\"method\":\"def_style\",\"params\":{\"fg_color\":4294967295,\"id\":0}}\n";
+
+#[test]
+fn a_style_has_the_members_that_are_named(rt: HostRuntime) {
+    let alloc = rt.alloc();
+    assert!(rt; is(write_style(alloc, 2, weighty(700)), BOLD));
+    assert!(rt; is(write_style(alloc, 18446744073709551615, WHOLE_STYLE), WHOLE));
+    assert!(rt; is(write_style(alloc, 3, NO_STYLE), UNNAMED));
+    assert!(rt; is(write_style(alloc, 0, coloured(4294967295)), WHITE));
 }
