@@ -15,10 +15,12 @@ use Rattle.doc_session.specs.declared.event.Body.{Body}
 use Rattle.doc_session.specs.declared.event.Body.TheVariants.{Null}
 use Rattle.doc_session.specs.declared.looking.Viewing.{Viewing}
 use Rattle.doc_session.specs.declared.looking.Viewing.TheVariants as Views
-use Rattle.doc_session.specs.Asking.{asked_refusal, front_edit}
+use Rattle.doc_text.specs.Asking.{asked_refusal}
+use Rattle.doc_session.specs.Asking.{front_edit}
 use Rattle.doc_session.specs.Document.{Document, no_request}
 use Rattle.edit_groups.specs.Typing.{kind_of}
-use Rattle.doc_session.specs.Effects.{notice_of, scroll_after}
+use Rattle.doc_text.specs.Notices.{notice_to}
+use Rattle.doc_session.specs.Effects.{scroll_after}
 use Rattle.doc_session.specs.Layout.{Position}
 use Rattle.doc_session.specs.Looking.{scrolls_at, viewed, viewed_lines, viewing_of}
 use Rattle.doc_session.specs.Step.{EventStep, act_step, answer_to, command_refusal, command_step, done_step, effect_on, history_step, idle_step, is_idle, looking_step, request_of, revision_step, scroll_if, scrolls, selected_document, step_to, typed_document, typed_step, undone_document, viewed_document, viewing_step}
@@ -117,7 +119,7 @@ IsCommand-else act no_undo no_redo none = by (form_of act)
 -- where nothing is edited nothing is refused
 pub refusal-selecting : (plain : Document) → command_refusal plain (selecting plain.view.regions) ≡ None
 refusal-selecting plain =
-    ap (λ b. if b then None else asked_refusal plain (front_edit plain None [])) (do_nothing-none (length plain.view.text))
+    ap (λ b. if b then None else asked_refusal plain.text (front_edit plain None [])) (do_nothing-none (length plain.view.text))
 
 -- so it is where a command only looks
 pub refusal-looking : (plain : Document) (act : EditAct) (viewing : Viewing) → viewing_of act ≡ Some viewing → command_refusal plain (effect_on plain act) ≡ None
@@ -151,19 +153,19 @@ pub record Leaves (before next : Document) : Type 0 where
 
 -- it makes no revision, or one, and leaves that
 module _ (P : EventStep → Type 0) (plain : Document) (act : EditAct)
-    (still : (next : Document) (body : Body) (scroll : Option Position) → next.history ≡ plain.history → Leaves plain next →
+    (still : (next : Document) (body : Body) (scroll : Option Position) → next.text.history ≡ plain.text.history → Leaves plain next →
     P (step_to (request_of act) plain next body scroll None))
-    (made : (next : Document) (body : Body) (scroll : Option Position) → head next.history ≡ head plain.history + 1 → Leaves plain next →
-    P (step_to (request_of act) plain next body scroll (Some (notice_of plain.history next.history 0)))) where
+    (made : (next : Document) (body : Body) (scroll : Option Position) → head next.text.history ≡ head plain.text.history + 1 → Leaves plain next →
+    P (step_to (request_of act) plain next body scroll (notice_to plain.text next.text.history 0))) where
   still_asking : (request : Run) → request_of act ≡ request → (next : Document) (body : Body) (scroll : Option Position) →
-      next.history ≡ plain.history → Leaves plain next → P (step_to request plain next body scroll None)
+      next.text.history ≡ plain.text.history → Leaves plain next → P (step_to request plain next body scroll None)
   still_asking request is next body scroll history leaves =
       subst (λ r. P (step_to r plain next body scroll None)) is (still next body scroll history leaves)
 
   made_asking : request_of act ≡ no_request → (next : Document) (body : Body) (scroll : Option Position) →
-      head next.history ≡ head plain.history + 1 → Leaves plain next → P (revision_step plain next 0 body scroll)
+      head next.text.history ≡ head plain.text.history + 1 → Leaves plain next → P (revision_step plain next 0 body scroll)
   made_asking is next body scroll more leaves =
-      subst (λ r. P (step_to r plain next body scroll (Some (notice_of plain.history next.history 0)))) is (made next body scroll more leaves)
+      subst (λ r. P (step_to r plain next body scroll (notice_to plain.text next.text.history 0))) is (made next body scroll more leaves)
 
   command_forms : (effect : Effect) → request_of act ≡ no_request → P (command_step plain act effect)
   command_forms effect is = by (is_idle plain effect)
@@ -175,7 +177,7 @@ module _ (P : EventStep → Type 0) (plain : Document) (act : EditAct)
           (record { config = refl; shown = refl; screen = refl })
       by false =
           let next = typed_document plain (kind_of act) effect in
-          made_asking is next (answer_to plain act) (scroll_if (scrolls act) plain next) (length_push plain.history.revisions _)
+          made_asking is next (answer_to plain act) (scroll_if (scrolls act) plain next) (length_push plain.text.history.revisions _)
           (record { config = refl; shown = refl; screen = refl })
 
   viewing_forms : (viewing : Viewing) → request_of act ≡ viewed_lines viewing → (viewed plain.view viewing).config ≡ plain.view.config →
@@ -189,7 +191,7 @@ module _ (P : EventStep → Type 0) (plain : Document) (act : EditAct)
   turn_forms None groups is = viewing_forms Views.Other is refl
   turn_forms (Some group) groups is =
       let next = undone_document plain groups in
-      made_asking is next Null (scroll_after plain next) (length_push plain.history.revisions _)
+      made_asking is next Null (scroll_after plain next) (length_push plain.text.history.revisions _)
       (record { config = refl; shown = refl; screen = refl })
 
   abbrev At : EditAct → Type 0
@@ -200,8 +202,8 @@ module _ (P : EventStep → Type 0) (plain : Document) (act : EditAct)
   by_front = by (form_of act)
     where
       by : Form act → P (act_step plain act)
-      by (undoes is) = subst At (sym is) (turn_forms (next_undo plain.groups) (undone_one plain.groups) (ap request_of is))
-      by (redoes is) = subst At (sym is) (turn_forms (next_redo plain.groups) (redone_one plain.groups) (ap request_of is))
+      by (undoes is) = subst At (sym is) (turn_forms (next_undo plain.text.groups) (undone_one plain.text.groups) (ap request_of is))
+      by (redoes is) = subst At (sym is) (turn_forms (next_redo plain.text.groups) (redone_one plain.text.groups) (ap request_of is))
       by (looks viewing look) =
           subst (λ found. P (looking_step plain act found)) (sym look.is) (viewing_forms viewing look.request (look.config plain.view))
       by (commands is) =

@@ -1,17 +1,15 @@
 -- How a document is laid out and edited after an event.
 use Rattle.std.proofs.Common.{◌≡◌, refl, ◌∙◌}
 use Rattle.plain_text.specs.declared.run.Run.{Run}
-use Rattle.edit_groups.specs.Grouping.{named_group}
 use Rattle.doc_session.specs.declared.event.Event.{Event}
 use Rattle.doc_session.specs.declared.event.Event.TheVariants.{Ack, Config as Configure, Edit, Ended, Front, Other, Spans}
-use Rattle.doc_session.specs.Asking.{asked_spans, plugin_edit}
+use Rattle.doc_text.specs.Asking.{asked_spans}
 use Rattle.doc_session.specs.Document.{Document, no_request}
 use Rattle.doc_session.specs.declared.looking.Viewing.TheVariants.{Layout, Other as NoCommand}
 use Rattle.doc_view.specs.View.{View}
 use Rattle.doc_session.specs.Effects.{pristine_from, settled}
 use Rattle.doc_session.specs.Step.{config_after, event_step, given_document, request_of, styled_document, taken_step, viewed_document}
 use Rattle.doc_session.proofs.ActLemmas.{by_front}
-use Rattle.doc_session.proofs.CollectLemmas.{part-collected}
 use Rattle.doc_session.proofs.SettleLemmas.{part-settled}
 
 -- what its front end is told is no matter
@@ -23,9 +21,7 @@ config-taken plain (Front act) =
     by_front (λ step. step.document.view.config ≡ plain.view.config) plain act
     (λ next body scroll history leaves. config-settled (request_of act) plain next ∙ leaves.config)
     (λ next body scroll more leaves. config-settled (request_of act) plain next ∙ leaves.config)
-config-taken plain (Edit caller edit named) =
-    let joined = named_group plain.history named in
-    config-settled no_request plain (given_document plain (plugin_edit plain caller edit joined) joined edit.after_cursor)
+config-taken plain (Edit caller edit named) = config-settled no_request plain (given_document plain caller edit named)
 config-taken plain (Spans caller rev start len spans) =
     config-settled no_request plain (styled_document plain caller (asked_spans rev start len spans))
 config-taken plain (Ack caller rev) = refl
@@ -35,4 +31,4 @@ config-taken plain Other = config-settled no_request plain (viewed_document plai
 
 -- it is the one that the event says, or else the one before
 pub config-event_step : (plain : Document) (event : Event) → (event_step plain event).document.view.config ≡ config_after plain.view.config event
-config-event_step plain event = part-collected (λ (document : Document). document.view.config) (taken_step plain event).document (λ found. refl) ∙ config-taken plain event
+config-event_step plain event = config-taken plain event

@@ -11,10 +11,12 @@ use Rattle.edit_ops.specs.Replacements.{added_by, kept_by}
 use Rattle.rev_engine.proofs.ForCallers.{formed-stands, refusal-kept}
 use Rattle.doc_session.specs.InMemory.{Doc}
 use Rattle.doc_session.specs.declared.event.Event.TheVariants.{Front}
-use Rattle.doc_session.specs.Asking.{asked_refusal, front_edit}
-use Rattle.doc_session.specs.Document.{Document, head_text}
+use Rattle.doc_text.specs.Asking.{asked_refusal}
+use Rattle.doc_text.specs.Refusal.{edit_refused}
+use Rattle.doc_text.specs.Writing.{head_text}
+use Rattle.doc_session.specs.Asking.{front_edit}
+use Rattle.doc_session.specs.Document.{Document}
 use Rattle.doc_session.specs.Laws.{IsSpentIfAny}
-use Rattle.doc_session.specs.Refusal.{edit_refused}
 use Rattle.doc_session.specs.Stands.{DocStandsFor}
 use Rattle.doc_session.specs.Step.{command_refusal, effect_on, is_idle, refusal_at}
 use Rattle.delta_core.proofs.ForCallers.{Fits-elements}
@@ -27,22 +29,23 @@ spent_alone limit total = by (nat_lt limit total)
     by false = tt
 
 edit_fits : (doc : Doc) (plain : Document) (replacements : List Replacement) → DocStandsFor doc plain →
-    IsSpentIfAny (edit_refused (asked_refusal plain (front_edit plain None replacements)))
+    IsSpentIfAny (edit_refused (asked_refusal plain.text (front_edit plain None replacements)))
 edit_fits doc plain replacements stands =
-    let h = plain.history in
+    let h = plain.text.history in
+    let limit = plain.text.limit in
     let delta = (front_edit plain None replacements).delta in
     let total = inserted_count h + inserted_len delta.els in
-    let low : h.floor ≤ head h = (formed-stands doc.engine h stands.parts.stands).floor in
+    let low : h.floor ≤ head h = (formed-stands doc.text.engine h stands.text.parts.state.stands).floor in
     let high : head h ≤ head h = omega arith in
-    let same : asked_refusal plain (front_edit plain None replacements) ≡ misfit_or_spent None plain.limit total =
-    refusal-kept h plain.limit (head h) delta low high ∙
-    ap (λ found. misfit_or_spent found plain.limit total) (Fits-elements (kept_by replacements) (added_by replacements) (head_text plain)) in
-    subst (λ refusal. IsSpentIfAny (edit_refused refusal)) (sym same) (spent_alone plain.limit total)
+    let same : asked_refusal plain.text (front_edit plain None replacements) ≡ misfit_or_spent None limit total =
+    refusal-kept h limit (head h) delta low high ∙
+    ap (λ found. misfit_or_spent found limit total) (Fits-elements (kept_by replacements) (added_by replacements) (head_text plain.text)) in
+    subst (λ refusal. IsSpentIfAny (edit_refused refusal)) (sym same) (spent_alone limit total)
 
 effect_fits : (doc : Doc) (plain : Document) (effect : Effect) → DocStandsFor doc plain → IsSpentIfAny (edit_refused (command_refusal plain effect))
 effect_fits doc plain effect stands = by (is_idle plain effect)
   where
-    by : (idle : Bool) → IsSpentIfAny (edit_refused (if idle then None else asked_refusal plain (front_edit plain None effect.replacements)))
+    by : (idle : Bool) → IsSpentIfAny (edit_refused (if idle then None else asked_refusal plain.text (front_edit plain None effect.replacements)))
     by true = tt
     by false = edit_fits doc plain effect.replacements stands
 

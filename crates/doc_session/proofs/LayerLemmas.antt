@@ -3,7 +3,6 @@ use Rattle.std.proofs.Common.{◌≡◌, ℕ, List, length, refl, ap, sym, ◌�
 use Rattle.std.specs.Prelude.{◌-◌}
 use Rattle.std.proofs.lemmas.List.{length-map, length-replicate}
 use Rattle.plain_edits.specs.declared.delta.UnitDelta.{UnitDelta}
-use Rattle.plain_edits.specs.History.{History}
 use Rattle.plain_edits.specs.Styles.{Layer, mapped_layer}
 use Rattle.plain_edits.specs.UnitDelta.{unit_adds, unit_keeps}
 use Rattle.span_styles.specs.Layers.{AreOver, length_after, mapped_layers, new_layers, unstyled}
@@ -13,10 +12,13 @@ use Rattle.stale_spans.specs.Asked.{layers_with_spans, moved_layers}
 use Rattle.stale_spans.proofs.ForCallers.{mapped_layers-change}
 use Rattle.doc_layout.specs.Changed.{IsChangeOf}
 use Rattle.doc_view.specs.View.{View}
-use Rattle.doc_session.specs.declared.taken.Taken.{Taken}
-use Rattle.doc_session.specs.Document.{Document, head_text}
+use Rattle.doc_text.specs.declared.revised.Revised.{Revised}
+use Rattle.doc_text.specs.Revised.{IsRevised}
+use Rattle.doc_text.specs.Stands.{IsTextOf}
+use Rattle.doc_text.specs.Writing.{Writing, head_text}
+use Rattle.doc_session.specs.Document.{Document}
 use Rattle.doc_session.specs.InMemory.{Doc}
-use Rattle.doc_session.specs.Inner.{IsAfter, IsUntold}
+use Rattle.doc_session.specs.Inner.{IsUntold}
 use Rattle.doc_session.specs.Stands.{DocStandsFor}
 use Rattle.doc_session.specs.Step.{styled_document}
 use Rattle.doc_session.specs.Whole.{IsKept}
@@ -35,8 +37,8 @@ pub over-kept : (doc now : Doc) (layers : List Layer) → IsKept doc → doc ≡
 over-kept doc now layers kept same is =
     subst (AreOver (length now.view.text)) (sym is) (subst (λ (d : Doc). AreOver (length d.view.text) d.view.layers) same kept.over)
 
-pub as_many-kept : (doc now : Doc) → IsKept doc → doc ≡ now → length now.view.layers ≡ length now.sessions
-as_many-kept doc now kept same = subst (λ (d : Doc). length d.view.layers ≡ length d.sessions) same kept.as_many
+pub as_many-kept : (doc now : Doc) → IsKept doc → doc ≡ now → length now.view.layers ≡ length now.text.sessions
+as_many-kept doc now kept same = subst (λ (d : Doc). length d.view.layers ≡ length d.text.sessions) same kept.as_many
 
 -- ---- over the change of a revision
 
@@ -54,34 +56,27 @@ pub as_many-changed : (units : UnitDelta) (layers moved : List Layer) → moved 
 as_many-changed units layers moved is = ap length is ∙ length-map layers (mapped_layer (unit_keeps units) (unit_adds units))
 
 -- they follow by the style rule, whatever document it stands for
-pub moved-changed : (doc : Doc) (plain : Document) (history : History) (author : ℕ) (taken : Taken) (moved : List Layer) → DocStandsFor doc plain →
-    IsAfter plain.history history author taken → AreOver (length doc.view.text) doc.view.layers →
-    moved ≡ mapped_layers taken.change.units doc.view.layers → moved ≡ moved_layers plain.history history plain.view.layers
-moved-changed doc plain history author taken moved stands after over is =
-    let here : AreOver (length (head_text plain)) doc.view.layers = subst (λ t. AreOver (length t) doc.view.layers) stands.parts.shown_is over in
-    is ∙ mapped_layers-change plain.history history taken.change.units after.changes.kept after.changes.added after.text_before doc.view.layers here ∙
-    ap (λ (v : View). moved_layers plain.history history v.layers) stands.view
+pub moved-changed : (doc : Doc) (plain : Document) (next : Writing) (author : ℕ) (revised : Revised) (moved : List Layer) → DocStandsFor doc plain →
+    IsRevised plain.text next author revised → AreOver (length doc.view.text) doc.view.layers →
+    moved ≡ mapped_layers revised.units doc.view.layers → moved ≡ moved_layers plain.text.history next.history plain.view.layers
+moved-changed doc plain next author revised moved stands after over is =
+    let shown = ap (λ (v : View). v.text) stands.view ∙ stands.of_head in
+    let here : AreOver (length (head_text plain.text)) doc.view.layers = subst (λ t. AreOver (length t) doc.view.layers) shown over in
+    is ∙ mapped_layers-change plain.text.history next.history revised.units after.changes.kept after.changes.added after.text_before doc.view.layers here ∙
+    ap (λ (v : View). moved_layers plain.text.history next.history v.layers) stands.view
 
 -- ---- after spans of a plugin
 
 pub IsUntold-styled : (doc made : Doc) (plain : Document) (caller : ℕ) (asked : AskedSpans) (layers : List Layer) → DocStandsFor doc plain →
-    made ≡ record doc { view = record doc.view { layers = layers } } →
-    layers ≡ layers_with_spans plain.history asked (caller - 1) doc.view.layers → IsUntold made plain (styled_document plain caller asked)
-IsUntold-styled doc made plain caller asked layers stands is layers_are =
-    subst (λ d. IsUntold d plain (styled_document plain caller asked)) (sym is) (record {
-      parts = stands.parts;
-      limit = stands.limit;
-      sessions = stands.sessions;
-      acknowledged = stands.acknowledged;
-      groups = stands.groups;
-      typing = stands.typing;
-      agree = stands.agree;
-      view =
-          ap (λ (ls : List Layer). record doc.view { layers = ls }) layers_are ∙
-          ap (λ (v : View). record v { layers = layers_with_spans plain.history asked (caller - 1) v.layers }) stands.view;
-      regions_are = stands.regions_are;
-      saved = stands.saved;
-      saved_before = stands.saved_before;
-      screen_stays = refl;
-      shown = stands.screen;
-    })
+    made.text ≡ doc.text → made.view ≡ record doc.view { layers = layers } →
+    layers ≡ layers_with_spans plain.text.history asked (caller - 1) doc.view.layers → IsUntold made plain (styled_document plain caller asked)
+IsUntold-styled doc made plain caller asked layers stands text_is view_is layers_are = record {
+  text = subst (λ t. IsTextOf t plain.text) (sym text_is) stands.text.parts;
+  view =
+      view_is ∙ ap (λ (ls : List Layer). record doc.view { layers = ls }) layers_are ∙
+      ap (λ (v : View). record v { layers = layers_with_spans plain.text.history asked (caller - 1) v.layers }) stands.view;
+  of_head = stands.of_head;
+  regions_are = stands.regions_are;
+  screen_stays = refl;
+  shown = stands.screen;
+}

@@ -16,7 +16,8 @@ use Rattle.plain_screen.specs.declared.screen.Update.{Update}
 use Rattle.doc_view.specs.Told.{has_lines, is_lacking}
 use Rattle.doc_view.specs.Search.{results}
 use Rattle.doc_view.specs.View.{View, asked_in, layout_in, pieces_in}
-use Rattle.doc_session.specs.Document.{Document, is_pristine, layout_of}
+use Rattle.doc_text.specs.Writing.{is_pristine}
+use Rattle.doc_session.specs.Document.{Document, layout_of}
 use Rattle.doc_session.specs.Effects.{pristine_from, screen_told, settled}
 use Rattle.doc_session.specs.Laws.{LinesAreHad, UpdatesShow}
 use Rattle.doc_session.specs.ScreenOf.{IsScreenOf, IsUpToDate}
@@ -106,13 +107,13 @@ IsUpToDate-settled plain next request was stays = by (is_lacking plain.view next
     view_by b = if b then record next.view { shown = Some (asked_in next.view request) } else next.view
 
     told_by : Bool → Option Update
-    told_by b = if b then Some (planned (asked_in next.view request) (layout_in next.view) (is_pristine next)) else None
+    told_by b = if b then Some (planned (asked_in next.view request) (layout_in next.view) (is_pristine next.text)) else None
 
     by : (b : Bool) → is_lacking plain.view next.view request (pristine_from plain next) ≡ b →
         IsScreenOf (screen_told (told_by b) next.screen) (view_by b).window request (layout_in (view_by b))
     by true lacks =
         let At : Screen → Type 0 = λ screen. IsScreenOf screen next.view.window request (layout_of next) in
-        subst At (sym (screen_told-planned next.screen (asked_in next.view request) (layout_of next) (is_pristine next)))
+        subst At (sym (screen_told-planned next.screen (asked_in next.view request) (layout_of next) (is_pristine next.text)))
         (IsScreenOf-shown next.view.window request (layout_of next))
     by false lacks =
         let At : Screen → Type 0 = λ screen. IsScreenOf screen next.view.window request (layout_of next) in
@@ -124,13 +125,13 @@ pub updates_show : UpdatesShow
 updates_show before after request = by (is_lacking before.view after.view request (pristine_from before after))
   where
     told_by : Bool → Option Update
-    told_by b = if b then Some (planned (asked_in after.view request) (layout_in after.view) (is_pristine after)) else None
+    told_by b = if b then Some (planned (asked_in after.view request) (layout_in after.view) (is_pristine after.text)) else None
 
     by : (b : Bool) → IfSome (told_by b) (λ update. screen_after before.screen update.ops ≡ Some (screen_told (told_by b) after.screen))
     by true =
         let asked = asked_in after.view request in
-        screen_after-planned before.screen asked (layout_of after) (is_pristine after) ∙
-        ap Some (sym (screen_told-planned after.screen asked (layout_of after) (is_pristine after)))
+        screen_after-planned before.screen asked (layout_of after) (is_pristine after.text) ∙
+        ap Some (sym (screen_told-planned after.screen asked (layout_of after) (is_pristine after.text)))
     by false = tt
 
 -- ---- what a view says of its front end

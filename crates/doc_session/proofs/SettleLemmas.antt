@@ -15,14 +15,17 @@ use Rattle.doc_layout.specs.Told.{planned, screen_of, scroll_between}
 use Rattle.doc_view.specs.declared.told.Pristine.{Pristine}
 use Rattle.doc_view.specs.Told.{differ, has_asked, is_lacking, settled_view, told}
 use Rattle.doc_view.specs.View.{View, asked_in, layout_in, point_in}
-use Rattle.doc_session.specs.Document.{Document, is_pristine, layout_of}
+use Rattle.doc_text.specs.InMemory.{TextState, is_pristine_in}
+use Rattle.doc_text.specs.Collecting.{collected_text}
+use Rattle.doc_text.specs.Stands.{IsTextOf, TextStandsFor}
+use Rattle.doc_text.specs.Writing.{Writing, head_text, is_pristine}
+use Rattle.doc_text.proofs.ForCallers.{head-text, part-collected}
+use Rattle.doc_session.specs.Document.{Document, layout_of}
 use Rattle.doc_session.specs.Effects.{pristine_from, screen_told, settled, update_after}
 use Rattle.doc_session.specs.InMemory.{Doc}
-use Rattle.doc_session.specs.Inner.{IsUncollected, IsUntold, is_pristine_in, pristine_to}
+use Rattle.doc_session.specs.Inner.{IsUncollected, IsUntold, pristine_to}
 use Rattle.doc_session.specs.Stands.{AreRegionsOf, DocStandsFor, IsLastTold}
-use Rattle.doc_session.specs.Step.{scroll_if}
-use Rattle.doc_session.specs.Whole.{IsStateOf}
-use Rattle.doc_session.proofs.HeadLemmas.{head-stands}
+use Rattle.doc_session.specs.Step.{collected_document, scroll_if}
 
 -- ---- what an update makes of a screen
 
@@ -73,7 +76,7 @@ module _ (plain next : Document) (request : Run) (was : plain.screen ≡ screen_
       (next.screen ≡ screen_of next.view.shown (layout_of next)) × (has_asked next.view request ≡ true)
   unwanted none =
       let flags =
-      none_lacking (has_asked next.view request) (differ (is_pristine plain) (is_pristine next)) (is_same_layout (layout_of plain) (layout_of next)) none in
+      none_lacking (has_asked next.view request) (differ (is_pristine plain.text) (is_pristine next.text)) (is_same_layout (layout_of plain) (layout_of next)) none in
       (stays ∙ was ∙ ap (screen_of next.view.shown) ((is_same_layout-Decides (layout_of plain) (layout_of next)).0 flags.1), flags.0)
 
   -- it is as the last update left it, then too
@@ -84,25 +87,23 @@ module _ (plain next : Document) (request : Run) (was : plain.screen ≡ screen_
       view_by b = if b then record next.view { shown = Some (asked_in next.view request) } else next.view
 
       told_by : Bool → Option Update
-      told_by b = if b then Some (planned (asked_in next.view request) (layout_in next.view) (is_pristine next)) else None
+      told_by b = if b then Some (planned (asked_in next.view request) (layout_in next.view) (is_pristine next.text)) else None
 
       by : (b : Bool) → is_lacking plain.view next.view request (pristine_from plain next) ≡ b →
           screen_told (told_by b) next.screen ≡ screen_of (view_by b).shown (layout_in (view_by b))
-      by true lacks = screen_told-planned next.screen (asked_in next.view request) (layout_of next) (is_pristine next)
+      by true lacks = screen_told-planned next.screen (asked_in next.view request) (layout_of next) (is_pristine next.text)
       by false lacks = (unwanted lacks).0
 
 -- ---- what is told of a document in memory, and what it stands for then
 
-pristine-stands : (doc : Doc) (plain : Document) → DocStandsFor doc plain → is_pristine_in doc ≡ is_pristine plain
-pristine-stands doc plain stands =
-    ap₂ (λ now saved. now == saved) (head-stands doc.engine plain.history stands.parts.stands) stands.saved
+pristine-is_text : (text : TextState) (plain : Writing) → IsTextOf text plain → is_pristine_in text ≡ is_pristine plain
+pristine-is_text text plain is = ap₂ (λ now saved. now == saved) (head-text text plain is) is.saved
 
 module _ (doc made : Doc) (request : Run) (plain next : Document) (stands : DocStandsFor doc plain) (untold : IsUntold made plain next) where
-  pristine-untold : is_pristine_in made ≡ is_pristine next
-  pristine-untold = ap₂ (λ now saved. now == saved) (head-stands made.engine next.history untold.parts.stands) untold.saved
-
   pristine-is : pristine_to doc made ≡ pristine_from plain next
-  pristine-is = ap₂ (λ (was is : Bool). record { before = was; after = is }) (pristine-stands doc plain stands) pristine-untold
+  pristine-is =
+      ap₂ (λ (was is : Bool). record { before = was; after = is }) (pristine-is_text doc.text plain.text stands.text.parts)
+      (pristine-is_text made.text next.text untold.text)
 
   pub update-told : (update : Option Update) → update ≡ told doc.view made.view request (pristine_to doc made) → update ≡ update_after request plain next
   update-told update is =
@@ -118,25 +119,26 @@ module _ (doc made : Doc) (request : Run) (plain next : Document) (stands : DocS
       ap₂ (λ (v w : View). settled_view v w request (pristine_to doc made)) stands.view untold.view ∙
       ap (settled_view plain.view next.view request) pristine-is
 
-  text-told : made.view.text ≡ (settled request plain next).view.text
-  text-told =
-      ap (λ (v : View). v.text) untold.view ∙
-      sym (part-settled (λ (v : View). v.text) plain.view next.view request (pristine_from plain next) refl)
-
   pub IsUncollected-told : (final : Doc) → final ≡ record made { view = settled_view doc.view made.view request (pristine_to doc made) } →
       IsUncollected final (settled request plain next)
   IsUncollected-told final is =
       subst (λ d. IsUncollected d (settled request plain next)) (sym (is ∙ ap (λ (v : View). record made { view = v }) view-told)) (record {
-        parts = subst (IsStateOf next.history made.engine) text-told untold.parts;
-        limit = untold.limit;
-        sessions = untold.sessions;
-        acknowledged = untold.acknowledged;
-        groups = untold.groups;
-        typing = untold.typing;
-        agree = untold.agree;
+        text = untold.text;
         view = refl;
+        of_head = part-settled (λ (v : View). v.text) plain.view next.view request (pristine_from plain next) refl ∙ untold.of_head;
         regions_are = AreRegionsOf-settled plain.view next.view request (pristine_from plain next) untold.regions_are;
-        saved = untold.saved;
-        saved_before = untold.saved_before;
         screen = IsLastTold-settled plain next request untold.shown untold.screen_stays;
       })
+
+-- ---- a collection
+
+pub DocStandsFor-collected : (doc : Doc) (plain : Document) (text : TextState) (made : Doc) → IsUncollected doc plain →
+    TextStandsFor text (collected_text plain.text) → made ≡ record doc { text = text } → DocStandsFor made (collected_document plain)
+DocStandsFor-collected doc plain text made stands collected is =
+    subst (λ d. DocStandsFor d (collected_document plain)) (sym is) (record {
+      text = collected;
+      view = stands.view;
+      of_head = stands.of_head ∙ sym (part-collected head_text plain.text (λ found. refl));
+      regions_are = stands.regions_are;
+      screen = stands.screen;
+    })

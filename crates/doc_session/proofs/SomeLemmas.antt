@@ -137,4 +137,4 @@ module _ (config : Config) (text : List ℕ) (pieces : List Piece) (regions : Li
 pub regions_by-some : (plain : Document) (next : History) (after_cursor : Bool) (regions : List Region) → regions ≢ [] →
     regions_by plain next after_cursor regions ≢ []
 regions_by-some plain next after_cursor regions some =
-    merged-some (map (moved_region plain.history next after_cursor) regions) (map-some (moved_region plain.history next after_cursor) regions some)
+    merged-some (map (moved_region plain.text.history next after_cursor) regions) (map-some (moved_region plain.text.history next after_cursor) regions some)

@@ -1,65 +1,18 @@
--- The edits and the styles that a document is asked for, and why one is refused; and why an acknowledgement is.
-use Rattle.std.specs.Prelude.{ℕ, if◌then◌else◌, nat_lt, List, Option, Some, None, option_map}
-use Rattle.std.specs.Option.{option_or}
-use Rattle.plain_edits.specs.History.{History, head, text_at}
-use Rattle.plain_edits.specs.Edits.{Refusal, collected, edit_refusal, unknown}
-use Rattle.plain_edits.specs.declared.style.Span.{Span}
+-- The edit that a command of the front end asks for.
+use Rattle.std.specs.Prelude.{ℕ, List, Option}
+use Rattle.plain_edits.specs.declared.delta.Delta.{Delta}
+use Rattle.delta_core.specs.Elements.{delta_by}
 use Rattle.edit_ops.specs.declared.replacement.Replacement.{Replacement}
 use Rattle.edit_ops.specs.Replacements.{added_by, kept_by}
-use Rattle.rev_engine.specs.declared.edit.Edit.{Edit}
 use Rattle.rev_engine.specs.Given.{AskedEdit}
-use Rattle.stale_spans.specs.declared.asked.AskedSpans.{AskedSpans}
-use Rattle.stale_spans.specs.Places.{misplaced}
-use Rattle.edit_groups.specs.Grouping.{group_by}
+use Rattle.doc_text.specs.Asking.{head_edit}
+use Rattle.doc_text.specs.Writing.{head_text}
 use Rattle.doc_session.specs.Document.{Document}
-use Rattle.doc_session.specs.Refusal.{DocRefusal, edit_refused, of_range}
-use Rattle.delta_core.specs.Elements.{delta_by}
 
--- the priority of the front end's edits
-abbrev pub front_priority : ℕ
-front_priority = 65536
+-- the delta of replacements over a text: element for element, with their text at each gap
+abbrev pub replacing_delta : List Replacement → List ℕ → Delta
+replacing_delta replacements text = delta_by (kept_by replacements) (added_by replacements) text
 
--- the edit that makes these replacements of the head text, against the head, in this group: element for element, with their text at each
--- gap
-abbrev pub replacing_edit : ℕ → History → List Replacement → AskedEdit
-replacing_edit group history replacements = record {
-  base = head history;
-  delta = delta_by (kept_by replacements) (added_by replacements) (text_at history (head history));
-  group = group;
-  priority = front_priority;
-  author = 0;
-}
-
--- THE EDIT OF THE FRONT END, which joins a group or opens the next
+-- THE EDIT OF A COMMAND: it makes these replacements of the head text, and joins a group or opens the next
 abbrev pub front_edit : Document → Option ℕ → List Replacement → AskedEdit
-front_edit document joined replacements = replacing_edit (group_by document.groups joined) document.history replacements
-
--- the edit of a plugin, which says itself its base, its delta and its priority
-abbrev pub plugin_edit : Document → ℕ → Edit → Option ℕ → AskedEdit
-plugin_edit document caller edit joined = record {
-  base = edit.rev;
-  delta = edit.delta;
-  group = group_by document.groups joined;
-  priority = edit.priority;
-  author = caller;
-}
-
--- why an edit is refused, if it is
-abbrev pub asked_refusal : Document → AskedEdit → Option Refusal
-asked_refusal document asked = edit_refusal document.history document.limit asked.base asked.delta
-
--- why an acknowledgement is refused, if it is: its revision is above the head, or below the floor
-abbrev pub acknowledgement_refusal : History → ℕ → Option Refusal
-acknowledgement_refusal history rev =
-    if nat_lt (head history) rev then Some (unknown (head history)) else (
-    if nat_lt rev history.floor then Some (collected history.floor) else None)
-
--- styles of a plugin: in a range of the text of a revision, whose bytes count from its start
-abbrev pub asked_spans : ℕ → ℕ → ℕ → List Span → AskedSpans
-asked_spans rev start len spans = record { rev = rev; start = start; len = len; spans = spans }
-
--- why they are refused, if they are: an acknowledgement of their revision would be, or else the first that is no place of its text
-abbrev pub range_refusal : History → AskedSpans → Option DocRefusal
-range_refusal history asked =
-    option_or (edit_refused (acknowledgement_refusal history asked.rev))
-    (option_map of_range (misplaced (text_at history asked.rev) asked.start asked.len asked.spans))
+front_edit document joined replacements = head_edit document.text joined (replacing_delta replacements (head_text document.text))

@@ -2,18 +2,17 @@
 use Rattle.std.specs.Prelude.{◌≡◌, ◌↔◌, ℕ, true, Option, Some, None, IfSome, ⊤}
 use Rattle.plain_text.specs.declared.run.Run.{Run}
 use Rattle.xi_plain.specs.declared.command.EditAct.{EditAct}
-use Rattle.plain_edits.specs.History.{History, text_at}
 use Rattle.plain_edits.specs.Delta.{Fits, keeps, adds, applied}
 use Rattle.plain_edits.specs.Edits.{unknown, collected, misfit, spent}
 use Rattle.plain_screen.specs.Screen.{screen_after}
 use Rattle.plain_screen.specs.Plan.{shown_lines}
 use Rattle.edit_ops.specs.Replacements.{text_with}
 use Rattle.doc_session.specs.Asking.{front_edit}
-use Rattle.doc_session.specs.Collecting.{HasNoneLeft}
-use Rattle.doc_session.specs.Document.{Document, layout_of, head_text}
-use Rattle.doc_session.specs.Effects.{change_delta, settled, update_after}
+use Rattle.doc_session.specs.Document.{Document, layout_of}
+use Rattle.doc_session.specs.Effects.{settled, update_after}
 use Rattle.doc_session.specs.InMemory.{Doc}
-use Rattle.doc_session.specs.Refusal.{DocRefusal, of_edit, of_range}
+use Rattle.doc_text.specs.Refusal.{DocRefusal, of_edit, of_range}
+use Rattle.doc_text.specs.Writing.{head_text}
 use Rattle.doc_session.specs.ScreenOf.{IsScreenOf, IsUpToDate}
 use Rattle.doc_session.specs.Stands.{DocStandsFor, IsLastTold}
 use Rattle.doc_view.specs.Told.{has_asked}
@@ -36,16 +35,10 @@ UpdatesShow = (before after : Document) (request : Run) →
 abbrev pub LinesAreHad : Type 0
 LinesAreHad = (plain : Document) (request : Run) → IsLastTold plain → (has_asked plain.view request ≡ true) ↔ IsUpToDate request plain
 
--- the delta of a notice fits the text of the one revision, and leads to that of the other
-abbrev pub NoticesLead : Type 0
-NoticesLead = (history : History) (from to : ℕ) → Fits (text_at history from) (change_delta history from to) ×
-    (applied (keeps (text_at history from) (change_delta history from to)) (adds (text_at history from) (change_delta history from to))
-    (text_at history from) ≡ text_at history to)
-
 -- the delta of a command of the front end fits the head text, and leads to the text after the command's replacements
 abbrev pub CommandsPut : Type 0
 CommandsPut = (plain : Document) (act : EditAct) (joined : Option ℕ) →
-    let text = head_text plain in
+    let text = head_text plain.text in
     let replacements = (effect_on plain act).replacements in
     let delta = (front_edit plain joined replacements).delta in
     Fits text delta × (applied (keeps text delta) (adds text delta) text ≡ text_with replacements text)
@@ -62,7 +55,3 @@ IsSpentIfAny (Some (of_range member)) = ⊥
 -- a command of the front end is refused only where its characters are spent: it is against the head, and its delta fits
 abbrev pub CommandsFit : Type 0
 CommandsFit = (doc : Doc) (plain : Document) (act : EditAct) → DocStandsFor doc plain → IsSpentIfAny (refusal_at plain (Front act))
-
--- where no session is open, no group is left that no undo reaches any more
-abbrev pub NoneIsLeft : Type 0
-NoneIsLeft = (doc : Doc) (plain : Document) → DocStandsFor doc plain → HasNoneLeft plain

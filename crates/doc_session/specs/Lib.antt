@@ -1,14 +1,10 @@
 pub mod Layout
 pub mod Document
-pub mod Collecting
-pub mod Refusal
 pub mod Asking
 pub mod Effects
 pub mod PositionView
 pub mod Looking
 pub mod Step
-pub mod Fault
-pub mod Agree
 pub mod Whole
 pub mod InMemory
 pub mod Stands

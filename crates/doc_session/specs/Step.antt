@@ -9,19 +9,18 @@ use Rattle.xi_plain.specs.declared.command.EditAct.TheVariants.{Copy, Cut, Redo,
 use Rattle.plain_screen.specs.declared.screen.Update.{Update}
 use Rattle.plain_edits.specs.Caret.{moved_regions}
 use Rattle.plain_edits.specs.History.{History, head, text_at}
-use Rattle.plain_edits.specs.Edits.{Refusal, undid}
+use Rattle.plain_edits.specs.Edits.{Refusal}
 use Rattle.selection_core.specs.Selection.{merged_regions}
 use Rattle.edit_ops.specs.Commands.{Effect, copied_text, effect_of}
 use Rattle.edit_ops.specs.Regions.{without_goal}
 use Rattle.undo_groups.specs.Groups.{Groups, next_undo, undone_one, next_redo, redone_one}
 use Rattle.edit_groups.specs.declared.typing.Kind.{Kind}
-use Rattle.edit_groups.specs.Typing.{kind_of, run_on, run_with}
-use Rattle.edit_groups.specs.Grouping.{named_group, run_group, groups_by}
+use Rattle.edit_groups.specs.Typing.{kind_of}
+use Rattle.edit_groups.specs.Grouping.{group_by, named_group}
 use Rattle.doc_view.specs.Idle.{do_nothing}
 use Rattle.doc_view.specs.View.{View, pieces_in}
 use Rattle.doc_session.specs.Layout.{Position}
 use Rattle.rev_engine.specs.declared.edit.Edit.{Edit as Given}
-use Rattle.rev_engine.specs.Given.{AskedEdit, after}
 use Rattle.doc_session.specs.declared.event.Body.{Body}
 use Rattle.doc_session.specs.declared.event.Body.TheVariants.{Null, Copied, Edited}
 use Rattle.doc_session.specs.declared.event.Effects.{Effects}
@@ -34,10 +33,14 @@ use Rattle.doc_session.specs.Looking.{scrolls_at, viewed, viewed_lines, viewing_
 use Rattle.stale_spans.specs.declared.asked.AskedSpans.{AskedSpans}
 use Rattle.stale_spans.specs.Asked.{layers_with_spans, moved_layers}
 use Rattle.stale_spans.specs.Places.{StandIn}
-use Rattle.doc_session.specs.Asking.{acknowledgement_refusal, asked_spans, front_edit, plugin_edit, asked_refusal, range_refusal}
-use Rattle.doc_session.specs.Collecting.{acknowledged_document, collected_document, ended_document}
-use Rattle.doc_session.specs.Refusal.{DocRefusal, edit_refused}
-use Rattle.doc_session.specs.Effects.{update_after, settled, scroll_after, notice_of}
+use Rattle.doc_text.specs.Asking.{acknowledgement_refusal, asked_refusal, asked_spans, plugin_edit, range_refusal}
+use Rattle.doc_text.specs.Collecting.{acknowledged_text, collected_text, ended_text}
+use Rattle.doc_text.specs.Notices.{notice_to}
+use Rattle.doc_text.specs.Refusal.{DocRefusal, edit_refused}
+use Rattle.doc_text.specs.Revisions.{given_text, going_on, typed_text, undone_text}
+use Rattle.doc_text.specs.Writing.{Writing, head_text}
+use Rattle.doc_session.specs.Asking.{front_edit, replacing_delta}
+use Rattle.doc_session.specs.Effects.{update_after, settled, scroll_after}
 use Rattle.doc_session.specs.PositionView.{position_view}
 
 -- what an event comes to: the document after it, its answer, what the front end is told, and what the plugins are
@@ -66,28 +69,23 @@ still_step document next body scroll = step_to no_request document next body scr
 -- a revision was made, by this author
 abbrev pub revision_step : Document → Document → ℕ → Body → Option Position → EventStep
 revision_step document next author body scroll =
-    step_to no_request document next body scroll (Some (notice_of document.history next.history author))
-
--- the document after a line that makes no revision: its run goes on where the line is a command of the run's kind, and else it ends
-abbrev pub going_on : Document → Option Kind → Document
-going_on document kind = record document { typing = run_on document.typing kind }
+    step_to no_request document next body scroll (notice_to document.text next.text.history author)
 
 -- the view after a revision, with these regions: it is of the text then, and styles stay with their characters
 abbrev pub revised_view : Document → History → List Region → View
 revised_view document history regions = record document.view {
   text = text_at history (head history);
   regions = regions;
-  layers = moved_layers document.history history document.view.layers;
+  layers = moved_layers document.text.history history document.view.layers;
 }
 
--- the document after an edit of this kind which joined a group or opened the next, with these regions
-abbrev pub edited_document : Document → AskedEdit → Option ℕ → Option Kind → List Region → Document
-edited_document document asked joined kind regions = record document {
-  history = after document.history asked;
-  groups = groups_by document.groups joined;
-  typing = run_with kind asked.group;
-  view = revised_view document (after document.history asked) regions;
-}
+-- THE DOCUMENT AFTER A REVISION that left the text so, with these regions
+abbrev pub revised_document : Document → Writing → List Region → Document
+revised_document document text regions = record document { text = text; view = revised_view document text.history regions }
+
+-- the document with another text under the same view: one of which only sessions or groups are other
+abbrev pub with_text : Document → Writing → Document
+with_text document text = record document { text = text }
 
 -- ---- commands of the front end
 
@@ -121,13 +119,13 @@ scroll_if asked document next = if asked then scroll_after document next else No
 
 -- the document after a command that makes no revision
 abbrev pub selected_document : Document → Option Kind → List Region → Document
-selected_document document kind regions = record (going_on document kind) { view = record document.view { regions = regions } }
+selected_document document kind regions =
+    record document { text = going_on document.text kind; view = record document.view { regions = regions } }
 
 -- the document after one that makes a revision: its edit joins the group of the run that it goes on with, or opens the next
 abbrev pub typed_document : Document → Option Kind → Effect → Document
 typed_document document kind effect =
-    let joined = run_group (run_on document.typing kind) in
-    edited_document document (front_edit document joined effect.replacements) joined kind effect.regions
+    revised_document document (typed_text document.text kind (replacing_delta effect.replacements (head_text document.text))) effect.regions
 
 -- a command that has this effect
 abbrev pub idle_step : Document → EditAct → Effect → EventStep
@@ -147,7 +145,7 @@ command_step document act effect = if is_idle document effect then idle_step doc
 
 -- THE STEP OF A LINE THAT ONLY LOOKS: the view's own step; the run ends, no revision is made, and it is answered null
 abbrev pub viewed_document : Document → Viewing → Document
-viewed_document document viewing = record (going_on document None) { view = viewed document.view viewing }
+viewed_document document viewing = record document { text = going_on document.text None; view = viewed document.view viewing }
 
 abbrev pub viewing_step : Document → Viewing → EventStep
 viewing_step document viewing =
@@ -162,17 +160,13 @@ other_step document = viewing_step document NoCommand
 
 -- where the caret rule takes regions: `after_cursor` or not; those that then meet are merged
 abbrev pub regions_by : Document → History → Bool → List Region → List Region
-regions_by document next after_cursor regions = merged_regions (moved_regions document.history next after_cursor regions)
+regions_by document next after_cursor regions = merged_regions (moved_regions document.text.history next after_cursor regions)
 
 -- an undo or a redo left the groups so; the regions move by the caret rule, and their goals go; styles stay with their characters
 abbrev pub undone_document : Document → Groups → Document
-undone_document document groups = record document {
-  history = undid document.history groups.undone;
-  groups = groups;
-  typing = None;
-  view = revised_view document (undid document.history groups.undone)
-      (regions_by document (undid document.history groups.undone) false (map without_goal document.view.regions));
-}
+undone_document document groups =
+    let text = undone_text document.text groups in
+    revised_document document text (regions_by document text.history false (map without_goal document.view.regions))
 
 -- an undo or a redo takes this group, where there is one, and leaves the groups so; at its end it makes no revision
 abbrev pub history_step : Document → Option ℕ → Groups → EventStep
@@ -189,8 +183,8 @@ request_of act = no_request
 
 -- a command that does more than look
 abbrev pub done_step : Document → EditAct → EventStep
-done_step document Undo = history_step document (next_undo document.groups) (undone_one document.groups)
-done_step document Redo = history_step document (next_redo document.groups) (redone_one document.groups)
+done_step document Undo = history_step document (next_undo document.text.groups) (undone_one document.text.groups)
+done_step document Redo = history_step document (next_redo document.text.groups) (redone_one document.text.groups)
 done_step document act = command_step document act (effect_on document act)
 
 -- one that only looks, if it is that
@@ -204,28 +198,24 @@ act_step document act = looking_step document act (viewing_of act)
 
 -- ---- plugins
 
--- a plugin edited the text; the regions move by the caret rule and keep their goals
-abbrev pub given_document : Document → AskedEdit → Option ℕ → Bool → Document
-given_document document asked joined after_cursor =
-    edited_document document asked joined None (regions_by document (after document.history asked) after_cursor document.view.regions)
+-- a plugin edited the text, in the group that it names or in the next; the regions move by the caret rule and keep their goals
+abbrev pub given_document : Document → ℕ → Given → Option ℕ → Document
+given_document document caller edit named =
+    let text = given_text document.text caller edit named in
+    revised_document document text (regions_by document text.history edit.after_cursor document.view.regions)
 
--- the edit of a plugin is taken in the group that it joins or opens, which it is told, and scrolls nowhere
-abbrev pub given_step : Document → AskedEdit → Option ℕ → Bool → EventStep
-given_step document asked joined after_cursor =
-    revision_step document (given_document document asked joined after_cursor) asked.author
-    (Edited (head document.history + 1) asked.group) None
-
+-- THE STEP OF A PLUGIN'S EDIT: it is told its revision and its group, and nothing is scrolled
 abbrev pub plugin_step : Document → ℕ → Given → Option ℕ → EventStep
 plugin_step document caller edit named =
-    given_step document (plugin_edit document caller edit (named_group document.history named))
-    (named_group document.history named) edit.after_cursor
+    revision_step document (given_document document caller edit named) caller
+    (Edited (head document.text.history + 1) (group_by document.text.groups (named_group document.text.history named))) None
 
 -- ---- styles of plugins
 
 -- a plugin said styles of the text of a revision, which come to those of its characters that the head shows; nothing else changes
 abbrev pub styled_document : Document → ℕ → AskedSpans → Document
 styled_document document caller asked =
-    record document { view = record document.view { layers = layers_with_spans document.history asked (caller - 1) document.view.layers } }
+    record document { view = record document.view { layers = layers_with_spans document.text.history asked (caller - 1) document.view.layers } }
 
 -- THE STEP OF SPANS: no revision is made, the run of typing goes on, since the front end said nothing, and nothing is scrolled
 abbrev pub spans_step : Document → ℕ → AskedSpans → EventStep
@@ -251,10 +241,14 @@ abbrev pub taken_step : Document → Event → EventStep
 taken_step document (Front act) = act_step document act
 taken_step document (Edit caller edit named) = plugin_step document caller edit named
 taken_step document (Spans caller rev start len spans) = spans_step document caller (asked_spans rev start len spans)
-taken_step document (Ack caller rev) = silent_step (acknowledged_document document caller rev)
-taken_step document (Ended caller) = silent_step (ended_document document caller)
+taken_step document (Ack caller rev) = silent_step (with_text document (acknowledged_text document.text caller rev))
+taken_step document (Ended caller) = silent_step (with_text document (ended_text document.text caller))
 taken_step document (Configure config) = viewing_step document (Layout config)
 taken_step document Other = other_step document
+
+-- the document in which what may be collected is collected
+abbrev pub collected_document : Document → Document
+collected_document document = with_text document (collected_text document.text)
 
 -- THE STEP of an event that is not refused: then old groups are collected
 abbrev pub event_step : Document → Event → EventStep
@@ -275,14 +269,14 @@ tells event = true
 -- why a command is refused that has this effect
 abbrev pub command_refusal : Document → Effect → Option Refusal
 command_refusal document effect =
-    if is_idle document effect then None else asked_refusal document (front_edit document None effect.replacements)
+    if is_idle document effect then None else asked_refusal document.text (front_edit document None effect.replacements)
 
 -- THE REFUSAL of an event. (In which group an edit goes is no cause.)
 abbrev pub refusal_at : Document → Event → Option DocRefusal
 refusal_at document (Front act) = edit_refused (command_refusal document (effect_on document act))
-refusal_at document (Edit caller edit named) = edit_refused (asked_refusal document (plugin_edit document caller edit None))
-refusal_at document (Spans caller rev start len spans) = range_refusal document.history (asked_spans rev start len spans)
-refusal_at document (Ack caller rev) = edit_refused (acknowledgement_refusal document.history rev)
+refusal_at document (Edit caller edit named) = edit_refused (asked_refusal document.text (plugin_edit document.text caller edit None))
+refusal_at document (Spans caller rev start len spans) = range_refusal document.text.history (asked_spans rev start len spans)
+refusal_at document (Ack caller rev) = edit_refused (acknowledgement_refusal document.text.history rev)
 refusal_at document (Ended caller) = None
 refusal_at document (Configure config) = None
 refusal_at document Other = None

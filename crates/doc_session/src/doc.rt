@@ -1,57 +1,49 @@
-ghost use Rattle.std.specs.Prelude.{◌≡◌, ◌≢◌, ◌+◌, ◌-◌, ◌^◌, ◌<◌, ◌≤◌, ℕ, [], length, if◌then◌else◌, Some, None, IfOk, IfErr, OnOk, OnErr, option_map};
-ghost use Rattle.std.specs.Arc.{arc_value};
+ghost use Rattle.std.specs.Prelude.{◌≡◌, ◌≢◌, ◌-◌, ◌^◌, ◌<◌, ◌≤◌, ℕ, [], length, if◌then◌else◌, Some, None, IfOk, IfErr, OnOk, OnErr, option_map, unwrap_or, IfSome, Option};
 ghost use Rattle.plain_edits.specs.Collection.{kept};
 ghost use Rattle.plain_edits.specs.History.{History, head};
+ghost use Rattle.delta_core.specs.Units.{text_after};
 ghost use Rattle.edit_ops.specs.Commands.{IsDoneOnText, IsEffect};
-ghost use Rattle.rev_engine.specs.Engine.{IsSaidBy, StandsFor};
-ghost use Rattle.rev_engine.specs.Given.{AskedEdit, MayAsk};
 ghost use Rattle.selection_core.specs.Mapped.{AreWithin};
 ghost use Rattle.selection_core.specs.Selection.{IsSelection};
 ghost use Rattle.span_styles.specs.Layers.{AreOver};
-ghost use Rattle.doc_session.specs.Asking.{acknowledgement_refusal, front_edit, front_priority, plugin_edit, asked_refusal};
-ghost use Rattle.doc_session.specs.Collecting.{acknowledged_document, ended_document};
-ghost use Rattle.doc_session.specs.Document.{Document, layout_of, loaded_document, head_text};
-ghost use Rattle.doc_session.specs.Fault.{DocRefuses};
-ghost use Rattle.doc_session.specs.Refusal.{edit_refused};
-ghost use Rattle.undo_groups.specs.Groups.{next_redo, next_undo, redone_one, undone_one};
-ghost use Rattle.doc_session.specs.Agree.{Agree};
+ghost use Rattle.undo_groups.specs.Groups.{Groups, next_redo, next_undo, redone_one, undone_one};
 ghost use Rattle.doc_layout.specs.Told.{scroll_between};
-ghost use Rattle.doc_session.specs.Inner.{IsAfter, IsAfterEdit, IsFrontEdit, IsLeftOf, IsMoved, IsStepped, IsTakenFrom, IsTurned, IsUncollected, IsUntold, head_shown, is_pristine_in, is_scrolling, next_document, pristine_to};
+ghost use Rattle.doc_text.specs.Asking.{acknowledgement_refusal, asked_refusal, plugin_edit};
+ghost use Rattle.doc_text.specs.Collecting.{acknowledged_text, ended_text};
+ghost use Rattle.doc_text.specs.Fault.{DocRefuses};
+ghost use Rattle.doc_text.specs.InMemory.{is_pristine_in, text_in};
+ghost use Rattle.doc_text.specs.Refusal.{edit_refused};
+ghost use Rattle.doc_text.specs.Revised.{IsRevised, IsRevisionOf, IsTurnOf};
+ghost use Rattle.doc_text.specs.Stands.{IsTextOf};
+ghost use Rattle.doc_text.specs.Writing.{Writing, head_text};
+ghost use Rattle.doc_view.specs.Told.{IsTextLeft, settled_view, told};
+ghost use Rattle.doc_view.specs.View.{point_in};
+ghost use Rattle.doc_session.specs.Asking.{front_edit};
+ghost use Rattle.doc_session.specs.Document.{Document, layout_of, loaded_document};
+ghost use Rattle.doc_session.specs.Inner.{IsStepOf, IsStepped, IsUncollected, IsUntold, is_scrolling, pristine_to};
 ghost use Rattle.doc_session.specs.Looking.{viewing_of};
 ghost use Rattle.doc_session.specs.PositionView.{position_view};
 ghost use Rattle.doc_session.specs.ScreenOf.{IsShownAfter};
 ghost use Rattle.doc_session.specs.Stands.{DocStandsFor};
-ghost use Rattle.doc_session.specs.Step.{AreEffectsOf, IsEventFor, act_step, answer_to, command_refusal, command_step, done_step, effect_in, effect_on, event_step, history_step, idle_step, plugin_step, refusal_at, revision_step, scroll_if, silent_step, step_to, taken_step, typed_step};
-ghost use Rattle.doc_session.specs.Whole.{IsWhole};
-ghost use Rattle.doc_view.specs.Told.{IsTextLeft, settled_view, told};
-ghost use Rattle.doc_view.specs.View.{point_in};
+ghost use Rattle.doc_session.specs.Step.{AreEffectsOf, IsEventFor, act_step, answer_to, collected_document, command_refusal, command_step, done_step, effect_in, effect_on, event_step, history_step, idle_step, plugin_step, refusal_at, revised_document, revision_step, scroll_if, silent_step, step_to, taken_step, typed_step, with_text};
 
 use crate::event::{Body, Effects, Event};
-use crate::fault::DocFault;
 use crate::looking::{Viewing, copies, scrolls, viewing_of};
 use crate::said::{NO_REQUEST, Said, Scrolling};
-use crate::taken::{Taken, taken_by, taken_head, taken_turn};
 use doc_layout::{scroll_of, whole_text};
+use doc_text::{DocFault, Revised, TextState};
 use doc_view::{Goals, Pristine, TextLeft, ViewState, does_nothing};
-use edit_groups::{
-    Left, Sessions, Typing, joined_or_opened, kind_of, left_by, named_or_opened, run_group, run_on,
-    run_with,
-};
+use edit_groups::kind_of;
 use plain_edits::UnitDelta;
 use plain_screen::Update;
 use plain_text::{NoMemory, Run, Sel, Steps, Text};
-use rev_engine::{Edit, Engine, UnitEdit};
+use rev_engine::Edit;
 use span_styles::Layers;
 use stale_spans::AskedSpans;
 use std::alloc::Global;
 use std::marker::Model;
-use std::sync::Arc;
 use std::sync::ledger::Ledger;
-use undo_groups::Stack;
 use xi_plain::{Config, EditAct};
-
-/// The priority of the front end's edits.
-const FRONT_PRIORITY: u32 = 65_536;
 
 /// The lines that a view shows when it is opened.
 const FIRST_WINDOW: Run = Run { start: 0, end: 10 };
@@ -60,43 +52,21 @@ const FIRST_WINDOW: Run = Run { start: 0, end: 10 };
 #[derive(Drop)]
 pub struct Doc {
     /// The text with all its revisions, which copies share.
-    pub(crate) engine: Arc<Engine, Global>,
-    pub(crate) stack: Stack,
-    /// The run that the next command of the front end may join.
-    pub(crate) typing: Option<Typing>,
-    /// The revision that was loaded or last saved.
-    pub(crate) saved: u64,
-    /// What the sessions of the plugins have acknowledged.
-    pub(crate) sessions: Sessions,
+    pub(crate) text: TextState,
     /// The view on the head text.
     pub(crate) view: ViewState,
 }
 
 impl Model for Doc {
-    ghost use Rattle.std.specs.Arc.{arc_value};
     ghost use Rattle.doc_session.specs.InMemory.{Doc};
 
     ghost Value = { Doc };
 
     ghost use Rattle.doc_session.specs.Whole.{IsKept};
 
-    ghost view = { λ d. record {
-      engine = arc_value d.engine;
-      groups = d.stack;
-      typing = d.typing;
-      saved = d.saved;
-      sessions = d.sessions;
-      view = d.view;
-    } };
+    ghost view = { λ d. record { text = d.text; view = d.view } };
 
-    ghost invariant = { λ d. IsKept (record {
-      engine = arc_value d.engine;
-      groups = d.stack;
-      typing = d.typing;
-      saved = d.saved;
-      sessions = d.sessions;
-      view = d.view;
-    }) };
+    ghost invariant = { λ d. IsKept (record { text = d.text; view = d.view }) };
 }
 
 impl Doc {
@@ -113,19 +83,10 @@ impl Doc {
         requires tab { 0 < config.tab }
         ensures stands { IfOk result (λ made. DocStandsFor made (loaded_document text plugins limit config)) }
     {
-        let sessions = Sessions::open(alloc, plugins)?;
-        let engine = Arc::new(alloc, Engine::of_text(alloc, text, limit)?)?;
-        let shown = whole_text(alloc, engine.head_rope())?;
-        let stack = Stack::new(alloc);
-        let _given = stack.given();
-        Ok(Doc {
-            engine,
-            stack,
-            typing: None,
-            saved: 0,
-            sessions,
-            view: ViewState::of_text(alloc, shown, plugins, FIRST_WINDOW, config)?,
-        })
+        let text = TextState::of_text(alloc, text, plugins, limit)?;
+        let shown = whole_text(alloc, text.head_rope())?;
+        let view = ViewState::of_text(alloc, shown, plugins, FIRST_WINDOW, config)?;
+        Ok(Doc { text, view })
     }
 
     /// The document after an event, beside this one, and what those outside are told of it. An edit costs its elements, each times the
@@ -140,8 +101,8 @@ impl Doc {
         event: Event,
         steps: &mut Steps<L>,
     ) -> Result<(Doc, Effects), DocFault>
-        requires event { IsEventFor (length self.now.sessions) event }
-        requires has_number { head self.now.engine.revisions < 2 ^ 63 - 1 }
+        requires event { IsEventFor (length self.now.text.sessions) event }
+        requires has_number { head self.now.text.engine.revisions < 2 ^ 63 - 1 }
         ensures stands { (plain : Document) → DocStandsFor self.now plain
             → IfOk result (λ made. DocStandsFor made.0 (event_step plain event).document) }
         ensures effects { (plain : Document) → DocStandsFor self.now plain
@@ -150,7 +111,7 @@ impl Doc {
         ensures refused { (plain : Document) → DocStandsFor self.now plain
             → IfErr result (DocRefuses (refusal_at plain event)) }
         ensures shown { (plain : Document) → DocStandsFor self.now plain → IsShownAfter plain event }
-        ensures kept { IfOk result (λ made. length made.0.sessions ≡ length self.now.sessions) }
+        ensures kept { IfOk result (λ made. length made.0.text.sessions ≡ length self.now.text.sessions) }
         ensures steps { steps.new ≡ steps.old }
     {
         let _steps = steps;
@@ -166,8 +127,8 @@ impl Doc {
         event: Event,
         steps: &mut Steps<L>,
     ) -> Result<Effects, DocFault>
-        requires event { IsEventFor (length self.old.sessions) event }
-        requires has_number { head self.old.engine.revisions < 2 ^ 63 - 1 }
+        requires event { IsEventFor (length self.old.text.sessions) event }
+        requires has_number { head self.old.text.engine.revisions < 2 ^ 63 - 1 }
         ensures stands { (plain : Document) → DocStandsFor self.old plain
             → OnOk result (DocStandsFor self.new (event_step plain event).document) }
         ensures effects { (plain : Document) → DocStandsFor self.old plain
@@ -177,7 +138,7 @@ impl Doc {
             → IfErr result (DocRefuses (refusal_at plain event)) }
         ensures shown { (plain : Document) → DocStandsFor self.old plain → IsShownAfter plain event }
         ensures same { OnErr result (self.new ≡ self.old) }
-        ensures kept { length self.new.sessions ≡ length self.old.sessions }
+        ensures kept { length self.new.text.sessions ≡ length self.old.text.sessions }
         ensures steps { steps.new ≡ steps.old }
     {
         let (next, effects) = self.after(alloc, event, steps)?;
@@ -187,14 +148,13 @@ impl Doc {
 
     // The document after an event, before anything is collected, and what those outside are told of it.
     fn next(&self, alloc: Global, event: Event) -> Result<(Doc, Effects), DocFault>
-        requires event { IsEventFor (length self.now.sessions) event }
-        requires has_number { head self.now.engine.revisions < 2 ^ 63 - 1 }
-        ensures stepped { (plain : Document) → DocStandsFor self.now plain
-            → IfOk result (IsStepped (taken_step plain event)) }
+        requires event { IsEventFor (length self.now.text.sessions) event }
+        requires has_number { head self.now.text.engine.revisions < 2 ^ 63 - 1 }
+        ensures stepped { IsStepOf self.now (λ plain. taken_step plain event) result }
         ensures accepted { (plain : Document) → DocStandsFor self.now plain → OnOk result (refusal_at plain event ≡ None) }
         ensures refused { (plain : Document) → DocStandsFor self.now plain
             → IfErr result (DocRefuses (refusal_at plain event)) }
-        ensures plugins { IfOk result (λ made. length made.0.sessions ≡ length self.now.sessions) }
+        ensures plugins { IfOk result (λ made. length made.0.text.sessions ≡ length self.now.text.sessions) }
     {
         match event {
             Event::Front(act) => self.act(alloc, act),
@@ -218,21 +178,21 @@ impl Doc {
                 };
                 self.styled(alloc, caller, &asked)
             }
-            Event::Ack { caller, rev } => self.acknowledged(alloc, caller, rev),
-            Event::Ended { caller } => Ok(self.ended(alloc, caller)?),
+            Event::Ack { caller, rev } => self.acknowledge(alloc, caller, rev),
+            Event::Ended { caller } => Ok(self.end_session(alloc, caller)?),
             Event::Config(config) => Ok(self.view_only(alloc, Viewing::Layout(config))?),
             Event::Other => Ok(self.view_only(alloc, Viewing::Other)?),
         }
     }
 
     fn act(&self, alloc: Global, act: EditAct) -> Result<(Doc, Effects), DocFault>
-        requires { head self.now.engine.revisions < 2 ^ 63 - 1 }
-        ensures stepped { (plain : Document) → DocStandsFor self.now plain → IfOk result (IsStepped (act_step plain act)) }
+        requires { head self.now.text.engine.revisions < 2 ^ 63 - 1 }
+        ensures stepped { IsStepOf self.now (λ plain. act_step plain act) result }
         ensures accepted { (plain : Document) → DocStandsFor self.now plain
             → OnOk result (command_refusal plain (effect_on plain act) ≡ None) }
         ensures refused { (plain : Document) → DocStandsFor self.now plain
             → IfErr result (DocRefuses (edit_refused (command_refusal plain (effect_on plain act)))) }
-        ensures sessions { IfOk result (λ made. made.0.sessions ≡ self.now.sessions) }
+        ensures sessions { IfOk result (λ made. made.0.text.sessions ≡ self.now.text.sessions) }
     {
         match viewing_of(act) {
             Ok(viewing) => Ok(self.view_only(alloc, viewing)?),
@@ -243,13 +203,13 @@ impl Doc {
     // A command that does more than look.
     fn done(&self, alloc: Global, act: EditAct) -> Result<(Doc, Effects), DocFault>
         requires act { viewing_of act ≡ None }
-        requires has_number { head self.now.engine.revisions < 2 ^ 63 - 1 }
-        ensures stepped { (plain : Document) → DocStandsFor self.now plain → IfOk result (IsStepped (done_step plain act)) }
+        requires has_number { head self.now.text.engine.revisions < 2 ^ 63 - 1 }
+        ensures stepped { IsStepOf self.now (λ plain. done_step plain act) result }
         ensures accepted { (plain : Document) → DocStandsFor self.now plain
             → OnOk result (command_refusal plain (effect_on plain act) ≡ None) }
         ensures refused { (plain : Document) → DocStandsFor self.now plain
             → IfErr result (DocRefuses (edit_refused (command_refusal plain (effect_on plain act)))) }
-        ensures sessions { IfOk result (λ made. made.0.sessions ≡ self.now.sessions) }
+        ensures sessions { IfOk result (λ made. made.0.text.sessions ≡ self.now.text.sessions) }
     {
         match act {
             EditAct::Undo => Ok(self.undo(alloc)?),
@@ -260,14 +220,13 @@ impl Doc {
 
     fn command(&self, alloc: Global, act: &EditAct) -> Result<(Doc, Effects), DocFault>
         requires act { IsDoneOnText act.now }
-        requires has_number { head self.now.engine.revisions < 2 ^ 63 - 1 }
-        ensures stepped { (plain : Document) → DocStandsFor self.now plain
-            → IfOk result (IsStepped (command_step plain act.now (effect_on plain act.now))) }
+        requires has_number { head self.now.text.engine.revisions < 2 ^ 63 - 1 }
+        ensures stepped { IsStepOf self.now (λ plain. command_step plain act.now (effect_on plain act.now)) result }
         ensures accepted { (plain : Document) → DocStandsFor self.now plain
             → OnOk result (command_refusal plain (effect_on plain act.now) ≡ None) }
         ensures refused { (plain : Document) → DocStandsFor self.now plain
             → IfErr result (DocRefuses (edit_refused (command_refusal plain (effect_on plain act.now)))) }
-        ensures sessions { IfOk result (λ made. made.0.sessions ≡ self.now.sessions) }
+        ensures sessions { IfOk result (λ made. made.0.text.sessions ≡ self.now.text.sessions) }
     {
         let (units, sel) = self.view.effect(alloc, act)?;
         if does_nothing(&units) {
@@ -281,13 +240,13 @@ impl Doc {
         requires regions { sel.regions ≡ (effect_in self.now.view act.now).regions }
         requires sound { IsSelection sel.regions }
         requires inside { AreWithin (length self.now.view.text) sel.regions }
-        ensures stepped { (plain : Document) → DocStandsFor self.now plain
-            → IfOk result (IsStepped (idle_step plain act.now (effect_on plain act.now))) }
-        ensures sessions { IfOk result (λ made. made.0.sessions ≡ self.now.sessions) }
+        ensures stepped { IsStepOf self.now (λ plain. idle_step plain act.now (effect_on plain act.now)) result }
+        ensures sessions { IfOk result (λ made. made.0.text.sessions ≡ self.now.text.sessions) }
     {
         let body = self.answer(alloc, act)?;
         let view = self.view.with_regions(alloc, sel)?;
-        let next = self.with_view(alloc, view, run_on(self.typing, kind_of(act)))?;
+        let text = self.text.with_run(alloc, kind_of(act))?;
+        let next = self.with_view(text, view);
         let said = Said {
             text: TextLeft::Same,
             request: NO_REQUEST,
@@ -307,42 +266,18 @@ impl Doc {
         sel: Sel,
     ) -> Result<(Doc, Effects), DocFault>
         requires effect { IsEffect self.now.view.text (effect_in self.now.view act.now) units sel.regions }
-        requires has_number { head self.now.engine.revisions < 2 ^ 63 - 1 }
-        ensures stepped { (plain : Document) → DocStandsFor self.now plain
-            → IfOk result (IsStepped (typed_step plain act.now (effect_on plain act.now))) }
+        requires has_number { head self.now.text.engine.revisions < 2 ^ 63 - 1 }
+        ensures stepped { IsStepOf self.now (λ plain. typed_step plain act.now (effect_on plain act.now)) result }
         ensures accepted { (plain : Document) → DocStandsFor self.now plain
-            → OnOk result (asked_refusal plain (front_edit plain None (effect_on plain act.now).replacements) ≡ None) }
+            → OnOk result (asked_refusal plain.text (front_edit plain None (effect_on plain act.now).replacements) ≡ None) }
         ensures refused { (plain : Document) → DocStandsFor self.now plain
             → IfErr result (DocRefuses (edit_refused
-            (asked_refusal plain (front_edit plain None (effect_on plain act.now).replacements)))) }
-        ensures sessions { IfOk result (λ made. made.0.sessions ≡ self.now.sessions) }
+            (asked_refusal plain.text (front_edit plain None (effect_on plain act.now).replacements)))) }
+        ensures sessions { IfOk result (λ made. made.0.text.sessions ≡ self.now.text.sessions) }
     {
-        let kind = kind_of(act);
-        let joined = run_group(run_on(self.typing, kind));
-        let made = joined_or_opened(alloc, &self.stack, joined)?;
-        let typing = run_with(kind, made.group);
-        let edit = front_edit(units, made.group);
+        let revised = self.text.type_units(alloc, kind_of(act), units)?;
         let body = self.answer(alloc, act)?;
-        let taken = self.front_taken(alloc, act, edit)?;
-        let left = left_by(made, typing, sel);
-        Ok(self.settled(alloc, taken, left, body, scrolls(act))?)
-    }
-
-    // What the edit of a command makes of the engine.
-    fn front_taken(&self, alloc: Global, act: &EditAct, edit: UnitEdit) -> Result<Taken, DocFault>
-        requires may { MayAsk self.now.engine.revisions edit.group }
-        requires edit { IsFrontEdit self.now.view act.now edit }
-        ensures taken { (history : History) (asked : AskedEdit) → StandsFor self.now.engine history → IsSaidBy history edit asked
-            → IfOk result (IsAfterEdit history asked) }
-        ensures made { IfOk result (IsTakenFrom self.now.engine) }
-        ensures accepted { (plain : Document) → DocStandsFor self.now plain
-            → OnOk result (asked_refusal plain (front_edit plain None (effect_on plain act.now).replacements) ≡ None) }
-        ensures refused { (plain : Document) → DocStandsFor self.now plain
-            → IfErr result (DocRefuses (edit_refused
-            (asked_refusal plain (front_edit plain None (effect_on plain act.now).replacements)))) }
-    {
-        let _act = act;
-        taken_head(alloc, &self.engine, edit)
+        Ok(self.revise(alloc, revised, sel, body, scrolls(act))?)
     }
 
     fn answer(&self, alloc: Global, act: &EditAct) -> Result<Body, NoMemory>
@@ -357,69 +292,51 @@ impl Doc {
 
     // The newest live group that is not undone is undone.
     fn undo(&self, alloc: Global) -> Result<(Doc, Effects), NoMemory>
-        requires { head self.now.engine.revisions < 2 ^ 63 - 1 }
-        ensures stepped { (plain : Document) → DocStandsFor self.now plain
-            → IfOk result (IsStepped (history_step plain (next_undo plain.groups) (undone_one plain.groups))) }
-        ensures sessions { IfOk result (λ made. made.0.sessions ≡ self.now.sessions) }
+        requires { head self.now.text.engine.revisions < 2 ^ 63 - 1 }
+        ensures stepped { IsStepOf self.now
+            (λ plain. history_step plain (next_undo plain.text.groups) (undone_one plain.text.groups)) result }
+        ensures sessions { IfOk result (λ made. made.0.text.sessions ≡ self.now.text.sessions) }
     {
-        let _before = self.stack.given();
-        let mut stack = self.stack.copy(alloc)?;
-        let group = stack.undo_group()?;
-        let _after = stack.given();
-        self.moved(alloc, stack, group)
+        let revised = self.text.undo_group(alloc)?;
+        self.turn(alloc, revised)
     }
 
     // The last undo is taken back.
     fn redo(&self, alloc: Global) -> Result<(Doc, Effects), NoMemory>
-        requires { head self.now.engine.revisions < 2 ^ 63 - 1 }
-        ensures stepped { (plain : Document) → DocStandsFor self.now plain
-            → IfOk result (IsStepped (history_step plain (next_redo plain.groups) (redone_one plain.groups))) }
-        ensures sessions { IfOk result (λ made. made.0.sessions ≡ self.now.sessions) }
+        requires { head self.now.text.engine.revisions < 2 ^ 63 - 1 }
+        ensures stepped { IsStepOf self.now
+            (λ plain. history_step plain (next_redo plain.text.groups) (redone_one plain.text.groups)) result }
+        ensures sessions { IfOk result (λ made. made.0.text.sessions ≡ self.now.text.sessions) }
     {
-        let _before = self.stack.given();
-        let mut stack = self.stack.copy(alloc)?;
-        let group = stack.redo_group()?;
-        let _after = stack.given();
-        self.moved(alloc, stack, group)
+        let revised = self.text.redo_group(alloc)?;
+        self.turn(alloc, revised)
     }
 
-    // An undo or a redo takes this group, if there is one, and leaves the stack so.
-    fn moved(
-        &self,
-        alloc: Global,
-        stack: Stack,
-        group: Option<u64>,
-    ) -> Result<(Doc, Effects), NoMemory>
-        requires moved { IsMoved self.now.groups stack group }
-        requires has_number { head self.now.engine.revisions < 2 ^ 63 - 1 }
-        ensures stepped { (plain : Document) → DocStandsFor self.now plain
-            → IfOk result (IsStepped (history_step plain group stack)) }
-        ensures sessions { IfOk result (λ made. made.0.sessions ≡ self.now.sessions) }
+    // An undo or a redo made this of the text, or there was none.
+    fn turn(&self, alloc: Global, revised: Option<Revised>) -> Result<(Doc, Effects), NoMemory>
+        requires { IfSome revised (IsRevisionOf self.now.text) }
+        ensures stepped { (plain : Document) (group : Option ℕ) (groups : Groups) → DocStandsFor self.now plain
+            → IsTurnOf plain.text group groups revised → IfOk result (IsStepped (history_step plain group groups)) }
+        ensures sessions { IfOk result (λ made. made.0.text.sessions ≡ self.now.text.sessions) }
     {
-        match group {
-            Some(group) => self.turned(alloc, stack, group),
+        match revised {
+            Some(revised) => self.turn_group(alloc, revised),
             None => self.view_only(alloc, Viewing::Other),
         }
     }
 
-    // A group is undone or given back, which leaves the stack so.
-    fn turned(&self, alloc: Global, stack: Stack, group: u64) -> Result<(Doc, Effects), NoMemory>
-        requires turned { IsTurned self.now.groups stack group }
-        requires has_number { head self.now.engine.revisions < 2 ^ 63 - 1 }
-        ensures stepped { (plain : Document) → DocStandsFor self.now plain
-            → IfOk result (IsStepped (history_step plain (Some group) stack)) }
-        ensures sessions { IfOk result (λ made. made.0.sessions ≡ self.now.sessions) }
+    // A group is undone or given back.
+    fn turn_group(&self, alloc: Global, revised: Revised) -> Result<(Doc, Effects), NoMemory>
+        requires { IsRevisionOf self.now.text revised }
+        ensures stepped { (plain : Document) (group : ℕ) (groups : Groups) → DocStandsFor self.now plain
+            → IsTurnOf plain.text (Some group) groups (Some revised)
+            → IfOk result (IsStepped (history_step plain (Some group) groups)) }
+        ensures sessions { IfOk result (λ made. made.0.text.sessions ≡ self.now.text.sessions) }
     {
-        let taken = taken_turn(alloc, &self.engine, group)?;
         let sel = self
             .view
-            .moved(alloc, &taken.change.units, false, Goals::Cleared)?;
-        let left = Left {
-            stack,
-            typing: None,
-            sel,
-        };
-        self.settled(alloc, taken, left, Body::Null, Scrolling::ToCaret)
+            .moved(alloc, &revised.units, false, Goals::Cleared)?;
+        self.revise(alloc, revised, sel, Body::Null, Scrolling::ToCaret)
     }
 
     // A plugin edits the text, in the group that it names or in the next.
@@ -430,98 +347,80 @@ impl Doc {
         edit: Edit,
         named: Option<u64>,
     ) -> Result<(Doc, Effects), DocFault>
-        requires caller { (1 ≤ caller) × (caller ≤ length self.now.sessions) }
-        requires has_number { head self.now.engine.revisions < 2 ^ 63 - 1 }
-        ensures stepped { (plain : Document) → DocStandsFor self.now plain
-            → IfOk result (IsStepped (plugin_step plain caller edit named)) }
+        requires caller { (1 ≤ caller) × (caller ≤ length self.now.text.sessions) }
+        requires has_number { head self.now.text.engine.revisions < 2 ^ 63 - 1 }
+        ensures stepped { IsStepOf self.now (λ plain. plugin_step plain caller edit named) result }
         ensures accepted { (plain : Document) → DocStandsFor self.now plain
-            → OnOk result (asked_refusal plain (plugin_edit plain caller edit None) ≡ None) }
+            → OnOk result (asked_refusal plain.text (plugin_edit plain.text caller edit None) ≡ None) }
         ensures refused { (plain : Document) → DocStandsFor self.now plain
-            → IfErr result (DocRefuses (edit_refused (asked_refusal plain (plugin_edit plain caller edit None)))) }
-        ensures sessions { IfOk result (λ made. made.0.sessions ≡ self.now.sessions) }
+            → IfErr result (DocRefuses (edit_refused (asked_refusal plain.text (plugin_edit plain.text caller edit None)))) }
+        ensures sessions { IfOk result (λ made. made.0.text.sessions ≡ self.now.text.sessions) }
     {
-        let made = named_or_opened(alloc, &self.stack, named)?;
-        let group = made.group;
         let rev = self.head() + 1;
         let after_cursor = edit.after_cursor;
-        let edit = given(edit, caller, group);
-        let taken = taken_by(alloc, &self.engine, &edit)?;
+        let (revised, group) = self.text.take_edit(alloc, caller, edit, named)?;
         let sel = self
             .view
-            .moved(alloc, &taken.change.units, after_cursor, Goals::Kept)?;
-        let left = left_by(made, None, sel);
+            .moved(alloc, &revised.units, after_cursor, Goals::Kept)?;
         let body = Body::Edited { rev, group };
-        Ok(self.settled(alloc, taken, left, body, Scrolling::Nowhere)?)
+        Ok(self.revise(alloc, revised, sel, body, Scrolling::Nowhere)?)
     }
 
-    // The document after a revision, and what the front end and the plugins are told.
-    fn settled(
+    // The document after a revision of its text, with these regions, and what the front end and the plugins are told.
+    fn revise(
         &self,
         alloc: Global,
-        taken: Taken,
-        left: Left,
+        revised: Revised,
+        sel: Sel,
         body: Body,
         scrolling: Scrolling,
     ) -> Result<(Doc, Effects), NoMemory>
-        requires whole { IsWhole (arc_value taken.engine) left.stack left.typing (head_shown (arc_value taken.engine)) }
-        requires made { IsTakenFrom self.now.engine taken }
-        requires sound { IsSelection left.sel.regions }
-        requires inside { AreWithin (length (head_shown (arc_value taken.engine))) left.sel.regions }
-        ensures stepped { (plain : Document) (history : History) (author : ℕ) → DocStandsFor self.now plain
-            → IsAfter plain.history history author taken → Agree history.revisions history.collected left.stack left.typing
-            → left.sel.regions ≢ [] → IfOk result (IsStepped (revision_step plain (next_document plain history left) author body
-            (scroll_if (is_scrolling scrolling) plain (next_document plain history left)))) }
-        ensures sessions { IfOk result (λ made. made.0.sessions ≡ self.now.sessions) }
+        requires made { IsRevisionOf self.now.text revised }
+        requires sound { IsSelection sel.regions }
+        requires inside { AreWithin (length (text_in revised.text)) sel.regions }
+        ensures stepped { (plain : Document) (next : Writing) (author : ℕ) → DocStandsFor self.now plain
+            → IsRevised plain.text next author revised → sel.regions ≢ []
+            → IfOk result (IsStepped (revision_step plain (revised_document plain next sel.regions) author body
+            (scroll_if (is_scrolling scrolling) plain (revised_document plain next sel.regions)))) }
+        ensures sessions { IfOk result (λ made. made.0.text.sessions ≡ self.now.text.sessions) }
     {
-        let layers = self.moved_layers(alloc, &taken)?;
-        let Taken {
-            engine,
-            change: _,
+        let layers = self.moved_layers(alloc, &revised)?;
+        let Revised {
+            text,
+            units: _,
             notice,
-        } = taken;
-        let next = self.revised(alloc, engine, left, layers)?;
+        } = revised;
+        let next = self.with_revision(alloc, text, sel, layers)?;
         let said = Said {
             text: TextLeft::Edited,
             request: NO_REQUEST,
             body,
             scrolling,
-            notice: Some(notice),
+            notice,
         };
         self.told(alloc, next, said)
     }
 
-    // The document with another engine, with groups, run and regions that were left so, and with these layers of styles.
-    fn revised(
+    // The document with another text, and its view of that, with these regions and these layers of styles.
+    fn with_revision(
         &self,
         alloc: Global,
-        engine: Arc<Engine, Global>,
-        left: Left,
+        text: TextState,
+        sel: Sel,
         layers: Layers,
     ) -> Result<Doc, NoMemory>
-        requires whole { IsWhole (arc_value engine) left.stack left.typing (head_shown (arc_value engine)) }
-        requires sound { IsSelection left.sel.regions }
-        requires inside { AreWithin (length (head_shown (arc_value engine))) left.sel.regions }
-        requires over { AreOver (length (head_shown (arc_value engine))) layers }
-        requires as_many { length layers ≡ length self.now.sessions }
-        ensures { IfOk result (λ made. made ≡ record self.now {
-          engine = arc_value engine;
-          groups = left.stack;
-          typing = left.typing;
-          view = record self.now.view { text = head_shown (arc_value engine); regions = left.sel.regions; layers = layers };
+        requires sound { IsSelection sel.regions }
+        requires inside { AreWithin (length (text_in text)) sel.regions }
+        requires over { AreOver (length (text_in text)) layers }
+        requires as_many { length layers ≡ length text.sessions }
+        ensures { IfOk result (λ made. made ≡ record {
+          text = text;
+          view = record self.now.view { text = text_in text; regions = sel.regions; layers = layers };
         }) }
     {
-        let sessions = self.sessions.copy(alloc)?;
-        let Left { stack, typing, sel } = left;
-        let shown = whole_text(alloc, engine.head_rope())?;
+        let shown = whole_text(alloc, text.head_rope())?;
         let view = self.view.with_text(alloc, shown, sel, layers)?;
-        Ok(Doc {
-            engine,
-            stack,
-            typing,
-            saved: self.saved,
-            sessions,
-            view,
-        })
+        Ok(Doc { text, view })
     }
 
     // The document is `next` after an event; the front end is told what it lacks.
@@ -535,7 +434,7 @@ impl Doc {
         ensures stepped { (plain later : Document) → DocStandsFor self.now plain → IsUntold next plain later
             → IfOk result (IsStepped
             (step_to said.request plain later said.body (scroll_if (is_scrolling said.scrolling) plain later) said.notice)) }
-        ensures sessions { IfOk result (λ made. made.0.sessions ≡ next.sessions) }
+        ensures sessions { IfOk result (λ made. made.0.text.sessions ≡ next.text.sessions) }
     {
         let Said {
             text,
@@ -570,34 +469,12 @@ impl Doc {
         ensures update { IfOk result (λ made. made.1 ≡ told self.now.view next.view request (pristine_to self.now next)) }
     {
         let pristine = Pristine {
-            before: self.is_pristine(),
-            after: next.is_pristine(),
+            before: self.text.is_pristine(),
+            after: next.text.is_pristine(),
         };
-        let Doc {
-            engine,
-            stack,
-            typing,
-            saved,
-            sessions,
-            view,
-        } = next;
+        let Doc { text: next, view } = next;
         let (view, update) = self.view.settled(alloc, view, text, request, pristine)?;
-        let next = Doc {
-            engine,
-            stack,
-            typing,
-            saved,
-            sessions,
-            view,
-        };
-        Ok((next, update))
-    }
-
-    // Whether the text is the one that was loaded or last saved.
-    fn is_pristine(&self) -> bool
-        ensures { result ≡ is_pristine_in self.now }
-    {
-        self.head() == self.saved
+        Ok((Doc { text: next, view }, update))
     }
 
     // Where the last caret stands then, where that is asked and it is another place on the layout than before.
@@ -612,63 +489,40 @@ impl Doc {
     }
 
     // The session of a plugin acknowledges this revision.
-    fn acknowledged(&self, alloc: Global, caller: u32, rev: u64) -> Result<(Doc, Effects), DocFault>
-        requires { (1 ≤ caller) × (caller ≤ length self.now.sessions) }
-        ensures stepped { (plain : Document) → DocStandsFor self.now plain
-            → IfOk result (IsStepped (silent_step (acknowledged_document plain caller rev))) }
+    fn acknowledge(&self, alloc: Global, caller: u32, rev: u64) -> Result<(Doc, Effects), DocFault>
+        requires { (1 ≤ caller) × (caller ≤ length self.now.text.sessions) }
+        ensures stepped { IsStepOf self.now
+            (λ plain. silent_step (with_text plain (acknowledged_text plain.text caller rev))) result }
         ensures accepted { (plain : Document) → DocStandsFor self.now plain
-            → OnOk result (acknowledgement_refusal plain.history rev ≡ None) }
+            → OnOk result (acknowledgement_refusal plain.text.history rev ≡ None) }
         ensures refused { (plain : Document) → DocStandsFor self.now plain
-            → IfErr result (DocRefuses (edit_refused (acknowledgement_refusal plain.history rev))) }
-        ensures plugins { IfOk result (λ made. length made.0.sessions ≡ length self.now.sessions) }
+            → IfErr result (DocRefuses (edit_refused (acknowledgement_refusal plain.text.history rev))) }
+        ensures plugins { IfOk result (λ made. length made.0.text.sessions ≡ length self.now.text.sessions) }
     {
-        self.acknowledgeable(rev)?;
-        let sessions = self.sessions.acknowledged(alloc, caller, rev)?;
-        Ok(self.silent(alloc, sessions)?)
+        let text = self.text.acknowledge(alloc, caller, rev)?;
+        Ok(self.silent(text)?)
     }
 
-    // Whether this revision may be acknowledged: from the floor to the head.
-    fn acknowledgeable(&self, rev: u64) -> Result<(), DocFault>
-        ensures accepted { (plain : Document) → DocStandsFor self.now plain
-            → OnOk result (acknowledgement_refusal plain.history rev ≡ None) }
-        ensures refused { (plain : Document) → DocStandsFor self.now plain
-            → IfErr result (DocRefuses (edit_refused (acknowledgement_refusal plain.history rev))) }
+    // The session of a plugin ends.
+    fn end_session(&self, alloc: Global, caller: u32) -> Result<(Doc, Effects), NoMemory>
+        requires { (1 ≤ caller) × (caller ≤ length self.now.text.sessions) }
+        ensures stepped { IsStepOf self.now (λ plain. silent_step (with_text plain (ended_text plain.text caller))) result }
+        ensures plugins { IfOk result (λ made. length made.0.text.sessions ≡ length self.now.text.sessions) }
     {
-        let engine = &*self.engine;
-        let head = engine.head();
-        if head < rev {
-            return Err(DocFault::Unknown(head));
-        }
-        let floor = engine.floor();
-        if rev < floor {
-            return Err(DocFault::Collected(floor));
-        }
-        Ok(())
-    }
-
-    fn ended(&self, alloc: Global, caller: u32) -> Result<(Doc, Effects), NoMemory>
-        requires { (1 ≤ caller) × (caller ≤ length self.now.sessions) }
-        ensures stepped { (plain : Document) → DocStandsFor self.now plain
-            → IfOk result (IsStepped (silent_step (ended_document plain caller))) }
-        ensures plugins { IfOk result (λ made. length made.0.sessions ≡ length self.now.sessions) }
-    {
-        let sessions = self.sessions.ended(alloc, caller)?;
-        self.silent(alloc, sessions)
+        let text = self.text.end_session(alloc, caller)?;
+        self.silent(text)
     }
 
     // The document with other sessions; nobody is told.
-    fn silent(&self, alloc: Global, sessions: Sessions) -> Result<(Doc, Effects), NoMemory>
-        requires { length sessions ≡ length self.now.sessions }
-        ensures stepped { (later : Document) → IsUncollected (record self.now { sessions = sessions }) later
-            → IfOk result (IsStepped (silent_step later)) }
-        ensures sessions { IfOk result (λ made. made.0.sessions ≡ sessions) }
+    fn silent(&self, text: TextState) -> Result<(Doc, Effects), NoMemory>
+        requires engine { text.engine ≡ self.now.text.engine }
+        requires count { length text.sessions ≡ length self.now.text.sessions }
+        ensures stepped { (plain : Document) (next : Writing) → DocStandsFor self.now plain → IsTextOf text next
+            → head_text next ≡ head_text plain.text → IfOk result (IsStepped (silent_step (with_text plain next))) }
+        ensures sessions { IfOk result (λ made. made.0.text.sessions ≡ text.sessions) }
     {
         let next = Doc {
-            engine: Arc::try_clone(&self.engine)?,
-            stack: self.stack.copy(alloc)?,
-            typing: self.typing,
-            saved: self.saved,
-            sessions,
+            text,
             view: self.view.copy()?,
         };
         let effects = Effects {
@@ -680,49 +534,62 @@ impl Doc {
         Ok((next, effects))
     }
 
-    // The same document with another view of its text, with layers of its plugins, and the run or none.
-    pub(crate) fn with_view(
-        &self,
-        alloc: Global,
-        view: ViewState,
-        typing: Option<Typing>,
-    ) -> Result<Doc, NoMemory>
-        requires typing { IsLeftOf self.now.typing typing }
-        requires text { view.text ≡ self.now.view.text }
-        requires over { AreOver (length self.now.view.text) view.layers }
-        requires as_many { length view.layers ≡ length self.now.sessions }
-        ensures { IfOk result (λ made. made ≡ record self.now { view = view; typing = typing }) }
+    // The document in which what may be collected is collected, or `None` where that is nothing.
+    fn collected(&self, alloc: Global) -> Result<Option<Doc>, NoMemory>
+        ensures stands { (plain : Document) → IsUncollected self.now plain
+            → IfOk result (λ made. DocStandsFor (unwrap_or made self.now) (collected_document plain)) }
+        ensures sessions { IfOk result (λ made. (unwrap_or made self.now).text.sessions ≡ self.now.text.sessions) }
+    {
+        match self.text.collected(alloc)? {
+            Some(text) => Ok(Some(self.with_collected(text)?)),
+            None => Ok(None),
+        }
+    }
+
+    // The document with another text that shows the same.
+    fn with_collected(&self, text: TextState) -> Result<Doc, NoMemory>
+        requires shown { text_in text ≡ text_in self.now.text }
+        requires count { text.sessions ≡ self.now.text.sessions }
+        ensures { IfOk result (λ made. made ≡ record self.now { text = text }) }
     {
         Ok(Doc {
-            engine: Arc::try_clone(&self.engine)?,
-            stack: self.stack.copy(alloc)?,
-            typing,
-            saved: self.saved,
-            sessions: self.sessions.copy(alloc)?,
-            view,
+            text,
+            view: self.view.copy()?,
         })
+    }
+
+    // The document of this text, which shows the same, and another view of it, with layers of its plugins.
+    pub(crate) fn with_view(&self, text: TextState, view: ViewState) -> Doc
+        requires engine { text.engine ≡ self.now.text.engine }
+        requires count { text.sessions ≡ self.now.text.sessions }
+        requires text { view.text ≡ self.now.view.text }
+        requires over { AreOver (length self.now.view.text) view.layers }
+        requires as_many { length view.layers ≡ length self.now.text.sessions }
+        ensures { result ≡ record { text = text; view = view } }
+    {
+        Doc { text, view }
     }
 
     /// The last revision.
     pub fn head(&self) -> u64
-        ensures head { (plain : Document) → DocStandsFor self.now plain → result ≡ head plain.history }
-        ensures revisions { result ≡ head self.now.engine.revisions }
+        ensures head { (plain : Document) → DocStandsFor self.now plain → result ≡ head plain.text.history }
+        ensures revisions { result ≡ head self.now.text.engine.revisions }
     {
-        self.engine.head()
+        self.text.head()
     }
 
     /// A copy of the head text.
     pub fn head_text(&self, alloc: Global) -> Result<Text, NoMemory>
-        ensures { (plain : Document) → DocStandsFor self.now plain → IfOk result (λ text. text ≡ head_text plain) }
+        ensures { (plain : Document) → DocStandsFor self.now plain → IfOk result (λ text. text ≡ head_text plain.text) }
     {
-        whole_text(alloc, self.engine.head_rope())
+        self.text.head_text(alloc)
     }
 
     /// How many characters some revision can still show.
     pub fn kept(&self) -> u64
-        ensures { (plain : Document) → DocStandsFor self.now plain → result ≡ kept plain.history }
+        ensures { (plain : Document) → DocStandsFor self.now plain → result ≡ kept plain.text.history }
     {
-        self.engine.kept()
+        self.text.kept()
     }
 
     /// How many lines the layout has.
@@ -732,31 +599,13 @@ impl Doc {
         self.view.lines()
     }
 
-    /// A second document that stands for the same, in O(1): it shares text, revisions and layout with this one.
+    /// A second document that stands for the same: it shares text, revisions and layout with this one, and copies groups and sessions.
     pub fn copy(&self, alloc: Global) -> Result<Doc, NoMemory>
         ensures { IfOk result (λ made. made ≡ self.now) }
     {
-        self.with_view(alloc, self.view.copy()?, self.typing)
-    }
-}
-
-// The edit as the document takes it: in this group, by its caller.
-fn given(edit: Edit, caller: u32, group: u64) -> Edit
-    ensures { result ≡ record edit { author = caller; group = group } }
-{
-    let mut given = edit;
-    given.author = caller;
-    given.group = group;
-    given
-}
-
-fn front_edit(units: UnitDelta, group: u64) -> UnitEdit
-    ensures { result ≡ record { units = units; priority = front_priority; author = 0; group = group } }
-{
-    UnitEdit {
-        units,
-        priority: FRONT_PRIORITY,
-        author: 0,
-        group,
+        Ok(Doc {
+            text: self.text.copy(alloc)?,
+            view: self.view.copy()?,
+        })
     }
 }

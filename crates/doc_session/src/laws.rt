@@ -1,6 +1,6 @@
 //! Laws of the definitions, each the contract of a function: they hold of all documents.
 
-ghost use Rattle.doc_session.specs.Laws.{CommandsFit, CommandsPut, LinesAreHad, NoneIsLeft, NoticesLead, ScreensShow, UpdatesShow};
+ghost use Rattle.doc_session.specs.Laws.{CommandsFit, CommandsPut, LinesAreHad, ScreensShow, UpdatesShow};
 
 /// An updated screen shows the layout: its length, and no line of it is another; the lines of the window are there.
 pub fn screens_show()
@@ -17,11 +17,6 @@ pub fn lines_are_had()
     ensures { LinesAreHad }
 {}
 
-/// A plugin that knows the text before a change has the text after it by the delta of the notice.
-pub fn notices_lead()
-    ensures { NoticesLead }
-{}
-
 /// A command of the front end is refused only where its characters are spent.
 pub fn commands_fit()
     ensures { CommandsFit }
@@ -30,9 +25,4 @@ pub fn commands_fit()
 /// The delta of a command of the front end fits, and leads to the text after its replacements.
 pub fn commands_put()
     ensures { CommandsPut }
-{}
-
-/// Where no session is open, no group is left that no undo reaches any more: all are collected.
-pub fn none_is_left()
-    ensures { NoneIsLeft }
 {}

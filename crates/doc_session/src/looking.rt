@@ -1,16 +1,13 @@
 // Lines that leave the text as it is: what a view shows, what is looked for, and how the text is laid out; and which commands copy and scroll.
 ghost use Rattle.std.specs.Prelude.{◌≡◌, IfOk};
-ghost use Rattle.doc_session.specs.Document.{Document};
-ghost use Rattle.doc_session.specs.Inner.{IsStepped, IsViewingOf, is_scrolling};
+ghost use Rattle.doc_session.specs.Inner.{IsStepOf, IsViewingOf, is_scrolling};
 ghost use Rattle.doc_session.specs.Looking.{MayView, scrolls_at, viewed, viewed_lines};
-ghost use Rattle.doc_session.specs.Stands.{DocStandsFor};
 ghost use Rattle.doc_session.specs.Step.{copies, scrolls, viewing_step};
 
 use crate::doc::Doc;
 use crate::event::{Body, Effects};
 use crate::said::{NO_REQUEST, Said, Scrolling};
 use doc_view::{TextLeft, ViewState};
-use edit_groups::run_on;
 use plain_text::{NoMemory, Run, Text};
 use std::alloc::Global;
 use xi_plain::{Config, EditAct};
@@ -42,13 +39,14 @@ impl Doc {
         viewing: Viewing,
     ) -> Result<(Doc, Effects), NoMemory>
         requires { MayView viewing }
-        ensures stepped { (plain : Document) → DocStandsFor self.now plain → IfOk result (IsStepped (viewing_step plain viewing)) }
-        ensures sessions { IfOk result (λ made. made.0.sessions ≡ self.now.sessions) }
+        ensures stepped { IsStepOf self.now (λ plain. viewing_step plain viewing) result }
+        ensures sessions { IfOk result (λ made. made.0.text.sessions ≡ self.now.text.sessions) }
     {
         let request = viewed_lines(&viewing);
         let scrolling = scrolls_at(&viewing);
         let view = viewed(alloc, &self.view, viewing)?;
-        let next = self.with_view(alloc, view, run_on(self.typing, None))?;
+        let text = self.text.with_run(alloc, None)?;
+        let next = self.with_view(text, view);
         let said = Said {
             text: TextLeft::Same,
             request,

@@ -1,23 +1,22 @@
 // What plugins say of the styles of characters, in a document, and how these follow a revision.
 ghost use Rattle.std.specs.Prelude.{◌≡◌, ℕ, ◌≤◌, length, None, IfOk, IfErr, OnOk};
-ghost use Rattle.std.specs.Arc.{arc_value};
-ghost use Rattle.plain_edits.specs.History.{History};
 ghost use Rattle.span_styles.specs.Layers.{AreOver};
 ghost use Rattle.stale_spans.specs.Asked.{moved_layers};
 ghost use Rattle.stale_spans.specs.Places.{StandIn};
-ghost use Rattle.doc_session.specs.Asking.{range_refusal};
+ghost use Rattle.doc_text.specs.Asking.{range_refusal};
+ghost use Rattle.doc_text.specs.Fault.{DocRefuses};
+ghost use Rattle.doc_text.specs.InMemory.{text_in};
+ghost use Rattle.doc_text.specs.Revised.{IsRevised, IsRevisionOf};
+ghost use Rattle.doc_text.specs.Writing.{Writing};
 ghost use Rattle.doc_session.specs.Document.{Document};
-ghost use Rattle.doc_session.specs.Fault.{DocRefuses};
-ghost use Rattle.doc_session.specs.Inner.{IsAfter, IsStepped, IsTakenFrom, head_shown};
+ghost use Rattle.doc_session.specs.Inner.{IsStepOf};
 ghost use Rattle.doc_session.specs.Stands.{DocStandsFor};
 ghost use Rattle.doc_session.specs.Step.{spans_step};
 
 use crate::doc::Doc;
 use crate::event::{Body, Effects};
-use crate::fault::DocFault;
-use crate::reading::read_at;
 use crate::said::{NO_REQUEST, Said, Scrolling};
-use crate::taken::Taken;
+use doc_text::{DocFault, Revised};
 use doc_view::TextLeft;
 use plain_text::NoMemory;
 use span_styles::Layers;
@@ -32,20 +31,20 @@ impl Doc {
         caller: u32,
         asked: &AskedSpans,
     ) -> Result<(Doc, Effects), DocFault>
-        requires caller { (1 ≤ caller) × (caller ≤ length self.now.sessions) }
+        requires caller { (1 ≤ caller) × (caller ≤ length self.now.text.sessions) }
         requires within { StandIn asked.now.len asked.now.spans }
-        ensures stepped { (plain : Document) → DocStandsFor self.now plain
-            → IfOk result (IsStepped (spans_step plain caller asked.now)) }
+        ensures stepped { IsStepOf self.now (λ plain. spans_step plain caller asked.now) result }
         ensures accepted { (plain : Document) → DocStandsFor self.now plain
-            → OnOk result (range_refusal plain.history asked.now ≡ None) }
+            → OnOk result (range_refusal plain.text.history asked.now ≡ None) }
         ensures refused { (plain : Document) → DocStandsFor self.now plain
-            → IfErr result (DocRefuses (range_refusal plain.history asked.now)) }
-        ensures sessions { IfOk result (λ made. made.0.sessions ≡ self.now.sessions) }
+            → IfErr result (DocRefuses (range_refusal plain.text.history asked.now)) }
+        ensures sessions { IfOk result (λ made. made.0.text.sessions ≡ self.now.text.sessions) }
     {
-        let read = read_at(alloc, &self.engine, asked.rev)?;
+        let read = self.text.read_at(alloc, asked.rev)?;
         let layers = with_spans(alloc, &read, self.view.layers(), caller - 1, asked)?;
         let view = self.view.with_layers(alloc, layers)?;
-        let next = self.with_view(alloc, view, self.typing)?;
+        let text = self.text.copy(alloc)?;
+        let next = self.with_view(text, view);
         let said = Said {
             text: TextLeft::Edited,
             request: NO_REQUEST,
@@ -57,14 +56,14 @@ impl Doc {
     }
 
     /// The layers after a revision: what stays keeps its styles, and what appears has none.
-    pub(crate) fn moved_layers(&self, alloc: Global, taken: &Taken) -> Result<Layers, NoMemory>
-        requires { IsTakenFrom self.now.engine taken.now }
-        ensures moved { (plain : Document) (history : History) (author : ℕ) → DocStandsFor self.now plain
-            → IsAfter plain.history history author taken.now
-            → IfOk result (λ made. made ≡ moved_layers plain.history history plain.view.layers) }
-        ensures over { IfOk result (AreOver (length (head_shown (arc_value taken.now.engine)))) }
-        ensures as_many { IfOk result (λ made. length made ≡ length self.now.sessions) }
+    pub(crate) fn moved_layers(&self, alloc: Global, revised: &Revised) -> Result<Layers, NoMemory>
+        requires { IsRevisionOf self.now.text revised.now }
+        ensures moved { (plain : Document) (next : Writing) (author : ℕ) → DocStandsFor self.now plain
+            → IsRevised plain.text next author revised.now
+            → IfOk result (λ made. made ≡ moved_layers plain.text.history next.history plain.view.layers) }
+        ensures over { IfOk result (AreOver (length (text_in revised.now.text))) }
+        ensures as_many { IfOk result (λ made. length made ≡ length revised.now.text.sessions) }
     {
-        self.view.layers().map(alloc, &taken.change.units)
+        self.view.layers().map(alloc, &revised.units)
     }
 }

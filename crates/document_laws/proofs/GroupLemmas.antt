@@ -11,16 +11,18 @@ use Rattle.plain_edits.specs.History.{History, head, undo, undone}
 use Rattle.plain_edits.specs.Undo.{undone_now}
 use Rattle.plain_edits.proofs.callers.HistoryLemmas.{undone-undo}
 use Rattle.undo_groups.specs.Groups.{Groups, after_opening, forgotten, next_redo, next_undo, undone_one, groups_of}
-use Rattle.doc_session.specs.Collecting.{collected_document, with_collection}
+use Rattle.doc_text.specs.Collecting.{with_collection}
+use Rattle.doc_text.specs.Writing.{is_pristine}
+use Rattle.doc_text.proofs.ForCallers.{fold_forgotten, part-collected}
 use Rattle.plain_screen.specs.Screen.{Screen}
 use Rattle.plain_screen.specs.declared.screen.Update.{Update}
 use Rattle.doc_layout.specs.declared.asked.Asked.{Asked}
 use Rattle.doc_layout.specs.Told.{planned}
 use Rattle.doc_view.specs.Told.{is_lacking}
 use Rattle.doc_view.specs.View.{asked_in, layout_in}
-use Rattle.doc_session.specs.Document.{Document, is_pristine, no_request}
+use Rattle.doc_session.specs.Document.{Document, no_request}
 use Rattle.doc_session.specs.Effects.{pristine_from, screen_told, settled}
-use Rattle.doc_session.proofs.ForCallers.{fold_forgotten, part-collected}
+use Rattle.doc_session.specs.Step.{collected_document, with_text}
 use Rattle.document_laws.specs.Laws.{bare_groups}
 
 -- ---- what is told leaves everything but the screen, and what the front end was told
@@ -31,7 +33,7 @@ pub part-settled : {X : Type 0} (f : Document → X) (before after : Document) �
 part-settled f before after same = by (is_lacking before.view after.view no_request (pristine_from before after))
   where
     told_by : Bool → Option Update
-    told_by b = if b then Some (planned (asked_in after.view no_request) (layout_in after.view) (is_pristine after)) else None
+    told_by b = if b then Some (planned (asked_in after.view no_request) (layout_in after.view) (is_pristine after.text)) else None
 
     by : (b : Bool) → f (record after {
       view = if b then record after.view { shown = Some (asked_in after.view no_request) } else after.view;
@@ -49,8 +51,10 @@ bare-forgotten groups s = ap bare_groups (fold_forgotten s groups)
 -- what a step leaves beside its screen and what it collects
 pub part-stepped : {X : Type 0} (f : Document → X) (before after : Document) →
     ((screen : Screen) (asked : Asked) → f (record after { view = record after.view { shown = Some asked }; screen = screen }) ≡ f after) →
-    ((d : Document) (collection : Collection) → f (with_collection d (Some collection)) ≡ f d) → f (collected_document (settled no_request before after)) ≡ f after
-part-stepped f before after same leaves = part-collected f (settled no_request before after) (leaves (settled no_request before after)) ∙ part-settled f before after same
+    ((d : Document) (collection : Collection) → f (with_text d (with_collection d.text (Some collection))) ≡ f d) → f (collected_document (settled no_request before after)) ≡ f after
+part-stepped f before after same leaves =
+    let next = settled no_request before after in
+    part-collected (λ text. f (with_text next text)) next.text (leaves next) ∙ part-settled f before after same
 
 -- ---- undid
 

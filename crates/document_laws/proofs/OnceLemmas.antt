@@ -10,8 +10,8 @@ use Rattle.plain_text.proofs.callers.NumberLemmas.{has-with_numbers}
 use Rattle.plain_edits.specs.Collection.{Collection, clean_floor, collected_at, collection_at, is_at_rest, resting_groups}
 use Rattle.plain_edits.specs.History.{History, head}
 use Rattle.undo_groups.specs.Groups.{Groups, forgotten}
-use Rattle.doc_session.specs.Collecting.{collected_document, collection_after, least_acknowledged, with_collection}
-use Rattle.doc_session.specs.Document.{Document}
+use Rattle.doc_text.specs.Collecting.{collected_text, collection_after, least_acknowledged, with_collection}
+use Rattle.doc_text.specs.Writing.{Writing}
 
 -- a collection is of these groups
 collection_is : (history : History) (floor : ℕ) (groups : List ℕ) (collection : Collection) → collection_at history floor groups ≡ Some collection →
@@ -67,7 +67,7 @@ spent_test false true r is = refl
 spent_test false false r (inl is) = is
 spent_test false false r (inr is) = absurd cc
 
-pub collected_once : (d : Document) → collection_after (collected_document d) ≡ None
+pub collected_once : (d : Writing) → collection_after (collected_text d) ≡ None
 collected_once d = by (collection_after d) refl
   where
     h : History

@@ -12,24 +12,25 @@ use Rattle.plain_edits.specs.Undo.{undone_now}
 use Rattle.plain_edits.proofs.callers.HistoryLemmas.{text_at-undid_back}
 use Rattle.undo_groups.specs.Groups.{Groups, IsStack, next_redo, next_undo, redone_one, undone_one}
 use Rattle.undo_groups.specs.Laws.{RedoTakesUndoBack as StackLaw}
-use Rattle.doc_session.specs.Collecting.{AreAcknowledged, AreEnded, HasNoneLeft, collected_document, collection_after, least_acknowledged, with_collection}
-use Rattle.doc_session.specs.Document.{Document, no_request, head_text}
+use Rattle.doc_text.specs.Collecting.{AreAcknowledged, AreEnded, HasNoneLeft, collection_after, least_acknowledged, with_collection}
+use Rattle.doc_text.specs.Writing.{Writing, head_text}
+use Rattle.doc_session.specs.Document.{Document, no_request}
 use Rattle.doc_session.specs.declared.looking.Viewing.TheVariants.{Other as NoCommand}
 use Rattle.doc_session.specs.Effects.{settled}
-use Rattle.doc_session.specs.Step.{history_step, taken_step, undone_document, viewed_document}
-use Rattle.doc_session.proofs.ForCallers.{IsLast-next_undo, collection_of-lags, collection_of-nothing, fold_forgotten, has-next_undo}
+use Rattle.doc_session.specs.Step.{collected_document, history_step, taken_step, undone_document, viewed_document, with_text}
+use Rattle.doc_text.proofs.ForCallers.{IsLast-next_undo, collection_of-lags, collection_of-nothing, fold_forgotten, has-next_undo}
 use Rattle.document_laws.specs.Laws.{IsNewestLeft, NewGroupEndsRedo, after_event, after_redo, after_undo, after_undos}
 use Rattle.document_laws.proofs.GroupLemmas.{head-undid, next_redo-opened, next_redo-undone, part-settled, part-stepped, some_undo, undone-undone_one, undone_now-undid, undone_one-some}
 use Rattle.document_laws.proofs.OnceLemmas.{collected_once}
 
 -- the document after an undo, where there is one
-after_undo-some : (d : Document) (group : ℕ) → next_undo d.groups ≡ Some group →
-    after_undo d ≡ collected_document (settled no_request d (undone_document d (undone_one d.groups)))
-after_undo-some d group found = ap (λ o. collected_document (history_step d o (undone_one d.groups)).document) found
+after_undo-some : (d : Document) (group : ℕ) → next_undo d.text.groups ≡ Some group →
+    after_undo d ≡ collected_document (settled no_request d (undone_document d (undone_one d.text.groups)))
+after_undo-some d group found = ap (λ o. collected_document (history_step d o (undone_one d.text.groups)).document) found
 
-after_redo-some : (d : Document) (group : ℕ) → next_redo d.groups ≡ Some group →
-    after_redo d ≡ collected_document (settled no_request d (undone_document d (redone_one d.groups)))
-after_redo-some d group found = ap (λ o. collected_document (history_step d o (redone_one d.groups)).document) found
+after_redo-some : (d : Document) (group : ℕ) → next_redo d.text.groups ≡ Some group →
+    after_redo d ≡ collected_document (settled no_request d (undone_document d (redone_one d.text.groups)))
+after_redo-some d group found = ap (λ o. collected_document (history_step d o (redone_one d.text.groups)).document) found
 
 -- ---- nothing is collected at a new revision, where nothing waited before
 
@@ -41,70 +42,69 @@ lags_or_ended h most (None ∷ sessions) are =
     elim (lags_or_ended h most sessions are.1) [ inl ended ↦ inl (refl, ended) | inr lags ↦ inr lags ]
 lags_or_ended h most (Some rev ∷ sessions) are = inr (omega (arith, min-le_left rev (least_acknowledged most sessions), are.0.1))
 
-module _ (d : Document) (are : AreAcknowledged d.history d.sessions) (left : HasNoneLeft d) where
-  none_collected : (e : Document) → e.sessions ≡ d.sessions → e.groups.retired ≡ d.groups.retired → head d.history < head e.history →
+module _ (d : Document) (are : AreAcknowledged d.text.history d.text.sessions) (left : HasNoneLeft d.text) where
+  none_collected : (e : Document) → e.text.sessions ≡ d.text.sessions → e.text.groups.retired ≡ d.text.groups.retired → head d.text.history < head e.text.history →
       collected_document e ≡ e
   none_collected e sessions retired later =
-      let most = least_acknowledged (head e.history) e.sessions in
-      let none : collection_after e ≡ None =
-      elim (lags_or_ended d.history (head e.history) d.sessions are) [
-        | inl ended ↦ collection_of-nothing e.history e.groups.retired most (retired ∙ left ended)
-        | inr lags ↦ collection_of-lags e.history e.groups.retired most
-            (omega (arith, ap (least_acknowledged (head e.history)) sessions, lags, later))
+      let most = least_acknowledged (head e.text.history) e.text.sessions in
+      let none : collection_after e.text ≡ None =
+      elim (lags_or_ended d.text.history (head e.text.history) d.text.sessions are) [
+        | inl ended ↦ collection_of-nothing e.text.history e.text.groups.retired most (retired ∙ left ended)
+        | inr lags ↦ collection_of-lags e.text.history e.text.groups.retired most
+            (omega (arith, ap (least_acknowledged (head e.text.history)) sessions, lags, later))
       ] in
-      ap (with_collection e) none
+      ap (λ found. with_text e (with_collection e.text found)) none
 
-  pub redo_after_undo : StackLaw → IsSound d.history → undone_now d.history ≡ d.groups.undone → IsStack d.groups → 0 < d.groups.index →
-      (head_text (after_redo (after_undo d)) ≡ head_text d) × ((after_redo (after_undo d)).groups ≡ d.groups)
+  pub redo_after_undo : StackLaw → IsSound d.text.history → undone_now d.text.history ≡ d.text.groups.undone → IsStack d.text.groups → 0 < d.text.groups.index →
+      (head_text (after_redo (after_undo d)).text ≡ head_text d.text) × ((after_redo (after_undo d)).text.groups ≡ d.text.groups)
   redo_after_undo law sound undone stack some =
-      let s = d.groups in
+      let s = d.text.groups in
       let group = slice_index s.live (s.index - 1) in
       let next = undone_document d (undone_one s) in
       let d1 = after_undo d in
-      let heads1 : head (settled no_request d next).history ≡ head d.history + 1 =
-      part-settled (λ (x : Document). head x.history) d next (λ screen asked. refl) ∙ head-undid d.history (undone_one s).undone in
+      let heads1 : head (settled no_request d next).text.history ≡ head d.text.history + 1 =
+      part-settled (λ (x : Document). head x.text.history) d next (λ screen asked. refl) ∙ head-undid d.text.history (undone_one s).undone in
       let is1 : d1 ≡ settled no_request d next =
       after_undo-some d group (some_undo s some) ∙
-      none_collected (settled no_request d next) (part-settled (λ (x : Document). x.sessions) d next (λ screen asked. refl))
-      (part-settled (λ (x : Document). x.groups.retired) d next (λ screen asked. refl) ∙ ap (λ (g : Groups). g.retired) (undone_one-some s some)) (omega (arith, heads1)) in
-      let groups1 : d1.groups ≡ undone_one s = ap (λ (x : Document). x.groups) is1 ∙ part-settled (λ (x : Document). x.groups) d next (λ screen asked. refl) in
-      let history1 : d1.history ≡ undid d.history (undone_one s).undone = ap (λ (x : Document). x.history) is1 ∙ part-settled (λ (x : Document). x.history) d next (λ screen asked. refl) in
-      let found : next_redo d1.groups ≡ Some group = ap next_redo groups1 ∙ next_redo-undone s some stack.reached in
-      let next2 = undone_document d1 (redone_one d1.groups) in
-      let back : redone_one d1.groups ≡ s = ap redone_one groups1 ∙ law s stack some in
-      let heads2 : head (settled no_request d1 next2).history ≡ head d1.history + 1 =
-      part-settled (λ (x : Document). head x.history) d1 next2 (λ screen asked. refl) ∙ head-undid d1.history (redone_one d1.groups).undone in
+      none_collected (settled no_request d next) (part-settled (λ (x : Document). x.text.sessions) d next (λ screen asked. refl))
+      (part-settled (λ (x : Document). x.text.groups.retired) d next (λ screen asked. refl) ∙ ap (λ (g : Groups). g.retired) (undone_one-some s some)) (omega (arith, heads1)) in
+      let groups1 : d1.text.groups ≡ undone_one s = ap (λ (x : Document). x.text.groups) is1 ∙ part-settled (λ (x : Document). x.text.groups) d next (λ screen asked. refl) in
+      let history1 : d1.text.history ≡ undid d.text.history (undone_one s).undone = ap (λ (x : Document). x.text.history) is1 ∙ part-settled (λ (x : Document). x.text.history) d next (λ screen asked. refl) in
+      let found : next_redo d1.text.groups ≡ Some group = ap next_redo groups1 ∙ next_redo-undone s some stack.reached in
+      let next2 = undone_document d1 (redone_one d1.text.groups) in
+      let back : redone_one d1.text.groups ≡ s = ap redone_one groups1 ∙ law s stack some in
+      let heads2 : head (settled no_request d1 next2).text.history ≡ head d1.text.history + 1 =
+      part-settled (λ (x : Document). head x.text.history) d1 next2 (λ screen asked. refl) ∙ head-undid d1.text.history (redone_one d1.text.groups).undone in
       let is2 : after_redo d1 ≡ settled no_request d1 next2 =
       after_redo-some d1 group found ∙
       none_collected (settled no_request d1 next2)
-      (part-settled (λ (x : Document). x.sessions) d1 next2 (λ screen asked. refl) ∙ ap (λ (x : Document). x.sessions) is1 ∙
-      part-settled (λ (x : Document). x.sessions) d next (λ screen asked. refl))
-      (part-settled (λ (x : Document). x.groups.retired) d1 next2 (λ screen asked. refl) ∙ ap (λ (g : Groups). g.retired) back)
-      (omega (arith, heads2, ap (λ (x : Document). head x.history) is1, heads1)) in
-      let history2 : (after_redo d1).history ≡ undid (undid d.history (undone_one s).undone) (undone_now d.history) =
-      ap (λ (x : Document). x.history) is2 ∙ part-settled (λ (x : Document). x.history) d1 next2 (λ screen asked. refl) ∙
-      ap₂ (λ h (g : Groups). undid h g.undone) history1 back ∙ ap (undid (undid d.history (undone_one s).undone)) (sym undone) in
-      let once = undid d.history (undone_one s).undone in
-      let heads : head (undid once (undone_now d.history)) ≡ head d.history + 2 =
-      omega (arith, head-undid once (undone_now d.history), head-undid d.history (undone_one s).undone) in (
-        ap (λ h. text_at h (head h)) history2 ∙ ap (text_at (undid once (undone_now d.history))) heads ∙ text_at-undid_back d.history (undone_one s).undone sound,
-        ap (λ (x : Document). x.groups) is2 ∙ part-settled (λ (x : Document). x.groups) d1 next2 (λ screen asked. refl) ∙ back,
+      (part-settled (λ (x : Document). x.text.sessions) d1 next2 (λ screen asked. refl) ∙ ap (λ (x : Document). x.text.sessions) is1 ∙
+      part-settled (λ (x : Document). x.text.sessions) d next (λ screen asked. refl))
+      (part-settled (λ (x : Document). x.text.groups.retired) d1 next2 (λ screen asked. refl) ∙ ap (λ (g : Groups). g.retired) back)
+      (omega (arith, heads2, ap (λ (x : Document). head x.text.history) is1, heads1)) in
+      let history2 : (after_redo d1).text.history ≡ undid (undid d.text.history (undone_one s).undone) (undone_now d.text.history) =
+      ap (λ (x : Document). x.text.history) is2 ∙ part-settled (λ (x : Document). x.text.history) d1 next2 (λ screen asked. refl) ∙
+      ap₂ (λ h (g : Groups). undid h g.undone) history1 back ∙ ap (undid (undid d.text.history (undone_one s).undone)) (sym undone) in
+      let once = undid d.text.history (undone_one s).undone in
+      let heads : head (undid once (undone_now d.text.history)) ≡ head d.text.history + 2 =
+      omega (arith, head-undid once (undone_now d.text.history), head-undid d.text.history (undone_one s).undone) in (
+        ap (λ h. text_at h (head h)) history2 ∙ ap (text_at (undid once (undone_now d.text.history))) heads ∙ text_at-undid_back d.text.history (undone_one s).undone sound,
+        ap (λ (x : Document). x.text.groups) is2 ∙ part-settled (λ (x : Document). x.text.groups) d1 next2 (λ screen asked. refl) ∙ back,
       )
 
 pub new_group_ends_redo : NewGroupEndsRedo
 new_group_ends_redo plain event opened =
     let d = after_event plain event in
     let still = viewed_document d NoCommand in
-    let none : next_redo d.groups ≡ None = ap next_redo opened ∙ next_redo-opened plain.groups in
-    let spent : collection_after (settled no_request d still) ≡ None =
-    part-settled collection_after d still (λ screen asked. refl) ∙ collected_once (taken_step plain event).document in (
+    let none : next_redo d.text.groups ≡ None = ap next_redo opened ∙ next_redo-opened plain.text.groups in
+    let spent : collection_after (settled no_request d still).text ≡ None = collected_once (taken_step plain event).document.text in (
       none,
-      ap (λ o. (collected_document (history_step d o (redone_one d.groups)).document).history) none ∙
-          ap (λ found. (with_collection (settled no_request d still) found).history) spent ∙ part-settled (λ (x : Document). x.history) d still (λ screen asked. refl),
+      ap (λ o. (collected_document (history_step d o (redone_one d.text.groups)).document).text.history) none ∙
+          ap (λ found. (with_collection (settled no_request d still).text found).history) spent ∙ part-settled (λ (x : Document). x.text.history) d still (λ screen asked. refl),
     )
 
 -- the newest that is left
-pub newest_left : (d : Document) (group : ℕ) → undone_now d.history ≡ d.groups.undone → IsStack d.groups → next_undo d.groups ≡ Some group → IsNewestLeft d group
+pub newest_left : (d : Document) (group : ℕ) → undone_now d.text.history ≡ d.text.groups.undone → IsStack d.text.groups → next_undo d.text.groups ≡ Some group → IsNewestLeft d group
 newest_left d group undone stack found = record {
   is_live = has-take s.index s.live group there;
   is_done = ap (λ us. has us group) undone ∙ stack.done group there;
@@ -112,7 +112,7 @@ newest_left d group undone stack found = record {
 }
   where
     s : Groups
-    s = d.groups
+    s = d.text.groups
 
     there : has (take s.index s.live) group ≡ true
     there = has-next_undo s group stack found
@@ -138,54 +138,54 @@ newest_left d group undone stack found = record {
           | inr undone_there ↦ no (has s.undone other) (stack.taken_back other undone_there) done
         ]
 
-pub undone_newest : (d : Document) (group : ℕ) → undone_now d.history ≡ d.groups.undone → next_undo d.groups ≡ Some group →
-    undone_now (after_undo d).history ≡ with_number (undone_now d.history) group
+pub undone_newest : (d : Document) (group : ℕ) → undone_now d.text.history ≡ d.text.groups.undone → next_undo d.text.groups ≡ Some group →
+    undone_now (after_undo d).text.history ≡ with_number (undone_now d.text.history) group
 undone_newest d group undone found =
-    let next = undone_document d (undone_one d.groups) in
-    ap (λ (x : Document). undone_now x.history) (after_undo-some d group found) ∙
-    part-stepped (λ (x : Document). undone_now x.history) d next (λ screen asked. refl) (λ x collection. refl) ∙
-    undone_now-undid d.history (undone_one d.groups).undone ∙ undone-undone_one d.groups group found ∙ ap (λ us. with_number us group) (sym undone)
+    let next = undone_document d (undone_one d.text.groups) in
+    ap (λ (x : Document). undone_now x.text.history) (after_undo-some d group found) ∙
+    part-stepped (λ (x : Document). undone_now x.text.history) d next (λ screen asked. refl) (λ x collection. refl) ∙
+    undone_now-undid d.text.history (undone_one d.text.groups).undone ∙ undone-undone_one d.text.groups group found ∙ ap (λ us. with_number us group) (sym undone)
 
 -- ---- how many undos there are
 
 -- a step's screen and what it collects leave head and index
-head-stepped : (before after : Document) → head (collected_document (settled no_request before after)).history ≡ head after.history
-head-stepped before after = part-stepped (λ (x : Document). head x.history) before after (λ screen asked. refl) (λ x collection. refl)
+head-stepped : (before after : Document) → head (collected_document (settled no_request before after)).text.history ≡ head after.text.history
+head-stepped before after = part-stepped (λ (x : Document). head x.text.history) before after (λ screen asked. refl) (λ x collection. refl)
 
-index-stepped : (before after : Document) → (collected_document (settled no_request before after)).groups.index ≡ after.groups.index
+index-stepped : (before after : Document) → (collected_document (settled no_request before after)).text.groups.index ≡ after.text.groups.index
 index-stepped before after =
-    part-stepped (λ (x : Document). x.groups.index) before after (λ screen asked. refl)
-    (λ x collection. ap (λ (g : Groups). g.index) (fold_forgotten x.groups collection.groups))
+    part-stepped (λ (x : Document). x.text.groups.index) before after (λ screen asked. refl)
+    (λ x collection. ap (λ (g : Groups). g.index) (fold_forgotten x.text.groups collection.groups))
 
 -- each makes a revision and leaves one fewer, or does neither
-measure : (d : Document) → head (after_undo d).history + (after_undo d).groups.index ≡ head d.history + d.groups.index
+measure : (d : Document) → head (after_undo d).text.history + (after_undo d).text.groups.index ≡ head d.text.history + d.text.groups.index
 measure d =
-    elim (cases_lt 0 d.groups.index) [
+    elim (cases_lt 0 d.text.groups.index) [
       | inl some ↦ taken some
       | inr none ↦ at_end (omega (arith, none))
     ]
   where
-    taken : 0 < d.groups.index → head (after_undo d).history + (after_undo d).groups.index ≡ head d.history + d.groups.index
+    taken : 0 < d.text.groups.index → head (after_undo d).text.history + (after_undo d).text.groups.index ≡ head d.text.history + d.text.groups.index
     taken some =
-        let s = d.groups in
+        let s = d.text.groups in
         let next = undone_document d (undone_one s) in
         let is = after_undo-some d (slice_index s.live (s.index - 1)) (some_undo s some) in
-        let heads : head (after_undo d).history ≡ head d.history + 1 =
-        ap (λ (x : Document). head x.history) is ∙ head-stepped d next ∙ head-undid d.history (undone_one s).undone in
-        let index : (after_undo d).groups.index ≡ s.index - 1 =
-        ap (λ (x : Document). x.groups.index) is ∙ index-stepped d next ∙ ap (λ (g : Groups). g.index) (undone_one-some s some) in
+        let heads : head (after_undo d).text.history ≡ head d.text.history + 1 =
+        ap (λ (x : Document). head x.text.history) is ∙ head-stepped d next ∙ head-undid d.text.history (undone_one s).undone in
+        let index : (after_undo d).text.groups.index ≡ s.index - 1 =
+        ap (λ (x : Document). x.text.groups.index) is ∙ index-stepped d next ∙ ap (λ (g : Groups). g.index) (undone_one-some s some) in
         omega (arith, heads, index, some)
 
-    at_end : d.groups.index ≡ 0 → head (after_undo d).history + (after_undo d).groups.index ≡ head d.history + d.groups.index
+    at_end : d.text.groups.index ≡ 0 → head (after_undo d).text.history + (after_undo d).text.groups.index ≡ head d.text.history + d.text.groups.index
     at_end none =
         let still = viewed_document d NoCommand in
-        let found : next_undo d.groups ≡ None =
-        ap (λ b. if b then None else Some (slice_index d.groups.live (d.groups.index - 1))) (eq-eqb d.groups.index 0 none) in
+        let found : next_undo d.text.groups ≡ None =
+        ap (λ b. if b then None else Some (slice_index d.text.groups.live (d.text.groups.index - 1))) (eq-eqb d.text.groups.index 0 none) in
         let is : after_undo d ≡ collected_document (settled no_request d still) =
-        ap (λ o. collected_document (history_step d o (undone_one d.groups)).document) found in
-        ap₂ (λ a b. a + b) (ap (λ (x : Document). head x.history) is ∙ head-stepped d still)
-        (ap (λ (x : Document). x.groups.index) is ∙ index-stepped d still)
+        ap (λ o. collected_document (history_step d o (undone_one d.text.groups)).document) found in
+        ap₂ (λ a b. a + b) (ap (λ (x : Document). head x.text.history) is ∙ head-stepped d still)
+        (ap (λ (x : Document). x.text.groups.index) is ∙ index-stepped d still)
 
-pub head-undos : (n : ℕ) (d : Document) → head (after_undos n d).history ≤ head d.history + d.groups.index
+pub head-undos : (n : ℕ) (d : Document) → head (after_undos n d).text.history ≤ head d.text.history + d.text.groups.index
 head-undos zero d = omega arith
 head-undos (suc n) d = omega (arith, head-undos n (after_undo d), measure d)

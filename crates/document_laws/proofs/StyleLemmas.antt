@@ -19,23 +19,24 @@ use Rattle.stale_spans.specs.declared.asked.AskedSpans.{AskedSpans}
 use Rattle.stale_spans.specs.Asked.{layers_with_spans, moved_layers}
 use Rattle.stale_spans.specs.Places.{meant_range}
 use Rattle.undo_groups.specs.Groups.{Groups, next_redo, next_undo, redone_one, undone_one}
-use Rattle.edit_groups.specs.Grouping.{named_group}
 use Rattle.edit_groups.specs.Typing.{kind_of}
 use Rattle.edit_ops.specs.Commands.{Effect}
 use Rattle.doc_session.specs.declared.event.Event.{Event}
 use Rattle.doc_session.specs.declared.event.Event.TheVariants.{Ack, Config as Configure, Edit, Ended, Front, Other, Spans}
-use Rattle.doc_session.specs.Asking.{asked_spans, plugin_edit}
-use Rattle.doc_session.specs.Collecting.{collected_document, collection_after, with_collection}
-use Rattle.doc_session.specs.Document.{Document, loaded_document, no_request, head_text}
+use Rattle.doc_text.specs.Asking.{asked_spans}
+use Rattle.doc_text.specs.Collecting.{collection_after, with_collection}
+use Rattle.doc_text.specs.Writing.{Writing, head_text}
+use Rattle.doc_session.specs.Document.{Document, loaded_document, no_request}
 use Rattle.doc_view.specs.View.{View}
 use Rattle.doc_session.specs.declared.looking.Viewing.{Viewing}
 use Rattle.doc_session.specs.declared.looking.Viewing.TheVariants.{Layout, Other as NoCommand}
 use Rattle.doc_session.specs.Looking.{viewed_lines, viewing_of}
 use Rattle.doc_session.specs.Effects.{pristine_from, settled}
-use Rattle.doc_session.specs.Step.{act_step, command_step, done_step, effect_on, given_document, history_step, idle_step, is_idle, looking_step, selected_document, styled_document, taken_step, typed_document, typed_step, undone_document, viewed_document, viewing_step}
+use Rattle.doc_session.specs.Step.{act_step, collected_document, command_step, done_step, effect_on, given_document, history_step, idle_step, is_idle, looking_step, selected_document, styled_document, taken_step, typed_document, typed_step, undone_document, viewed_document, viewing_step, with_text}
 use Rattle.document_laws.specs.Laws.{AreOverText, SaysNoStyles, StylesFollow}
 use Rattle.document_laws.proofs.GroupLemmas.{part-stepped}
-use Rattle.doc_session.proofs.ForCallers.{head_text-loaded, layers-viewed, part-settled as view-settled}
+use Rattle.doc_text.proofs.ForCallers.{head_text-loaded}
+use Rattle.doc_session.proofs.ForCallers.{layers-viewed, part-settled as view-settled}
 
 -- ---- where no revision is made the style rule leaves all styles
 
@@ -95,22 +96,22 @@ AreOverText-loaded text plugins limit config =
 -- ---- the steps
 
 abbrev Follows : Document → Document → Type 0
-Follows d next = next.view.layers ≡ moved_layers d.history next.history d.view.layers
+Follows d next = next.view.layers ≡ moved_layers d.text.history next.text.history d.view.layers
 
 -- what is told of a step is no matter, nor what is collected
 follows-settled : (request : Run) (d next : Document) → Follows d next → Follows d (settled request d next)
 follows-settled request d next follows = view-settled (λ (v : View). v.layers) d.view next.view request (pristine_from d next) refl ∙ follows
 
 follows-collected : (d next : Document) → Follows d next → Follows d (collected_document next)
-follows-collected d next follows = by (collection_after next)
+follows-collected d next follows = by (collection_after next.text)
   where
-    by : (found : Option Collection) → Follows d (with_collection next found)
+    by : (found : Option Collection) → Follows d (with_text next (with_collection next.text found))
     by None = follows
     by (Some collection) = follows
 
 module _ (d : Document) (over : AreOverText d) where
-  follows-still : d.view.layers ≡ moved_layers d.history d.history d.view.layers
-  follows-still = sym (moved-still d.history d.view.layers over)
+  follows-still : d.view.layers ≡ moved_layers d.text.history d.text.history d.view.layers
+  follows-still = sym (moved-still d.text.history d.view.layers over)
 
   follows-command : (act : EditAct) → Follows d (command_step d act (effect_on d act)).document
   follows-command act = by (is_idle d effect)
@@ -132,8 +133,8 @@ module _ (d : Document) (over : AreOverText d) where
   follows-turned (Some group) groups = follows-settled no_request d (undone_document d groups) refl
 
   follows-done : (act : EditAct) → Follows d (done_step d act).document
-  follows-done Acts.Undo = follows-turned (next_undo d.groups) (undone_one d.groups)
-  follows-done Acts.Redo = follows-turned (next_redo d.groups) (redone_one d.groups)
+  follows-done Acts.Undo = follows-turned (next_undo d.text.groups) (undone_one d.text.groups)
+  follows-done Acts.Redo = follows-turned (next_redo d.text.groups) (redone_one d.text.groups)
   follows-done act = follows-command act
 
   follows-act : (act : EditAct) → Follows d (act_step d act).document
@@ -146,8 +147,7 @@ module _ (d : Document) (over : AreOverText d) where
   follows-taken : (event : Event) → SaysNoStyles event → Follows d (taken_step d event).document
   follows-taken (Front act) none = follows-act act
   follows-taken (Edit caller edit named) none =
-      let joined = named_group d.history named in
-      follows-settled no_request d (given_document d (plugin_edit d caller edit joined) joined edit.after_cursor) refl
+      follows-settled no_request d (given_document d caller edit named) refl
   follows-taken (Spans caller rev start len spans) none = absurd none
   follows-taken (Ack caller rev) none = follows-still
   follows-taken (Ended caller) none = follows-still
@@ -160,8 +160,8 @@ module _ (d : Document) (over : AreOverText d) where
       let made = collected_document next in
       let follows : Follows d made = follows-collected d next (follows-taken event none) in
       record {
-        over = subst (AreOver (length (head_text made))) (sym follows) (moved-over d.history made.history d.view.layers);
-        as_many = ap length follows ∙ length-map d.view.layers (moved_layer d.history made.history);
+        over = subst (AreOver (length (head_text made.text))) (sym follows) (moved-over d.text.history made.text.history d.view.layers);
+        as_many = ap length follows ∙ length-map d.view.layers (moved_layer d.text.history made.text.history);
         moved = λ says. follows;
       }
 
@@ -170,12 +170,12 @@ module _ (d : Document) (over : AreOverText d) where
 -- what is told is no matter, nor what is collected
 over-settled : (d next : Document) → AreOverText next → AreOverText (settled no_request d next)
 over-settled d next over =
-    subst (AreOver (length (head_text next))) (sym (view-settled (λ (v : View). v.layers) d.view next.view no_request (pristine_from d next) refl)) over
+    subst (AreOver (length (head_text next.text))) (sym (view-settled (λ (v : View). v.layers) d.view next.view no_request (pristine_from d next) refl)) over
 
 over-collected : (next : Document) → AreOverText next → AreOverText (collected_document next)
-over-collected next over = by (collection_after next)
+over-collected next over = by (collection_after next.text)
   where
-    by : (found : Option Collection) → AreOverText (with_collection next found)
+    by : (found : Option Collection) → AreOverText (with_text next (with_collection next.text found))
     by None = over
     by (Some collection) = over
 
@@ -184,7 +184,7 @@ spans-event d caller rev start len spans over =
     let asked = asked_spans rev start len spans in
     let next = styled_document d caller asked in
     record {
-      over = over-collected (settled no_request d next) (over-settled d next (spans-over d.history asked (caller - 1) d.view.layers over));
+      over = over-collected (settled no_request d next) (over-settled d next (spans-over d.text.history asked (caller - 1) d.view.layers over));
       as_many = part-stepped (λ (x : Document). length x.view.layers) d next (λ screen asked. refl) (λ x collection. refl) ∙ length-set d.view.layers (caller - 1) _;
       moved = λ none. absurd none;
     }

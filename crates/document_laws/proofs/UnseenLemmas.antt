@@ -1,6 +1,7 @@
 -- What is collected is seen by no front end: a step of a document goes like that of the bare one.
-use Rattle.std.proofs.Common.{◌≡◌, ℕ, ◌+◌, ◌-◌, ◌≤◌, Bool, true, false, if◌then◌else◌, ◌==◌, List, [], length, Option, Some, None, refl, ap, sym, ◌∙◌, arith}
-use Rattle.std.specs.Prelude.{nat_lt, slice_index}
+use Rattle.std.proofs.Common.{◌≡◌, ℕ, zero, suc, ◌+◌, ◌-◌, ◌≤◌, Bool, true, false, if◌then◌else◌, ◌==◌, List, [], ◌∷◌, length, map, Option, Some, None, refl, ap, ap₂, sym, ◌∙◌, arith}
+use Rattle.std.specs.Prelude.{nat_lt, slice_index, slice_set}
+use Rattle.std.proofs.lemmas.List.{length-map}
 use Rattle.std.proofs.lemmas.Bool.{le-ltb}
 use Rattle.plain_text.specs.declared.run.Run.{Run}
 use Rattle.plain_text.specs.Numbers.{with_number, without_number}
@@ -20,18 +21,21 @@ use Rattle.doc_session.specs.declared.event.Body.{Body}
 use Rattle.doc_session.specs.declared.event.Body.TheVariants.{Null}
 use Rattle.doc_session.specs.declared.event.Event.{Event}
 use Rattle.doc_session.specs.declared.event.Event.TheVariants.{Ack, Config as Configure, Edit, Ended, Front, Other, Spans}
-use Rattle.doc_session.specs.Asking.{asked_refusal, front_edit}
-use Rattle.doc_session.specs.Collecting.{acknowledged_document, collected_document, collection_after, ended_document, least_acknowledged, with_collection}
+use Rattle.doc_text.specs.Asking.{asked_refusal}
+use Rattle.doc_text.specs.Collecting.{acknowledged_text, collection_after, ended_text, least_acknowledged, with_collection}
+use Rattle.doc_text.specs.Notices.{notice_of, notice_to}
+use Rattle.doc_text.specs.Revisions.{edited_text}
+use Rattle.doc_session.specs.Asking.{front_edit}
 use Rattle.doc_session.specs.Document.{Document, no_request}
 use Rattle.doc_session.specs.declared.looking.Viewing.{Viewing}
 use Rattle.doc_session.specs.declared.looking.Viewing.TheVariants.{Layout, Other as NoCommand}
 use Rattle.doc_session.specs.Looking.{viewed_lines, viewing_of}
 use Rattle.doc_session.specs.Effects.{settled, update_after}
 use Rattle.doc_session.specs.Layout.{Position}
-use Rattle.doc_session.specs.Refusal.{edit_refused}
-use Rattle.doc_session.specs.Step.{EventStep, act_step, answer_to, command_step, done_step, edited_document, effect_on, event_step, history_step, idle_step, is_idle, looking_step, refusal_at, revision_step, scroll_if, scrolls, selected_document, step_to, taken_step, typed_step, undone_document, viewed_document, viewing_step}
+use Rattle.doc_text.specs.Refusal.{edit_refused}
+use Rattle.doc_session.specs.Step.{EventStep, act_step, answer_to, collected_document, command_step, done_step, effect_on, event_step, history_step, idle_step, is_idle, looking_step, refusal_at, revised_document, revision_step, scroll_if, scrolls, selected_document, step_to, taken_step, typed_step, undone_document, viewed_document, viewing_step, with_text}
 use Rattle.edit_groups.proofs.ForCallers.{least-within}
-use Rattle.doc_session.proofs.ForCallers.{floor-found, head-after}
+use Rattle.doc_text.proofs.ForCallers.{floor-found, head-after}
 use Rattle.document_laws.specs.Laws.{AcknowledgementsAreUnseen, AreAlike, CollectionIsUnseen, IsOfFront, TellTheSame, after_event, bare, bare_groups}
 use Rattle.document_laws.proofs.GroupLemmas.{bare-forgotten, head-undid}
 
@@ -40,6 +44,17 @@ use Rattle.document_laws.proofs.GroupLemmas.{bare-forgotten, head-undid}
 pub record GoAlong (one other : EventStep) : Type 0 where
   pub tell : TellTheSame one other
   pub same : bare one.document ≡ bare other.document
+
+-- what is left of sessions, once and again
+abbrev bare_sessions : List (Option ℕ) → List (Option ℕ)
+bare_sessions sessions = map (λ session. None) sessions
+
+bare-twice : (sessions : List (Option ℕ)) → bare_sessions (bare_sessions sessions) ≡ bare_sessions sessions
+bare-twice [] = refl
+bare-twice (session ∷ sessions) = ap (λ rest. None ∷ rest) (bare-twice sessions)
+
+bare-again : (next : Document) → bare next ≡ bare (with_text next (record next.text { sessions = bare_sessions next.text.sessions }))
+bare-again next = ap (λ sessions. with_text next (record (bare next).text { sessions = sessions })) (sym (bare-twice next.text.sessions))
 
 -- the screen of the bare one is the same
 bare-settled : (request : Run) (before after : Document) → bare (settled request before after) ≡ settled request (bare before) (bare after)
@@ -52,11 +67,26 @@ along-step_to request d next other body scroll notice same = record {
   same = bare-settled request d next ∙ ap (settled request (bare d)) same ∙ sym (bare-settled request (bare d) other);
 }
 
+-- plugins are told the same, where there are as many
+notice-bare : (d next other : Document) (author : ℕ) →
+    notice_of d.text.history next.text.history author ≡ notice_of (bare d).text.history other.text.history author →
+    notice_to d.text next.text.history author ≡ notice_to (bare d).text other.text.history author
+notice-bare d next other author same =
+    ap₂ (λ (n : ℕ) (notice : Notice). if n == 0 then None else Some notice) (sym (length-map d.text.sessions (λ session. None))) same
+
+along-revision : (d next other : Document) (body : Body) (scroll : Option Position) → bare next ≡ bare other →
+    notice_of d.text.history next.text.history 0 ≡ notice_of (bare d).text.history other.text.history 0 →
+    GoAlong (revision_step d next 0 body scroll) (revision_step (bare d) other 0 body scroll)
+along-revision d next other body scroll same notice = record {
+  tell = record { body = refl; update = ap (update_after no_request (bare d)) same; scroll = refl; notice = notice-bare d next other 0 notice };
+  same = ap (settled no_request (bare d)) same;
+}
+
 -- ---- commands
 
 -- the document after an edit that joins this group or opens the next
 abbrev typed_in : Document → EditAct → Effect → Option ℕ → Document
-typed_in d act effect joined = edited_document d (front_edit d joined effect.replacements) joined (kind_of act) effect.regions
+typed_in d act effect joined = revised_document d (edited_text d.text (front_edit d joined effect.replacements) joined (kind_of act)) effect.regions
 
 abbrev typed_to : Document → EditAct → Effect → Option ℕ → EventStep
 typed_to d act effect joined =
@@ -64,9 +94,9 @@ typed_to d act effect joined =
 
 along-typed : (d : Document) (act : EditAct) (effect : Effect) (joined : Option ℕ) →
     GoAlong (typed_to d act effect joined) (typed_to (bare d) act effect joined)
-along-typed d act effect None = along-step_to no_request d (typed_in d act effect None) (typed_in (bare d) act effect None) _ _ _ refl
+along-typed d act effect None = along-revision d (typed_in d act effect None) (typed_in (bare d) act effect None) _ _ (bare-again (typed_in d act effect None)) refl
 along-typed d act effect (Some group) =
-    along-step_to no_request d (typed_in d act effect (Some group)) (typed_in (bare d) act effect (Some group)) _ _ _ refl
+    along-revision d (typed_in d act effect (Some group)) (typed_in (bare d) act effect (Some group)) _ _ (bare-again (typed_in d act effect (Some group))) refl
 
 along-command : (d : Document) (act : EditAct) → GoAlong (command_step d act (effect_on d act)) (command_step (bare d) act (effect_on (bare d) act))
 along-command d act = by (is_idle d effect)
@@ -77,11 +107,13 @@ along-command d act = by (is_idle d effect)
     by : (idle : Bool) → GoAlong (if idle then idle_step d act effect else typed_step d act effect)
         (if idle then idle_step (bare d) act effect else typed_step (bare d) act effect)
     by true =
-        along-step_to no_request d (selected_document d (kind_of act) effect.regions) (selected_document (bare d) (kind_of act) effect.regions) _ _ _ refl
-    by false = along-typed d act effect (run_group (run_on d.typing (kind_of act)))
+        let next = selected_document d (kind_of act) effect.regions in
+        along-step_to no_request d next (selected_document (bare d) (kind_of act) effect.regions) _ _ _ (bare-again next)
+    by false = along-typed d act effect (run_group (run_on d.text.typing (kind_of act)))
 
 along-viewing : (d : Document) (viewing : Viewing) → GoAlong (viewing_step d viewing) (viewing_step (bare d) viewing)
-along-viewing d viewing = along-step_to (viewed_lines viewing) d (viewed_document d viewing) (viewed_document (bare d) viewing) Null _ None refl
+along-viewing d viewing =
+    along-step_to (viewed_lines viewing) d (viewed_document d viewing) (viewed_document (bare d) viewing) Null _ None (bare-again (viewed_document d viewing))
 
 -- ---- undo and redo
 
@@ -89,7 +121,7 @@ along-undo : (d : Document) → GoAlong (act_step d Acts.Undo) (act_step (bare d
 along-undo d = by (s.index == 0)
   where
     s : Groups
-    s = d.groups
+    s = d.text.groups
 
     group : ℕ
     group = slice_index s.live (s.index - 1)
@@ -100,13 +132,15 @@ along-undo d = by (s.index == 0)
     by : (none : Bool) → GoAlong (history_step d (if none then None else Some group) (if none then s else after s.retired))
         (history_step (bare d) (if none then None else Some group) (if none then bare_groups s else after []))
     by true = along-viewing d NoCommand
-    by false = along-step_to no_request d (undone_document d (after s.retired)) (undone_document (bare d) (after [])) _ _ _ refl
+    by false =
+        let next = undone_document d (after s.retired) in
+        along-revision d next (undone_document (bare d) (after [])) _ _ (bare-again next) refl
 
 along-redo : (d : Document) → GoAlong (act_step d Acts.Redo) (act_step (bare d) Acts.Redo)
 along-redo d = by (s.index == length s.live)
   where
     s : Groups
-    s = d.groups
+    s = d.text.groups
 
     group : ℕ
     group = slice_index s.live s.index
@@ -117,7 +151,9 @@ along-redo d = by (s.index == length s.live)
     by : (none : Bool) → GoAlong (history_step d (if none then None else Some group) (if none then s else after s.retired))
         (history_step (bare d) (if none then None else Some group) (if none then bare_groups s else after []))
     by true = along-viewing d NoCommand
-    by false = along-step_to no_request d (undone_document d (after s.retired)) (undone_document (bare d) (after [])) _ _ _ refl
+    by false =
+        let next = undone_document d (after s.retired) in
+        along-revision d next (undone_document (bare d) (after [])) _ _ (bare-again next) refl
 
 along-done : (d : Document) (act : EditAct) → GoAlong (done_step d act) (done_step (bare d) act)
 along-done d Acts.Undo = along-undo d
@@ -134,12 +170,12 @@ along-act d act = by (viewing_of act)
 -- ---- events of the front end, after which old groups are collected
 
 pub bare-collected : (d : Document) → bare (collected_document d) ≡ bare d
-bare-collected d = by (collection_after d)
+bare-collected d = by (collection_after d.text)
   where
-    by : (found : Option Collection) → bare (with_collection d found) ≡ bare d
+    by : (found : Option Collection) → bare (with_text d (with_collection d.text found)) ≡ bare d
     by None = refl
     by (Some collection) =
-        ap (λ groups. record (bare d) { groups = groups }) (bare-forgotten collection.groups d.groups)
+        ap (λ groups. with_text d (record (bare d).text { groups = groups })) (bare-forgotten collection.groups d.text.groups)
 
 along-taken : (d : Document) (event : Event) → IsOfFront event → GoAlong (taken_step d event) (taken_step (bare d) event)
 along-taken d (Front act) front = along-act d act
@@ -161,7 +197,7 @@ along-event d event front =
 -- ---- the floor is at most the head
 
 abbrev HasFloor : Document → Type 0
-HasFloor d = d.history.floor ≤ head d.history
+HasFloor d = d.text.history.floor ≤ head d.text.history
 
 floor-settled : (request : Run) (d next : Document) → HasFloor next → HasFloor (settled request d next)
 floor-settled request d next has = has
@@ -176,21 +212,21 @@ floor-command d act has = by (is_idle d effect)
     effect = effect_on d act
 
     joined : Option ℕ
-    joined = run_group (run_on d.typing (kind_of act))
+    joined = run_group (run_on d.text.typing (kind_of act))
 
     by : (idle : Bool) → HasFloor (if idle then idle_step d act effect else typed_step d act effect).document
     by true = floor-settled no_request d (selected_document d (kind_of act) effect.regions) has
     by false =
-        floor-settled no_request d (typed_in d act effect joined) (omega (arith, has, head-after d.history (front_edit d joined effect.replacements)))
+        floor-settled no_request d (typed_in d act effect joined) (omega (arith, has, head-after d.text.history (front_edit d joined effect.replacements)))
 
 floor-turned : (d : Document) (group : Option ℕ) (groups : Groups) → HasFloor d → HasFloor (history_step d group groups).document
 floor-turned d None groups has = floor-viewing d NoCommand has
 floor-turned d (Some group) groups has =
-    floor-settled no_request d (undone_document d groups) (omega (arith, has, head-undid d.history groups.undone))
+    floor-settled no_request d (undone_document d groups) (omega (arith, has, head-undid d.text.history groups.undone))
 
 floor-done : (d : Document) (act : EditAct) → HasFloor d → HasFloor (done_step d act).document
-floor-done d Acts.Undo has = floor-turned d (next_undo d.groups) (undone_one d.groups) has
-floor-done d Acts.Redo has = floor-turned d (next_redo d.groups) (redone_one d.groups) has
+floor-done d Acts.Undo has = floor-turned d (next_undo d.text.groups) (undone_one d.text.groups) has
+floor-done d Acts.Redo has = floor-turned d (next_redo d.text.groups) (redone_one d.text.groups) has
 floor-done d act has = floor-command d act has
 
 floor-act : (d : Document) (act : EditAct) → HasFloor d → HasFloor (act_step d act).document
@@ -201,15 +237,15 @@ floor-act d act has = by (viewing_of act)
     by (Some viewing) = floor-viewing d viewing has
 
 floor-collected : (d : Document) → HasFloor d → HasFloor (collected_document d)
-floor-collected d has = by (collection_after d) refl
+floor-collected d has = by (collection_after d.text) refl
   where
-    by : (found : Option Collection) → collection_after d ≡ found → HasFloor (with_collection d found)
+    by : (found : Option Collection) → collection_after d.text ≡ found → HasFloor (with_text d (with_collection d.text found))
     by None is = has
     by (Some collection) is =
         omega (
           arith,
-          floor-found d.history d.groups.retired (least_acknowledged (head d.history) d.sessions) collection is,
-          least-within (head d.history) d.sessions,
+          floor-found d.text.history d.text.groups.retired (least_acknowledged (head d.text.history) d.text.sessions) collection is,
+          least-within (head d.text.history) d.text.sessions,
         )
 
 floor-taken : (d : Document) (event : Event) → IsOfFront event → HasFloor d → HasFloor (taken_step d event).document
@@ -242,17 +278,17 @@ refusal-bare d (Front act) front has = ap edit_refused (by (is_idle d effect))
     asked = front_edit d None effect.replacements
 
     rest : Option Refusal
-    rest = misfit_or_spent (misfit_of (text_at d.history asked.base) asked.delta) d.limit (inserted_count d.history + inserted_len asked.delta.els)
+    rest = misfit_or_spent (misfit_of (text_at d.text.history asked.base) asked.delta) d.text.limit (inserted_count d.text.history + inserted_len asked.delta.els)
 
     refused : Bool → ℕ → Option Refusal
     refused below floor =
-        if nat_lt (head d.history) (head d.history) then Some (unknown (head d.history)) else (if below then Some (collected floor) else rest)
+        if nat_lt (head d.text.history) (head d.text.history) then Some (unknown (head d.text.history)) else (if below then Some (collected floor) else rest)
 
-    by : (idle : Bool) → (if idle then None else asked_refusal d asked) ≡ (if idle then None else asked_refusal (bare d) asked)
+    by : (idle : Bool) → (if idle then None else asked_refusal d.text asked) ≡ (if idle then None else asked_refusal (bare d).text asked)
     by true = refl
     by false =
-        ap (λ below. refused below d.history.floor) (le-ltb (head d.history) d.history.floor has) ∙
-        sym (ap (λ below. refused below 0) (le-ltb (head d.history) 0 (omega arith)))
+        ap (λ below. refused below d.text.history.floor) (le-ltb (head d.text.history) d.text.history.floor has) ∙
+        sym (ap (λ below. refused below 0) (le-ltb (head d.text.history) 0 (omega arith)))
 
 -- ---- the laws
 
@@ -279,21 +315,33 @@ collection_is_unseen one other event front alike =
       },
     )
 
--- a document whose sessions alone differ
-told_by_sessions : (d : Document) (sessions : List (Option ℕ)) → HasFloor d → AreAlike d (collected_document (record d { sessions = sessions }))
-told_by_sessions d sessions has = record {
-  same = sym (bare-collected (record d { sessions = sessions }));
-  one_floor = has;
-  other_floor = floor-collected (record d { sessions = sessions }) has;
-}
+-- a session that changed
+bare-set : (sessions : List (Option ℕ)) (index : ℕ) (session : Option ℕ) → bare_sessions sessions ≡ bare_sessions (slice_set sessions index session)
+bare-set [] index session = refl
+bare-set (first ∷ sessions) zero session = refl
+bare-set (first ∷ sessions) (suc index) session = ap (λ rest. None ∷ rest) (bare-set sessions index session)
+
+-- a document whose sessions alone differ, but not how many there are
+told_by_sessions : (d : Document) (sessions : List (Option ℕ)) → HasFloor d → bare_sessions d.text.sessions ≡ bare_sessions sessions →
+    AreAlike d (collected_document (with_text d (record d.text { sessions = sessions })))
+told_by_sessions d sessions has same =
+    let next = with_text d (record d.text { sessions = sessions }) in record {
+      same = ap (λ rest. with_text d (record (bare d).text { sessions = rest })) same ∙ sym (bare-collected next);
+      one_floor = has;
+      other_floor = floor-collected next has;
+    }
 
 pub acknowledgements_are_unseen : AcknowledgementsAreUnseen
 acknowledgements_are_unseen d (Front act) told has = absurd told
 acknowledgements_are_unseen d (Edit caller edit named) told has = absurd told
 acknowledgements_are_unseen d (Spans caller rev start len spans) told has = absurd told
-acknowledgements_are_unseen d (Ack caller rev) told has =
-    (record { body = refl; update = refl; scroll = refl; notice = refl }, told_by_sessions d (acknowledged_document d caller rev).sessions has)
-acknowledgements_are_unseen d (Ended caller) told has =
-    (record { body = refl; update = refl; scroll = refl; notice = refl }, told_by_sessions d (ended_document d caller).sessions has)
+acknowledgements_are_unseen d (Ack caller rev) told has = (
+  record { body = refl; update = refl; scroll = refl; notice = refl },
+  told_by_sessions d (acknowledged_text d.text caller rev).sessions has (bare-set d.text.sessions _ _),
+)
+acknowledgements_are_unseen d (Ended caller) told has = (
+  record { body = refl; update = refl; scroll = refl; notice = refl },
+  told_by_sessions d (ended_text d.text caller).sessions has (bare-set d.text.sessions _ _),
+)
 acknowledgements_are_unseen d (Configure config) told has = absurd told
 acknowledgements_are_unseen d Other told has = absurd told

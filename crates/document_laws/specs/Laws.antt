@@ -1,5 +1,5 @@
 -- Laws of undo, redo, collection and styles, over the steps of a plain document.
-use Rattle.std.specs.Prelude.{◌≡◌, ◌≢◌, ℕ, zero, suc, ◌+◌, ◌<◌, ◌≤◌, true, false, List, [], ◌∷◌, length, Some, None, ⊤}
+use Rattle.std.specs.Prelude.{◌≡◌, ◌≢◌, ℕ, zero, suc, ◌+◌, ◌<◌, ◌≤◌, true, false, List, [], ◌∷◌, length, map, Some, None, ⊤}
 use Rattle.std.specs.List.{concat}
 use Rattle.plain_text.specs.Numbers.{has, with_number}
 use Rattle.plain_edits.specs.History.{History, head}
@@ -14,10 +14,11 @@ use Rattle.edit_groups.specs.Typing.{run_on}
 use Rattle.doc_session.specs.declared.event.Event.{Event}
 use Rattle.doc_session.specs.declared.event.Body.TheVariants.{Null}
 use Rattle.doc_session.specs.declared.event.Event.TheVariants.{Ack, Config as Configure, Edit, Ended, Front, Other, Spans}
-use Rattle.doc_session.specs.Document.{Document, loaded_document, head_text}
+use Rattle.doc_text.specs.Writing.{head_text}
+use Rattle.doc_session.specs.Document.{Document, loaded_document}
 use Rattle.doc_session.specs.InMemory.{Doc}
 use Rattle.doc_session.specs.Stands.{DocStandsFor}
-use Rattle.doc_session.specs.Step.{EventStep, event_step, refusal_at}
+use Rattle.doc_session.specs.Step.{EventStep, event_step, refusal_at, with_text}
 
 -- the document after an event, after an undo, and after a redo
 abbrev pub after_event : Document → Event → Document
@@ -48,54 +49,54 @@ bare_history history = record history { floor = 0; collected = [] }
 abbrev pub bare_groups : Groups → Groups
 bare_groups groups = record groups { retired = [] }
 
--- a document without these, and without what sessions have acknowledged
+-- a document without these, and without what sessions have acknowledged: how many there are stays
 abbrev pub bare : Document → Document
-bare document = record document {
-  history = bare_history document.history;
-  groups = bare_groups document.groups;
-  sessions = [];
-}
+bare document = with_text document (record document.text {
+  history = bare_history document.text.history;
+  groups = bare_groups document.text.groups;
+  sessions = map (λ session. None) document.text.sessions;
+})
 
 -- ---- undo and redo
 
 -- an undo takes back whole what the front end typed, where no insertion went before: some characters at least, in however many insertions
 abbrev pub UndoTakesRunBack : Type 0
 UndoTakesRunBack = (doc : Doc) (plain : Document) (texts : List (List ℕ)) → DocStandsFor doc plain →
-    run_on plain.typing (Some Kinds.Insert) ≡ None → concat texts ≢ [] → head_text (after_undo (after_typing plain texts)) ≡ head_text plain
+    run_on plain.text.typing (Some Kinds.Insert) ≡ None → concat texts ≢ [] → head_text (after_undo (after_typing plain texts)).text ≡ head_text plain.text
 
 -- a redo directly after an undo, where there is one, gives text and groups back
 abbrev pub RedoTakesUndoBack : Type 0
-RedoTakesUndoBack = (doc : Doc) (plain : Document) → DocStandsFor doc plain → 0 < plain.groups.index →
-    (head_text (after_redo (after_undo plain)) ≡ head_text plain) × ((after_redo (after_undo plain)).groups ≡ plain.groups)
+RedoTakesUndoBack = (doc : Doc) (plain : Document) → DocStandsFor doc plain → 0 < plain.text.groups.index →
+    (head_text (after_redo (after_undo plain)).text ≡ head_text plain.text) × ((after_redo (after_undo plain)).text.groups ≡ plain.text.groups)
 
 -- after an event that opens a group there is nothing to redo, and a redo makes no revision
 abbrev pub NewGroupEndsRedo : Type 0
-NewGroupEndsRedo = (plain : Document) (event : Event) → bare_groups (after_event plain event).groups ≡ bare_groups (after_opening plain.groups) →
-    (next_redo (after_event plain event).groups ≡ None) × ((after_redo (after_event plain event)).history ≡ (after_event plain event).history)
+NewGroupEndsRedo = (plain : Document) (event : Event) → bare_groups (after_event plain event).text.groups ≡ bare_groups (after_opening plain.text.groups) →
+    (next_redo (after_event plain event).text.groups ≡ None) × ((after_redo (after_event plain event)).text.history ≡ (after_event plain event).text.history)
 
 -- the group is live and not undone, and no such group is newer
 pub record IsNewestLeft (document : Document) (group : ℕ) : Type 0 where
-  pub is_live : has document.groups.live group ≡ true
-  pub is_done : has (undone_now document.history) group ≡ false
-  pub is_last : (other : ℕ) → has document.groups.live other ≡ true → has (undone_now document.history) other ≡ false → other ≤ group
+  pub is_live : has document.text.groups.live group ≡ true
+  pub is_done : has (undone_now document.text.history) group ≡ false
+  pub is_last : (other : ℕ) → has document.text.groups.live other ≡ true → has (undone_now document.text.history) other ≡ false → other ≤ group
 
 -- the group that an undo takes is the newest that is left; it is undone then, and no other besides what was
 abbrev pub UndoTakesNewest : Type 0
-UndoTakesNewest = (doc : Doc) (plain : Document) (group : ℕ) → DocStandsFor doc plain → next_undo plain.groups ≡ Some group →
-    IsNewestLeft plain group × (undone_now (after_undo plain).history ≡ with_number (undone_now plain.history) group)
+UndoTakesNewest = (doc : Doc) (plain : Document) (group : ℕ) → DocStandsFor doc plain → next_undo plain.text.groups ≡ Some group →
+    IsNewestLeft plain group × (undone_now (after_undo plain).text.history ≡ with_number (undone_now plain.text.history) group)
 
 -- however many undos come, at most twenty make a revision
 abbrev pub StepsAreFew : Type 0
 StepsAreFew = (doc : Doc) (plain : Document) (n : ℕ) → DocStandsFor doc plain →
-    head (after_undos n plain).history ≤ head plain.history + 20
+    head (after_undos n plain).text.history ≤ head plain.text.history + 20
 
 -- ---- collection is invisible to a front end
 
 -- two documents are alike but for what is collected and acknowledged, and the floor of each is at most its head
 pub record AreAlike (one other : Document) : Type 0 where
   pub same : bare one ≡ bare other
-  pub one_floor : one.history.floor ≤ head one.history
-  pub other_floor : other.history.floor ≤ head other.history
+  pub one_floor : one.text.history.floor ≤ head one.text.history
+  pub other_floor : other.text.history.floor ≤ head other.text.history
 
 -- two steps tell the same: their answer, update, place to scroll to and notice
 pub record TellTheSame (one other : EventStep) : Type 0 where
@@ -140,14 +141,14 @@ pub record SaysNothing (step : EventStep) : Type 0 where
 
 -- what a session acknowledges, and its end, say nothing, and the document after them is so, too
 abbrev pub AcknowledgementsAreUnseen : Type 0
-AcknowledgementsAreUnseen = (document : Document) (event : Event) → IsOfSession event → document.history.floor ≤ head document.history →
+AcknowledgementsAreUnseen = (document : Document) (event : Event) → IsOfSession event → document.text.history.floor ≤ head document.text.history →
     SaysNothing (event_step document event) × AreAlike document (after_event document event)
 
 -- ---- styles of plugins
 
 -- the layers of a document are over its text
 abbrev pub AreOverText : Document → Type 0
-AreOverText document = AreOver (length (head_text document)) document.view.layers
+AreOverText document = AreOver (length (head_text document.text)) document.view.layers
 
 -- an event in which no plugin says styles
 abbrev pub SaysNoStyles : Event → Type 0
@@ -160,7 +161,7 @@ pub record StylesFollow (document : Document) (event : Event) : Type 0 where
   pub over : AreOverText (after_event document event)
   pub as_many : length (after_event document event).view.layers ≡ length document.view.layers
   pub moved : SaysNoStyles event →
-      (after_event document event).view.layers ≡ moved_layers document.history (after_event document event).history document.view.layers
+      (after_event document event).view.layers ≡ moved_layers document.text.history (after_event document event).text.history document.view.layers
 
 -- STYLES FOLLOW THEIR CHARACTERS in every document whose layers are over its text, as they are when it is loaded
 pub record LayersFollow : Type 0 where

@@ -14,8 +14,9 @@ use Rattle.plain_screen.specs.declared.screen.Line.{Line}
 use Rattle.doc_session.specs.declared.event.Body.TheVariants.{Edited}
 use Rattle.doc_session.specs.declared.event.Event.{Event}
 use Rattle.doc_session.specs.declared.event.Event.TheVariants.{Ack, Config as Configure, Edit, Ended, Front, Other, Spans}
-use Rattle.doc_session.specs.Document.{Document, layout_of, loaded_document, head_text}
-use Rattle.doc_session.specs.Refusal.{of_edit, of_range}
+use Rattle.doc_text.specs.Writing.{head_text}
+use Rattle.doc_session.specs.Document.{Document, layout_of, loaded_document}
+use Rattle.doc_text.specs.Refusal.{of_edit, of_range}
 use Rattle.doc_session.specs.Step.{event_step, refusal_at}
 use Rattle.document_laws.specs.Laws.{after_event}
 
@@ -31,7 +32,7 @@ abbrev pub after_events : List Event → Document
 after_events events = fold after_event empty_document events
 
 abbrev pub text_after : List Event → List ℕ
-text_after events = head_text (after_events events)
+text_after events = head_text (after_events events).text
 
 -- the front end types a character
 abbrev pub types : ℕ → Event
@@ -55,7 +56,7 @@ pub record Steps : Type 0 where
   pub nothing : text_after (types 97 ∷ Front (Insert []) ∷ types 98 ∷ Front Undo ∷ []) ≡ []
   pub ended : text_after (types 97 ∷ Other ∷ types 98 ∷ Front Undo ∷ []) ≡ 97 ∷ []
   pub redone : text_after (types 97 ∷ Front Undo ∷ Front Redo ∷ []) ≡ 97 ∷ []
-  pub at_ends : head (after_events (Front Undo ∷ Front Redo ∷ [])).history ≡ 0
+  pub at_ends : head (after_events (Front Undo ∷ Front Redo ∷ [])).text.history ≡ 0
 
 -- lines are wrapped at two columns, or tabs are typed as spaces
 abbrev pub wraps : Event
@@ -73,7 +74,7 @@ pub record Configures : Type 0 where
   pub still : (event_step (after_events (types 97 ∷ [])) wraps).update ≡ None
   pub ended : text_after (types 97 ∷ Configure usual ∷ types 98 ∷ Front Undo ∷ []) ≡ 97 ∷ []
   -- it makes no revision, and what is typed then follows it
-  pub head : head (after_events (types 97 ∷ spaces_tabs ∷ [])).history ≡ 1
+  pub head : head (after_events (types 97 ∷ spaces_tabs ∷ [])).text.history ≡ 1
   pub tabs : text_after (types 97 ∷ Front InsertTab ∷ spaces_tabs ∷ Front InsertTab ∷ []) ≡ 97 ∷ 9 ∷ 32 ∷ 32 ∷ 32 ∷ 32 ∷ []
 
 -- an edit that joins an undone group is hidden on arrival, and comes with a redo
@@ -96,18 +97,18 @@ cuts_off = types 97 ∷ Front Undo ∷ types 98 ∷ []
 -- what is collected then, and of whom the session makes wait
 pub record Collects : Type 0 where
   -- where no session is open it is collected at once, and its character goes; undo and redo know the rest
-  pub at_once : (after_events (ends ∷ cuts_off)).history.collected ≡ 1 ∷ []
-  pub floor : (after_events (ends ∷ cuts_off)).history.floor ≡ 3
-  pub dropped : kept (after_events (ends ∷ cuts_off)).history ≡ 1
+  pub at_once : (after_events (ends ∷ cuts_off)).text.history.collected ≡ 1 ∷ []
+  pub floor : (after_events (ends ∷ cuts_off)).text.history.floor ≡ 3
+  pub dropped : kept (after_events (ends ∷ cuts_off)).text.history ≡ 1
   pub no_redo : text_after (ends ∷ cuts_off ++ Front Redo ∷ []) ≡ 98 ∷ []
   pub redone : text_after (ends ∷ cuts_off ++ Front Undo ∷ Front Redo ∷ []) ≡ 98 ∷ []
   -- a session that has not acknowledged the head makes it wait
-  pub waits : kept (after_events cuts_off).history ≡ 2
-  pub waits_below : (after_events (cuts_off ++ acknowledges 2 ∷ [])).history.collected ≡ []
-  pub is_told : (after_events (cuts_off ++ acknowledges 3 ∷ [])).history.collected ≡ 1 ∷ []
-  pub is_over : (after_events (cuts_off ++ ends ∷ [])).history.collected ≡ 1 ∷ []
+  pub waits : kept (after_events cuts_off).text.history ≡ 2
+  pub waits_below : (after_events (cuts_off ++ acknowledges 2 ∷ [])).text.history.collected ≡ []
+  pub is_told : (after_events (cuts_off ++ acknowledges 3 ∷ [])).text.history.collected ≡ 1 ∷ []
+  pub is_over : (after_events (cuts_off ++ ends ∷ [])).text.history.collected ≡ 1 ∷ []
   -- what it has acknowledged does not fall, and is refused above the head and below the floor
-  pub stays : (after_events (cuts_off ++ acknowledges 2 ∷ acknowledges 1 ∷ [])).sessions ≡ Some 2 ∷ []
+  pub stays : (after_events (cuts_off ++ acknowledges 2 ∷ acknowledges 1 ∷ [])).text.sessions ≡ Some 2 ∷ []
   pub above : refusal_at (after_events cuts_off) (acknowledges 4) ≡ Some (of_edit (unknown 3))
   pub below : refusal_at (after_events (cuts_off ++ acknowledges 3 ∷ [])) (acknowledges 2) ≡ Some (of_edit (collected 3))
   pub again : refusal_at (after_events (cuts_off ++ acknowledges 3 ∷ [])) (acknowledges 3) ≡ None
@@ -146,7 +147,7 @@ pub record SpansOnDocuments : Type 0 where
   -- a range without spans is cleared
   pub cleared : styles_after (styles 0 1 2 (part 0 2) ∷ styles 0 1 1 [] ∷ []) ≡ (None ∷ None ∷ Some 2 ∷ None ∷ []) ∷ []
   -- no revision is made, and a run of typing goes on
-  pub run : head_text (word_after (types 88 ∷ styles 0 1 2 (part 0 2) ∷ types 89 ∷ Front Undo ∷ [])) ≡ 97 ∷ 98 ∷ 99 ∷ 100 ∷ []
+  pub run : head_text (word_after (types 88 ∷ styles 0 1 2 (part 0 2) ∷ types 89 ∷ Front Undo ∷ [])).text ≡ 97 ∷ 98 ∷ 99 ∷ 100 ∷ []
   -- a revision that there is not is refused before a start that is no place, and this before a length
   pub above : refusal_at (word_after []) (styles 1 9 9 []) ≡ Some (of_edit (unknown 0))
   pub start : refusal_at (word_after []) (styles 0 9 9 []) ≡ Some (of_range Members.Start)

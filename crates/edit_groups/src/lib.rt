@@ -5,12 +5,12 @@
 //! an edit goes in, and `specs/Sessions.antt` up to where groups may be collected.
 #![tactic(auto)]
 
-mod left;
+mod grouped;
 mod retired;
 mod sessions;
 mod typing;
 
-pub use left::{Grouped, Left, joined_or_opened, left_by, named_or_opened};
+pub use grouped::{Grouped, joined_or_opened, named_or_opened};
 pub use retired::{forgetting, retired_groups};
 pub use sessions::Sessions;
 pub use typing::{Kind, Typing, kind_of, run_group, run_on, run_with};

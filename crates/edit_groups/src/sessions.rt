@@ -1,5 +1,5 @@
 // The sessions of the plugins of a document.
-ghost use Rattle.std.specs.Prelude.{◌≡◌, ◌≤◌, [], ◌∷◌, length, replicate, IfOk, Some, None};
+ghost use Rattle.std.specs.Prelude.{◌≡◌, ◌≤◌, ◌==◌, [], ◌∷◌, length, replicate, IfOk, Some, None};
 ghost use Rattle.edit_groups.specs.Sessions.{acknowledged_by, least_acknowledged, session_of, with_session};
 
 use plain_text::NoMemory;
@@ -38,6 +38,13 @@ impl Sessions {
         Ok(Sessions {
             each: Vec::from_slice(alloc, &self.each)?,
         })
+    }
+
+    /// Whether there is no plugin, and so none that has a session.
+    pub fn is_empty(&self) -> bool
+        ensures { result ≡ (length self.now == 0) }
+    {
+        self.each.as_slice().is_empty()
     }
 
     /// The least revision that an open session has acknowledged, or the head where none is open, in O(n).

@@ -4,12 +4,12 @@ use Rattle.std.proofs.Math.Logic.{∥∥₁_elim}
 use Rattle.xi_plain.specs.declared.command.EditAct.{EditAct}
 use Rattle.doc_session.specs.InMemory.{Doc}
 use Rattle.doc_session.specs.declared.event.Event.TheVariants.{Front}
-use Rattle.doc_session.specs.declared.fault.DocFault.{DocFault}
-use Rattle.doc_session.specs.declared.fault.DocFault.TheVariants.{Unknown, Collected, Misfit, Spent, BadParams, NoMemory}
+use Rattle.doc_text.specs.declared.fault.DocFault.{DocFault}
+use Rattle.doc_text.specs.declared.fault.DocFault.TheVariants.{Unknown, Collected, Misfit, Spent, BadParams, NoMemory}
 use Rattle.doc_session.specs.Document.{Document}
-use Rattle.doc_session.specs.Fault.{DocRefuses}
+use Rattle.doc_text.specs.Fault.{DocRefuses}
 use Rattle.doc_session.specs.Laws.{IsSpentIfAny}
-use Rattle.doc_session.specs.Refusal.{DocRefusal}
+use Rattle.doc_text.specs.Refusal.{DocRefusal}
 use Rattle.doc_session.specs.Stands.{DocStandsFor}
 use Rattle.doc_session.specs.Step.{refusal_at}
 use Rattle.doc_session.proofs.ForCallers.{command_fits}

@@ -11,7 +11,7 @@ use Rattle.view_update.specs.declared.note.ViewUpdate.{ViewUpdate}
 use Rattle.view_update.specs.Reading.{read_params, line_update}
 use Rattle.view_update.specs.Written.{update_data}
 use Rattle.view_update.proofs.ForCallers.{updates_are_read, updates_read_back}
-use Rattle.doc_session.specs.Collecting.{AreEnded}
+use Rattle.doc_text.specs.Collecting.{AreEnded}
 use Rattle.xi_top.specs.Shows.{updates_in, screen_with, rebuilt_from}
 use Rattle.xi_top.specs.Laws.{NothingWaits, UnreadShowsNothing, OtherViewIsPassedOver, OtherViewShowsNothing, only_rebuilt_from}
 use Rattle.xi_top.proofs.ShowsLemmas.{updates_of-some, updates_in-lines}
@@ -54,4 +54,4 @@ nothing_waits (Some doc) (view ∷ next ∷ views) stands = absurd stands
 nothing_waits (Some doc) (view ∷ []) stands =
     let serves = stands.serves in
     let is = serves.stands in
-    (is.none_left (ended_all view.document.sessions (ap length (sym is.sessions) ∙ serves.no_sessions)), tt)
+    (is.text.none_left (ended_all view.document.text.sessions (ap length (sym is.text.parts.sessions) ∙ serves.no_sessions)), tt)

@@ -9,9 +9,10 @@ use Rattle.doc_session.specs.declared.event.Event.TheVariants.{Front, Other}
 use Rattle.doc_session.specs.Document.{Document, loaded_document}
 use Rattle.doc_session.specs.PositionView.{position_view}
 use Rattle.doc_session.specs.Stands.{DocStandsFor}
-use Rattle.doc_session.specs.Refusal.{DocRefusal}
+use Rattle.doc_text.specs.Refusal.{DocRefusal}
 use Rattle.doc_session.specs.Step.{AreEffectsOf, EventStep, event_step, refusal_at}
-use Rattle.doc_session.proofs.ForCallers.{head-stands}
+use Rattle.doc_text.specs.Writing.{loaded_text}
+use Rattle.doc_text.proofs.ForCallers.{head-text}
 use Rattle.xi_top.specs.declared.act.ActEffects.{ActEffects}
 use Rattle.xi_top.specs.declared.act.Reply.{Reply as ReplyInMemory}
 use Rattle.xi_top.specs.declared.act.Reply.TheVariants.{Opened}
@@ -27,7 +28,7 @@ use Rattle.xi_top.proofs.ViewLemmas.{same_id}
 -- a document that was just loaded takes events
 pub TakesEvents-loaded : (doc : Doc) (text : List ℕ) (config : Config) → DocStandsFor doc (loaded_document text 0 text_limit config) →
     TakesEvents doc
-TakesEvents-loaded doc text config stands = (ap length stands.sessions, omega (arith, head-stands doc.engine (loaded text) stands.parts.stands))
+TakesEvents-loaded doc text config stands = (ap length stands.text.parts.sessions, omega (arith, head-text doc.text (loaded_text text 0 text_limit) stands.text.parts))
 
 pub stands-first : (doc : Doc) (text : List ℕ) (config : Config) → text ≡ [] → DocStandsFor doc (loaded_document text 0 text_limit config) →
     DocStandsFor doc (first_document config)

@@ -9,9 +9,9 @@ use Rattle.view_update.specs.declared.note.Scroll.{Scroll}
 use Rattle.doc_session.specs.InMemory.{Doc}
 use Rattle.doc_session.specs.declared.event.Effects.{Effects}
 use Rattle.doc_session.specs.declared.event.Event.{Event}
-use Rattle.doc_session.specs.declared.fault.DocFault.{DocFault}
+use Rattle.doc_text.specs.declared.fault.DocFault.{DocFault}
 use Rattle.doc_session.specs.Document.{Document}
-use Rattle.doc_session.specs.Fault.{DocRefuses}
+use Rattle.doc_text.specs.Fault.{DocRefuses}
 use Rattle.doc_session.specs.PositionView.{position_view}
 use Rattle.doc_session.specs.Stands.{DocStandsFor}
 use Rattle.doc_session.specs.Step.{AreEffectsOf, event_step, refusal_at}
@@ -21,12 +21,12 @@ use Rattle.xi_top.specs.Session.{Session, config_after, view_id, outcome, update
 use Rattle.xi_top.specs.InnerSession.{IsDone, IsMade, IsOutcome, IsPrepared, AreLinesOf, UpdatesReadBack, reply_of}
 
 -- an event of a document in which no plugin has a session
-pub IsMade-after : (old : Doc) (event : Event) (result : Result (Doc × Effects) DocFault) → length old.sessions ≡ 0 →
+pub IsMade-after : (old : Doc) (event : Event) (result : Result (Doc × Effects) DocFault) → length old.text.sessions ≡ 0 →
     ((plain : Document) → DocStandsFor old plain → IfOk result (λ made. DocStandsFor made.0 (event_step plain event).document)) →
     ((plain : Document) → DocStandsFor old plain → IfOk result (λ made. AreEffectsOf (event_step plain event) made.1)) →
     ((plain : Document) → DocStandsFor old plain → OnOk result (refusal_at plain event ≡ None)) →
     ((plain : Document) → DocStandsFor old plain → IfErr result (DocRefuses (refusal_at plain event))) →
-    IfOk result (λ made. length made.0.sessions ≡ length old.sessions) → IsMade old event result
+    IfOk result (λ made. length made.0.text.sessions ≡ length old.text.sessions) → IsMade old event result
 IsMade-after old event (Err fault) none stands effects accepted refused kept =
     record { served = stands; effects = effects; accepted = accepted; refused = refused }
 IsMade-after old event (Ok made) none stands effects accepted refused kept = record {

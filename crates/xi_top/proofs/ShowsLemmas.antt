@@ -32,7 +32,7 @@ use Rattle.xi_top.specs.Answer.{Reply, accepted, refused, spent, not_built, sile
 use Rattle.json_rpc.specs.Refusal.{code_of, message_of}
 use Rattle.xi_top.specs.Session.{OpenView, Session, first_session, session_of, view_of, view_id, views_of, first_view, Outcome, outcome, opening_outcome, taking, leaving, other_step, outcome_messages, stepped, update_notes, scroll_notes, updates_for, messages, step, lines_written, written, piece_of}
 use Rattle.xi_top.specs.Shows.{updates_in, screen_with, rebuilt_from, rebuilt, IsShown, AreShown, SendsTo, NotesSendTo, requested, last_requested, Shows}
-use Rattle.doc_session.proofs.ForCallers.{head-stands}
+use Rattle.doc_text.proofs.ForCallers.{head-text}
 use Rattle.xi_top.specs.Core.{IsOfLine, IsOpen, Stands, StandsForSession, screen_of, IsShowing, front_entry}
 use Rattle.xi_top.specs.InnerSession.{MayBeAsked, UpdatesReadBack, AreLinesOf}
 use Rattle.xi_top.specs.Laws.{HaveRevisions}
@@ -390,7 +390,7 @@ MayBeAsked-few (Some doc) n (view ∷ next ∷ views) stands few small = absurd 
 MayBeAsked-few (Some doc) n (view ∷ []) stands few small =
     let plain = view.document in
     let serves = stands.serves in
-    ((serves.no_sessions, omega (arith, few.0, small, head-stands doc.engine plain.history serves.stands.parts.stands)), ∣ (plain, serves.stands) ∣₁)
+    ((serves.no_sessions, omega (arith, few.0, small, head-text doc.text plain.text serves.stands.text.parts)), ∣ (plain, serves.stands) ∣₁)
 
 pub MayBeAsked-stands : (doc : Option Doc) (journal : List Entry) → Stands doc (views_of journal) → length journal < 2 ^ 63 - 1 → MayBeAsked doc
 MayBeAsked-stands doc journal stands small = MayBeAsked-few doc (length journal) (views_of journal) stands (revisions_few journal) small

@@ -8,7 +8,6 @@ use Rattle.xi_plain.specs.declared.command.Act.{Act}
 use Rattle.xi_plain.specs.declared.command.Act.TheVariants.{Bad, Nothing, Configure, NewView, CloseView, Save, Edit, Closing}
 use Rattle.xi_plain.specs.declared.config.Config.{Config}
 use Rattle.plain_edits.specs.Edits.{Refusal}
-use Rattle.plain_edits.specs.Collection.{Collection}
 use Rattle.plain_edits.specs.History.{head}
 use Rattle.plain_screen.specs.Screen.{Screen, screen_after}
 use Rattle.plain_screen.specs.declared.screen.Update.{Update}
@@ -24,10 +23,11 @@ use Rattle.doc_session.specs.Document.{Document, layout_of, no_request}
 use Rattle.doc_session.specs.declared.looking.Viewing.TheVariants.{Layout, Other as NoCommand}
 use Rattle.doc_session.specs.ScreenOf.{IsUpToDate}
 use Rattle.doc_session.specs.Stands.{IsLastTold}
-use Rattle.doc_session.specs.Collecting.{collected_document, collection_after, with_collection}
+use Rattle.doc_text.specs.Refusal.{edit_refused}
+use Rattle.doc_text.specs.Writing.{Writing}
+use Rattle.doc_text.proofs.ForCallers.{part-collected}
 use Rattle.doc_session.specs.Effects.{pristine_from, screen_told, settled, update_after}
-use Rattle.doc_session.specs.Refusal.{edit_refused}
-use Rattle.doc_session.specs.Step.{EventStep, event_step, act_step, command_refusal, effect_on, refusal_at, request_of, viewed_document}
+use Rattle.doc_session.specs.Step.{EventStep, event_step, act_step, collected_document, command_refusal, effect_on, refusal_at, request_of, viewed_document}
 use Rattle.doc_session.proofs.ForCallers.{by_front, IsLastTold-settled, IsUpToDate-settled, part-settled, request_of-refused, updates_show}
 use Rattle.xi_top.specs.Answer.{Reply, spent}
 use Rattle.xi_top.specs.Session.{OpenView, Session, first_session, view_of, named_view, views_of, Outcome, outcome, config_with, config_step, taking, leaving, keeping, open_outcome, opening_outcome, first_view, other_step, own_step, edit_came, edit_outcome, undone_outcome, spent_total, step, stepped, session_after}
@@ -47,7 +47,7 @@ UpdateWithin (Some update) window request = SendsWithin window request 0 update.
 -- after a step there is one revision more at most; the front end has the document's screen by the update, and was sent its window and
 -- what was requested alone; and where its screen was as the last update left it, it is so then, and has what was asked for
 pub record Keeps (request : Run) (before after : Document) (update : Option Update) : Type 0 where
-  pub few : head after.history ≤ head before.history + 1
+  pub few : head after.text.history ≤ head before.text.history + 1
   pub screen : MakesScreen update before.screen after.screen
   pub sends : UpdateWithin update after.view.window request
   pub last : IsLastTold before → IsLastTold after
@@ -73,7 +73,7 @@ sends_told request before next pristine = by (is_lacking before next request pri
     by false = tt
 
 keeps_by : (request : Run) (before next : Document) → next.view.shown ≡ before.view.shown → next.screen ≡ before.screen →
-    head next.history ≤ head before.history + 1 → Keeps request before (settled request before next) (update_after request before next)
+    head next.text.history ≤ head before.text.history + 1 → Keeps request before (settled request before next) (update_after request before next)
 keeps_by request before next shown same one = record {
   few = one;
   screen = makes_screen (update_after request before next) before.screen next.screen same made;
@@ -102,14 +102,16 @@ keeps_by request before next shown same one = record {
 keeps_collected : (request : Run) (before next : Document) (update : Option Update) → Keeps request before next update →
     Keeps request before (collected_document next) update
 unfolding MakesScreen UpdateWithin
-keeps_collected request before next update keeps = by (collection_after next)
-  where
-    by : (found : Option Collection) → Keeps request before (with_collection next found) update
-    by None = keeps
-    by (Some found) = record { few = keeps.few; screen = keeps.screen; sends = keeps.sends; last = keeps.last; shown = keeps.shown }
+keeps_collected request before next update keeps = record {
+  few = omega (arith, keeps.few, part-collected (λ (text : Writing). head text.history) next.text (λ found. refl));
+  screen = keeps.screen;
+  sends = keeps.sends;
+  last = keeps.last;
+  shown = keeps.shown;
+}
 
 -- a line that only looks, and is no command
-keeps_still : (document next : Document) → next.history ≡ document.history → next.view.shown ≡ document.view.shown → next.screen ≡ document.screen →
+keeps_still : (document next : Document) → next.text.history ≡ document.text.history → next.view.shown ≡ document.view.shown → next.screen ≡ document.screen →
     Keeps no_request document (collected_document (settled no_request document next)) (update_after no_request document next)
 keeps_still document next same shown screen =
     keeps_collected no_request document (settled no_request document next) (update_after no_request document next)

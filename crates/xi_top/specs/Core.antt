@@ -20,7 +20,7 @@ use Rattle.xi_top.specs.Shows.{Shows, rebuilt}
 -- the document in memory stands for the plain one, and no plugin has a session in it
 pub record ServesDocument (doc : Doc) (plain : Document) : Type 0 where
   pub stands : DocStandsFor doc plain
-  pub no_sessions : length doc.sessions ≡ 0
+  pub no_sessions : length doc.text.sessions ≡ 0
 
 -- a line of the front end asks so: it closes nothing, and the shelf is not asked
 abbrev pub IsOfLine : Act → Type 0

@@ -15,13 +15,13 @@ use Rattle.doc_session.specs.Stands.{DocStandsFor}
 use Rattle.xi_top.specs.declared.session.Prepared.{Prepared}
 use Rattle.xi_plain.specs.declared.command.Command.{Command}
 use Rattle.xi_top.specs.Session.{Session, view_id, outcome, messages, lines_written, step, updates_for, scroll_for, Outcome}
-use Rattle.doc_session.specs.Fault.{DocRefuses}
+use Rattle.doc_text.specs.Fault.{DocRefuses}
 use Rattle.doc_session.specs.Step.{AreEffectsOf, EventStep, event_step, refusal_at}
 use Rattle.doc_session.specs.declared.event.Effects.{Effects}
 use Rattle.doc_session.specs.declared.event.Event.{Event}
 use Rattle.json_rpc.specs.Response.{text_data}
-use Rattle.doc_session.specs.declared.fault.DocFault.{DocFault}
-use Rattle.doc_session.specs.declared.fault.DocFault.TheVariants as Fault
+use Rattle.doc_text.specs.declared.fault.DocFault.{DocFault}
+use Rattle.doc_text.specs.declared.fault.DocFault.TheVariants as Fault
 use Rattle.doc_session.specs.PositionView.{position_view}
 use Rattle.xi_top.specs.declared.act.Reply.{Reply as ReplyInMemory}
 use Rattle.xi_top.specs.declared.act.Reply.TheVariants.{Opened, Accepted, Copied, Refused, Spent, NotBuilt, Silent}
@@ -31,7 +31,7 @@ use Rattle.xi_top.specs.Core.{ServesDocument, Stands, StandsForSession}
 
 -- no plugin has a session in the document, and it may take one more edit
 abbrev pub TakesEvents : Doc → Type 0
-TakesEvents doc = (length doc.sessions ≡ 0) × (head doc.engine.revisions < 2 ^ 63 - 1)
+TakesEvents doc = (length doc.text.sessions ≡ 0) × (head doc.text.engine.revisions < 2 ^ 63 - 1)
 
 -- it takes events, and stands for a plain one, where there is a document
 abbrev pub MayBeAsked : Option Doc → Type 0

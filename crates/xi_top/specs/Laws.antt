@@ -21,7 +21,7 @@ use Rattle.xi_top.specs.Shows.{updates_in, rebuilt, IsShown, last_requested, Sho
 
 -- the document of each of the views has at most so many revisions after its loading
 abbrev pub HaveRevisions : ℕ → List OpenView → Type 0
-HaveRevisions most views = AllByRecursion (λ view. head view.document.history ≤ most) views
+HaveRevisions most views = AllByRecursion (λ view. head view.document.text.history ≤ most) views
 
 -- a document has at most as many revisions as its journal has entries
 abbrev pub RevisionsAreFew : Type 0
@@ -30,7 +30,7 @@ RevisionsAreFew = (journal : List Entry) → HaveRevisions (length journal) (vie
 -- NOTHING WAITS in a session, in whose documents no plugin has a session: what no undo reaches any more is collected at once
 abbrev pub NothingWaits : Type 0
 NothingWaits = (document : Option Doc) (views : List OpenView) → Stands document views →
-    AllByRecursion (λ view. view.document.groups.retired ≡ []) views
+    AllByRecursion (λ view. view.document.text.groups.retired ≡ []) views
 
 -- bytes with a note `update` that can't be read show no screen of any view, whatever stands in it
 abbrev pub UnreadShowsNothing : Type 0

@@ -24,7 +24,7 @@ use Rattle.view_update.specs.declared.note.ViewUpdate.{ViewUpdate}
 use Rattle.view_update.specs.declared.note.Scroll.{Scroll}
 use Rattle.doc_session.specs.declared.event.Event.TheVariants.{Config as Configured, Front, Other}
 use Rattle.doc_session.specs.Document.{Document, loaded_document}
-use Rattle.doc_session.specs.Refusal.{DocRefusal, of_edit}
+use Rattle.doc_text.specs.Refusal.{DocRefusal, of_edit}
 use Rattle.doc_session.specs.Step.{EventStep, event_step, refusal_at}
 use Rattle.xi_top.specs.Answer.{Reply, accepted, refused, result_of, spent, not_built, silent, answers}
 

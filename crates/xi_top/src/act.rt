@@ -2,8 +2,8 @@ ghost use Rattle.std.specs.Prelude.{◌≡◌, ◌<◌, List, [], ◌∷◌, Opt
 ghost use Rattle.std.specs.Str.{encode_utf8_all, bytes_eq};
 ghost use Rattle.xi_plain.specs.declared.command.Act.{Act};
 ghost use Rattle.doc_session.specs.Document.{Document};
-ghost use Rattle.doc_session.specs.Fault.{DocRefuses};
-ghost use Rattle.doc_session.specs.Refusal.{DocRefusal};
+ghost use Rattle.doc_text.specs.Fault.{DocRefuses};
+ghost use Rattle.doc_text.specs.Refusal.{DocRefusal};
 ghost use Rattle.doc_session.specs.Stands.{DocStandsFor};
 ghost use Rattle.doc_session.specs.Step.{EventStep, IsEventFor, event_step};
 ghost use Rattle.xi_top.specs.Core.{ServesView, Stands};

@@ -3,4 +3,4 @@ use Rattle.document_laws.proofs.RedoLemmas.{head-undos}
 use Rattle.document_laws.proofs.laws.steps_are_few.Goals as goal
 
 pub returns : goal.returns
-returns c = λ doc plain n stands. omega (arith, head-undos n plain, stands.agree.stack.reached, stands.agree.stack.few)
+returns c = λ doc plain n stands. omega (arith, head-undos n plain, stands.text.parts.agree.stack.reached, stands.text.parts.agree.stack.few)

@@ -3,4 +3,4 @@ use Rattle.document_laws.proofs.laws.undo_takes_newest.Goals as goal
 
 pub returns : goal.returns
 returns c = λ doc plain group stands found.
-    (newest_left plain group stands.agree.undone stands.agree.stack found, undone_newest plain group stands.agree.undone found)
+    (newest_left plain group stands.text.parts.agree.undone stands.text.parts.agree.stack found, undone_newest plain group stands.text.parts.agree.undone found)

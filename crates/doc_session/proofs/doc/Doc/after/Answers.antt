@@ -1,11 +1,10 @@
 use Rattle.std.proofs.Common.{length, refl, ap, sym, ◌∙◌, subst}
 use Rattle.std.specs.Prelude.{IfErr}
 use Rattle.std.proofs.lemmas.Result.{err_from_is_err_and}
-use Rattle.doc_session.specs.Collecting.{collected_document}
-use Rattle.doc_session.specs.Fault.{DocRefuses}
+use Rattle.doc_text.specs.Fault.{DocRefuses}
 use Rattle.doc_session.specs.InMemory.{Doc}
 use Rattle.doc_session.specs.Stands.{DocStandsFor}
-use Rattle.doc_session.specs.Step.{refusal_at, taken_step}
+use Rattle.doc_session.specs.Step.{collected_document, refusal_at, taken_step}
 use Rattle.doc_session.proofs.ShowLemmas.{shown-step}
 use Rattle.doc_session.proofs.doc.Doc.after.Goals as goal
 
@@ -37,4 +36,4 @@ returns-clause-effects g c = λ plain stands.
 
 pub returns-clause-kept : goal.returns-clause-kept
 returns-clause-kept g c =
-    ap (λ (d : Doc). length d.sessions) c.unwrap_or.ensures ∙ ap length c.in_ok-collected.ensures.sessions ∙ c.in_ok-next.ensures.plugins
+    ap (λ (d : Doc). length d.text.sessions) c.unwrap_or.ensures ∙ ap length c.in_ok-collected.ensures.sessions ∙ c.in_ok-next.ensures.plugins

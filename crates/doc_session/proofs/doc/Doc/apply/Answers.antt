@@ -1,7 +1,7 @@
 use Rattle.std.proofs.Common.{sym, subst}
 use Rattle.std.specs.Prelude.{IfErr}
 use Rattle.std.proofs.lemmas.Result.{err_from_is_err_and}
-use Rattle.doc_session.specs.Fault.{DocRefuses}
+use Rattle.doc_text.specs.Fault.{DocRefuses}
 use Rattle.doc_session.specs.Step.{refusal_at}
 use Rattle.doc_session.proofs.ShowLemmas.{shown-step}
 use Rattle.doc_session.proofs.doc.Doc.apply.Goals as goal

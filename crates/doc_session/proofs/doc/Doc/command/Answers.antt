@@ -1,9 +1,10 @@
 use Rattle.std.proofs.Common.{◌≡◌, None, ap, sym, ◌∙◌, subst}
 use Rattle.std.specs.Prelude.{if◌then◌else◌, IfErr, IfOk, OnOk}
 use Rattle.selection_core.specs.Mapped.{AreWithin}
-use Rattle.doc_session.specs.Asking.{asked_refusal, front_edit}
-use Rattle.doc_session.specs.Fault.{DocRefuses}
-use Rattle.doc_session.specs.Refusal.{edit_refused}
+use Rattle.doc_text.specs.Asking.{asked_refusal}
+use Rattle.doc_session.specs.Asking.{front_edit}
+use Rattle.doc_text.specs.Fault.{DocRefuses}
+use Rattle.doc_text.specs.Refusal.{edit_refused}
 use Rattle.doc_session.specs.Inner.{IsStepped}
 use Rattle.doc_session.specs.Step.{effect_in, effect_on, idle_step, typed_step}
 use Rattle.doc_session.proofs.IdleLemmas.{length-idle}
@@ -46,7 +47,7 @@ returns-then-does_nothing-clause-accepted c = λ plain stands.
     let made =
     effect-made _ c.args.self.now act c.in_ok-units.units c.in_ok-units.sel.regions c.self.view_is c.in_ok-units.ensures in
     let idle = idle-is c.args.self.now plain act c.in_ok-units.units c.in_ok-units.sel.regions c.does_nothing.result stands made c.does_nothing.ensures in
-    ap (λ b. if b then None else asked_refusal plain (front_edit plain None (effect_on plain act).replacements)) (sym idle ∙ c.if-does_nothing.true)
+    ap (λ b. if b then None else asked_refusal plain.text (front_edit plain None (effect_on plain act).replacements)) (sym idle ∙ c.if-does_nothing.true)
 
 pub returns-clause-stepped : goal.returns-clause-stepped
 returns-clause-stepped c = λ plain stands.
@@ -64,7 +65,7 @@ returns-clause-accepted c = λ plain stands.
     let made =
     effect-made _ c.args.self.now act c.in_ok-units.units c.in_ok-units.sel.regions c.self.view_is c.in_ok-units.ensures in
     let idle = idle-is c.args.self.now plain act c.in_ok-units.units c.in_ok-units.sel.regions c.does_nothing.result stands made c.does_nothing.ensures in
-    subst (λ b. OnOk c.typed.result ((if b then None else asked_refusal plain (front_edit plain None (effect_on plain act).replacements)) ≡ None))
+    subst (λ b. OnOk c.typed.result ((if b then None else asked_refusal plain.text (front_edit plain None (effect_on plain act).replacements)) ≡ None))
     (sym (sym idle ∙ c.if-does_nothing.false)) (c.typed.ensures.accepted plain stands)
 
 pub returns-clause-refused : goal.returns-clause-refused
@@ -73,5 +74,5 @@ returns-clause-refused c = λ plain stands.
     let made =
     effect-made _ c.args.self.now act c.in_ok-units.units c.in_ok-units.sel.regions c.self.view_is c.in_ok-units.ensures in
     let idle = idle-is c.args.self.now plain act c.in_ok-units.units c.in_ok-units.sel.regions c.does_nothing.result stands made c.does_nothing.ensures in
-    subst (λ b. IfErr c.typed.result (DocRefuses (edit_refused (if b then None else asked_refusal plain (front_edit plain None (effect_on plain act).replacements)))))
+    subst (λ b. IfErr c.typed.result (DocRefuses (edit_refused (if b then None else asked_refusal plain.text (front_edit plain None (effect_on plain act).replacements)))))
     (sym (sym idle ∙ c.if-does_nothing.false)) (c.typed.ensures.refused plain stands)

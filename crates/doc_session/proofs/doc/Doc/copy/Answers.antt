@@ -1,23 +1,11 @@
-use Rattle.std.proofs.Common.{length, ap, subst, ◌∙◌}
+use Rattle.std.proofs.Common.{length, ap, ap₂, ◌∙◌}
+use Rattle.doc_text.specs.InMemory.{TextState, text_in}
 use Rattle.doc_view.specs.View.{View}
 use Rattle.doc_session.specs.InMemory.{Doc}
-use Rattle.doc_session.specs.Inner.{IsLeftOf}
-use Rattle.doc_session.proofs.GroupLemmas.{IsLeftOf-same}
-use Rattle.doc_session.proofs.LayerLemmas.{as_many-kept, over-kept}
 use Rattle.doc_session.proofs.doc.Doc.copy.Goals as goal
 
-pub with_view-requires-clause-typing : goal.with_view-requires-clause-typing
-with_view-requires-clause-typing c = subst (λ (d : Doc). IsLeftOf d.typing c.self.inside.typing) c.self.view_is (IsLeftOf-same c.self.inside.typing)
+pub invariant_of-result : goal.invariant_of-result
+invariant_of-result c = rw (c.in_ok-copy.ensures, c.in_ok-copy-2.ensures) c.self.invariant
 
-pub with_view-requires-clause-text : goal.with_view-requires-clause-text
-with_view-requires-clause-text c = ap (λ (v : View). v.text) c.in_ok-copy.ensures ∙ ap (λ (d : Doc). d.view.text) c.self.view_is
-
-pub with_view-requires-clause-over : goal.with_view-requires-clause-over
-with_view-requires-clause-over c =
-    over-kept _ c.args.self.now c.in_ok-copy.field-0.layers c.self.invariant c.self.view_is
-    (ap (λ (v : View). v.layers) c.in_ok-copy.ensures ∙ ap (λ (d : Doc). d.view.layers) c.self.view_is)
-
-pub with_view-requires-clause-as_many : goal.with_view-requires-clause-as_many
-with_view-requires-clause-as_many c =
-    ap (λ (v : View). length v.layers) c.in_ok-copy.ensures ∙ ap (λ (d : Doc). length d.view.layers) c.self.view_is ∙
-    as_many-kept _ c.args.self.now c.self.invariant c.self.view_is
+pub returns : goal.returns
+returns c = ap₂ (λ (t : TextState) (v : View). record { text = t; view = v }) c.in_ok-copy.ensures c.in_ok-copy-2.ensures ∙ c.self.view_is

@@ -1,16 +1,17 @@
-use Rattle.std.proofs.Common.{length, ap, ap₂, sym, ◌∙◌, subst}
-use Rattle.std.specs.Prelude.{IfOk, Option}
+use Rattle.std.proofs.Common.{◌≡◌, length, ap, ap₂, sym, ◌∙◌, subst}
+use Rattle.std.specs.Prelude.{IfOk}
 use Rattle.edit_ops.specs.Commands.{Effect}
 use Rattle.selection_core.specs.Mapped.{AreWithin}
 use Rattle.selection_core.specs.Selection.{IsSelection}
-use Rattle.edit_groups.specs.declared.typing.Typing.{Typing}
-use Rattle.edit_groups.specs.Typing.{kind_of, run_on}
+use Rattle.edit_groups.specs.Typing.{kind_of}
+use Rattle.doc_text.specs.InMemory.{TextState}
+use Rattle.doc_text.specs.Revisions.{going_on}
+use Rattle.doc_text.specs.Stands.{IsTextOf}
 use Rattle.doc_view.specs.View.{View, pieces_in}
 use Rattle.doc_session.specs.InMemory.{Doc}
-use Rattle.doc_session.specs.Inner.{IsLeftOf, IsStepped}
+use Rattle.doc_session.specs.Inner.{IsStepped, IsUntold}
 use Rattle.doc_session.specs.Step.{effect_on, scroll_if, selected_document, still_step}
-use Rattle.doc_session.proofs.GroupLemmas.{IsLeftOf-run}
-use Rattle.doc_session.specs.Stands.{AreRegionsOf}
+use Rattle.doc_session.specs.Stands.{AreRegionsOf, DocStandsFor}
 use Rattle.doc_session.proofs.LayerLemmas.{as_many-kept, over-kept}
 use Rattle.doc_session.proofs.SomeLemmas.{effect-some}
 use Rattle.doc_session.proofs.StepLemmas.{effect-is}
@@ -20,11 +21,11 @@ use Rattle.doc_session.proofs.doc.Doc.idle.Goals as goal
 pub with_regions-requires-clause-inside : goal.with_regions-requires-clause-inside
 with_regions-requires-clause-inside c = subst (λ (d : Doc). AreWithin (length d.view.text) c.args.sel.regions) (sym c.self.view_is) c.requires.inside
 
-pub with_view-requires-clause-typing : goal.with_view-requires-clause-typing
-with_view-requires-clause-typing c =
-    let doc = c.self.inside in
-    subst (λ (d : Doc). IsLeftOf d.typing c.run_on.result) c.self.view_is
-    (subst (IsLeftOf doc.typing) (sym c.run_on.ensures) (IsLeftOf-run doc.typing c.kind_of.result))
+pub with_view-requires-clause-engine : goal.with_view-requires-clause-engine
+with_view-requires-clause-engine c = ap (λ (t : TextState). t.engine) c.in_ok-text.ensures.same ∙ ap (λ (d : Doc). d.text.engine) c.self.view_is
+
+pub with_view-requires-clause-count : goal.with_view-requires-clause-count
+with_view-requires-clause-count c = ap (λ (t : TextState). t.sessions) c.in_ok-text.ensures.same ∙ ap (λ (d : Doc). d.text.sessions) c.self.view_is
 
 pub with_view-requires-clause-text : goal.with_view-requires-clause-text
 with_view-requires-clause-text c = ap (λ (v : View). v.text) c.in_ok-view.ensures ∙ ap (λ (d : Doc). d.view.text) c.self.view_is
@@ -42,8 +43,8 @@ with_view-requires-clause-as_many c =
 pub told-requires : goal.told-requires
 told-requires c = record {
   text = (
-    ap (λ (d : Doc). d.view.text) c.in_ok-next.ensures ∙ ap (λ (v : View). v.text) c.in_ok-view.ensures ∙ ap (λ (d : Doc). d.view.text) c.self.view_is,
-    ap (λ (d : Doc). d.view.layers) c.in_ok-next.ensures ∙ ap (λ (v : View). v.layers) c.in_ok-view.ensures ∙ ap (λ (d : Doc). d.view.layers) c.self.view_is,
+    ap (λ (d : Doc). d.view.text) c.with_view-next.ensures ∙ ap (λ (v : View). v.text) c.in_ok-view.ensures ∙ ap (λ (d : Doc). d.view.text) c.self.view_is,
+    ap (λ (d : Doc). d.view.layers) c.with_view-next.ensures ∙ ap (λ (v : View). v.layers) c.in_ok-view.ensures ∙ ap (λ (d : Doc). d.view.layers) c.self.view_is,
   );
 }
 
@@ -55,11 +56,9 @@ returns-clause-stepped c = λ plain stands.
     let effect = effect_on plain act in
     let next = selected_document plain kind effect.regions in
     let regions_is = c.requires.regions ∙ ap (λ (e : Effect). e.regions) (effect-is now plain act stands) in
-    let next_is =
-    c.in_ok-next.ensures ∙
-    ap₂ (λ (v : View) (t : Option Typing). record now { view = v; typing = t })
-    (c.in_ok-view.ensures ∙ ap (λ (d : Doc). record d.view { regions = c.args.sel.regions }) c.self.view_is)
-    (c.run_on.ensures ∙ ap₂ run_on (ap (λ (d : Doc). d.typing) c.self.view_is) c.kind_of.ensures) in
+    let was = subst (λ (d : Doc). DocStandsFor d plain) (sym c.self.view_is) stands in
+    let view_is = c.in_ok-view.ensures ∙ ap (λ (d : Doc). record d.view { regions = c.args.sel.regions }) c.self.view_is in
+    let text = subst (λ k. IsTextOf c.in_ok-text.text (going_on plain.text k)) c.kind_of.ensures (c.in_ok-text.ensures.stands plain.text was.text).parts in
     let are : AreRegionsOf plain.view.text effect.regions = record {
       some = effect-some plain.view.config plain.view.text (pieces_in plain.view) plain.view.regions stands.regions_are.some act;
       sound = subst IsSelection regions_is c.requires.sound;
@@ -69,4 +68,12 @@ returns-clause-stepped c = λ plain stands.
     } in
     subst (λ step. IfOk c.told.result (IsStepped step))
     (ap₂ (λ body asks. still_step plain next body (scroll_if asks plain next)) (c.in_ok-body.ensures plain stands) c.scrolls.ensures)
-    (c.told.ensures.stepped plain next stands (IsUntold-still now c.in_ok-next.next plain kind c.args.sel.regions effect.regions stands next_is regions_is are))
+    (c.told.ensures.stepped plain next stands
+    (subst (λ (d : Doc). IsUntold d plain next) (sym c.with_view-next.ensures)
+    (IsUntold-still now (record { text = c.in_ok-text.text; view = c.in_ok-view.view }) plain kind c.args.sel.regions effect.regions stands text view_is regions_is are)))
+
+pub returns-clause-sessions : goal.returns-clause-sessions
+returns-clause-sessions c =
+    subst (λ sessions. IfOk c.told.result (λ made. made.0.text.sessions ≡ sessions))
+    (ap (λ (d : Doc). d.text.sessions) c.with_view-next.ensures ∙ ap (λ (t : TextState). t.sessions) c.in_ok-text.ensures.same ∙
+    ap (λ (d : Doc). d.text.sessions) c.self.view_is) c.told.ensures.sessions

@@ -1,8 +1,8 @@
 use Rattle.std.proofs.Common.{◌≡◌, None, refl, ap, sym, subst}
 use Rattle.std.specs.Prelude.{IfErr, IfOk, OnOk, length}
 use Rattle.doc_session.specs.declared.event.Event.{Event}
-use Rattle.doc_session.specs.Asking.{acknowledgement_refusal, asked_refusal, plugin_edit}
-use Rattle.doc_session.specs.Fault.{DocRefuses}
+use Rattle.doc_text.specs.Asking.{acknowledgement_refusal, asked_refusal, plugin_edit}
+use Rattle.doc_text.specs.Fault.{DocRefuses}
 use Rattle.doc_session.specs.Inner.{IsStepped}
 use Rattle.doc_session.specs.Step.{command_refusal, effect_on, refusal_at, taken_step}
 use Rattle.doc_session.proofs.ResultLemmas.{accepted-edit, as_many-same}
@@ -17,7 +17,7 @@ returns-in-Front c = record {
       (accepted-edit c.act.result (command_refusal plain (effect_on plain c.in-Front.act)) (c.act.ensures.accepted plain stands));
   refused = λ plain stands.
       subst (λ (event : Event). IfErr c.act.result (DocRefuses (refusal_at plain event))) (sym c.in-Front.is) (c.act.ensures.refused plain stands);
-  plugins = as_many-same c.act.result c.args.self.now.sessions c.act.ensures.sessions;
+  plugins = as_many-same c.act.result c.args.self.now.text.sessions c.act.ensures.sessions;
 }
 
 pub returns-in-Edit : goal.returns-in-Edit
@@ -26,10 +26,10 @@ returns-in-Edit c = record {
       subst (λ (event : Event). IfOk c.edit.result (IsStepped (taken_step plain event))) (sym c.in-Edit.is) (c.edit.ensures.stepped plain stands);
   accepted = λ plain stands.
       subst (λ (event : Event). OnOk c.edit.result (refusal_at plain event ≡ None)) (sym c.in-Edit.is)
-      (accepted-edit c.edit.result (asked_refusal plain (plugin_edit plain c.in-Edit.caller c.in-Edit.edit None)) (c.edit.ensures.accepted plain stands));
+      (accepted-edit c.edit.result (asked_refusal plain.text (plugin_edit plain.text c.in-Edit.caller c.in-Edit.edit None)) (c.edit.ensures.accepted plain stands));
   refused = λ plain stands.
       subst (λ (event : Event). IfErr c.edit.result (DocRefuses (refusal_at plain event))) (sym c.in-Edit.is) (c.edit.ensures.refused plain stands);
-  plugins = as_many-same c.edit.result c.args.self.now.sessions c.edit.ensures.sessions;
+  plugins = as_many-same c.edit.result c.args.self.now.text.sessions c.edit.ensures.sessions;
 }
 
 pub returns-in-Spans : goal.returns-in-Spans
@@ -41,28 +41,28 @@ returns-in-Spans c = record {
       (c.styled.ensures.accepted plain stands);
   refused = λ plain stands.
       subst (λ (event : Event). IfErr c.styled.result (DocRefuses (refusal_at plain event))) (sym c.in-Spans.is) (c.styled.ensures.refused plain stands);
-  plugins = as_many-same c.styled.result c.args.self.now.sessions c.styled.ensures.sessions;
+  plugins = as_many-same c.styled.result c.args.self.now.text.sessions c.styled.ensures.sessions;
 }
 
 pub returns-in-Ack : goal.returns-in-Ack
 returns-in-Ack c = record {
   stepped = λ plain stands.
-      subst (λ (event : Event). IfOk c.acknowledged.result (IsStepped (taken_step plain event))) (sym c.in-Ack.is) (c.acknowledged.ensures.stepped plain stands);
+      subst (λ (event : Event). IfOk c.acknowledge.result (IsStepped (taken_step plain event))) (sym c.in-Ack.is) (c.acknowledge.ensures.stepped plain stands);
   accepted = λ plain stands.
-      subst (λ (event : Event). OnOk c.acknowledged.result (refusal_at plain event ≡ None)) (sym c.in-Ack.is)
-      (accepted-edit c.acknowledged.result (acknowledgement_refusal plain.history c.in-Ack.rev) (c.acknowledged.ensures.accepted plain stands));
+      subst (λ (event : Event). OnOk c.acknowledge.result (refusal_at plain event ≡ None)) (sym c.in-Ack.is)
+      (accepted-edit c.acknowledge.result (acknowledgement_refusal plain.text.history c.in-Ack.rev) (c.acknowledge.ensures.accepted plain stands));
   refused = λ plain stands.
-      subst (λ (event : Event). IfErr c.acknowledged.result (DocRefuses (refusal_at plain event))) (sym c.in-Ack.is) (c.acknowledged.ensures.refused plain stands);
-  plugins = c.acknowledged.ensures.plugins;
+      subst (λ (event : Event). IfErr c.acknowledge.result (DocRefuses (refusal_at plain event))) (sym c.in-Ack.is) (c.acknowledge.ensures.refused plain stands);
+  plugins = c.acknowledge.ensures.plugins;
 }
 
-pub returns-in_ok-ended-in-Ended : goal.returns-in_ok-ended-in-Ended
-returns-in_ok-ended-in-Ended c = record {
+pub returns-in_ok-end_session-in-Ended : goal.returns-in_ok-end_session-in-Ended
+returns-in_ok-end_session-in-Ended c = record {
   stepped = λ plain stands.
-      subst (λ (event : Event). IsStepped (taken_step plain event) c.in_ok-ended-in-Ended.field-0) (sym c.in-Ended.is) (c.in_ok-ended-in-Ended.ensures.stepped plain stands);
+      subst (λ (event : Event). IsStepped (taken_step plain event) c.in_ok-end_session-in-Ended.field-0) (sym c.in-Ended.is) (c.in_ok-end_session-in-Ended.ensures.stepped plain stands);
   accepted = λ plain stands. subst (λ (event : Event). refusal_at plain event ≡ None) (sym c.in-Ended.is) refl;
   refused = λ plain stands. tt;
-  plugins = c.in_ok-ended-in-Ended.ensures.plugins;
+  plugins = c.in_ok-end_session-in-Ended.ensures.plugins;
 }
 
 pub returns-in_ok-view_only-in-Config : goal.returns-in_ok-view_only-in-Config

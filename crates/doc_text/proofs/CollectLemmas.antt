@@ -1,0 +1,390 @@
+-- What a collection makes of the undo groups of a text, and of the text.
+use Rattle.std.proofs.Common.{◌≡◌, ℕ, ◌<◌, ◌≤◌, Bool, true, false, not, ◌&&◌, ◌||◌, cond, if◌then◌else◌, ◌==◌, List, [], ◌∷◌, fold, length, Option, Some, None, Result, Ok, Err, IfOk, refl, ap, ap₂, sym, ◌∙◌, subst, inl, inr, arith}
+use Rattle.std.specs.Prelude.{IfSome}
+use Rattle.std.specs.BTreeSet.{BTreeSet}
+use Rattle.std.specs.List.{AllByRecursion, filter, list_all, list_any}
+use Rattle.std.proofs.Math.Logic.{∥∥₁_elim, ∥∥₁_map}
+use Rattle.std.specs.Coded.{Coded-set, coded_list, coded_ℕ}
+use Rattle.std.proofs.Math.Seq.{drop-length}
+use Rattle.std.proofs.lemmas.Bool.{cases_lt, and_parts, and_from, or_right, eq-eqb, ne_eqb}
+use Rattle.plain_text.specs.Numbers.{has, with_number, without_number, IsRising}
+use Rattle.plain_text.proofs.callers.NumberLemmas.{IsRising-without, has-with_numbers}
+use Rattle.number_set.proofs.ForCallers.{has-own, no}
+use Rattle.plain_edits.specs.Collection.{Collection, clean_floor, collected_at, collection_at, collection_of, is_at_rest, is_based_from, is_clean, resting_groups}
+use Rattle.plain_edits.specs.Edits.{is_edit_of}
+use Rattle.plain_edits.specs.History.{History, Revision, head, undone}
+use Rattle.plain_edits.proofs.callers.CollectionLemmas.{all_has, greatest_clean_floor, is_at_rest_iff}
+use Rattle.undo_groups.specs.Groups.{Groups, IsStack, forgotten, is_known}
+use Rattle.edit_groups.proofs.ForCallers.{has-removed, least-within, same_order}
+use Rattle.edit_groups.specs.declared.typing.Typing.{Typing}
+use Rattle.rev_collect.specs.Choice.{collection_said}
+use Rattle.rev_engine.specs.Asked.{IsCollectionTaken}
+use Rattle.rev_engine.specs.State.{State}
+use Rattle.rev_engine.specs.Engine.{StandsFor}
+use Rattle.doc_text.specs.Agree.{Agree, IsNewest, is_given}
+use Rattle.doc_text.specs.Collecting.{AreAcknowledged, AreEnded, HasNoneLeft, collected_text, collection_after, least_acknowledged, with_collection}
+use Rattle.doc_text.specs.Writing.{Writing}
+use Rattle.doc_text.specs.InMemory.{TextState, head_shown}
+use Rattle.doc_text.specs.Inner.{MayCollectIn}
+use Rattle.doc_text.specs.Stands.{IsTextOf, TextStandsFor}
+use Rattle.doc_text.specs.Whole.{IsWhole, IsWholeOf}
+use Rattle.doc_text.proofs.HeadLemmas.{head-stands, head_shown-stands}
+use Rattle.doc_text.proofs.SessionLemmas.{AreAcknowledged-raised, least-ended}
+
+-- ---- numbers without some
+
+in_turn : (a b rest : Bool) → (if b then false else (if a then false else rest)) ≡ (if a || b then false else rest)
+in_turn true true rest = refl
+in_turn true false rest = refl
+in_turn false true rest = refl
+in_turn false false rest = refl
+
+pub has-without_numbers : (xs gone : List ℕ) (m : ℕ) → IsRising xs → has (fold without_number xs gone) m ≡ (if has gone m then false else has xs m)
+has-without_numbers xs [] m up = refl
+has-without_numbers xs (n ∷ gone) m up =
+    has-without_numbers (without_number xs n) gone m (IsRising-without xs n up) ∙
+    ap (λ b. if has gone m then false else b) (has-removed xs n m up) ∙ in_turn (n == m) (has gone m) (has xs m)
+
+-- without all of them
+without_all : (xs : List ℕ) → fold without_number xs xs ≡ []
+without_all [] = refl
+without_all (x ∷ xs) =
+    ap (λ b. fold without_number (cond b xs (x ∷ without_number xs x)) xs) (same_order x) ∙ without_all xs
+
+-- ---- forgotten groups
+
+pub fold_forgotten : (s : Groups) (gone : List ℕ) → fold forgotten s gone ≡ record s { retired = fold without_number s.retired gone }
+fold_forgotten s [] = refl
+fold_forgotten s (group ∷ gone) = fold_forgotten (forgotten s group) gone
+
+-- ---- stack and history go on to agree
+
+known-by : (live retired gone given collected : Bool) → (live || retired) ≡ (given && not collected) → (gone ≡ true → retired ≡ true) →
+    (live ≡ true → retired ≡ false) → (live || (if gone then false else retired)) ≡ (given && not (collected || gone))
+known-by true true gone given collected known there apart = absurd (no true refl (apart refl))
+known-by true false true given collected known there apart = absurd (no false (there refl) refl)
+known-by true false false given collected known there apart = known ∙ ap (λ b. given && not b) (sym (kept collected))
+  where
+    kept : (b : Bool) → (b || false) ≡ b
+    kept true = refl
+    kept false = refl
+known-by false retired true given collected known there apart = sym (none given collected)
+  where
+    none : (g c : Bool) → (g && not (c || true)) ≡ false
+    none true true = refl
+    none true false = refl
+    none false c = refl
+known-by false retired false given collected known there apart = known ∙ ap (λ b. given && not b) (sym (kept collected))
+  where
+    kept : (b : Bool) → (b || false) ≡ b
+    kept true = refl
+    kept false = refl
+
+newest-retired : (s : Groups) (retired : List ℕ) (typing : Option Typing) → IsNewest s typing → IsNewest (record s { retired = retired }) typing
+newest-retired s retired None newest = tt
+newest-retired s retired (Some run) newest = newest
+
+module _ (revisions : List Revision) (collected : List ℕ) (groups : Groups) (typing : Option Typing) (agree : Agree revisions collected groups typing)
+    (gone : List ℕ) (all : AllByRecursion (λ group. has groups.retired group ≡ true) gone) where
+  abbrev less : Groups
+  less = record groups { retired = fold without_number groups.retired gone }
+
+  there : (group : ℕ) → has gone group ≡ true → has groups.retired group ≡ true
+  there group is = all_has (λ g. has groups.retired g ≡ true) gone group all is
+
+  known-less : (group : ℕ) → is_known less group ≡ (is_given groups group && not (has (fold with_number collected gone) group))
+  known-less group =
+      ap (λ b. has groups.live group || b) (has-without_numbers groups.retired gone group agree.stack.retired_rise) ∙
+      known-by (has groups.live group) (has groups.retired group) (has gone group) (is_given groups group) (has collected group) (agree.known group) (there group)
+      (agree.stack.reachable group) ∙
+      ap (λ b. is_given groups group && not b) (sym (has-with_numbers collected gone group))
+
+  given-less : (group : ℕ) → has (fold with_number collected gone) group ≡ true → is_given groups group ≡ true
+  given-less group is = by (has collected group) (has gone group) refl refl (sym (has-with_numbers collected gone group) ∙ is)
+    where
+      by : (old new : Bool) → has collected group ≡ old → has gone group ≡ new → (has collected group || has gone group) ≡ true → is_given groups group ≡ true
+      by true new old_is new_is either = agree.collected_given group old_is
+      by false true old_is new_is either =
+          (and_parts (is_given groups group) (not (has collected group))
+          (sym (agree.known group) ∙ or_right (has groups.live group) (has groups.retired group) (there group new_is))).0
+      by false false old_is new_is either = absurd (no (has collected group || has gone group) either (ap₂ (λ a b. a || b) old_is new_is))
+
+  Agree-less : IsStack less → Agree revisions (fold with_number collected gone) less typing
+  Agree-less stack = record {
+    stack = stack;
+    undone = agree.undone;
+    given = agree.given;
+    few = agree.few;
+    known = known-less;
+    collected_given = given-less;
+    newest = newest-retired groups (fold without_number groups.retired gone) typing agree.newest;
+  }
+
+  pub Agree-collected : (stack : Groups) → stack ≡ fold forgotten groups gone → IsStack stack → Agree revisions (fold with_number collected gone) stack typing
+  Agree-collected stack is sound =
+      let less_is : stack ≡ less = is ∙ fold_forgotten groups gone in
+      subst (λ s. Agree revisions (fold with_number collected gone) s typing) (sym less_is) (Agree-less (subst IsStack less_is sound))
+
+-- ---- what is collected
+
+module _ (h : History) (retired : List ℕ) where
+  groups-at : (floor : ℕ) (groups : List ℕ) (found : Collection) → collection_at h floor groups ≡ Some found → (found.floor ≡ floor) × (found.groups ≡ groups)
+  groups-at floor [] found is = absurd cc
+  groups-at floor (group ∷ groups) found is = by (floor == head h) is
+    where
+      by : (here : Bool) → (if here then Some (record { floor = floor; groups = group ∷ groups }) else None) ≡ Some found →
+          (found.floor ≡ floor) × (found.groups ≡ group ∷ groups)
+      by true is =
+          let same : record { floor = floor; groups = group ∷ groups } ≡ found = cc in
+          (sym (ap (λ (c : Collection). c.floor) same), sym (ap (λ (c : Collection). c.groups) same))
+      by false is = absurd cc
+
+  among : (p : ℕ → Bool) (xs all : List ℕ) → ((g : ℕ) → has xs g ≡ true → has all g ≡ true) → AllByRecursion (λ g. has all g ≡ true) (filter p xs)
+  among p [] all each = tt
+  among p (x ∷ xs) all each = by (p x) (each x (has-own x xs)) (among p xs all (λ g there. each g (or_right (x == g) (has xs g) there)))
+    where
+      by : (b : Bool) → has all x ≡ true → AllByRecursion (λ g. has all g ≡ true) (filter p xs) →
+          AllByRecursion (λ g. has all g ≡ true) (cond b (x ∷ filter p xs) (filter p xs))
+      by true here rest = (here, rest)
+      by false here rest = rest
+
+  -- its floor is at most what was acknowledged, and its groups are retired
+  pub floor-found : (most : ℕ) (found : Collection) → collection_of h retired most ≡ Some found → found.floor ≤ most
+  floor-found most found is =
+      let floor = clean_floor h.revisions most in
+      omega (
+        arith,
+        (groups-at floor (resting_groups h retired floor) found is).0,
+        (greatest_clean_floor h.revisions most).is_within,
+      )
+
+  pub retired-found : (most : ℕ) (found : Collection) → collection_of h retired most ≡ Some found →
+      AllByRecursion (λ group. has retired group ≡ true) found.groups
+  retired-found most found is =
+      let floor = clean_floor h.revisions most in
+      subst (AllByRecursion (λ group. has retired group ≡ true)) (sym (groups-at floor (resting_groups h retired floor) found is).1)
+      (among _ retired retired (λ g there. there))
+
+  -- nothing where a session lags behind the head
+  lags : (floor : ℕ) (groups : List ℕ) → floor < head h → collection_at h floor groups ≡ None
+  lags floor [] below = refl
+  lags floor (group ∷ groups) below =
+      ap (λ here. if here then Some (record { floor = floor; groups = group ∷ groups }) else None)
+      (ne_eqb floor (head h) (λ same. absurd (omega (arith, same, below))))
+
+  pub collection_of-lags : (most : ℕ) → most < head h → collection_of h retired most ≡ None
+  collection_of-lags most below =
+      let floor = clean_floor h.revisions most in
+      lags floor (resting_groups h retired floor) (omega (arith, (greatest_clean_floor h.revisions most).is_within, below))
+
+-- nor where no group is retired
+pub collection_of-nothing : (h : History) (retired : List ℕ) (most : ℕ) → retired ≡ [] → collection_of h retired most ≡ None
+collection_of-nothing h retired most none = ap (λ groups. collection_of h groups most) none
+
+-- ---- at the head
+
+-- it is clean, and a group is at rest there
+clean-head : (revisions : List Revision) → clean_floor revisions (length revisions) ≡ length revisions
+clean-head revisions =
+    let n = length revisions in
+    let is = greatest_clean_floor revisions n in
+    let clean : is_clean revisions n ≡ true = ap (list_all (is_based_from n)) (drop-length revisions) in
+    let low : n ≤ clean_floor revisions n = is.greatest n (omega arith) clean in
+    let high : clean_floor revisions n ≤ n = is.is_within in
+    omega (arith, low, high)
+
+rests-head : (h : History) (group : ℕ) → is_at_rest h (head h) group ≡ true
+rests-head h group =
+    (is_at_rest_iff h (head h) group).1 (record {
+      is_over = ap (list_any (is_edit_of group)) (drop-length h.revisions);
+      is_settled = λ rev low high.
+          let here : rev ≡ head h = omega (arith, low, high) in
+          ap (λ at. has (undone h.revisions at) group) here;
+    })
+
+all_pass : (p : ℕ → Bool) (xs : List ℕ) → ((x : ℕ) → has xs x ≡ true → p x ≡ true) → filter p xs ≡ xs
+all_pass p [] each = refl
+all_pass p (x ∷ xs) each =
+    ap (λ b. cond b (x ∷ filter p xs) (filter p xs)) (each x (has-own x xs)) ∙
+    ap (λ ys. x ∷ ys) (all_pass p xs (λ y there. each y (or_right (x == y) (has xs y) there)))
+
+-- all retired groups are collected there
+collection_of-head : (h : History) (groups : Groups) (typing : Option Typing) → Agree h.revisions h.collected groups typing →
+    collection_of h groups.retired (head h) ≡ collection_at h (head h) groups.retired
+collection_of-head h groups typing agree =
+    let kept : (g : ℕ) → has groups.retired g ≡ true → not (has h.collected g) ≡ true =
+    λ g there. (and_parts (is_given groups g) (not (has h.collected g)) (sym (agree.known g) ∙ or_right (has groups.live g) (has groups.retired g) there)).1 in
+    ap (λ floor. collection_at h floor (resting_groups h groups.retired floor)) (clean-head h.revisions) ∙
+    ap (collection_at h (head h))
+    (all_pass (λ g. not (has h.collected g) && is_at_rest h (head h) g) groups.retired
+    (λ g there. and_from (not (has h.collected g)) (is_at_rest h (head h) g) (kept g there) (rests-head h g)))
+
+-- ---- texts
+
+-- no retired group is left where no session is open
+left-at : (plain : Writing) (retired : List ℕ) → plain.groups.retired ≡ retired →
+    (with_collection plain (collection_at plain.history (head plain.history) retired)).groups.retired ≡ []
+left-at plain [] is = is
+left-at plain (group ∷ retired) is =
+    let head_is = head plain.history in
+    ap (λ here. (with_collection plain (if here then Some (record { floor = head_is; groups = group ∷ retired }) else None)).groups.retired) (eq-eqb head_is head_is refl) ∙
+    ap (λ (s : Groups). s.retired) (fold_forgotten plain.groups (group ∷ retired)) ∙
+    ap (λ xs. fold without_number xs (group ∷ retired)) is ∙ without_all (group ∷ retired)
+
+sessions-with : (plain : Writing) (found : Option Collection) → (with_collection plain found).sessions ≡ plain.sessions
+sessions-with plain None = refl
+sessions-with plain (Some found) = refl
+
+pub HasNoneLeft-collected : (text : TextState) (plain : Writing) → IsTextOf text plain → HasNoneLeft (collected_text plain)
+HasNoneLeft-collected text plain stands = λ ended.
+    let all = subst AreEnded (sessions-with plain (collection_after plain)) ended in
+    let h = plain.history in
+    ap (λ found. (with_collection plain found).groups.retired)
+    (ap (collection_of h plain.groups.retired) (least-ended (head h) plain.sessions all) ∙
+    collection_of-head h plain.groups plain.typing stands.agree) ∙
+    left-at plain plain.groups.retired refl
+
+-- THE TEXT IN MEMORY after a collection
+abbrev pub less_text : TextState → State → Groups → TextState
+less_text text engine groups = record text { engine = engine; groups = groups }
+
+pub IsTextOf-collected : (text made : TextState) (plain : Writing) (engine : State) (stack : Groups) (found : Collection) → IsTextOf text plain →
+    made ≡ less_text text engine stack → engine.limit ≡ text.engine.limit →
+    StandsFor engine (collected_at plain.history found.floor found.groups) → stack ≡ fold forgotten text.groups found.groups → IsStack stack →
+    AllByRecursion (λ group. has text.groups.retired group ≡ true) found.groups → found.floor ≤ least_acknowledged (head plain.history) plain.sessions →
+    IsTextOf made (with_collection plain (Some found))
+IsTextOf-collected text made plain engine stack found stands is limit engine_stands stack_is sound retired floor =
+    let At : TextState → Type 0 = λ t. IsTextOf t (with_collection plain (Some found)) in
+    let groups_is : stack ≡ fold forgotten plain.groups found.groups = stack_is ∙ ap (λ s. fold forgotten s found.groups) stands.groups in
+    let gone = subst (λ (s : Groups). AllByRecursion (λ group. has s.retired group ≡ true) found.groups) stands.groups retired in
+    subst At (sym is) (record {
+      state = record {
+        stands = engine_stands;
+        within = omega (arith, stands.state.within, limit);
+        bound = omega (arith, stands.state.bound, limit);
+      };
+      limit = limit ∙ stands.limit;
+      sessions = stands.sessions;
+      acknowledged = AreAcknowledged-raised plain.history (collected_at plain.history found.floor found.groups) plain.sessions floor refl stands.acknowledged;
+      groups = groups_is;
+      typing = stands.typing;
+      agree = subst (λ s. Agree plain.history.revisions (fold with_number plain.history.collected found.groups) s plain.typing) groups_is
+          (Agree-collected plain.history.revisions plain.history.collected plain.groups plain.typing stands.agree found.groups gone stack groups_is sound);
+      saved = stands.saved;
+      saved_before = stands.saved_before;
+    })
+
+-- and what holds of it in memory, whatever its history
+module _ (engine later : State) (groups : Groups) (typing : Option Typing) (floor : ℕ) (gone : List ℕ) (whole : IsWhole engine groups typing)
+    (each : (h : History) → StandsFor engine h → StandsFor later (collected_at h floor gone)) where
+  pub IsWhole-collected : (stack : Groups) → later.limit ≡ engine.limit → stack ≡ fold forgotten groups gone → IsStack stack →
+      AllByRecursion (λ group. has groups.retired group ≡ true) gone → IsWhole later stack typing
+  IsWhole-collected stack limit is sound retired =
+      ∥∥₁_map whole (λ (s : (h : History) × IsWholeOf h engine groups typing). (
+        collected_at s.0 floor gone,
+        record {
+          state = record {
+            stands = each s.0 s.1.state.stands;
+            within = omega (arith, s.1.state.within, limit);
+            bound = omega (arith, s.1.state.bound, limit);
+          };
+          agree = Agree-collected s.0.revisions s.0.collected groups typing s.1.agree gone retired stack is sound;
+        },
+      ))
+
+  -- its head text is the same
+  pub shown-collected : head_shown later ≡ head_shown engine
+  shown-collected =
+      ∥∥₁_elim whole (Coded-set (coded_list coded_ℕ) _ _) (λ (s : (h : History) × IsWholeOf h engine groups typing).
+      head_shown-stands later (collected_at s.0 floor gone) (each s.0 s.1.state.stands) ∙ sym (head_shown-stands engine s.0 s.1.state.stands))
+
+-- ---- what a text in memory collects
+
+module _ (text : TextState) (plain : Writing) (stands : IsTextOf text plain) where
+  head-uncollected : head text.engine.revisions ≡ head plain.history
+  head-uncollected = head-stands text.engine plain.history stands.state.stands
+
+  least-uncollected : least_acknowledged (head text.engine.revisions) text.sessions ≡ least_acknowledged (head plain.history) plain.sessions
+  least-uncollected = ap₂ least_acknowledged head-uncollected stands.sessions
+
+  empty : (groups : List ℕ) → (0 < length groups → ⊥) → groups ≡ []
+  empty [] none = refl
+  empty (group ∷ groups) none = absurd (none (omega arith))
+
+  -- nothing where no group is retired
+  pub nothing-retired : (0 < length text.groups.retired → ⊥) → None ≡ collection_after plain
+  nothing-retired none =
+      sym (collection_of-nothing plain.history plain.groups.retired (least_acknowledged (head plain.history) plain.sessions)
+      (sym (ap (λ (s : Groups). s.retired) stands.groups) ∙ empty text.groups.retired none))
+
+  -- nor where a session lags
+  pub nothing-lags : least_acknowledged (head text.engine.revisions) text.sessions < head text.engine.revisions → None ≡ collection_after plain
+  nothing-lags below =
+      sym (collection_of-lags plain.history plain.groups.retired (least_acknowledged (head plain.history) plain.sessions)
+      (omega (arith, below, least-uncollected, head-uncollected)))
+
+  -- and else what there is at the head
+  pub found-head : (least_acknowledged (head text.engine.revisions) text.sessions < head text.engine.revisions → ⊥) →
+      collection_of plain.history text.groups.retired (head text.engine.revisions) ≡ collection_after plain
+  found-head none =
+      let within = least-within (head text.engine.revisions) text.sessions in
+      let here : head text.engine.revisions ≡ least_acknowledged (head plain.history) plain.sessions =
+      not_below (least_acknowledged (head text.engine.revisions) text.sessions) (head text.engine.revisions) within none ∙ least-uncollected in
+      ap₂ (collection_of plain.history) (ap (λ (s : Groups). s.retired) stands.groups) here
+    where
+      not_below : (a b : ℕ) → a ≤ b → (a < b → ⊥) → b ≡ a
+      not_below a b within none = elim (cases_lt a b) [ inl below ↦ absurd (none below) | inr over ↦ omega (arith, over, within) ]
+
+-- what the engine finds may be collected
+pub MayCollectIn-found : {E : Type 0} (text : TextState) (retired : List ℕ) (most : ℕ) (result : Result (Option (ℕ × BTreeSet ℕ)) E) → retired ≡ text.groups.retired →
+    IfOk result (λ found. collection_said found ≡ collection_of text.engine.revisions retired most) →
+    IfOk result (λ found. IfSome found (λ some. IsCollectionTaken text.engine.revisions some.0 some.1.keys)) →
+    IfOk result (λ found. IfSome found (λ some. MayCollectIn text some.0 some.1.keys))
+MayCollectIn-found text retired most (Err lack) is said taken = tt
+MayCollectIn-found text retired most (Ok None) is said taken = tt
+MayCollectIn-found text retired most (Ok (Some found)) is said taken = record {
+  taken = taken;
+  retired = subst (λ groups. AllByRecursion (λ group. has groups group ≡ true) found.1.keys) is
+      (retired-found text.engine.revisions retired most (record { floor = found.0; groups = found.1.keys }) (sym said));
+}
+
+-- ---- what nothing waits in
+
+module _ (text : TextState) (plain : Writing) (stands : IsTextOf text plain) (found : Option Collection) (is : found ≡ collection_after plain) where
+  -- what is collected leaves none
+  pub TextStandsFor-collected : (made : TextState) → IsTextOf made (with_collection plain found) → TextStandsFor made (collected_text plain)
+  TextStandsFor-collected made uncollected = record {
+    parts = subst (λ f. IsTextOf made (with_collection plain f)) is uncollected;
+    none_left = HasNoneLeft-collected text plain stands;
+  }
+
+-- its floor is one that each session has acknowledged
+pub floor-collected : (plain : Writing) (found : Collection) → Some found ≡ collection_after plain →
+    found.floor ≤ least_acknowledged (head plain.history) plain.sessions
+floor-collected plain found is =
+    floor-found plain.history plain.groups.retired (least_acknowledged (head plain.history) plain.sessions) found (sym is)
+
+-- ---- the text with other sessions
+
+pub IsTextOf-sessions : (text : TextState) (plain : Writing) (sessions others : List (Option ℕ)) → IsTextOf text plain → sessions ≡ others →
+    AreAcknowledged plain.history others → IsTextOf (record text { sessions = sessions }) (record plain { sessions = others })
+IsTextOf-sessions text plain sessions others stands same are = record {
+  state = stands.state;
+  limit = stands.limit;
+  sessions = same;
+  acknowledged = are;
+  groups = stands.groups;
+  typing = stands.typing;
+  agree = stands.agree;
+  saved = stands.saved;
+  saved_before = stands.saved_before;
+}
+
+-- WHAT A COLLECTION LEAVES ALONE
+pub part-collected : {X : Type 0} (f : Writing → X) (plain : Writing) → ((found : Collection) → f (with_collection plain (Some found)) ≡ f plain) →
+    f (collected_text plain) ≡ f plain
+part-collected f plain same = by (collection_after plain)
+  where
+    by : (found : Option Collection) → f (with_collection plain found) ≡ f plain
+    by None = refl
+    by (Some found) = same found

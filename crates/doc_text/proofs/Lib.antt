@@ -1,0 +1,12 @@
+pub mod AgreeLemmas
+pub mod GroupLemmas
+pub mod HeadLemmas
+pub mod MoveLemmas
+pub mod SessionLemmas
+pub mod CollectLemmas
+pub mod LoadLemmas
+pub mod FrontLemmas
+pub mod ReadLemmas
+pub mod RevisedLemmas
+pub mod FaultLemmas
+pub mod ForCallers

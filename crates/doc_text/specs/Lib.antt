@@ -1,0 +1,14 @@
+pub mod Writing
+pub mod Collecting
+pub mod Refusal
+pub mod Asking
+pub mod Revisions
+pub mod Notices
+pub mod Fault
+pub mod Agree
+pub mod Whole
+pub mod InMemory
+pub mod Stands
+pub mod Revised
+pub mod Laws
+pub mod Inner
