@@ -1,0 +1,5 @@
+pub mod MarkLemmas
+pub mod TurnLemmas
+pub mod PlaceLemmas
+pub mod LawLemmas
+pub mod StepLemmas

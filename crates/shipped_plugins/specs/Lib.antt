@@ -1,0 +1,5 @@
+pub mod Turns
+pub mod Marks
+pub mod Todo
+pub mod Storm
+pub mod Laws

@@ -1,0 +1,81 @@
+-- TURNS of a plugin that takes one line after the other: what each line comes to, and what a turn gives.
+use Rattle.std.specs.Prelude.{◌≡◌, ℕ, List, [], ◌∷◌, ◌++◌, map}
+use Rattle.std.specs.List.{AllByRecursion}
+use Rattle.std.specs.Str.{encode_utf8_all}
+use Rattle.xi_plain.specs.declared.command.Command.{Command}
+use Rattle.serde_json.specs.Written.{compact_text}
+use Rattle.plugin_wire.specs.Asked.{ask_of}
+use Rattle.plugin_side.specs.Asking.{command_data}
+use Rattle.plugin_side.specs.declared.heard.Heard.{Heard}
+use Rattle.plugin_side.specs.Heard.{heard_in}
+
+-- what something comes to: the state after it, and what is asked
+pub record Step (S : Type 0) : Type 0 where
+  pub after : S
+  pub asks : List Command
+
+-- nothing changes, and nothing is asked
+abbrev pub passed : {S : Type 0} → S → Step S
+passed state = record { after = state; asks = [] }
+
+-- texts as bytes
+abbrev pub utf8_of : List (List ℕ) → List (List ℕ)
+utf8_of texts = map encode_utf8_all texts
+
+-- ---- lines of commands
+
+-- the line of a command, without its LF
+unfoldable pub line_bytes : Command → List ℕ
+line_bytes command = compact_text (command_data command)
+
+-- the lines of commands, in their order
+abbrev pub lines_of : List Command → List (List ℕ)
+lines_of commands = map line_bytes commands
+
+-- the core reads the line of the command as this command
+abbrev pub ReadsBack : Command → Type 0
+ReadsBack command = ask_of (line_bytes command) ≡ command
+
+-- the lines of these commands were put behind others, and the core reads each as its command
+pub record Gives (commands : List Command) (before after : List (List ℕ)) : Type 0 where
+  pub put : after ≡ before ++ lines_of commands
+  pub reads : AllByRecursion ReadsBack commands
+
+-- those of the first of them were, and those of the rest were not
+pub record GivesFirst (commands : List Command) (before after : List (List ℕ)) : Type 0 where
+  pub said : List Command
+  pub unsaid : List Command
+  pub parts : commands ≡ said ++ unsaid
+  pub gives : Gives said before after
+
+-- ---- what lines come to
+
+-- a step was taken, and all that it asks was given
+pub record Comes {S : Type 0} (step : Step S) (after : S) (from to : List (List ℕ)) : Type 0 where
+  pub state : after ≡ step.after
+  pub gives : Gives step.asks from to
+
+-- it was taken, and the first of what it asks was given
+pub record ComesFirst {S : Type 0} (step : Step S) (after : S) (from to : List (List ℕ)) : Type 0 where
+  pub state : after ≡ step.after
+  pub gives : GivesFirst step.asks from to
+
+module _ {S : Type 0} (step : S → Heard → Step S) where
+  -- WHAT LINES COME TO, each heard after the one before it
+  abbrev pub heeded : S → List (List ℕ) → Step S
+  heeded state [] = passed state
+  heeded state (line ∷ lines) =
+      let first = step state (heard_in line) in
+      let rest = heeded first.after lines in
+      record { after = rest.after; asks = first.asks ++ rest.asks }
+
+  -- all lines were heeded, and what they ask was given
+  abbrev pub HeedsAll : S → S → List (List ℕ) → List (List ℕ) → List (List ℕ) → Type 0
+  HeedsAll before after lines from to = Comes (heeded before lines) after from to
+
+  -- the first of the lines were heeded, and of what they ask the first was given
+  pub record HeedsFirst (before after : S) (lines from to : List (List ℕ)) : Type 0 where
+    pub front : List (List ℕ)
+    pub back : List (List ℕ)
+    pub parts : lines ≡ front ++ back
+    pub comes : ComesFirst (heeded before front) after from to
