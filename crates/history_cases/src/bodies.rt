@@ -1,7 +1,6 @@
 //! The engine, and the list of revisions with the crates that work on it, beside the plain history.
 
 ghost use Rattle.std.specs.Prelude.{◌≤◌, IfOk, IfSome};
-ghost use Rattle.history_cases.specs.Inner.{IsTakenAtHead};
 
 use crate::refusal::{Answer, Refusal, now_undone};
 use crate::run::MOST;
@@ -11,7 +10,7 @@ use plain_collection::{is_dropped, is_visible_under, kept};
 use plain_edits::UnitDelta;
 use plain_history::{PlainHistory, Tagged, UnitEdit, has, is_visible, merged};
 use plain_text::{List, NoMemory, Text, TryClone};
-use rev_collect::collectable;
+use rev_collect::may_collect;
 use rev_engine::{Change, Edit, Engine, UndoFault};
 use rev_list::{RevEdit, RevList};
 use rev_rebase::{may_rebase, rebase};
@@ -84,43 +83,20 @@ impl Bodies {
         }
     }
 
-    /// Takes a collection that the plain history took, and is as that is after it; not where the floor is below the head, or rises
-    /// alone.
-    pub fn collect(&mut self, plain: &PlainHistory, floor: u64, groups: &[u64]) -> Result<bool> {
-        let retired = set_of(self.alloc, groups)?;
-        let is_taken = self.collect_in_engine(floor, &retired)?;
+    /// Answers a collection as the plain history did, and is as that is after it.
+    pub fn collect(&mut self, plain: &PlainHistory, floor: u64, groups: &[u64]) -> Result<()> {
+        let groups = set_of(self.alloc, groups)?;
         ensure!(
-            self.collect_in_list(floor, &retired)? == is_taken,
-            "rev_collect does otherwise"
+            self.engine.may_collect(self.alloc, floor, &groups)?,
+            "the engine refuses it"
         );
-        if is_taken {
-            self.compare_state(plain)?;
-        }
-        Ok(is_taken)
-    }
-
-    /// Whether the engine collects up to this floor, where these groups are retired.
-    fn collect_in_engine(&mut self, floor: u64, retired: &BTreeSet<u64>) -> Result<bool> {
-        let _floor = self.engine.floor();
-        match self
-            .engine
-            .collectable(self.alloc, self.engine.head(), retired)?
-        {
-            Some((at, resting)) if at == floor => self.engine.collect(self.alloc, at, &resting)?,
-            _ => return Ok(false),
-        }
-        Ok(true)
-    }
-
-    /// Whether `rev_collect` collects up to this floor, where these groups are retired; the list is then what it leaves.
-    fn collect_in_list(&mut self, floor: u64, retired: &BTreeSet<u64>) -> Result<bool> {
-        match taken(self.alloc, &self.list, retired)? {
-            Some((at, resting)) if at == floor => {
-                self.list = rev_collect::collect(self.alloc, &self.list, at, &resting)?.0;
-                Ok(true)
-            }
-            _ => Ok(false),
-        }
+        self.engine.collect(self.alloc, floor, &groups)?;
+        ensure!(
+            may_collect(self.alloc, &self.list, floor, &groups)?,
+            "rev_collect refuses it"
+        );
+        self.list = rev_collect::collect(self.alloc, &self.list, floor, &groups)?.0;
+        self.compare_state(plain)
     }
 
     /// Is as the plain history is after its last revision, and the change is that of this revision.
@@ -237,18 +213,6 @@ fn push_undo(alloc: Global, list: &mut RevList, set: &BTreeSet<u64>) -> Result<(
     let dead = recompute(alloc, list, set)?;
     list.push_undo(alloc, set, dead)?;
     Ok(())
-}
-
-/// What is collected at the head, where these groups are retired.
-fn taken(
-    alloc: Global,
-    list: &RevList,
-    retired: &BTreeSet<u64>,
-) -> Result<Option<(u64, BTreeSet<u64>)>, NoMemory>
-    ensures { IfOk result (λ found. IfSome found (λ some. IsTakenAtHead list.now some.0 some.1.keys)) }
-{
-    let _floor = list.floor();
-    collectable(alloc, list, list.head(), retired)
 }
 
 /// The delta leads from the text of the revision to the head text.

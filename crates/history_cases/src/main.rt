@@ -28,8 +28,7 @@
 //! refused changes nothing, and its refusal has to stand in the line after it.
 //!
 //! For each edit `delta_core` has to find the first misfit of the plain history. Beside that history go an engine, and a `rev_list`
-//! with the crates that work on it, until a collection below the head, or one that raises the floor alone: the line that is printed says
-//! how many steps were taken in all, and how many of them by each. Both have to answer each step as the plain history does, and to tell
+//! with the crates that work on it: the line that is printed says how many steps were taken in all, and how many of them by each. Both have to answer each step as the plain history does, and to tell
 //! beforehand that they take no edit of a collected group and no undo of a group without an edit. After it `rev_rebase` has put the edit
 //! where that history has it, or `rev_collect` given the list that is left; both keep as many characters; at each revision from the floor
 //! on the list hides what is hidden there, and the engine shows the same, and tells an edit since then that leads to the head text; and
@@ -120,5 +119,13 @@ fn print_drawn(rt: &HostRuntime, drawn: &Drawn) -> anyhow::Result<()> {
     )?;
     println!(rt; "undos that are refused: {}", drawn.refused_undos)?;
     println!(rt; "collections: {}", drawn.collections)?;
+    println!(rt;
+        "collections below the head: {}",
+        drawn.collections_below_the_head
+    )?;
+    println!(rt;
+        "collections that are refused: {}",
+        drawn.refused_collections
+    )?;
     Ok(())
 }

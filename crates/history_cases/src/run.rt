@@ -33,7 +33,6 @@ pub struct Run {
     pub alloc: Global,
     pub plain: PlainHistory,
     limit: u64,
-    /// They take edits, undos and collections at the head, so there are none after another collection.
     bodies: Option<Bodies>,
     pub count: Count,
 }
@@ -143,10 +142,8 @@ impl Run {
     fn follow_collection(&mut self, floor: u64, groups: &[u64]) -> Result<()>
         ensures { OnOk result (self.new ≡ self.old) }
     {
-        if let Some(bodies) = &mut self.bodies
-            && !bodies.collect(&self.plain, floor, groups)?
-        {
-            self.bodies = None;
+        if let Some(bodies) = &mut self.bodies {
+            bodies.collect(&self.plain, floor, groups)?;
         }
         Ok(())
     }

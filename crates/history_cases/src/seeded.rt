@@ -6,7 +6,7 @@ use crate::bodies::last_group;
 use crate::refusal::{Refusal, has_edit, now_undone};
 use crate::run::{Count, Run};
 use anyhow::{Context, Result};
-use plain_collection::{Collection, collection_of};
+use plain_collection::{clean_floor, is_at_rest};
 use plain_edits::{Delta, El, Els};
 use plain_history::{PlainHistory, has};
 use plain_text::{List, NoMemory, Text};
@@ -38,6 +38,9 @@ pub struct Drawn {
     pub edits_of_collected_groups: u64,
     pub refused_undos: u64,
     pub collections: u64,
+    pub collections_below_the_head: u64,
+    /// Their floors lie below the present one.
+    pub refused_collections: u64,
 }
 
 fn rise(count: &mut u64, is_so: bool) {
@@ -116,19 +119,49 @@ fn take_undo(run: &mut Run, draws: &mut Draws, drawn: &mut Drawn) -> Result<()> 
     Ok(())
 }
 
-/// A collection of some of the groups that have an edit, at the head, where all are at rest; it may collect nothing.
+/// A collection of some of the groups that have an edit and are at rest at a clean floor, from the present one to the head; it may collect
+/// none and raise the floor alone.
 fn take_collection(run: &mut Run, draws: &mut Draws, drawn: &mut Drawn) -> Result<()> {
     let retired = draws.retired(&run.plain)?;
-    let head = run.plain.head();
-    let found = collection_of(run.alloc, &run.plain, retired.as_slice(), head)?;
-    if let Some(Collection { floor, groups }) = found {
-        let answer = run.collect(floor, groups.as_slice())?;
-        rise(&mut drawn.collections, answer.is_none());
-    }
+    let most = run.plain.head().saturating_sub(draws.back());
+    let floor = clean_floor(&run.plain, most);
+    let groups = resting(run.alloc, &run.plain, retired.as_slice(), floor)?;
+    let is_below = floor < run.plain.head();
+    let answer = run.collect(floor, groups.as_slice())?;
+    rise(&mut drawn.collections, answer.is_none());
+    rise(
+        &mut drawn.collections_below_the_head,
+        answer.is_none() && is_below,
+    );
+    rise(&mut drawn.refused_collections, answer.is_some());
     Ok(())
 }
 
+/// Those of the groups that are at rest at the floor.
+fn resting(
+    alloc: Global,
+    plain: &PlainHistory,
+    groups: &[u64],
+    floor: u64,
+) -> Result<List<u64>, NoMemory> {
+    let mut resting = List::new(alloc);
+    for group in groups {
+        if is_at_rest(plain, floor, *group) {
+            resting.push(*group)?;
+        }
+    }
+    Ok(resting)
+}
+
 impl Draws {
+    /// How far behind the head a floor lies at most: at the head itself every second time.
+    fn back(&mut self) -> u64 {
+        if self.below(2) == 0 {
+            return 0;
+        }
+        self.below(8)
+    }
+
     /// A number below `n`.
     fn below(&mut self, n: u64) -> u64
         requires { 0 < n }
