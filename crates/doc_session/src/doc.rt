@@ -25,6 +25,7 @@ ghost use Rattle.doc_session.specs.Looking.{viewing_of};
 ghost use Rattle.doc_session.specs.PositionView.{position_view};
 ghost use Rattle.doc_session.specs.ScreenOf.{IsShownAfter};
 ghost use Rattle.doc_session.specs.Stands.{DocStandsFor};
+ghost use Rattle.doc_session.specs.Whole.{IsKept};
 ghost use Rattle.doc_session.specs.Step.{AreEffectsOf, IsEventFor, act_step, answer_to, collected_document, command_refusal, command_step, done_step, effect_in, effect_on, event_step, history_step, idle_step, plugin_step, refusal_at, revised_document, revision_step, scroll_if, silent_step, step_to, taken_step, typed_step, with_text};
 
 use crate::event::{Body, Effects, Event};
@@ -246,7 +247,7 @@ impl Doc {
         let body = self.answer(alloc, act)?;
         let view = self.view.with_regions(alloc, sel)?;
         let text = self.text.with_run(alloc, kind_of(act))?;
-        let next = self.with_view(text, view);
+        let next = document_of(text, view);
         let said = Said {
             text: TextLeft::Same,
             request: NO_REQUEST,
@@ -558,18 +559,6 @@ impl Doc {
         })
     }
 
-    // The document of this text, which shows the same, and another view of it, with layers of its plugins.
-    pub(crate) fn with_view(&self, text: TextState, view: ViewState) -> Doc
-        requires engine { text.engine ≡ self.now.text.engine }
-        requires count { text.sessions ≡ self.now.text.sessions }
-        requires text { view.text ≡ self.now.view.text }
-        requires over { AreOver (length self.now.view.text) view.layers }
-        requires as_many { length view.layers ≡ length self.now.text.sessions }
-        ensures { result ≡ record { text = text; view = view } }
-    {
-        Doc { text, view }
-    }
-
     /// The last revision.
     pub fn head(&self) -> u64
         ensures head { (plain : Document) → DocStandsFor self.now plain → result ≡ head plain.text.history }
@@ -608,4 +597,12 @@ impl Doc {
             view: self.view.copy()?,
         })
     }
+}
+
+/// The document of a text and a view of it, with layers of its plugins.
+pub(crate) fn document_of(text: TextState, view: ViewState) -> Doc
+    requires { IsKept (record { text = text; view = view }) }
+    ensures { result ≡ record { text = text; view = view } }
+{
+    Doc { text, view }
 }

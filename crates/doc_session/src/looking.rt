@@ -4,7 +4,7 @@ ghost use Rattle.doc_session.specs.Inner.{IsStepOf, IsViewingOf, is_scrolling};
 ghost use Rattle.doc_session.specs.Looking.{MayView, scrolls_at, viewed, viewed_lines};
 ghost use Rattle.doc_session.specs.Step.{copies, scrolls, viewing_step};
 
-use crate::doc::Doc;
+use crate::doc::{Doc, document_of};
 use crate::event::{Body, Effects};
 use crate::said::{NO_REQUEST, Said, Scrolling};
 use doc_view::{TextLeft, ViewState};
@@ -46,7 +46,7 @@ impl Doc {
         let scrolling = scrolls_at(&viewing);
         let view = viewed(alloc, &self.view, viewing)?;
         let text = self.text.with_run(alloc, None)?;
-        let next = self.with_view(text, view);
+        let next = document_of(text, view);
         let said = Said {
             text: TextLeft::Same,
             request,

@@ -13,7 +13,7 @@ ghost use Rattle.doc_session.specs.Inner.{IsStepOf};
 ghost use Rattle.doc_session.specs.Stands.{DocStandsFor};
 ghost use Rattle.doc_session.specs.Step.{spans_step};
 
-use crate::doc::Doc;
+use crate::doc::{Doc, document_of};
 use crate::event::{Body, Effects};
 use crate::said::{NO_REQUEST, Said, Scrolling};
 use doc_text::{DocFault, Revised};
@@ -44,7 +44,7 @@ impl Doc {
         let layers = with_spans(alloc, &read, self.view.layers(), caller - 1, asked)?;
         let view = self.view.with_layers(alloc, layers)?;
         let text = self.text.copy(alloc)?;
-        let next = self.with_view(text, view);
+        let next = document_of(text, view);
         let said = Said {
             text: TextLeft::Edited,
             request: NO_REQUEST,

@@ -2,7 +2,7 @@ use Rattle.std.proofs.Common.{◌≡◌, ◌-◌, length, ap, sym, ◌∙◌, su
 use Rattle.std.proofs.lemmas.Result.{err_from_is_err_and}
 use Rattle.span_styles.specs.Layers.{AreOver}
 use Rattle.stale_spans.specs.Asked.{layers_with_spans}
-use Rattle.doc_text.specs.InMemory.{TextState}
+use Rattle.doc_text.specs.InMemory.{TextState, text_in}
 use Rattle.doc_text.proofs.ForCallers.{DocRefuses-place, DocRefuses-revision, range_refusal-none}
 use Rattle.doc_view.specs.View.{View}
 use Rattle.doc_session.specs.InMemory.{Doc}
@@ -28,18 +28,18 @@ with_spans-requires-clause-known c =
       c.requires.caller.1,
     )
 
-pub with_view-requires-clause-engine : goal.with_view-requires-clause-engine
-with_view-requires-clause-engine c = ap (λ (t : TextState). t.engine) c.in_ok-text.ensures ∙ ap (λ (d : Doc). d.text.engine) c.self.view_is
-
-pub with_view-requires-clause-count : goal.with_view-requires-clause-count
-with_view-requires-clause-count c = ap (λ (t : TextState). t.sessions) c.in_ok-text.ensures ∙ ap (λ (d : Doc). d.text.sessions) c.self.view_is
-
-pub with_view-requires-clause-over : goal.with_view-requires-clause-over
-with_view-requires-clause-over c =
-    let now = c.args.self.now in
-    let shown_is = ap (λ (d : Doc). d.view.text) (sym c.self.view_is) ∙ c.self.invariant.shown_is in
-    subst (AreOver (length now.view.text)) (sym (ap (λ (v : View). v.layers) c.in_ok-view.ensures))
-    (subst (λ n. AreOver n c.in_ok-layers.layers) (c.in_ok-read.ensures.leads ∙ sym (ap length shown_is)) c.in_ok-layers.ensures.over)
+pub document_of-next-requires : goal.document_of-next-requires
+document_of-next-requires c =
+    let text_is = ap (λ (v : View). v.text) c.in_ok-view.ensures in
+    let layers_are = ap (λ (v : View). v.layers) c.in_ok-view.ensures in
+    let long = c.in_ok-read.ensures.leads ∙ sym (ap length (text_is ∙ c.self.invariant.shown_is)) in
+    record {
+      shown_is = text_is ∙ c.self.invariant.shown_is ∙ ap text_in (sym c.in_ok-text.ensures);
+      over = subst (AreOver (length c.in_ok-view.view.text)) (sym layers_are) (subst (λ n. AreOver n c.in_ok-layers.layers) long c.in_ok-layers.ensures.over);
+      as_many =
+          ap length layers_are ∙ c.in_ok-layers.ensures.as_many ∙ ap length c.layers.ensures ∙ c.self.invariant.as_many ∙
+          ap (λ (t : TextState). length t.sessions) (sym c.in_ok-text.ensures);
+    }
 
 pub returns-clause-stepped : goal.returns-clause-stepped
 returns-clause-stepped c = λ plain stands.
@@ -51,11 +51,11 @@ returns-clause-stepped c = λ plain stands.
     let layers_are : layers ≡ layers_with_spans plain.text.history asked (caller - 1) now.view.layers =
     c.in_ok-layers.ensures.layers plain.text.history (c.in_ok-read.ensures.read plain.text was.text) ∙
     ap (layers_with_spans plain.text.history asked (caller - 1)) (c.layers.ensures ∙ ap (λ (d : Doc). d.view.layers) c.self.view_is) in
-    let text_is = ap (λ (d : Doc). d.text) c.with_view-next.ensures ∙ c.in_ok-text.ensures ∙ ap (λ (d : Doc). d.text) c.self.view_is in
-    let view_is = ap (λ (d : Doc). d.view) c.with_view-next.ensures ∙ c.in_ok-view.ensures ∙
+    let text_is = ap (λ (d : Doc). d.text) c.document_of-next.ensures ∙ c.in_ok-text.ensures ∙ ap (λ (d : Doc). d.text) c.self.view_is in
+    let view_is = ap (λ (d : Doc). d.view) c.document_of-next.ensures ∙ c.in_ok-view.ensures ∙
     ap (λ (d : Doc). record d.view { layers = layers }) c.self.view_is in
     c.in_ok-told.ensures.stepped plain (styled_document plain caller asked) stands
-    (IsUntold-styled now c.with_view-next.result plain caller asked layers stands text_is view_is layers_are)
+    (IsUntold-styled now c.document_of-next.result plain caller asked layers stands text_is view_is layers_are)
 
 pub returns-clause-accepted : goal.returns-clause-accepted
 returns-clause-accepted c = λ plain stands.
@@ -65,7 +65,7 @@ returns-clause-accepted c = λ plain stands.
 
 pub returns-clause-sessions : goal.returns-clause-sessions
 returns-clause-sessions c =
-    c.in_ok-told.ensures.sessions ∙ ap (λ (d : Doc). d.text.sessions) c.with_view-next.ensures ∙
+    c.in_ok-told.ensures.sessions ∙ ap (λ (d : Doc). d.text.sessions) c.document_of-next.ensures ∙
     ap (λ (t : TextState). t.sessions) c.in_ok-text.ensures ∙ ap (λ (d : Doc). d.text.sessions) c.self.view_is
 
 pub returns-in_err-read-clause-refused : goal.returns-in_err-read-clause-refused

@@ -1,6 +1,7 @@
-use Rattle.std.proofs.Common.{◌≡◌, length, ap, ap₂, sym, ◌∙◌, subst}
+use Rattle.std.proofs.Common.{◌≡◌, ℕ, List, length, ap, ap₂, sym, ◌∙◌, subst}
 use Rattle.std.specs.Prelude.{IfOk, None}
-use Rattle.doc_text.specs.InMemory.{TextState}
+use Rattle.span_styles.specs.Layers.{AreOver}
+use Rattle.doc_text.specs.InMemory.{TextState, text_in}
 use Rattle.doc_view.specs.View.{View}
 use Rattle.doc_session.specs.declared.event.Body.TheVariants.{Null}
 use Rattle.doc_session.specs.InMemory.{Doc}
@@ -8,36 +9,28 @@ use Rattle.doc_session.specs.Inner.{IsStepped, IsUntold}
 use Rattle.doc_session.specs.Stands.{DocStandsFor}
 use Rattle.doc_session.specs.Looking.{viewed}
 use Rattle.doc_session.specs.Step.{scroll_if, step_to, viewed_document}
-use Rattle.doc_session.proofs.LayerLemmas.{as_many-kept, over-kept}
 use Rattle.doc_session.proofs.UntoldLemmas.{IsUntold-viewed, layers-viewed, text-viewed}
 use Rattle.doc_session.proofs.doc.Doc.view_only.Goals as goal
 
-pub with_view-requires-clause-engine : goal.with_view-requires-clause-engine
-with_view-requires-clause-engine c = ap (λ (t : TextState). t.engine) c.in_ok-text.ensures.same ∙ ap (λ (d : Doc). d.text.engine) c.self.view_is
-
-pub with_view-requires-clause-count : goal.with_view-requires-clause-count
-with_view-requires-clause-count c = ap (λ (t : TextState). t.sessions) c.in_ok-text.ensures.same ∙ ap (λ (d : Doc). d.text.sessions) c.self.view_is
-
-pub with_view-requires-clause-text : goal.with_view-requires-clause-text
-with_view-requires-clause-text c =
-    ap (λ (v : View). v.text) c.in_ok-view.ensures ∙ text-viewed c.self.inside.view c.args.viewing ∙ ap (λ (d : Doc). d.view.text) c.self.view_is
-
-pub with_view-requires-clause-over : goal.with_view-requires-clause-over
-with_view-requires-clause-over c =
-    over-kept _ c.args.self.now c.in_ok-view.view.layers c.self.invariant c.self.view_is
-    (ap (λ (v : View). v.layers) c.in_ok-view.ensures ∙ layers-viewed c.self.inside.view c.args.viewing ∙ ap (λ (d : Doc). d.view.layers) c.self.view_is)
-
-pub with_view-requires-clause-as_many : goal.with_view-requires-clause-as_many
-with_view-requires-clause-as_many c =
-    ap length (ap (λ (v : View). v.layers) c.in_ok-view.ensures ∙ layers-viewed c.self.inside.view c.args.viewing ∙ ap (λ (d : Doc). d.view.layers) c.self.view_is) ∙
-    as_many-kept _ c.args.self.now c.self.invariant c.self.view_is
+pub document_of-next-requires : goal.document_of-next-requires
+document_of-next-requires c =
+    let text_is = ap (λ (v : View). v.text) c.in_ok-view.ensures ∙ text-viewed c.self.inside.view c.args.viewing in
+    let layers_are = ap (λ (v : View). v.layers) c.in_ok-view.ensures ∙ layers-viewed c.self.inside.view c.args.viewing in
+    let same = c.in_ok-text.ensures.same in
+    record {
+      shown_is = text_is ∙ c.self.invariant.shown_is ∙ ap text_in (sym same);
+      over =
+          subst (AreOver (length c.in_ok-view.view.text)) (sym layers_are)
+          (subst (λ (t : List ℕ). AreOver (length t) c.self.inside.view.layers) (sym text_is) c.self.invariant.over);
+      as_many = ap length layers_are ∙ c.self.invariant.as_many ∙ ap (λ (t : TextState). length t.sessions) (sym same);
+    }
 
 pub told-requires : goal.told-requires
 told-requires c = record {
   text = (
-    ap (λ (d : Doc). d.view.text) c.with_view-next.ensures ∙ ap (λ (v : View). v.text) c.in_ok-view.ensures ∙ text-viewed c.self.inside.view c.args.viewing ∙
+    ap (λ (d : Doc). d.view.text) c.document_of-next.ensures ∙ ap (λ (v : View). v.text) c.in_ok-view.ensures ∙ text-viewed c.self.inside.view c.args.viewing ∙
         ap (λ (d : Doc). d.view.text) c.self.view_is,
-    ap (λ (d : Doc). d.view.layers) c.with_view-next.ensures ∙ ap (λ (v : View). v.layers) c.in_ok-view.ensures ∙ layers-viewed c.self.inside.view c.args.viewing ∙
+    ap (λ (d : Doc). d.view.layers) c.document_of-next.ensures ∙ ap (λ (v : View). v.layers) c.in_ok-view.ensures ∙ layers-viewed c.self.inside.view c.args.viewing ∙
         ap (λ (d : Doc). d.view.layers) c.self.view_is,
   );
 }
@@ -54,10 +47,10 @@ returns-clause-stepped c = λ plain stands.
     (c.in_ok-text.ensures.stands plain.text was.text).parts view_is in
     subst (λ step. IfOk c.told.result (IsStepped step))
     (ap₂ (λ lines asks. step_to lines plain next Null (scroll_if asks plain next) None) c.viewed_lines-request.ensures c.scrolls_at-scrolling.ensures)
-    (c.told.ensures.stepped plain next stands (subst Untold (sym c.with_view-next.ensures) untold))
+    (c.told.ensures.stepped plain next stands (subst Untold (sym c.document_of-next.ensures) untold))
 
 pub returns-clause-sessions : goal.returns-clause-sessions
 returns-clause-sessions c =
     subst (λ sessions. IfOk c.told.result (λ made. made.0.text.sessions ≡ sessions))
-    (ap (λ (d : Doc). d.text.sessions) c.with_view-next.ensures ∙ ap (λ (t : TextState). t.sessions) c.in_ok-text.ensures.same ∙
+    (ap (λ (d : Doc). d.text.sessions) c.document_of-next.ensures ∙ ap (λ (t : TextState). t.sessions) c.in_ok-text.ensures.same ∙
     ap (λ (d : Doc). d.text.sessions) c.self.view_is) c.told.ensures.sessions
