@@ -1,0 +1,6 @@
+mod AskLemmas
+mod BookLemmas
+mod LeafLemmas
+mod TimeLemmas
+mod TellerLemmas
+mod RunLemmas
