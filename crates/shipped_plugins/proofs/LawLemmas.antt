@@ -17,14 +17,14 @@ use Rattle.plugin_side.specs.declared.heard.Answered.TheVariants.{Chunk, Edited,
 use Rattle.plugin_side.specs.declared.heard.Heard.{Heard}
 use Rattle.plugin_side.specs.declared.heard.Heard.TheVariants as Hears
 use Rattle.plugin_side.specs.Heard.{heard_in}
-use Rattle.shipped_plugins.specs.Turns.{Step, passed}
+use Rattle.shipped_plugins.specs.Turns.{Upshot, passed}
 use Rattle.shipped_plugins.specs.Todo.{Version, TodoState, ack_ask, read_ask, answer_asks, asked_at, number_of, reads, settles, told_version, todo_step, todo_turn}
 use Rattle.shipped_plugins.specs.Storm.{SizedVersion, StormState, storm_start, storm_delta, edit_ask, first_of, counts, quiet_changes, storm_step, storm_turn, told_change}
 use Rattle.shipped_plugins.proofs.TurnLemmas.{all_append}
 use Rattle.shipped_plugins.specs.Laws.{is_read, HasIdsFrom, IdsComeOnce, acknowledges, is_version, is_told, acks_of, tells_of, tellings_of, waiting_for, AcksAreTold, AreBehind, AcksFollowSpans, IsLengthIn, heard_change, TellLengths, FitsIn, EditsFit}
 
 -- what a version makes the marker ask, where there is an id for it or none
-abbrev read_step : TodoState → Version → Bool → Step TodoState
+abbrev read_step : TodoState → Version → Bool → Upshot TodoState
 read_step state version some =
     if some
     then record {
@@ -260,14 +260,14 @@ first_is texts None now h k = k
 first_is texts (Some first) now h k = h
 
 -- what a change makes the plugin ask, where it passes or not
-abbrev count_step : StormState → SizedVersion → Bool → Step StormState
+abbrev count_step : StormState → SizedVersion → Bool → Upshot StormState
 count_step state now quiet =
     if quiet
     then passed (record { count = state.count + 1; first = Some (first_of state.first now) })
     else record { after = storm_start; asks = edit_ask (first_of state.first now) ∷ ack_ask now.version ∷ [] }
 
 -- what a step comes to where lengths are so
-abbrev FitsAfter : (Version → List ℕ) → Step StormState → Type 0
+abbrev FitsAfter : (Version → List ℕ) → Upshot StormState → Type 0
 FitsAfter texts step = IfSome step.after.first (IsLengthIn texts) × AllByRecursion (λ command. FitsIn texts command.act) step.asks
 
 fits_counted : (texts : Version → List ℕ) (state : StormState) (now : SizedVersion) (quiet : Bool) → IfSome state.first (IsLengthIn texts) → IsLengthIn texts now

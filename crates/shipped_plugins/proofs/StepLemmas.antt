@@ -16,7 +16,7 @@ use Rattle.xi_plain.specs.declared.command.Command.{Command}
 use Rattle.xi_plain.specs.declared.span.WireSpan.{WireSpan}
 use Rattle.find_core.proofs.ForCallers.{matches_of-inside}
 use Rattle.plugin_side.specs.Range.{IsTakenSpan, IsTakenCommand}
-use Rattle.shipped_plugins.specs.Turns.{Step, Gives, Comes}
+use Rattle.shipped_plugins.specs.Turns.{Upshot, Gives, Comes}
 use Rattle.shipped_plugins.specs.Marks.{mark, marks_of, mark_span, spans_of}
 use Rattle.shipped_plugins.specs.Todo.{Version, TodoState, read_ask, reads, spans_ask}
 
@@ -69,13 +69,9 @@ IsTakenCommand-spans chunk copied rev len spans below short long made =
       id = tt;
       act = (
         below,
-        (
-          omega arith,
-          (
-            short,
-            subst (AllByRecursion (IsTakenSpan len)) (sym made)
-                (each_taken len (length (encode_utf8_all chunk)) (marks_of chunk) inside (matches_of-inside (encode_utf8_all chunk) mark false)),
-          ),
-        ),
+        omega arith,
+        short,
+        subst (AllByRecursion (IsTakenSpan len)) (sym made)
+            (each_taken len (length (encode_utf8_all chunk)) (marks_of chunk) inside (matches_of-inside (encode_utf8_all chunk) mark false)),
       );
     }

@@ -13,7 +13,7 @@ use Rattle.plugin_wire.specs.Asked.{ask_of, ask_from}
 use Rattle.plugin_side.specs.Asking.{command_data}
 use Rattle.plugin_side.specs.declared.heard.Heard.{Heard}
 use Rattle.plugin_side.specs.Heard.{heard_in}
-use Rattle.shipped_plugins.specs.Turns.{Step, passed, utf8_of, line_bytes, lines_of, ReadsBack, Gives, GivesFirst, Comes, ComesFirst, heeded, HeedsAll, HeedsFirst}
+use Rattle.shipped_plugins.specs.Turns.{Upshot, passed, utf8_of, line_bytes, command_lines, ReadsBack, Gives, GivesFirst, Comes, ComesFirst, heeded, HeedsAll, HeedsFirst}
 
 -- ---- lines that are given
 
@@ -35,16 +35,16 @@ Gives-pushed command line before after is back puts =
 
 -- ---- the LF at the end of a line
 
--- a line without its last byte
-pub line_bytes-popped : (command : Command) (old new : List ℕ) → old ≡ line_of (command_data command)
-    → (0 < length old → get_or old (length old - 1) 0 < 128 → new ≡ take (length old - 1) old) → new ≡ line_bytes command
+-- a line of so many bytes without the last one
+pub line_bytes-popped : (command : Command) (old new : List ℕ) (n : ℕ) → n ≡ length old → old ≡ line_of (command_data command)
+    → (0 < n → get_or old (n - 1) 0 < 128 → new ≡ take (n - 1) old) → new ≡ line_bytes command
 unfolding line_bytes line_of
-line_bytes-popped command old new is pops =
+line_bytes-popped command old new n count is pops =
     let text = compact_text (command_data command) in
     let long : length old ≡ length text + 1 = ap length is ∙ length-append text (10 ∷ []) in
-    let last : length text ≡ length old - 1 = omega (arith, long) in
-    let byte : get_or old (length old - 1) 0 ≡ 10 = ap (λ l. get_or l (length old - 1) 0) is ∙ get_or_push text 10 0 (length old - 1) last in
-    pops (omega (arith, long)) (omega (arith, byte)) ∙ ap (take (length old - 1)) is ∙ take_at text (10 ∷ []) (length old - 1) last
+    let last : length text ≡ n - 1 = omega (arith, long, count) in
+    let byte : get_or old (n - 1) 0 ≡ 10 = ap (λ l. get_or l (n - 1) 0) is ∙ get_or_push text 10 0 (n - 1) last in
+    pops (omega (arith, long, count)) (omega (arith, byte)) ∙ ap (take (n - 1)) is ∙ take_at text (10 ∷ []) (n - 1) last
 
 -- without it the core reads the line as with it
 pub ReadsBack-line : (command : Command) (line : List ℕ) → EndsDoNotMatter → IsLineOf (command_data command) line → ask_of line ≡ command → ReadsBack command
@@ -59,7 +59,7 @@ ReadsBack-line command line ends is asks =
 pub Gives-then : (first later : List Command) (from between to : List (List ℕ)) → Gives first from between → Gives later between to → Gives (first ++ later) from to
 Gives-then first later from between to h k = record {
   put =
-      k.put ∙ ap (λ lines. lines ++ lines_of later) h.put ∙ append_assoc from (lines_of first) (lines_of later)
+      k.put ∙ ap (λ lines. lines ++ command_lines later) h.put ∙ append_assoc from (command_lines first) (command_lines later)
       ∙ ap (λ lines. from ++ lines) (sym (map-append line_bytes first later));
   reads = all_append ReadsBack first later h.reads k.reads;
 }
@@ -83,7 +83,7 @@ GivesFirst-begun first later from to h = GivesFirst-then first later from to to 
 
 -- ---- lines that are heeded
 
-module _ {S : Type 0} (step : S → Heard → Step S) where
+module _ {S : Type 0} (step : S → Heard → Upshot S) where
   pub heeded-append-after : (state : S) (lines more : List (List ℕ)) → (heeded step state (lines ++ more)).after ≡ (heeded step (heeded step state lines).after more).after
   heeded-append-after state [] more = refl
   heeded-append-after state (line ∷ lines) more = heeded-append-after (step state (heard_in line)).after lines more

@@ -27,12 +27,13 @@ pub record StandsIn (chunk rest : List ℕ) (span : WireSpan) : Type 0 where
   pub start : is_place (chunk ++ rest) span.start ≡ true
   pub end : is_place (chunk ++ rest) span.end ≡ true
 
--- SPANS STAND AT PLACES of each text that begins with the chunk, and so does the chunk's end
+-- the marks are those from the left, and the chunk's end and the spans stand at places of the text that begins with it
 pub record SpansStand (chunk rest : List ℕ) : Type 0 where
   pub marks : AreMatchesFrom mark (encode_utf8_all chunk) 0 (marks_of chunk)
   pub len : is_place (chunk ++ rest) (byte_len chunk) ≡ true
   pub spans : AllByRecursion (StandsIn chunk rest) (spans_of chunk)
 
+-- SPANS STAND AT PLACES of each text that begins with the chunk
 abbrev pub SpansStandInTexts : Type 0
 SpansStandInTexts = (chunk rest : List ℕ) → all_scalars chunk ≡ true → SpansStand chunk rest
 

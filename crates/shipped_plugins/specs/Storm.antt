@@ -10,7 +10,7 @@ use Rattle.plugin_side.specs.declared.heard.Told.{Told}
 use Rattle.plugin_side.specs.declared.heard.Told.TheVariants.{Started, Opened, Changed, Closed, Stopped}
 use Rattle.plugin_side.specs.declared.heard.Heard.{Heard}
 use Rattle.plugin_side.specs.declared.heard.Heard.TheVariants as Hears
-use Rattle.shipped_plugins.specs.Turns.{Step, passed, heeded}
+use Rattle.shipped_plugins.specs.Turns.{Upshot, passed, heeded}
 use Rattle.shipped_plugins.specs.Todo.{Version, version_of, ack_ask}
 
 -- a version, and the length of its text in bytes
@@ -48,7 +48,7 @@ first_of None now = now
 first_of (Some first) now = first
 
 -- a text changed to this version
-abbrev pub counts : StormState → Option SizedVersion → Step StormState
+abbrev pub counts : StormState → Option SizedVersion → Upshot StormState
 counts state None = passed state
 counts state (Some now) =
     if nat_lt state.count quiet_changes
@@ -70,11 +70,11 @@ told_change (Changed notice) = sized_of notice
 told_change other = None
 
 -- what it makes of what it hears
-abbrev pub storm_step : StormState → Heard → Step StormState
+abbrev pub storm_step : StormState → Heard → Upshot StormState
 storm_step state (Hears.Told told) = counts state (told_change told)
 storm_step state (Hears.Answer id answer) = passed state
 storm_step state Hears.Nothing = passed state
 
 -- WHAT THE LINES OF A TURN COME TO
-abbrev pub storm_turn : StormState → List (List ℕ) → Step StormState
+abbrev pub storm_turn : StormState → List (List ℕ) → Upshot StormState
 storm_turn = heeded storm_step

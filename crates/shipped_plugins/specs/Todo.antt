@@ -14,7 +14,7 @@ use Rattle.plugin_side.specs.declared.heard.Answered.{Answered}
 use Rattle.plugin_side.specs.declared.heard.Answered.TheVariants.{Chunk, Edited, Lines, Null, Failed, Other}
 use Rattle.plugin_side.specs.declared.heard.Heard.{Heard}
 use Rattle.plugin_side.specs.declared.heard.Heard.TheVariants as Hears
-use Rattle.shipped_plugins.specs.Turns.{Step, passed, heeded}
+use Rattle.shipped_plugins.specs.Turns.{Upshot, passed, heeded}
 use Rattle.shipped_plugins.specs.Marks.{spans_of}
 
 -- a revision of a view
@@ -82,7 +82,7 @@ abbrev pub asked_at : List (ℕ × Version) → ℕ → Option Version
 asked_at asked id = lookup (is_at (nat_cmp id)) asked
 
 -- a version is read, by the next id, while there is one behind that
-abbrev pub reads : TodoState → Option Version → Step TodoState
+abbrev pub reads : TodoState → Option Version → Upshot TodoState
 reads state None = passed state
 reads state (Some version) =
     if nat_lt state.next (2 ^ 64 - 1)
@@ -93,7 +93,7 @@ reads state (Some version) =
     else passed state
 
 -- an answer lets go what was asked for by its id
-abbrev pub settles : TodoState → Option ℕ → Answered → Step TodoState
+abbrev pub settles : TodoState → Option ℕ → Answered → Upshot TodoState
 settles state None answer = passed state
 settles state (Some id) answer = record {
   after = record { next = state.next; asked = remove_entry (is_at (nat_cmp id)) state.asked };
@@ -101,11 +101,11 @@ settles state (Some id) answer = record {
 }
 
 -- what it makes of what it hears
-abbrev pub todo_step : TodoState → Heard → Step TodoState
+abbrev pub todo_step : TodoState → Heard → Upshot TodoState
 todo_step state (Hears.Told told) = reads state (told_version told)
 todo_step state (Hears.Answer id answer) = settles state (number_of id) answer
 todo_step state Hears.Nothing = passed state
 
 -- WHAT THE LINES OF A TURN COME TO
-abbrev pub todo_turn : TodoState → List (List ℕ) → Step TodoState
+abbrev pub todo_turn : TodoState → List (List ℕ) → Upshot TodoState
 todo_turn = heeded todo_step

@@ -10,12 +10,12 @@ use Rattle.plugin_side.specs.declared.heard.Heard.{Heard}
 use Rattle.plugin_side.specs.Heard.{heard_in}
 
 -- what something comes to: the state after it, and what is asked
-pub record Step (S : Type 0) : Type 0 where
+pub record Upshot (S : Type 0) : Type 0 where
   pub after : S
   pub asks : List Command
 
 -- nothing changes, and nothing is asked
-abbrev pub passed : {S : Type 0} → S → Step S
+abbrev pub passed : {S : Type 0} → S → Upshot S
 passed state = record { after = state; asks = [] }
 
 -- texts as bytes
@@ -29,8 +29,8 @@ unfoldable pub line_bytes : Command → List ℕ
 line_bytes command = compact_text (command_data command)
 
 -- the lines of commands, in their order
-abbrev pub lines_of : List Command → List (List ℕ)
-lines_of commands = map line_bytes commands
+abbrev pub command_lines : List Command → List (List ℕ)
+command_lines commands = map line_bytes commands
 
 -- the core reads the line of the command as this command
 abbrev pub ReadsBack : Command → Type 0
@@ -38,7 +38,7 @@ ReadsBack command = ask_of (line_bytes command) ≡ command
 
 -- the lines of these commands were put behind others, and the core reads each as its command
 pub record Gives (commands : List Command) (before after : List (List ℕ)) : Type 0 where
-  pub put : after ≡ before ++ lines_of commands
+  pub put : after ≡ before ++ command_lines commands
   pub reads : AllByRecursion ReadsBack commands
 
 -- those of the first of them were, and those of the rest were not
@@ -51,18 +51,18 @@ pub record GivesFirst (commands : List Command) (before after : List (List ℕ))
 -- ---- what lines come to
 
 -- a step was taken, and all that it asks was given
-pub record Comes {S : Type 0} (step : Step S) (after : S) (from to : List (List ℕ)) : Type 0 where
+pub record Comes {S : Type 0} (step : Upshot S) (after : S) (from to : List (List ℕ)) : Type 0 where
   pub state : after ≡ step.after
   pub gives : Gives step.asks from to
 
 -- it was taken, and the first of what it asks was given
-pub record ComesFirst {S : Type 0} (step : Step S) (after : S) (from to : List (List ℕ)) : Type 0 where
+pub record ComesFirst {S : Type 0} (step : Upshot S) (after : S) (from to : List (List ℕ)) : Type 0 where
   pub state : after ≡ step.after
   pub gives : GivesFirst step.asks from to
 
-module _ {S : Type 0} (step : S → Heard → Step S) where
+module _ {S : Type 0} (step : S → Heard → Upshot S) where
   -- WHAT LINES COME TO, each heard after the one before it
-  abbrev pub heeded : S → List (List ℕ) → Step S
+  abbrev pub heeded : S → List (List ℕ) → Upshot S
   heeded state [] = passed state
   heeded state (line ∷ lines) =
       let first = step state (heard_in line) in

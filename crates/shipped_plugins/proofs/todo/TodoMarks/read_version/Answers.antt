@@ -1,4 +1,4 @@
-use Rattle.std.proofs.Common.{ap, ◌∙◌}
+use Rattle.std.proofs.Common.{sym, ap, ◌∙◌}
 use Rattle.shipped_plugins.specs.Turns.{utf8_of}
 use Rattle.shipped_plugins.proofs.TurnLemmas.{Gives-pushed}
 use Rattle.shipped_plugins.proofs.StepLemmas.{Comes-read, popped-back}
@@ -14,12 +14,11 @@ returns-in-Ok-clause-all c =
 pub returns-clause-unchanged : goal.returns-clause-unchanged
 returns-clause-unchanged c =
     let same = ap (λ entries. record { next = c.self.inside.next; asked = entries }) c.in-Err.ensures.err ∙ c.self.view_is in
-    let back =
-    popped-back c.args.given.now c.pop-line.new.self c.in_ok-line.line c.pop-line.result (rw c.in_ok-push.ensures.pushed c.pop-line.ensures.popped)
-    (rw c.in_ok-push.ensures.pushed c.pop-line.ensures.none.0) in (
+    let pushed = sym c.in_ok-push.ensures.pushed in (
       elim c.match-line.branch [
         | in-Some-1 w ↦ w.self-is ∙ same
         | in-None-1 w ↦ w.self-is ∙ same
       ],
-      back,
+      popped-back c.args.given.now c.pop-line.new.self c.in_ok-line.line c.pop-line.result (pushed ∙ c.pop-line.ensures.popped)
+          (λ none. pushed ∙ c.pop-line.ensures.none.0 none),
     )
