@@ -1,3 +1,9 @@
 pub mod LineLemmas
 pub mod WholeLemmas
 pub mod TouchedLemmas
+pub mod CutLemmas
+pub mod ChangedLemmas
+pub mod TreeLemmas
+pub mod SeenLemmas
+pub mod CuttingLemmas
+pub mod WrappedLemmas

@@ -147,7 +147,7 @@ pieces_at-line number start (c ∷ line) [] cuts are = absurd (let none : 0 ≡ 
 pieces_at-line number start (c ∷ line) (end ∷ ends) cuts are = pieces_at-first number start (length (c ∷ line)) end ends cuts are.1
 
 -- each line is cut somewhere
-abbrev AreCut : (List ℕ → List ℕ) → List (List ℕ) → Type 0
+abbrev pub AreCut : (List ℕ → List ℕ) → List (List ℕ) → Type 0
 AreCut ends_of lines = AllByRecursion (λ line. AreEnds (length line) (ends_of line)) lines
 
 module _ (width tab : ℕ) where
@@ -162,12 +162,15 @@ module _ (width tab : ℕ) where
   pub pieces_at-cuts : (text : List ℕ) → AreCut (breaks_of width tab) (logical_lines text) → pieces_at 1 0 (cuts_of width tab text) ≡ wrapped_pieces width tab text
   pieces_at-cuts text are = pieces_at-lines 1 0 (logical_lines text) are
 
+  pub AreCut-lines : (lines : List (List ℕ)) → AllByRecursion (λ (line : List ℕ). all_scalars line ≡ true) lines → AreCut (breaks_of width tab) lines
+  AreCut-lines [] each = tt
+  AreCut-lines (line ∷ lines) each = (AreEnds-breaks_of width tab line each.0, AreCut-lines lines each.1)
+
+  pub AreCut-text : (text : List ℕ) → all_scalars text ≡ true → AreCut (breaks_of width tab) (logical_lines text)
+  AreCut-text text scalars = AreCut-lines (logical_lines text) (lines-scalars text scalars)
+
   pub pieces_at-text : (text : List ℕ) → all_scalars text ≡ true → pieces_at 1 0 (cuts_of width tab text) ≡ wrapped_pieces width tab text
-  pieces_at-text text scalars = pieces_at-cuts text (cut_lines (logical_lines text) (lines-scalars text scalars))
-    where
-      cut_lines : (lines : List (List ℕ)) → AllByRecursion (λ (line : List ℕ). all_scalars line ≡ true) lines → AreCut (breaks_of width tab) lines
-      cut_lines [] each = tt
-      cut_lines (line ∷ lines) each = (AreEnds-breaks_of width tab line each.0, cut_lines lines each.1)
+  pieces_at-text text scalars = pieces_at-cuts text (AreCut-text text scalars)
 
 -- ---- pieces go on
 

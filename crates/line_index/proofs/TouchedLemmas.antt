@@ -27,7 +27,7 @@ last_lines-of front middle rest =
     ap (λ (t : List ℕ). drop (lf_count (front ++ middle) + 1) (logical_lines t)) (sym (append_assoc front middle rest)) ∙ last_lines (front ++ middle) rest
 
 -- a list in three
-in_three : (from to : ℕ) (lines : List (List ℕ)) → from ≤ to → lines ≡ take from lines ++ (slice_range lines from to ++ drop to lines)
+pub in_three : (from to : ℕ) (lines : List (List ℕ)) → from ≤ to → lines ≡ take from lines ++ (slice_range lines from to ++ drop to lines)
 in_three from to lines ordered =
     let sum : from + (to - from) ≡ to = omega arith in
     sym (take-append-drop from lines) ∙

@@ -87,7 +87,7 @@ piece-past text index past = elim (slice_get_cases (whole_lines text) index).1 [
   | inr outside ↦ outside.1
 ]
 
-start-whole : (text : List ℕ) (index : ℕ) (piece : Piece) → slice_get (whole_lines text) index ≡ Some piece →
+pub start-whole : (text : List ℕ) (index : ℕ) (piece : Piece) → slice_get (whole_lines text) index ≡ Some piece →
     (piece.start ≡ line_start text index) × (piece.end ≡ line_start text (index + 1)) × (is_some piece.ln ≡ true) × (index ≤ lf_count text)
 start-whole text index piece is =
     let inside : index ≤ lf_count text = omega (arith, slice_get_within (whole_lines text) index piece is, length-whole_lines text) in
@@ -191,7 +191,7 @@ line_start-after text gap index few inside = elim (cases_lt gap (line_start text
 ]
 
 -- THE LAYOUT LINE OF A GAP is as many as LFs stand left of it
-layout-whole : (text front back : List ℕ) (gap : ℕ) → text ≡ front ++ back → length front ≤ gap → (length front ≡ gap) ⊎ (back ≡ []) →
+pub layout-whole : (text front back : List ℕ) (gap : ℕ) → text ≡ front ++ back → length front ≤ gap → (length front ≡ gap) ⊎ (back ≡ []) →
     lf_count front ≡ layout_line_of (whole_lines text) gap
 layout-whole text front back gap cut reached which =
     IsLayoutLineOf-only (whole_lines text) gap (lf_count front) _ (record {

@@ -57,5 +57,6 @@ EditTouches width tab front gone come back =
     (cuts_of_lines width tab (slice_range (logical_lines (front ++ (come ++ back))) (lf_count front) (lf_count (front ++ come) + 1)) ++
     cuts_of_lines width tab (drop (lf_count (front ++ gone) + 1) (logical_lines (front ++ (gone ++ back)))))
 
+-- the same of all edits
 abbrev pub EditsTouchLines : Type 0
 EditsTouchLines = (width tab : ℕ) (front gone come back : List ℕ) → EditTouches width tab front gone come back

@@ -1,3 +1,7 @@
 pub mod Cuts
+pub mod Sizes
 pub mod Whole
+pub mod Index
+pub mod Inner
+pub mod How
 pub mod Laws
