@@ -13,7 +13,7 @@ use Rattle.plain_edits.proofs.callers.HistoryLemmas.{text_at-undid_back}
 use Rattle.undo_groups.specs.Groups.{Groups, IsStack, next_redo, next_undo, redone_one, undone_one}
 use Rattle.undo_groups.specs.Laws.{RedoTakesUndoBack as StackLaw}
 use Rattle.doc_text.specs.Collecting.{AreAcknowledged, AreEnded, HasNoneLeft, collection_after, least_acknowledged, with_collection}
-use Rattle.doc_text.specs.Writing.{Writing, head_text}
+use Rattle.doc_text.specs.Writing.{head_text}
 use Rattle.doc_session.specs.Document.{Document, no_request}
 use Rattle.doc_session.specs.declared.looking.Viewing.TheVariants.{Other as NoCommand}
 use Rattle.doc_session.specs.Effects.{settled}

@@ -25,7 +25,7 @@ use Rattle.doc_session.specs.declared.event.Event.{Event}
 use Rattle.doc_session.specs.declared.event.Event.TheVariants.{Ack, Config as Configure, Edit, Ended, Front, Other, Spans}
 use Rattle.doc_text.specs.Asking.{asked_spans}
 use Rattle.doc_text.specs.Collecting.{collection_after, with_collection}
-use Rattle.doc_text.specs.Writing.{Writing, head_text}
+use Rattle.doc_text.specs.Writing.{head_text}
 use Rattle.doc_session.specs.Document.{Document, loaded_document, no_request}
 use Rattle.doc_view.specs.View.{View}
 use Rattle.doc_session.specs.declared.looking.Viewing.{Viewing}

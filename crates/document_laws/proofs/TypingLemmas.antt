@@ -20,7 +20,7 @@ use Rattle.edit_groups.specs.Typing.{run_on, run_with}
 use Rattle.doc_session.specs.Asking.{front_edit}
 use Rattle.doc_text.specs.Collecting.{collection_after, with_collection}
 use Rattle.doc_view.specs.View.{View, pieces_in}
-use Rattle.doc_text.specs.Writing.{Writing, head_text}
+use Rattle.doc_text.specs.Writing.{head_text}
 use Rattle.doc_session.specs.Document.{Document, no_request}
 use Rattle.doc_session.specs.Effects.{pristine_from, settled}
 use Rattle.doc_session.specs.Step.{collected_document, effect_on, history_step, idle_step, is_idle, selected_document, taken_step, typed_document, typed_step, undone_document, with_text}
