@@ -19,7 +19,7 @@ pub(crate) struct Entry<'a> {
 }
 
 // Whether the runs may be handed to a plan.
-fn are_stays(stays: &[Stay], count: u64, total: u64) -> bool
+pub(crate) fn are_stays(stays: &[Stay], count: u64, total: u64) -> bool
     ensures { IsTrue result → AreStays count total stays.now }
 {
     let mut old = 0;
