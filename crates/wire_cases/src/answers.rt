@@ -77,10 +77,16 @@ fn a_chunk_has_the_place_where_it_starts(rt: HostRuntime) {
     );
 }
 
-/// The refusal of a line by a member.
-fn bad_params(alloc: Global, id: &Id, member: &str) -> Result<Text, NoMemory> {
+/// The refusal of a line with this numeric id by a member.
+fn bad_params(alloc: Global, id: u64, member: &str) -> Result<Text, NoMemory> {
     let member = Text::from_str(alloc, member)?;
-    answer_of(alloc, id, &PluginReply::Refused(Fault::BadParams(member)))
+    answered(alloc, id, PluginReply::Refused(Fault::BadParams(member)))
+}
+
+/// The refusal of a line without an id by a member.
+fn unnamed_bad_params(alloc: Global, member: &str) -> Result<Text, NoMemory> {
+    let member = Text::from_str(alloc, member)?;
+    unnamed(alloc, PluginReply::Refused(Fault::BadParams(member)))
 }
 
 const NO_VIEW: &str =
@@ -93,8 +99,8 @@ const PARSE: &str = "{\"error\":{\"code\":-32700,\"message\":\"parse error\"},\"
 #[test]
 fn a_refused_line_is_answered_without_an_id_too(rt: HostRuntime) {
     let alloc = rt.alloc();
-    assert!(rt; is(bad_params(alloc, &Id::NoId, "view_id"), NO_VIEW));
-    assert!(rt; is(bad_params(alloc, &Id::Num(3), "len"), NO_PLACE));
+    assert!(rt; is(unnamed_bad_params(alloc, "view_id"), NO_VIEW));
+    assert!(rt; is(bad_params(alloc, 3, "len"), NO_PLACE));
     assert!(rt; is(unnamed(alloc, PluginReply::Refused(Fault::Parse)), PARSE));
 }
 
@@ -164,12 +170,10 @@ fn are(made: Result<Texts, NoMemory>, expected: &[&str]) -> bool {
     if texts.len() != expected.len() {
         return false;
     }
-    let mut at = 0;
-    for text in texts {
-        if text.as_str() != expected[at] {
+    for (text, wanted) in texts.iter().zip(expected) {
+        if text.as_str() != *wanted {
             return false;
         }
-        at += 1;
     }
     true
 }
