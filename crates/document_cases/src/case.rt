@@ -69,7 +69,7 @@ pub fn run_case(alloc: Global, case: &[u8]) -> anyhow::Result<Count>
 impl CaseRun {
     /// A document of the text, with two plugins, whose view was opened.
     fn new(alloc: Global, text: Text, count: Count) -> anyhow::Result<CaseRun>
-        ensures { IfOk result (λ made. length made.doc.sessions ≡ 2) }
+        ensures { IfOk result (λ made. length made.doc.text.sessions ≡ 2) }
     {
         let doc = Doc::of_text(alloc, text, 2, LIMIT, CONFIG)?;
         let mut run = CaseRun {
@@ -84,8 +84,8 @@ impl CaseRun {
 
     /// Takes a line: a new document, an event, several of them, or what the last one came to.
     fn take(&mut self, alloc: Global, line: &[u8]) -> anyhow::Result<()>
-        requires { length self.old.doc.sessions ≡ 2 }
-        ensures { length self.new.doc.sessions ≡ 2 }
+        requires { length self.old.doc.text.sessions ≡ 2 }
+        ensures { length self.new.doc.text.sessions ≡ 2 }
     {
         let mut words = Words { rest: line };
         match words.next_word() {
@@ -101,8 +101,8 @@ impl CaseRun {
 
     /// Another document begins.
     fn begin(&mut self, alloc: Global, words: &mut Words<'_>) -> anyhow::Result<()>
-        requires { length self.old.doc.sessions ≡ 2 }
-        ensures { length self.new.doc.sessions ≡ 2 }
+        requires { length self.old.doc.text.sessions ≡ 2 }
+        ensures { length self.new.doc.text.sessions ≡ 2 }
     {
         self.ensure_said()?;
         *self = CaseRun::new(alloc, text_left(alloc, words)?, self.count)?;
@@ -111,8 +111,8 @@ impl CaseRun {
 
     /// The event in the line, so many times.
     fn repeat(&mut self, alloc: Global, words: &mut Words<'_>) -> anyhow::Result<()>
-        requires { length self.old.doc.sessions ≡ 2 }
-        ensures { length self.new.doc.sessions ≡ 2 }
+        requires { length self.old.doc.text.sessions ≡ 2 }
+        ensures { length self.new.doc.text.sessions ≡ 2 }
     {
         for _ in 0..number(words)? {
             self.meet(alloc, read_event(alloc, words.rest)?)?;
@@ -122,9 +122,9 @@ impl CaseRun {
 
     /// An event comes to the document.
     fn meet(&mut self, alloc: Global, event: Event) -> anyhow::Result<()>
-        requires sessions { length self.old.doc.sessions ≡ 2 }
+        requires sessions { length self.old.doc.text.sessions ≡ 2 }
         requires event { IsEventFor 2 event }
-        ensures { length self.new.doc.sessions ≡ 2 }
+        ensures { length self.new.doc.text.sessions ≡ 2 }
     {
         self.ensure_said()?;
         ensure!(self.doc.head() < MOST, "the case is too long");
@@ -153,8 +153,8 @@ impl CaseRun {
 
     /// What the line says is what came.
     fn compare(&mut self, alloc: Global, line: &[u8], came: &str) -> anyhow::Result<()>
-        requires { length self.old.doc.sessions ≡ 2 }
-        ensures { length self.new.doc.sessions ≡ 2 }
+        requires { length self.old.doc.text.sessions ≡ 2 }
+        ensures { length self.new.doc.text.sessions ≡ 2 }
     {
         ensure_same(alloc, line, came)?;
         if line.starts_with(b"refused") {
@@ -204,9 +204,9 @@ fn applied<L: Ledger>(
     requires name { blank.name ≡ L.name }
     requires parts { blank.parts ≡ L.parts }
     requires some { 0 < blank.parts }
-    requires event { IsEventFor (length doc.old.sessions) event }
-    requires has_number { head doc.old.engine.revisions < 2 ^ 63 - 1 }
-    ensures { length doc.new.sessions ≡ length doc.old.sessions }
+    requires event { IsEventFor (length doc.old.text.sessions) event }
+    requires has_number { head doc.old.text.engine.revisions < 2 ^ 63 - 1 }
+    ensures { length doc.new.text.sessions ≡ length doc.old.text.sessions }
 {
     let mut steps = Steps::<L>::new(blank);
     doc.apply(alloc, event, &mut steps)
