@@ -15,5 +15,6 @@ mod since;
 
 pub use asked::AskedSpans;
 pub use fault::{Misplaced, SpansFault};
+pub use places::gap_at;
 pub use read::Read;
 pub use since::with_spans;

@@ -85,8 +85,8 @@ fn gap_past(text: &Rope, from: u64, more: u64) -> Option<u64>
     }
 }
 
-// The gap whose place is this byte offset, if the offset is a place.
-fn gap_at(text: &Rope, at: u64) -> Option<u64>
+/// The gap whose place is this byte offset, if the offset is a place; it costs the height of the rope.
+pub fn gap_at(text: &Rope, at: u64) -> Option<u64>
     ensures { result ≡ gap_at text.now at }
 {
     gap_by::<Brand>(text, at, Blank::new(1))
