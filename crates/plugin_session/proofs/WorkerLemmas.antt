@@ -18,7 +18,8 @@ use Rattle.plugin_session.proofs.DoorLemmas.{TellsMore-none, TellsMore-append}
 use Rattle.plugin_session.proofs.SeatLemmas.{no_own}
 use Rattle.plugin_session.proofs.SessionLemmas.{served_stays}
 
-same_on : (a b c : Known) → IsSamePass a b → IsSamePass b c → IsSamePass a c
+-- a pass that goes on twice is the same one
+pub same_on : (a b c : Known) → IsSamePass a b → IsSamePass b c → IsSamePass a c
 same_on a b c one two =
     record { room = two.room ∙ one.room; caller = two.caller ∙ one.caller; made = two.made ∙ one.made }
 

@@ -1,5 +1,5 @@
 // Workers on threads.
-ghost use Rattle.std.specs.Prelude.{◌≡◌, IfOk, IfErr};
+ghost use Rattle.std.specs.Prelude.{◌≡◌, false, IfOk, IfErr};
 ghost use Rattle.plugin_session.specs.Hired.{Hiring, IsHandedBack};
 ghost use Rattle.plugin_session.specs.Worker.{MayWork};
 
@@ -32,8 +32,8 @@ impl<O: Object, P: Plugin> Promise<Handed<P>> for Given<O, P> {
     ghost kept_by = { λ given handed. IsHandedBack (O.serves given.room.value.table.shared.key.first.value) (O.answers given.room.value.table.shared.key.first.value) P.told given.pass.value given.plugin.value handed };
 }
 
-/// A worker that was hired: its thread, or what came of it at once. To a contract it is what it was given: the object that the room was made
-/// with, the pass and the plugin.
+/// A worker that was hired: its thread, or what came of it at once. To a contract it is what it was given (the object that the room was made
+/// with, the pass and the plugin), and whether it has a thread.
 #[derive(Drop)]
 pub struct Hired<O: Object, P: Plugin> {
     given: Given<O, P>,
@@ -41,12 +41,12 @@ pub struct Hired<O: Object, P: Plugin> {
 }
 
 impl<O: Object, P: Plugin> Model for Hired<O, P> {
-    ghost use Rattle.std.specs.Prelude.{◌≡◌, MatchResult};
+    ghost use Rattle.std.specs.Prelude.{◌≡◌, MatchResult, is_ok};
     ghost use Rattle.plugin_session.specs.Hired.{Hiring, IsHandedBack};
 
     ghost Value = { Hiring O P };
 
-    ghost view = { λ h. record { first = h.given.room.value.table.shared.key.first.value; pass = h.given.pass.value; plugin = h.given.plugin.value } };
+    ghost view = { λ h. record { first = h.given.room.value.table.shared.key.first.value; pass = h.given.pass.value; plugin = h.given.plugin.value; runs = is_ok h.thread } };
 
     ghost invariant = { λ h. MatchResult h.thread
         (λ handle. (handle.promise.room.value.table.shared.key.first.value ≡ h.given.room.value.table.shared.key.first.value) × (handle.promise.pass.value ≡ h.given.pass.value) × (handle.promise.plugin.value ≡ h.given.plugin.value))
@@ -92,7 +92,8 @@ pub fn hire<
     gate: &'s G,
 ) -> Hired<O, P>
     requires { MayWork O.fits O.legal room.now.table.shared.table_id room.now.table.shared.key.first.value pass }
-    ensures { result ≡ record { first = room.now.table.shared.key.first.value; pass = pass; plugin = plugin } }
+    ensures first { result.first ≡ room.now.table.shared.key.first.value }
+    ensures given { (result.pass ≡ pass) × (result.plugin ≡ plugin) }
 {
     let given = Given {
         room: Snapshot::of(room),
@@ -137,7 +138,7 @@ pub fn turned_away<O: Object, P: Plugin, G: Gate, R: Wait>(
     gate: &G,
 ) -> Hired<O, P>
     requires { MayWork O.fits O.legal room.now.table.shared.table_id room.now.table.shared.key.first.value pass }
-    ensures { result ≡ record { first = room.now.table.shared.key.first.value; pass = pass; plugin = plugin } }
+    ensures { result ≡ record { first = room.now.table.shared.key.first.value; pass = pass; plugin = plugin; runs = false } }
 {
     let given = Given {
         room: Snapshot::of(room),
@@ -153,7 +154,9 @@ pub fn turned_away<O: Object, P: Plugin, G: Gate, R: Wait>(
 }
 
 /// Whether the worker has a thread. Where it has none, [`finish`] waits for nobody.
-pub fn has_thread<O: Object, P: Plugin>(hired: &Hired<O, P>) -> bool {
+pub fn has_thread<O: Object, P: Plugin>(hired: &Hired<O, P>) -> bool
+    ensures { result ≡ hired.now.runs }
+{
     hired.thread.is_ok()
 }
 
