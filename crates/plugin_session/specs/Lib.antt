@@ -10,3 +10,4 @@ pub mod Visiting
 pub mod Worker
 pub mod Hired
 pub mod Short
+pub mod Noting

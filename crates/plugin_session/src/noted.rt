@@ -1,11 +1,17 @@
-ghost use Rattle.std.specs.Prelude.{◌≡◌, [], ◌∷◌, Some, IfOk};
+ghost use Rattle.std.specs.Prelude.{◌≡◌, ◌↔◌, ◌≤◌, [], ◌∷◌, Some, IsSome, IfOk, length};
+ghost use Rattle.xi_plain.specs.declared.ask.Ask.{Ask as AskValue};
+ghost use Rattle.xi_plain.specs.Reply.{SaysLength};
+ghost use Rattle.xi_plain.specs.Room.{asked_from};
+ghost use Rattle.plugin_session.specs.declared.noted.Noted.{Noted as NotedValue};
 ghost use Rattle.plugin_session.specs.declared.noted.Noted.TheVariants.{Asked, Looked};
+ghost use Rattle.plugin_session.specs.Call.{IsPluginAsk, IsAskServed, IsLookServed};
+ghost use Rattle.plugin_session.specs.Noting.{KeepsUnlessRefused};
 ghost use Rattle.plugin_session.specs.Turn.{TellsMore};
 
 use crate::door::Door;
 use std::alloc::Global;
-use std::mem;
-use xi_plain::{Answer, Ask, List, Query, Reply, TryClone};
+use std::marker::Model;
+use xi_plain::{Answer, Ask, List, NoMemory, Query, Reply, TryClone};
 
 /// What went through a door.
 #[derive(PartialEq, Eq, Drop)]
@@ -16,66 +22,63 @@ pub enum Noted {
     Looked(Query, Answer),
 }
 
-// What was kept, and one thing more; nothing, where there is no memory for it.
-fn keep(kept: Option<List<Noted>>, one: Noted) -> Option<List<Noted>>
-    ensures { TellsMore kept result (one ∷ []) }
+// What was asked, with its reply, where there was memory for copies of both.
+fn asked(alloc: Global, ask: Result<Ask, NoMemory>, reply: &Reply) -> Result<Noted, NoMemory>
+    ensures { (made : AskValue) → IfOk ask (λ ask. ask ≡ made) → IfOk result (λ noted. noted ≡ Asked made reply.now) }
 {
-    let Some(mut kept) = kept else { return None };
-    match kept.push(one) {
-        Ok(()) => Some(kept),
-        Err(_) => None,
-    }
+    let ask = ask?;
+    Ok(Noted::Asked(ask, reply.copy(alloc)?))
 }
 
-// The same with an ask and its reply.
-fn keep_ask(
-    alloc: Global,
-    kept: Option<List<Noted>>,
-    ask: Ask,
-    reply: &Reply,
-) -> Option<List<Noted>>
-    ensures { TellsMore kept result (Asked ask reply.now ∷ []) }
+// What was looked at, with its answer, where there was memory for a copy of it.
+fn looked(alloc: Global, query: Query, answer: &Answer) -> Result<Noted, NoMemory>
+    ensures { IfOk result (λ noted. noted ≡ Looked query answer.now) }
 {
-    match reply.copy(alloc) {
-        Ok(reply) => keep(kept, Noted::Asked(ask, reply)),
-        Err(_) => None,
-    }
+    Ok(Noted::Looked(query, answer.copy(alloc)?))
 }
 
-// The same with a query and its answer.
-fn keep_look(
-    alloc: Global,
-    kept: Option<List<Noted>>,
-    query: Query,
-    answer: &Answer,
-) -> Option<List<Noted>>
-    ensures { TellsMore kept result (Looked query answer.now ∷ []) }
-{
-    match answer.copy(alloc) {
-        Ok(answer) => keep(kept, Noted::Looked(query, answer)),
-        Err(_) => None,
-    }
-}
-
-/// A door that keeps and tells what goes through the one inside it. Where keeping finds no memory, it tells nothing from then on.
+/// A door that keeps and tells what goes through the one inside it. Where it is refused memory to keep something, it counts that, and tells
+/// nothing from then on.
 #[derive(Drop)]
 pub struct NotedDoor<D> {
     door: D,
-    kept: Option<List<Noted>>,
+    kept: List<Noted>,
+    refused: u64,
     alloc: Global,
+}
+
+impl<D> Model for NotedDoor<D> {
+    ghost use Rattle.std.specs.Prelude.{◌==◌, Some, None, if◌then◌else◌};
+    ghost use Rattle.plugin_session.specs.Noting.{Noting};
+
+    ghost Value = { Noting D };
+
+    ghost view = { λ d. record {
+      door = d.door;
+      kept = if d.refused == 0 then Some d.kept else None;
+      refused = d.refused;
+    } };
 }
 
 impl<D: Door> NotedDoor<D> {
     /// The door, of which nothing is kept yet.
     pub fn new(alloc: Global, door: D) -> NotedDoor<D>
-        ensures door { result.door ≡ door }
-        ensures kept { result.kept ≡ Some [] }
+        ensures { result ≡ record { door = door; kept = Some []; refused = 0 } }
     {
         NotedDoor {
             door,
-            kept: Some(List::new(alloc)),
+            kept: List::new(alloc),
+            refused: 0,
             alloc,
         }
+    }
+
+    /// How often it was refused memory to keep what went through. It tells that while this is 0.
+    pub fn refused(&self) -> u64
+        ensures count { result ≡ self.now.refused }
+        ensures tells { (result ≡ 0) ↔ IsSome self.now.kept }
+    {
+        self.refused
     }
 
     /// The inner door, and what went through it, where all was kept.
@@ -85,9 +88,34 @@ impl<D: Door> NotedDoor<D> {
         let NotedDoor {
             door,
             kept,
+            refused,
             alloc: _,
         } = self;
-        (door, kept)
+        if refused == 0 {
+            (door, Some(kept))
+        } else {
+            (door, None)
+        }
+    }
+
+    // Keeps what went through, where it tells all before and there is memory for it.
+    fn note(&mut self, one: Result<Noted, NoMemory>)
+        ensures door { self.new.door ≡ self.old.door }
+        ensures keeps { (noted : NotedValue) → IfOk one (λ one. one ≡ noted)
+            → KeepsUnlessRefused self.old self.new noted }
+        ensures told { (noted : NotedValue) → IfOk one (λ one. one ≡ noted)
+            → TellsMore self.old.kept self.new.kept (noted ∷ []) }
+    {
+        if self.refused > 0 {
+            return;
+        }
+        let pushed = match one {
+            Ok(one) => self.kept.push(one),
+            Err(NoMemory) => Err(NoMemory),
+        };
+        if pushed.is_err() {
+            self.refused = 1;
+        }
     }
 }
 
@@ -108,21 +136,37 @@ impl<D: Door> Door for NotedDoor<D> {
 
     ghost told = { λ d. d.kept };
 
-    fn enter(&mut self, ask: Ask) -> Reply {
+    fn enter(&mut self, ask: Ask) -> Reply
+        requires ready { D.ready self.old.door }
+        requires of_plugin { IsPluginAsk ask }
+        ensures ready { D.ready self.new.door }
+        ensures caller { D.caller self.new.door ≡ D.caller self.old.door }
+        ensures later { D.later self.old.door self.new.door }
+        ensures served { IsAskServed (D.serves self.old.door) (D.caller self.old.door) ask result
+            (D.journal self.old.door) (D.journal self.new.door) }
+        ensures told { TellsMore self.old.kept self.new.kept (Asked ask result ∷ []) }
+        ensures keeps { KeepsUnlessRefused self.old self.new (Asked ask result) }
+    {
         let copy = ask.copy(self.alloc);
         let reply = self.door.enter(ask);
-        let kept = mem::replace(&mut self.kept, None);
-        self.kept = match copy {
-            Ok(ask) => keep_ask(self.alloc, kept, ask, &reply),
-            Err(_) => None,
-        };
+        self.note(asked(self.alloc, copy, &reply));
         reply
     }
 
-    fn look(&mut self, query: Query) -> Answer {
+    fn look(&mut self, query: Query) -> Answer
+        requires ready { D.ready self.old.door }
+        requires place { asked_from query ≤ length (D.journal self.old.door) }
+        ensures ready { D.ready self.new.door }
+        ensures caller { D.caller self.new.door ≡ D.caller self.old.door }
+        ensures later { D.later self.old.door self.new.door }
+        ensures answered { IsLookServed (D.answers self.old.door) (D.caller self.old.door) query result
+            (D.journal self.old.door) (D.journal self.new.door) }
+        ensures length { SaysLength (length (D.journal self.new.door)) result }
+        ensures told { TellsMore self.old.kept self.new.kept (Looked query result ∷ []) }
+        ensures keeps { KeepsUnlessRefused self.old self.new (Looked query result) }
+    {
         let answer = self.door.look(query);
-        let kept = mem::replace(&mut self.kept, None);
-        self.kept = keep_look(self.alloc, kept, query, &answer);
+        self.note(looked(self.alloc, query, &answer));
         answer
     }
 
