@@ -30,7 +30,7 @@ update_plan-apart window request partners lines same =
 
 -- ---- which lines are valid after a plan
 
-is_there : Standing → Bool
+unfoldable pub is_there : Standing → Bool
 is_there (stays old) = true
 is_there (is_restyled old) = true
 is_there is_sent = true
@@ -67,7 +67,7 @@ there-step (Restyle old n) = there-olds is_restyled old n (λ k. refl)
 there-step (Send first n) = there-same is_sent n
 there-step (Drop n) = there-same is_left n
 
-there-plan : (plan : List Step) → map is_there (standings_of plan) ≡ shown_by plan
+pub there-plan : (plan : List Step) → map is_there (standings_of plan) ≡ shown_by plan
 there-plan [] = refl
 there-plan (step ∷ plan) =
     ap (map is_there) (flat_map-cons standings_in step plan) ∙ map-append is_there (standings_in step) (standings_of plan) ∙

@@ -7,5 +7,6 @@ mod TurnLemmas
 mod FewLemmas
 mod TakenLemmas
 mod LawLemmas
+mod NearLemmas
 mod OpsLemmas
 mod ToldLemmas

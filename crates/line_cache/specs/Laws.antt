@@ -1,11 +1,13 @@
 -- Laws that tie runs to lists.
-use Rattle.std.specs.Prelude.{◌≡◌, ℕ, Bool, List, length, Option, Some}
+use Rattle.std.specs.Prelude.{◌≡◌, ℕ, ◌+◌, ◌-◌, ◌*◌, ◌≤◌, Bool, true, ◌||◌, List, length, Option, Some}
 use Rattle.std.specs.List.{zip}
 use Rattle.plain_text.specs.declared.run.Run.{Run}
 use Rattle.plain_screen.specs.declared.screen.Line.{Line}
-use Rattle.plain_screen.specs.Plan.{with_standings, joined_ops, ops_for, update_plan, ArePartners, AreNumberedFrom}
+use Rattle.plain_screen.specs.Plan.{with_standings, joined_ops, ops_for, update_plan, is_near, is_within, margin, ArePartners, AreNumberedFrom}
 use Rattle.plain_screen.specs.Screen.{Screen, screen_after}
+use Rattle.subset_runs.specs.Subset.{contains}
 use Rattle.line_cache.specs.Mirror.{valid_lines}
+use Rattle.line_cache.specs.Runs.{run_count}
 use Rattle.line_cache.specs.Standings.{standings}
 use Rattle.line_cache.specs.Ops.{lines_at, numbers_at, ops_by}
 use Rattle.line_cache.specs.Steps.{AreLongest, ArePlacedFrom, TakesFrom, lines_in, standings_of, shown_by}
@@ -25,6 +27,16 @@ pub record MirrorsAreScreens : Type 0 where
       length partners ≡ length lines → ArePartners screen 0 partners lines → AreNumberedFrom number lines →
       standings_of plan ≡ standings window request 0 partners →
       (shown : Screen) × (screen_after screen (update_plan window request lines partners) ≡ Some shown) × (valid_lines shown ≡ shown_by plan)
+
+-- only lines near the window, or requested, are valid after an update; so a mirror never has more runs than there are such lines, however
+-- long a session is
+pub record MirrorsStayNear : Type 0 where
+  pub near : (window request : Run) (partners : List (Option (ℕ × Bool))) (plan : List Step) →
+      standings_of plan ≡ standings window request 0 partners →
+      (index : ℕ) → contains (shown_by plan) index ≡ true → (is_near window index || is_within request index) ≡ true
+  pub few : (window request : Run) (partners : List (Option (ℕ × Bool))) (plan : List Step) →
+      standings_of plan ≡ standings window request 0 partners →
+      run_count (shown_by plan) ≤ (window.end - window.start) + 2 * margin + (request.end - request.start)
 
 -- the operations of an update go by the steps of its plan: of the lines that are sent or restyled, and one number for each step that takes
 -- old lines over, they are those that the rule makes line by line

@@ -54,11 +54,12 @@ AreLongest [] = ⊤
 AreLongest (step ∷ []) = 0 < lines_of step
 AreLongest (step ∷ next ∷ plan) = (0 < lines_of step) × (joined_steps step next ≡ None) × AreLongest (next ∷ plan)
 
--- the lines that are sent are told by their indexes, the first of the plan's lines has this one
+-- where the step sends lines, it tells this index as that of the first
 abbrev pub IsPlacedAt : ℕ → Step → Type 0
 IsPlacedAt index (Send first n) = first ≡ index
 IsPlacedAt index step = ⊤
 
+-- the lines that are sent are told by their indexes; the first of the plan's lines has this one
 abbrev pub ArePlacedFrom : ℕ → List Step → Type 0
 ArePlacedFrom index [] = ⊤
 ArePlacedFrom index (step ∷ plan) = IsPlacedAt index step × ArePlacedFrom (index + lines_of step) plan

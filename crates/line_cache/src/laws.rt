@@ -1,6 +1,6 @@
 //! Laws of the definitions, each the contract of a function: they tie runs to the lists of `plain_screen`.
 
-ghost use Rattle.line_cache.specs.Laws.{MirrorsAreScreens, OperationsGoBySteps, StandingsNeedNoLines};
+ghost use Rattle.line_cache.specs.Laws.{MirrorsAreScreens, MirrorsStayNear, OperationsGoBySteps, StandingsNeedNoLines};
 
 /// How lines stand is told without them.
 pub fn standings_need_no_lines()
@@ -10,6 +10,11 @@ pub fn standings_need_no_lines()
 /// What a front end has after an update is what the plan shows.
 pub fn mirrors_are_screens()
     ensures { MirrorsAreScreens }
+{}
+
+/// A front end never has other lines than those near the window and those requested.
+pub fn mirrors_stay_near()
+    ensures { MirrorsStayNear }
 {}
 
 /// The operations of an update are told by the steps of its plan.

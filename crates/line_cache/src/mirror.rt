@@ -69,7 +69,8 @@ impl Mirror {
         request: Run,
     ) -> Result<Plan, NoMemory>
         requires { AreStays (length self.now) total stay.now }
-        ensures standings { IfOk result (λ plan. standings_of plan ≡ standings window request 0 (valid_by self.now (partners_by stay.now total))) }
+        ensures standings { IfOk result (λ plan. standings_of plan
+            ≡ standings window request 0 (valid_by self.now (partners_by stay.now total))) }
         ensures count { IfOk result (λ plan. lines_in plan ≡ total) }
         ensures longest { IfOk result AreLongest }
         ensures placed { IfOk result (ArePlacedFrom 0) }

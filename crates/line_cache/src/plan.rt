@@ -27,7 +27,8 @@ pub(crate) fn planned(
     request: Run,
 ) -> Result<Plan, NoMemory>
     requires { AreStays (length lines.now) total stays.now }
-    ensures standings { IfOk result (λ plan. standings_of plan ≡ standings window request 0 (valid_by lines.now (partners_by stays.now total))) }
+    ensures standings { IfOk result (λ plan. standings_of plan
+        ≡ standings window request 0 (valid_by lines.now (partners_by stays.now total))) }
     ensures count { IfOk result (λ plan. lines_in plan ≡ total) }
     ensures longest { IfOk result AreLongest }
     ensures placed { IfOk result (ArePlacedFrom 0) }
