@@ -5,14 +5,23 @@ use plain_screen::{Line, Lines, Op, Ops, Restyle, Restyles, Triples};
 use plain_text::{List, NoMemory, Offsets, Run, Text};
 use std::alloc::Global;
 
-/// An entry that was drawn: what stays of the old lines, how many new ones there are, window and request, and which of them have a number.
+/// Which lines have a number, each the one behind its index.
+#[derive(Clone, Copy)]
+pub(crate) enum Numbered {
+    /// All but these.
+    AllBut(Run),
+    /// Two of three, from one of three starts.
+    TwoOfThree { salt: u64 },
+}
+
+/// An entry: what stays of the old lines, how many new ones there are, window and request, and which of them have a number.
 #[derive(Drop)]
 pub(crate) struct Drawn {
     pub stay: Vec<Stay>,
     pub total: u64,
     pub window: Run,
     pub request: Run,
-    pub salt: u64,
+    pub numbered: Numbered,
 }
 
 #[derive(Clone, Copy)]
@@ -51,9 +60,13 @@ fn standing_of(entry: &Drawn, mirror: &Mirror, index: u64) -> Standing {
     }
 }
 
-/// The number of the line of an entry with this index: two of three have one.
+/// The number of the line of an entry with this index, if it has one.
 pub(crate) fn number_at(entry: &Drawn, index: u64) -> Option<u64> {
-    if index.wrapping_add(entry.salt) % 3 == 0 {
+    let bare = match entry.numbered {
+        Numbered::AllBut(lines) => is_in(lines, 0, index),
+        Numbered::TwoOfThree { salt } => index.wrapping_add(salt) % 3 == 0,
+    };
+    if bare {
         None
     } else {
         Some(index.wrapping_add(1))

@@ -1,9 +1,8 @@
 //! Entries that are drawn from a seed, each beside the rule line by line.
 
-use crate::definition::{Drawn, line_at, number_at, operations, screen_after};
-use crate::entries::are_stays;
-use line_cache::{Mirror, Plan, Stay, Step, ops_of};
-use plain_screen::Lines;
+use crate::definition::{Drawn, Numbered};
+use crate::entered::entered;
+use line_cache::{Mirror, Stay};
 use plain_text::{NoMemory, Run};
 use rand_core::{Rng, SeedableRng};
 use rand_pcg::Lcg64Xsh32;
@@ -63,75 +62,10 @@ fn entry(alloc: Global, words: &mut Lcg64Xsh32, count: u64) -> Result<Drawn, NoM
         total,
         window: run(words, part, 9),
         request: run(words, part, 4),
-        salt: below(words, 3),
+        numbered: Numbered::TwoOfThree {
+            salt: below(words, 3),
+        },
     })
-}
-
-fn first_number(entry: &Drawn, at: u64, n: u64) -> Option<u64> {
-    for past in 0..n {
-        let number = number_at(entry, at.wrapping_add(past));
-        if number.is_some() {
-            return number;
-        }
-    }
-    None
-}
-
-fn tell(alloc: Global, lines: &mut Lines, entry: &Drawn, at: u64, n: u64) -> Result<(), NoMemory> {
-    for past in 0..n {
-        lines.push(line_at(alloc, entry, at.wrapping_add(past))?)?;
-    }
-    Ok(())
-}
-
-// What the operations of a plan are told of the lines of an entry.
-fn told(alloc: Global, entry: &Drawn, plan: &Plan) -> Result<(Vec<Option<u64>>, Lines), NoMemory> {
-    let mut numbers = Vec::new(alloc);
-    let mut lines = Lines::new(alloc);
-    let mut at = 0u64;
-    for step in plan.as_slice() {
-        match *step {
-            Step::Keep { old: _, n } => numbers.push(first_number(entry, at, n))?,
-            Step::Restyle { old: _, n } => {
-                numbers.push(first_number(entry, at, n))?;
-                tell(alloc, &mut lines, entry, at, n)?;
-            }
-            Step::Send { first: _, n } => tell(alloc, &mut lines, entry, at, n)?,
-            Step::Drop { n: _ } => {}
-        }
-        at = at.wrapping_add(step.lines());
-    }
-    Ok((numbers, lines))
-}
-
-// Whether exactly these lines are valid.
-fn shows(mirror: &Mirror, shown: &[bool]) -> bool {
-    let mut at = 0u64;
-    for valid in shown {
-        if mirror.valid(at) != *valid {
-            return false;
-        }
-        at = at.wrapping_add(1);
-    }
-    mirror.len() == at
-}
-
-// What a front end has after the entry, where plan, operations and screen are those of the rule.
-fn entered(alloc: Global, mirror: &Mirror, entry: &Drawn) -> Result<Option<Mirror>, NoMemory> {
-    let count = mirror.len();
-    if !are_stays(&entry.stay, count, entry.total) {
-        return Ok(None);
-    }
-    let plan = mirror.plan(alloc, &entry.stay, entry.total, entry.window, entry.request)?;
-    let next = mirror.after(alloc, &plan)?;
-    let (numbers, lines) = told(alloc, entry, &plan)?;
-    let ops = ops_of(alloc, &plan, &numbers, lines)?;
-    let (shown, used) = screen_after(alloc, mirror, &ops)?;
-    if ops == operations(alloc, entry, mirror)? && used <= count && shows(&next, &shown) {
-        Ok(Some(next))
-    } else {
-        Ok(None)
-    }
 }
 
 // Whether each entry of a session of eight goes by the rule.
@@ -140,7 +74,7 @@ fn session_agrees(alloc: Global, words: &mut Lcg64Xsh32) -> Result<bool, NoMemor
     for _ in 0..8u64 {
         let drawn = entry(alloc, words, mirror.len())?;
         match entered(alloc, &mirror, &drawn)? {
-            Some(next) => mirror = next,
+            Some((next, _ops)) => mirror = next,
             None => return Ok(false),
         }
     }
