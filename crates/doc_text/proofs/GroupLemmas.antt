@@ -27,7 +27,7 @@ use Rattle.edit_groups.specs.Typing.{run_on, run_with}
 use Rattle.doc_text.specs.Agree.{Agree}
 use Rattle.doc_text.specs.Inner.{IsOpenGroup, IsTurned, IsTurnedBy}
 use Rattle.doc_text.specs.Whole.{IsWhole, IsWholeOf}
-use Rattle.doc_text.proofs.AgreeLemmas.{Agree-edited, Agree-still, IsLast-next_undo, IsNewest-edited, JoinsKnown, JoinsKnown-newest, JoinsNewest-run, counts-joined, edits-turned, has-next_undo, kept-joined, kept-turned, shown-joined}
+use Rattle.doc_text.proofs.AgreeLemmas.{Agree-edited, Agree-ended, Agree-still, IsLast-next_undo, IsNewest-edited, JoinsKnown, JoinsKnown-newest, JoinsNewest-run, counts-joined, edits-turned, has-next_undo, kept-joined, kept-turned, shown-joined}
 
 -- ---- the group that is named
 
@@ -143,6 +143,12 @@ pub IsWhole-run : (engine : State) (groups : Groups) (typing : Option Typing) (k
 IsWhole-run engine groups typing kind whole =
     ∥∥₁_map whole (λ (s : (h : History) × IsWholeOf h engine groups typing).
     (s.0, record { state = s.1.state; agree = Agree-still s.0.revisions s.0.collected groups typing s.1.agree kind }))
+
+-- of one that ended
+pub IsWhole-ended : (engine : State) (groups : Groups) (typing : Option Typing) → IsWhole engine groups typing → IsWhole engine groups None
+IsWhole-ended engine groups typing whole =
+    ∥∥₁_map whole (λ (s : (h : History) × IsWholeOf h engine groups typing).
+    (s.0, record { state = s.1.state; agree = Agree-ended s.0.revisions s.0.collected groups typing s.1.agree }))
 
 -- after the front end's edit
 pub Agree-front : (h : History) (groups : Groups) (typing : Option Typing) (kind : Option Kind) (group base priority author : ℕ) (stack : Groups) (run : Option Typing) →

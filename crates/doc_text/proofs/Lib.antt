@@ -9,4 +9,6 @@ pub mod FrontLemmas
 pub mod ReadLemmas
 pub mod RevisedLemmas
 pub mod FaultLemmas
+pub mod ChunkLemmas
+pub mod CountLemmas
 pub mod ForCallers

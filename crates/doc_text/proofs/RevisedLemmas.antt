@@ -1,5 +1,5 @@
 -- What a revision makes of a text in memory is what it makes of the plain one.
-use Rattle.std.proofs.Common.{◌≡◌, ℕ, Option, refl, ap, ap₂, sym, ◌∙◌, subst, arith}
+use Rattle.std.proofs.Common.{◌≡◌, ℕ, Option, None, refl, ap, ap₂, sym, ◌∙◌, subst, arith}
 use Rattle.std.specs.Arc.{arc_value}
 use Rattle.plain_edits.specs.History.{History, head}
 use Rattle.rev_engine.specs.declared.edit.Edit.{Edit}
@@ -18,11 +18,12 @@ use Rattle.doc_text.specs.InMemory.{TextState}
 use Rattle.doc_text.specs.Inner.{IsAfter, IsAfterEdit, IsStepFrom, left_text}
 use Rattle.doc_text.specs.Notices.{notice_to}
 use Rattle.doc_text.specs.Revised.{IsRevised}
-use Rattle.doc_text.specs.Revisions.{going_on}
+use Rattle.doc_text.specs.Revisions.{going_on, saved_text}
 use Rattle.doc_text.specs.Stands.{IsTextOf, TextStandsFor}
 use Rattle.doc_text.specs.Writing.{Writing}
-use Rattle.doc_text.proofs.AgreeLemmas.{Agree-still}
+use Rattle.doc_text.proofs.AgreeLemmas.{Agree-ended, Agree-still}
 use Rattle.doc_text.proofs.GroupLemmas.{known_group-named}
+use Rattle.doc_text.proofs.HeadLemmas.{head-text}
 use Rattle.doc_text.proofs.SessionLemmas.{AreAcknowledged-later}
 
 -- ---- a step of the engine, and what it leaves beside
@@ -85,6 +86,27 @@ TextStandsFor-run text plain kind stands =
         agree = Agree-still plain.history.revisions plain.history.collected plain.groups plain.typing was.agree kind;
         saved = was.saved;
         saved_before = was.saved_before;
+      };
+      none_left = stands.none_left;
+    }
+
+-- the text in memory once it was saved, and its run ended
+abbrev pub marked_text : TextState → TextState
+marked_text text = record text { typing = None; saved = head text.engine.revisions }
+
+pub TextStandsFor-saved : (text : TextState) (plain : Writing) → TextStandsFor text plain → TextStandsFor (marked_text text) (saved_text plain)
+TextStandsFor-saved text plain stands =
+    let was = stands.parts in record {
+      parts = record {
+        state = was.state;
+        limit = was.limit;
+        sessions = was.sessions;
+        acknowledged = was.acknowledged;
+        groups = was.groups;
+        typing = refl;
+        agree = Agree-ended plain.history.revisions plain.history.collected plain.groups plain.typing was.agree;
+        saved = head-text text plain was;
+        saved_before = omega arith;
       };
       none_left = stands.none_left;
     }

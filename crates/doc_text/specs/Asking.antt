@@ -1,13 +1,16 @@
--- The edits and the styles that a text is asked for, and why one is refused; and why an acknowledgement is.
+-- The edits and the styles that a text is asked for, and why one is refused; and why an acknowledgement or a reading is.
 use Rattle.std.specs.Prelude.{ℕ, if◌then◌else◌, nat_lt, List, Option, Some, None, option_map}
 use Rattle.std.specs.Option.{option_or}
 use Rattle.plain_edits.specs.History.{History, head, text_at}
 use Rattle.plain_edits.specs.Edits.{Refusal, collected, edit_refusal, unknown}
 use Rattle.plain_edits.specs.declared.delta.Delta.{Delta}
+use Rattle.plain_text.specs.Text.{is_place}
 use Rattle.plain_edits.specs.declared.style.Span.{Span}
 use Rattle.rev_engine.specs.declared.edit.Edit.{Edit}
 use Rattle.rev_engine.specs.Given.{AskedEdit}
 use Rattle.stale_spans.specs.declared.asked.AskedSpans.{AskedSpans}
+use Rattle.stale_spans.specs.declared.fault.Misplaced.{Misplaced}
+use Rattle.stale_spans.specs.declared.fault.Misplaced.TheVariants.{Start}
 use Rattle.stale_spans.specs.Places.{misplaced}
 use Rattle.edit_groups.specs.Grouping.{group_by}
 use Rattle.doc_text.specs.Writing.{Writing}
@@ -60,3 +63,13 @@ abbrev pub range_refusal : History → AskedSpans → Option DocRefusal
 range_refusal history asked =
     option_or (edit_refused (acknowledgement_refusal history asked.rev))
     (option_map of_range (misplaced (text_at history asked.rev) asked.start asked.len asked.spans))
+
+-- what of a reading is no place of the text: where it starts, or nothing
+abbrev pub misplaced_start : List ℕ → ℕ → Option Misplaced
+misplaced_start text start = if is_place text start then None else Some Start
+
+-- why a reading of the text of a revision from this offset on is refused, if it is: an acknowledgement of the revision would be, or else the
+-- offset is no place of its text
+abbrev pub reading_refusal : History → ℕ → ℕ → Option DocRefusal
+reading_refusal history rev start =
+    option_or (edit_refused (acknowledgement_refusal history rev)) (option_map of_range (misplaced_start (text_at history rev) start))

@@ -1,7 +1,8 @@
--- What an event leaves of a plain text: after an edit, an undo, and where there is no revision.
+-- What an event leaves of a plain text: after an edit, an undo, a save, and where there is no revision.
 use Rattle.std.specs.Prelude.{ℕ, Option, None}
 use Rattle.plain_edits.specs.declared.delta.Delta.{Delta}
 use Rattle.plain_edits.specs.Edits.{undid}
+use Rattle.plain_edits.specs.History.{head}
 use Rattle.undo_groups.specs.Groups.{Groups}
 use Rattle.edit_groups.specs.declared.typing.Kind.{Kind}
 use Rattle.edit_groups.specs.Grouping.{groups_by, named_group, run_group}
@@ -38,3 +39,7 @@ given_text text caller edit named =
 -- THE TEXT AFTER AN UNDO OR A REDO, which left the groups so
 abbrev pub undone_text : Writing → Groups → Writing
 undone_text text groups = record text { history = undid text.history groups.undone; groups = groups; typing = None }
+
+-- THE TEXT ONCE SAVED: the head is the saved revision from then on, and the run ends, since a save is a line of the front end
+abbrev pub saved_text : Writing → Writing
+saved_text text = record text { typing = None; saved = head text.history }

@@ -10,15 +10,15 @@ use std::fmt;
 /// Why an event is refused. They are looked for in this order.
 #[derive(Clone, Copy, Debug, PartialEq, Eq, Drop)]
 pub enum DocFault {
-    /// The revision that an edit, spans or an acknowledgement names is above this one, the head.
+    /// The revision that an edit, spans, a reading or an acknowledgement names is above this one, the head.
     Unknown(u64),
-    /// The revision that an edit, spans or an acknowledgement names is below this one, the floor.
+    /// The revision that an edit, spans, a reading or an acknowledgement names is below this one, the floor.
     Collected(u64),
     /// The delta does not fit the text of its base: its first misfit.
     Misfit(Misfit),
     /// So many characters would have been inserted after loading, which is more than the limit.
     Spent(u128),
-    /// The first of `start`, `len` and `spans` that is no place of the text that the spans are for.
+    /// The first of `start`, `len` and `spans` that is no place of the text that the spans are for, or `start` of a reading.
     BadParams(Misplaced),
     NoMemory,
 }

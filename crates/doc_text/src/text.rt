@@ -21,7 +21,7 @@ ghost use Rattle.doc_text.specs.Inner.{EndsWithin, IsAfter, IsAfterEdit, IsStepF
 ghost use Rattle.doc_text.specs.Notices.{notice_to};
 ghost use Rattle.doc_text.specs.Refusal.{edit_refused};
 ghost use Rattle.doc_text.specs.Revised.{IsRevised, IsRevisionOf, IsTurnOf};
-ghost use Rattle.doc_text.specs.Revisions.{given_text, going_on, typed_text, undone_text};
+ghost use Rattle.doc_text.specs.Revisions.{given_text, going_on, saved_text, typed_text, undone_text};
 ghost use Rattle.doc_text.specs.Stands.{IsTextOf, TextStandsFor};
 ghost use Rattle.doc_text.specs.Whole.{IsWhole};
 ghost use Rattle.doc_text.specs.Writing.{Writing, head_text, loaded_text};
@@ -369,6 +369,20 @@ impl TextState {
             stack: self.stack.copy(alloc)?,
             typing: run_on(self.typing, kind),
             saved: self.saved,
+            sessions: self.sessions.copy(alloc)?,
+        })
+    }
+
+    /// The same text once it was saved: its head is the saved revision from then on, and its run ends.
+    pub fn mark_saved(&self, alloc: Global) -> Result<TextState, NoMemory>
+        ensures stands { (plain : Writing) → TextStandsFor self.now plain → IfOk result (λ made. TextStandsFor made (saved_text plain)) }
+        ensures same { IfOk result (λ made. made ≡ record self.now { typing = None; saved = head self.now.engine.revisions }) }
+    {
+        Ok(TextState {
+            engine: Arc::try_clone(&self.engine)?,
+            stack: self.stack.copy(alloc)?,
+            typing: None,
+            saved: self.head(),
             sessions: self.sessions.copy(alloc)?,
         })
     }

@@ -1,5 +1,7 @@
-use Rattle.std.proofs.Common.{Err, Ok, ap, arith, length, refl}
+use Rattle.std.proofs.Common.{Err, Ok, ap, arith, length, refl, subst, sym}
 use Rattle.std.proofs.lemmas.Result.{err_from_is_err_and}
+use Rattle.plain_edits.specs.EditFault.{Refuses}
+use Rattle.doc_text.specs.Asking.{acknowledgement_refusal}
 use Rattle.doc_text.proofs.ReadLemmas.{IsEdit-since, Refuses-revision, kept-answered, length_after-since}
 use Rattle.doc_text.proofs.reading.read_engine.Goals as goal
 
@@ -12,8 +14,7 @@ returns-in_err-units-clause-refused c = λ history stands.
 pub returns-in_err-text-clause-refused : goal.returns-in_err-text-clause-refused
 returns-in_err-text-clause-refused c = λ history stands.
     let p = err_from_is_err_and c.from_residual-in_err-text.result c.from_residual-in_err-text.ensures.1 in
-    rw p.1 (Refuses-revision history c.args.rev (Err c.in_err-text.field-0.0) (c.in_err-text.ensures.unknown history stands)
-    (c.in_err-text.ensures.collected history stands) c.in_err-text.field-0.0 _ refl p.2)
+    rw p.1 (subst (Refuses (acknowledgement_refusal history c.args.rev)) (sym p.2) (c.in_err-text.ensures.refused history stands))
 
 pub returns-clause-read : goal.returns-clause-read
 returns-clause-read c = λ history stands.
