@@ -145,8 +145,10 @@ request_of-refused plain act refusal refused = by (form_of act)
 
 -- ---- the two forms of a step
 
--- what a step leaves until the front end is told: how the text is laid out and edited, what the front end was told, and its screen
+-- what a step leaves until the front end is told: the saved revision, how the text is laid out and edited, what the front end was told, and
+-- its screen
 pub record Leaves (before next : Document) : Type 0 where
+  pub saved : next.text.saved ≡ before.text.saved
   pub config : next.view.config ≡ before.view.config
   pub shown : next.view.shown ≡ before.view.shown
   pub screen : next.screen ≡ before.screen
@@ -174,25 +176,25 @@ module _ (P : EventStep → Type 0) (plain : Document) (act : EditAct)
       by true =
           let next = selected_document plain (kind_of act) effect.regions in
           still_asking no_request is next (answer_to plain act) (scroll_if (scrolls act) plain next) refl
-          (record { config = refl; shown = refl; screen = refl })
+          (record { saved = refl; config = refl; shown = refl; screen = refl })
       by false =
           let next = typed_document plain (kind_of act) effect in
           made_asking is next (answer_to plain act) (scroll_if (scrolls act) plain next) (length_push plain.text.history.revisions _)
-          (record { config = refl; shown = refl; screen = refl })
+          (record { saved = refl; config = refl; shown = refl; screen = refl })
 
   viewing_forms : (viewing : Viewing) → request_of act ≡ viewed_lines viewing → (viewed plain.view viewing).config ≡ plain.view.config →
       P (viewing_step plain viewing)
   viewing_forms viewing is config =
       let next = viewed_document plain viewing in
       still_asking (viewed_lines viewing) is next Null (scroll_if (scrolls_at viewing) plain next) refl
-      (record { config = config; shown = shown-viewed plain.view viewing; screen = refl })
+      (record { saved = refl; config = config; shown = shown-viewed plain.view viewing; screen = refl })
 
   turn_forms : (group : Option ℕ) (groups : Groups) → request_of act ≡ no_request → P (history_step plain group groups)
   turn_forms None groups is = viewing_forms Views.Other is refl
   turn_forms (Some group) groups is =
       let next = undone_document plain groups in
       made_asking is next Null (scroll_after plain next) (length_push plain.text.history.revisions _)
-      (record { config = refl; shown = refl; screen = refl })
+      (record { saved = refl; config = refl; shown = refl; screen = refl })
 
   abbrev At : EditAct → Type 0
   At a = P (act_step plain a)

@@ -2,13 +2,13 @@
 use Rattle.std.proofs.Common.{◌≡◌, refl, ◌∙◌}
 use Rattle.plain_text.specs.declared.run.Run.{Run}
 use Rattle.doc_session.specs.declared.event.Event.{Event}
-use Rattle.doc_session.specs.declared.event.Event.TheVariants.{Ack, Config as Configure, Edit, Ended, Front, Other, Spans}
+use Rattle.doc_session.specs.declared.event.Event.TheVariants.{Ack, Config as Configure, Count, Edit, Ended, Front, Other, Read, Saved, Spans}
 use Rattle.doc_text.specs.Asking.{asked_spans}
 use Rattle.doc_session.specs.Document.{Document, no_request}
 use Rattle.doc_session.specs.declared.looking.Viewing.TheVariants.{Layout, Other as NoCommand}
 use Rattle.doc_view.specs.View.{View}
 use Rattle.doc_session.specs.Effects.{pristine_from, settled}
-use Rattle.doc_session.specs.Step.{config_after, event_step, given_document, request_of, styled_document, taken_step, viewed_document}
+use Rattle.doc_session.specs.Step.{config_after, event_step, given_document, request_of, saved_document, styled_document, taken_step, viewed_document}
 use Rattle.doc_session.proofs.ActLemmas.{by_front}
 use Rattle.doc_session.proofs.SettleLemmas.{part-settled}
 
@@ -24,9 +24,12 @@ config-taken plain (Front act) =
 config-taken plain (Edit caller edit named) = config-settled no_request plain (given_document plain caller edit named)
 config-taken plain (Spans caller rev start len spans) =
     config-settled no_request plain (styled_document plain caller (asked_spans rev start len spans))
+config-taken plain (Read caller rev start max) = refl
+config-taken plain (Count caller) = refl
 config-taken plain (Ack caller rev) = refl
 config-taken plain (Ended caller) = refl
 config-taken plain (Configure config) = config-settled no_request plain (viewed_document plain (Layout config))
+config-taken plain Saved = config-settled no_request plain (saved_document plain)
 config-taken plain Other = config-settled no_request plain (viewed_document plain NoCommand)
 
 -- it is the one that the event says, or else the one before

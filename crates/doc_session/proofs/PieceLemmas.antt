@@ -1,5 +1,5 @@
--- There is always a piece.
-use Rattle.std.proofs.Common.{◌≡◌, ℕ, ◌<◌, Bool, true, false, List, [], ◌∷◌, ◌++◌, length, map, Some, arith}
+-- There is always a piece, and each logical line has one.
+use Rattle.std.proofs.Common.{◌≡◌, ℕ, suc, ◌+◌, ◌<◌, ◌≤◌, Bool, true, false, List, [], ◌∷◌, ◌++◌, length, length-append, map, None, Some, arith}
 use Rattle.std.specs.Prelude.{if◌then◌else◌, ◌==◌, ◌||◌, nat_lt}
 use Rattle.std.specs.List.{onto_first}
 use Rattle.std.proofs.lemmas.Bool.{lt-ltb}
@@ -45,3 +45,18 @@ pieces-some width tab text = by_lines (logical_lines text) (lines text)
     by_lines : (others : List (List ℕ)) → 0 < length others → 0 < length (pieces_from 1 0 (map (λ line. (line, breaks_of width tab line)) others))
     by_lines [] some = absurd (omega (arith, some))
     by_lines (line ∷ others) some = by_ends (breaks_of width tab line) _ (breaks-some width tab line)
+
+-- there are as many pieces as logical lines at least
+pub lines-within : (width tab : ℕ) (text : List ℕ) → length (logical_lines text) ≤ length (wrapped_pieces width tab text)
+lines-within width tab text = each 1 0 (logical_lines text)
+  where
+    more : (ends : List ℕ) (start number many : ℕ) (rest : List Piece) → 0 < length ends → many ≤ length rest →
+        suc many ≤ length (pieces_of_line start (Some number) 0 ends ++ rest)
+    more [] start number many rest some few = absurd (omega (arith, some))
+    more (end ∷ ends) start number many rest some few = omega (arith, few, length-append (pieces_of_line start None end ends) rest)
+
+    each : (number start : ℕ) (lines : List (List ℕ)) →
+        length lines ≤ length (pieces_from number start (map (λ line. (line, breaks_of width tab line)) lines))
+    each number start [] = omega arith
+    each number start (line ∷ lines) =
+        more (breaks_of width tab line) start number (length lines) _ (breaks-some width tab line) (each (number + 1) (start + length line) lines)

@@ -3,7 +3,7 @@ use Rattle.std.proofs.Common.{◌≡◌, refl, ap, sym, ◌∙◌}
 use Rattle.plain_text.specs.declared.run.Run.{Run}
 use Rattle.doc_session.specs.InMemory.{Doc}
 use Rattle.doc_session.specs.declared.event.Event.{Event}
-use Rattle.doc_session.specs.declared.event.Event.TheVariants.{Ack, Config as Configure, Edit, Ended, Front, Other, Spans}
+use Rattle.doc_session.specs.declared.event.Event.TheVariants.{Ack, Config as Configure, Count, Edit, Ended, Front, Other, Read, Saved, Spans}
 use Rattle.doc_layout.specs.Told.{screen_of}
 use Rattle.doc_session.specs.declared.looking.Viewing.TheVariants.{Layout, Other as NoCommand}
 use Rattle.doc_session.specs.Document.{Document, layout_of, no_request}
@@ -11,7 +11,7 @@ use Rattle.doc_text.specs.Asking.{asked_spans}
 use Rattle.doc_session.specs.Effects.{settled}
 use Rattle.doc_session.specs.ScreenOf.{IsShownAfter, IsUpToDate}
 use Rattle.doc_session.specs.Stands.{DocStandsFor}
-use Rattle.doc_session.specs.Step.{given_document, request_of, styled_document, viewed_document}
+use Rattle.doc_session.specs.Step.{given_document, request_of, saved_document, styled_document, viewed_document}
 use Rattle.doc_session.proofs.ActLemmas.{by_front}
 use Rattle.doc_session.proofs.ScreenLemmas.{IsUpToDate-settled}
 
@@ -30,7 +30,10 @@ module _ (doc : Doc) (plain : Document) (stands : DocStandsFor doc plain) where
       (λ next body scroll more leaves. shown-next (request_of act) next leaves.shown leaves.screen)
   shown-step (Edit caller edit named) = λ before. shown-next no_request (given_document plain caller edit named) refl refl
   shown-step (Spans caller rev start len spans) = λ before. shown-next no_request (styled_document plain caller (asked_spans rev start len spans)) refl refl
+  shown-step (Read caller rev start max) = λ before. before refl
+  shown-step (Count caller) = λ before. before refl
   shown-step (Ack caller rev) = λ before. before refl
   shown-step (Ended caller) = λ before. before refl
   shown-step (Configure config) = λ before. shown-next no_request (viewed_document plain (Layout config)) refl refl
+  shown-step Saved = λ before. shown-next no_request (saved_document plain) refl refl
   shown-step Other = λ before. shown-next no_request (viewed_document plain NoCommand) refl refl

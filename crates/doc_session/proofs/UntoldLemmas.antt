@@ -1,5 +1,5 @@
 -- What an event leaves of a document in memory, before its front end was told.
-use Rattle.std.proofs.Common.{◌≡◌, ◌≢◌, ℕ, Bool, List, [], length, map, Option, None, refl, ap, ap₂, sym, ◌∙◌, subst, arith}
+use Rattle.std.proofs.Common.{◌≡◌, ◌≢◌, ℕ, Bool, List, [], length, map, Option, None, refl, ap, ap₂, sym, ◌∙◌, subst}
 use Rattle.plain_text.specs.declared.selection.Region.{Region}
 use Rattle.plain_edits.specs.Styles.{Layer}
 use Rattle.stale_spans.specs.Asked.{moved_layers}

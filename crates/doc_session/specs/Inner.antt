@@ -1,6 +1,5 @@
 -- What private functions say: the steps of an event.
-use Rattle.std.specs.Prelude.{◌≡◌, Bool, true, false, List, Option, Some, None, Result, Ok, Err, IfOk}
-use Rattle.plain_text.specs.declared.selection.Region.{Region}
+use Rattle.std.specs.Prelude.{◌≡◌, Bool, true, false, Some, None, Result, Ok, Err, IfOk}
 use Rattle.xi_plain.specs.declared.command.EditAct.{EditAct}
 use Rattle.doc_layout.specs.Told.{screen_of}
 use Rattle.doc_view.specs.declared.told.Pristine.{Pristine}

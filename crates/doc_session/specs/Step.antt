@@ -1,7 +1,9 @@
 -- THE STEP: what an event comes to in a plain document.
 use Rattle.std.specs.Prelude.{◌≡◌, ℕ, ◌+◌, ◌-◌, ◌<◌, ◌≤◌, Bool, true, false, if◌then◌else◌, List, length, map, Option, Some, None, option_map, ⊤}
+use Rattle.plain_text.specs.Lines.{logical_lines}
 use Rattle.plain_text.specs.declared.run.Run.{Run}
 use Rattle.plain_text.specs.declared.selection.Region.{Region}
+use Rattle.xi_plain.specs.Chunk.{chunk_at}
 use Rattle.xi_plain.specs.declared.config.Config.{Config}
 use Rattle.xi_plain.specs.declared.config.Notice.{Notice}
 use Rattle.xi_plain.specs.declared.command.EditAct.{EditAct}
@@ -22,10 +24,10 @@ use Rattle.doc_view.specs.View.{View, pieces_in}
 use Rattle.doc_session.specs.Layout.{Position}
 use Rattle.rev_engine.specs.declared.edit.Edit.{Edit as Given}
 use Rattle.doc_session.specs.declared.event.Body.{Body}
-use Rattle.doc_session.specs.declared.event.Body.TheVariants.{Null, Copied, Edited}
+use Rattle.doc_session.specs.declared.event.Body.TheVariants.{Null, Chunk, Copied, Edited, Lines}
 use Rattle.doc_session.specs.declared.event.Effects.{Effects}
 use Rattle.doc_session.specs.declared.event.Event.{Event}
-use Rattle.doc_session.specs.declared.event.Event.TheVariants.{Ack, Config as Configure, Edit, Ended, Front, Other, Spans}
+use Rattle.doc_session.specs.declared.event.Event.TheVariants.{Ack, Config as Configure, Count, Edit, Ended, Front, Other, Read, Saved, Spans}
 use Rattle.doc_session.specs.declared.looking.Viewing.{Viewing}
 use Rattle.doc_session.specs.declared.looking.Viewing.TheVariants.{Layout, Other as NoCommand}
 use Rattle.doc_session.specs.Document.{Document, no_request}
@@ -33,11 +35,11 @@ use Rattle.doc_session.specs.Looking.{scrolls_at, viewed, viewed_lines, viewing_
 use Rattle.stale_spans.specs.declared.asked.AskedSpans.{AskedSpans}
 use Rattle.stale_spans.specs.Asked.{layers_with_spans, moved_layers}
 use Rattle.stale_spans.specs.Places.{StandIn}
-use Rattle.doc_text.specs.Asking.{acknowledgement_refusal, asked_refusal, asked_spans, plugin_edit, range_refusal}
+use Rattle.doc_text.specs.Asking.{acknowledgement_refusal, asked_refusal, asked_spans, plugin_edit, range_refusal, reading_refusal}
 use Rattle.doc_text.specs.Collecting.{acknowledged_text, collected_text, ended_text}
 use Rattle.doc_text.specs.Notices.{notice_to}
 use Rattle.doc_text.specs.Refusal.{DocRefusal, edit_refused}
-use Rattle.doc_text.specs.Revisions.{given_text, going_on, typed_text, undone_text}
+use Rattle.doc_text.specs.Revisions.{given_text, going_on, saved_text, typed_text, undone_text}
 use Rattle.doc_text.specs.Writing.{Writing, head_text}
 use Rattle.doc_session.specs.Asking.{front_edit, replacing_delta}
 use Rattle.doc_session.specs.Effects.{update_after, settled, scroll_after}
@@ -228,11 +230,33 @@ abbrev pub config_after : Config → Event → Config
 config_after config (Configure next) = next
 config_after config event = config
 
--- ---- sessions of plugins
+-- ---- saves
+
+-- THE STEP OF A SAVE: the head is the saved revision; the front end is told where that changes whether its text is pristine, nothing is
+-- scrolled, and it is answered null
+abbrev pub saved_document : Document → Document
+saved_document document = with_text document (saved_text document.text)
+
+abbrev pub saved_step : Document → EventStep
+saved_step document = still_step document (saved_document document) Null None
+
+-- ---- sessions of plugins, and what they ask
+
+-- what is answered so, while nothing else is told
+abbrev pub answered_step : Document → Body → EventStep
+answered_step next body = record { document = next; body = body; update = None; scroll = None; notice = None }
 
 -- what a session tells is answered null, and nothing is written
 abbrev pub silent_step : Document → EventStep
-silent_step next = record { document = next; body = Null; update = None; scroll = None; notice = None }
+silent_step next = answered_step next Null
+
+-- THE STEP OF A READING: the chunk of the text of the revision from this offset on; the document is the same
+abbrev pub read_step : Document → ℕ → ℕ → ℕ → EventStep
+read_step document rev start max = answered_step document (Chunk (chunk_at (text_at document.text.history rev) start max) start)
+
+-- THE STEP OF A COUNT: how many logical lines the head text has; the document is the same
+abbrev pub count_step : Document → EventStep
+count_step document = answered_step document (Lines (length (logical_lines (head_text document.text))))
 
 -- ---- all events
 
@@ -241,9 +265,12 @@ abbrev pub taken_step : Document → Event → EventStep
 taken_step document (Front act) = act_step document act
 taken_step document (Edit caller edit named) = plugin_step document caller edit named
 taken_step document (Spans caller rev start len spans) = spans_step document caller (asked_spans rev start len spans)
+taken_step document (Read caller rev start max) = read_step document rev start max
+taken_step document (Count caller) = count_step document
 taken_step document (Ack caller rev) = silent_step (with_text document (acknowledged_text document.text caller rev))
 taken_step document (Ended caller) = silent_step (with_text document (ended_text document.text caller))
 taken_step document (Configure config) = viewing_step document (Layout config)
+taken_step document Saved = saved_step document
 taken_step document Other = other_step document
 
 -- the document in which what may be collected is collected
@@ -262,6 +289,8 @@ requested_by event = no_request
 
 -- whether the front end is told what it lacks
 abbrev pub tells : Event → Bool
+tells (Read caller rev start max) = false
+tells (Count caller) = false
 tells (Ack caller rev) = false
 tells (Ended caller) = false
 tells event = true
@@ -276,9 +305,12 @@ abbrev pub refusal_at : Document → Event → Option DocRefusal
 refusal_at document (Front act) = edit_refused (command_refusal document (effect_on document act))
 refusal_at document (Edit caller edit named) = edit_refused (asked_refusal document.text (plugin_edit document.text caller edit None))
 refusal_at document (Spans caller rev start len spans) = range_refusal document.text.history (asked_spans rev start len spans)
+refusal_at document (Read caller rev start max) = reading_refusal document.text.history rev start
+refusal_at document (Count caller) = None
 refusal_at document (Ack caller rev) = edit_refused (acknowledgement_refusal document.text.history rev)
 refusal_at document (Ended caller) = None
 refusal_at document (Configure config) = None
+refusal_at document Saved = None
 refusal_at document Other = None
 
 -- THE EVENTS that may come to a document with so many plugins: what a plugin does is done by one of these, each of its spans stands in
@@ -287,9 +319,12 @@ abbrev pub IsEventFor : ℕ → Event → Type 0
 IsEventFor plugins (Front act) = ⊤
 IsEventFor plugins (Edit caller edit named) = (1 ≤ caller) × (caller ≤ plugins)
 IsEventFor plugins (Spans caller rev start len spans) = (1 ≤ caller) × (caller ≤ plugins) × StandIn len spans
+IsEventFor plugins (Read caller rev start max) = (1 ≤ caller) × (caller ≤ plugins)
+IsEventFor plugins (Count caller) = (1 ≤ caller) × (caller ≤ plugins)
 IsEventFor plugins (Ack caller rev) = (1 ≤ caller) × (caller ≤ plugins)
 IsEventFor plugins (Ended caller) = (1 ≤ caller) × (caller ≤ plugins)
 IsEventFor plugins (Configure config) = 0 < config.tab
+IsEventFor plugins Saved = ⊤
 IsEventFor plugins Other = ⊤
 
 -- the effects are those of the step

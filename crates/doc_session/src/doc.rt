@@ -26,7 +26,7 @@ ghost use Rattle.doc_session.specs.PositionView.{position_view};
 ghost use Rattle.doc_session.specs.ScreenOf.{IsShownAfter};
 ghost use Rattle.doc_session.specs.Stands.{DocStandsFor};
 ghost use Rattle.doc_session.specs.Whole.{IsKept};
-ghost use Rattle.doc_session.specs.Step.{AreEffectsOf, IsEventFor, act_step, answer_to, collected_document, command_refusal, command_step, done_step, effect_in, effect_on, event_step, history_step, idle_step, plugin_step, refusal_at, revised_document, revision_step, scroll_if, silent_step, step_to, taken_step, typed_step, with_text};
+ghost use Rattle.doc_session.specs.Step.{AreEffectsOf, IsEventFor, act_step, answer_to, answered_step, collected_document, command_refusal, command_step, done_step, effect_in, effect_on, event_step, history_step, idle_step, plugin_step, refusal_at, revised_document, revision_step, saved_step, scroll_if, silent_step, step_to, taken_step, typed_step, with_text};
 
 use crate::event::{Body, Effects, Event};
 use crate::looking::{Viewing, copies, scrolls, viewing_of};
@@ -95,7 +95,7 @@ impl Doc {
     /// one against an old revision costs the union and the runs of the later revisions besides; an undo or a redo what
     /// `Engine::set_undone_by` does; and a command what `edit_ops::edit_of` does, and where a region moves one walk over the pieces. A search
     /// costs what `find_core::matches` does, and such a walk. Where nothing of that moves an event costs the regions, and the lines that are
-    /// told. No step is counted yet.
+    /// told; a reading what `TextState::chunk` does, and a count O(1). No step is counted yet.
     pub fn after<L: Ledger>(
         &self,
         alloc: Global,
@@ -179,9 +179,17 @@ impl Doc {
                 };
                 self.styled(alloc, caller, &asked)
             }
+            Event::Read {
+                caller: _,
+                rev,
+                start,
+                max,
+            } => self.read(alloc, rev, start, max),
+            Event::Count { caller: _ } => Ok(self.count(alloc)?),
             Event::Ack { caller, rev } => self.acknowledge(alloc, caller, rev),
             Event::Ended { caller } => Ok(self.end_session(alloc, caller)?),
             Event::Config(config) => Ok(self.view_only(alloc, Viewing::Layout(config))?),
+            Event::Saved => Ok(self.save(alloc)?),
             Event::Other => Ok(self.view_only(alloc, Viewing::Other)?),
         }
     }
@@ -501,7 +509,7 @@ impl Doc {
         ensures plugins { IfOk result (λ made. length made.0.text.sessions ≡ length self.now.text.sessions) }
     {
         let text = self.text.acknowledge(alloc, caller, rev)?;
-        Ok(self.silent(text)?)
+        Ok(self.silent(text, Body::Null)?)
     }
 
     // The session of a plugin ends.
@@ -511,15 +519,15 @@ impl Doc {
         ensures plugins { IfOk result (λ made. length made.0.text.sessions ≡ length self.now.text.sessions) }
     {
         let text = self.text.end_session(alloc, caller)?;
-        self.silent(text)
+        self.silent(text, Body::Null)
     }
 
-    // The document with other sessions; nobody is told.
-    fn silent(&self, text: TextState) -> Result<(Doc, Effects), NoMemory>
+    // The document with other sessions, or the same; it is answered so, and nobody is told anything else.
+    pub(crate) fn silent(&self, text: TextState, body: Body) -> Result<(Doc, Effects), NoMemory>
         requires engine { text.engine ≡ self.now.text.engine }
         requires count { length text.sessions ≡ length self.now.text.sessions }
         ensures stepped { (plain : Document) (next : Writing) → DocStandsFor self.now plain → IsTextOf text next
-            → head_text next ≡ head_text plain.text → IfOk result (IsStepped (silent_step (with_text plain next))) }
+            → head_text next ≡ head_text plain.text → IfOk result (IsStepped (answered_step (with_text plain next) body)) }
         ensures sessions { IfOk result (λ made. made.0.text.sessions ≡ text.sessions) }
     {
         let next = Doc {
@@ -527,12 +535,29 @@ impl Doc {
             view: self.view.copy()?,
         };
         let effects = Effects {
-            body: Body::Null,
+            body,
             update: None,
             scroll: None,
             notice: None,
         };
         Ok((next, effects))
+    }
+
+    // The text was saved.
+    fn save(&self, alloc: Global) -> Result<(Doc, Effects), NoMemory>
+        ensures stepped { IsStepOf self.now saved_step result }
+        ensures sessions { IfOk result (λ made. made.0.text.sessions ≡ self.now.text.sessions) }
+    {
+        let text = self.text.mark_saved(alloc)?;
+        let next = document_of(text, self.view.copy()?);
+        let said = Said {
+            text: TextLeft::Same,
+            request: NO_REQUEST,
+            body: Body::Null,
+            scrolling: Scrolling::Nowhere,
+            notice: None,
+        };
+        self.told(alloc, next, said)
     }
 
     // The document in which what may be collected is collected, or `None` where that is nothing.

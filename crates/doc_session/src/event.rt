@@ -28,6 +28,20 @@ pub enum Event {
         /// In bytes from the start of the range, each with the id of its style, from 2 on. Of two over one character the later one wins.
         spans: Spans,
     },
+    /// The plugin with this number, from 1, reads the text of this revision, from a place of it on. Like a count this changes nothing, and the
+    /// run of typing goes on.
+    Read {
+        caller: u32,
+        rev: u64,
+        /// Where it reads from, in bytes of that text.
+        start: u64,
+        /// The most bytes that it takes; more than 2^20 are not given at once.
+        max: u64,
+    },
+    /// The plugin with this number, from 1, asks how many logical lines the head text has.
+    Count {
+        caller: u32,
+    },
     /// The plugin with this number, from 1, has the text of this revision, and needs no older one any more. Where its session has
     /// ended, or has acknowledged that much, this changes nothing.
     Ack {
@@ -40,6 +54,8 @@ pub enum Event {
     },
     /// The text is laid out and edited so from now on, whether it was before or not. This ends the run of typing.
     Config(Config),
+    /// The head text was saved: its revision is the saved one from then on. This ends the run of typing.
+    Saved,
     /// A line of the front end that is none of this document's, or the one that opens its view: it ends the run of typing.
     Other,
 }
@@ -52,6 +68,10 @@ pub enum Body {
     Copied { text: Text },
     /// The edit is this revision, in this undo group.
     Edited { rev: u64, group: u64 },
+    /// The longest text from this byte offset on that was asked for: it ends at a place.
+    Chunk { text: Text, offset: u64 },
+    /// How many logical lines the head text has.
+    Lines(u64),
 }
 
 /// What an event came to, for those outside.

@@ -9,6 +9,7 @@ mod doc;
 mod event;
 pub mod laws;
 mod looking;
+mod reading;
 mod said;
 mod styles;
 

@@ -1,14 +1,10 @@
-use Rattle.std.proofs.Common.{◌≡◌, None, Some, refl, ap, sym, ◌∙◌, subst}
+use Rattle.std.proofs.Common.{refl, ap, sym, ◌∙◌, subst}
 use Rattle.std.specs.Prelude.{unwrap_or}
-use Rattle.doc_text.specs.InMemory.{TextState, text_in}
+use Rattle.doc_text.specs.InMemory.{text_in}
 use Rattle.doc_text.specs.Collecting.{collected_text}
 use Rattle.doc_text.specs.Stands.{TextStandsFor}
-use Rattle.doc_text.specs.Writing.{head_text}
-use Rattle.doc_text.proofs.ForCallers.{part-collected}
 use Rattle.doc_session.specs.InMemory.{Doc}
 use Rattle.doc_session.specs.Inner.{IsUncollected}
-use Rattle.doc_session.specs.Stands.{DocStandsFor}
-use Rattle.doc_session.specs.Step.{collected_document}
 use Rattle.doc_session.proofs.SettleLemmas.{DocStandsFor-collected}
 use Rattle.doc_session.proofs.doc.Doc.collected.Goals as goal
 

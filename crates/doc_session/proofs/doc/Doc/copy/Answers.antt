@@ -1,7 +1,6 @@
-use Rattle.std.proofs.Common.{length, ap, ap₂, ◌∙◌}
-use Rattle.doc_text.specs.InMemory.{TextState, text_in}
+use Rattle.std.proofs.Common.{ap₂, ◌∙◌}
+use Rattle.doc_text.specs.InMemory.{TextState}
 use Rattle.doc_view.specs.View.{View}
-use Rattle.doc_session.specs.InMemory.{Doc}
 use Rattle.doc_session.proofs.doc.Doc.copy.Goals as goal
 
 pub invariant_of-result : goal.invariant_of-result

@@ -7,7 +7,6 @@ use Rattle.rev_engine.specs.Given.{meant}
 use Rattle.edit_groups.specs.Grouping.{group_by, named_group}
 use Rattle.doc_text.specs.Asking.{asked_refusal, plugin_edit}
 use Rattle.doc_text.specs.Fault.{DocRefuses}
-use Rattle.doc_text.specs.InMemory.{text_in}
 use Rattle.doc_text.specs.Refusal.{edit_refused}
 use Rattle.doc_text.specs.Revised.{IsRevisionOf}
 use Rattle.doc_text.specs.Revisions.{given_text}

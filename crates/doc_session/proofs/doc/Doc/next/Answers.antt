@@ -82,3 +82,32 @@ returns-in_ok-view_only-in-Other c = record {
   refused = λ plain stands. tt;
   plugins = ap length c.in_ok-view_only-in-Other.ensures.sessions;
 }
+
+pub returns-in-Read : goal.returns-in-Read
+returns-in-Read c = record {
+  stepped = λ plain stands.
+      subst (λ (event : Event). IfOk c.read.result (IsStepped (taken_step plain event))) (sym c.in-Read.is) (c.read.ensures.stepped plain stands);
+  accepted = λ plain stands.
+      subst (λ (event : Event). OnOk c.read.result (refusal_at plain event ≡ None)) (sym c.in-Read.is) (c.read.ensures.accepted plain stands);
+  refused = λ plain stands.
+      subst (λ (event : Event). IfErr c.read.result (DocRefuses (refusal_at plain event))) (sym c.in-Read.is) (c.read.ensures.refused plain stands);
+  plugins = as_many-same c.read.result c.args.self.now.text.sessions c.read.ensures.sessions;
+}
+
+pub returns-in_ok-count-in-Count : goal.returns-in_ok-count-in-Count
+returns-in_ok-count-in-Count c = record {
+  stepped = λ plain stands.
+      subst (λ (event : Event). IsStepped (taken_step plain event) c.in_ok-count-in-Count.field-0) (sym c.in-Count.is) (c.in_ok-count-in-Count.ensures.stepped plain stands);
+  accepted = λ plain stands. subst (λ (event : Event). refusal_at plain event ≡ None) (sym c.in-Count.is) refl;
+  refused = λ plain stands. tt;
+  plugins = ap length c.in_ok-count-in-Count.ensures.sessions;
+}
+
+pub returns-in_ok-save-in-Saved : goal.returns-in_ok-save-in-Saved
+returns-in_ok-save-in-Saved c = record {
+  stepped = λ plain stands.
+      subst (λ (event : Event). IsStepped (taken_step plain event) c.in_ok-save-in-Saved.field-0) (sym c.in-Saved.is) (c.in_ok-save-in-Saved.ensures.stepped plain stands);
+  accepted = λ plain stands. subst (λ (event : Event). refusal_at plain event ≡ None) (sym c.in-Saved.is) refl;
+  refused = λ plain stands. tt;
+  plugins = ap length c.in_ok-save-in-Saved.ensures.sessions;
+}

@@ -1,4 +1,4 @@
-use Rattle.std.proofs.Common.{◌≡◌, arith, ℕ, List, length, Some, refl, ap, sym, ◌∙◌}
+use Rattle.std.proofs.Common.{arith, ℕ, List, length, Some, refl, ap, sym, ◌∙◌}
 use Rattle.std.proofs.lemmas.List.{length-replicate}
 use Rattle.span_styles.specs.Layers.{new_layers}
 use Rattle.doc_text.proofs.ForCallers.{head_text-loaded}

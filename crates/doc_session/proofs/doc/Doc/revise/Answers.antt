@@ -1,4 +1,4 @@
-use Rattle.std.proofs.Common.{subst, sym}
+use Rattle.std.proofs.Common.{subst}
 use Rattle.std.specs.Prelude.{IfOk, Option}
 use Rattle.xi_plain.specs.declared.config.Notice.{Notice}
 use Rattle.doc_session.specs.Document.{no_request}

@@ -1,5 +1,4 @@
-use Rattle.std.proofs.Common.{length, refl, ap, sym, ◌∙◌, subst}
-use Rattle.span_styles.specs.Layers.{AreOver}
+use Rattle.std.proofs.Common.{length, refl, ap, sym, ◌∙◌}
 use Rattle.doc_text.specs.InMemory.{head_shown, text_in}
 use Rattle.doc_view.specs.View.{View}
 use Rattle.doc_session.specs.InMemory.{Doc}

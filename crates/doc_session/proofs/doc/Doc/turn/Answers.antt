@@ -1,4 +1,4 @@
-use Rattle.std.proofs.Common.{◌≡◌, Option, Some, None, sym, subst}
+use Rattle.std.proofs.Common.{Option, sym, subst}
 use Rattle.std.specs.Prelude.{IfOk, IfSome}
 use Rattle.doc_text.specs.declared.revised.Revised.{Revised}
 use Rattle.doc_text.specs.Revised.{IsRevisionOf, IsTurnOf}

@@ -1,4 +1,4 @@
-use Rattle.std.proofs.Common.{◌≡◌, false, true, length, map, refl, ap, sym, ◌∙◌, subst, arith}
+use Rattle.std.proofs.Common.{false, true, length, map, ap, sym, ◌∙◌, subst, arith}
 use Rattle.std.specs.Prelude.{IfOk}
 use Rattle.plain_edits.specs.HistorySteps.{undoes}
 use Rattle.edit_ops.specs.Regions.{without_goal}
@@ -9,7 +9,7 @@ use Rattle.doc_session.specs.declared.event.Body.TheVariants.{Null}
 use Rattle.doc_session.specs.InMemory.{Doc}
 use Rattle.doc_session.specs.Inner.{IsStepped}
 use Rattle.doc_session.specs.Stands.{DocStandsFor}
-use Rattle.doc_session.specs.Step.{regions_by, revised_document, revision_step, scroll_if}
+use Rattle.doc_session.specs.Step.{revised_document, revision_step, scroll_if}
 use Rattle.doc_session.proofs.SomeLemmas.{map-some, regions_by-some}
 use Rattle.doc_session.proofs.StepLemmas.{AreWithin-more, regions-moved}
 use Rattle.doc_session.proofs.doc.Doc.turn_group.Goals as goal

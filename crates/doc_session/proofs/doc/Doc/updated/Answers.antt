@@ -1,4 +1,4 @@
-use Rattle.std.proofs.Common.{length, refl, ap, ap₂, sym, ◌∙◌, subst}
+use Rattle.std.proofs.Common.{length, refl, ap, sym, ◌∙◌, subst}
 use Rattle.span_styles.specs.Layers.{AreOver}
 use Rattle.doc_view.specs.declared.told.Pristine.{Pristine}
 use Rattle.doc_view.specs.Told.{IsTextLeft}

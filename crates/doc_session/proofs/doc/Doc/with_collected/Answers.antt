@@ -1,4 +1,4 @@
-use Rattle.std.proofs.Common.{length, ap, ap₂, sym, ◌∙◌}
+use Rattle.std.proofs.Common.{length, ap, sym, ◌∙◌}
 use Rattle.doc_text.specs.InMemory.{text_in}
 use Rattle.doc_view.specs.View.{View}
 use Rattle.doc_session.specs.InMemory.{Doc}
