@@ -11,7 +11,8 @@ use Rattle.view_update.specs.declared.note.ViewUpdate.{ViewUpdate}
 use Rattle.xi_top.specs.Session.{OpenView, first_session, view_id, outcome, session_of, views_of, written, piece_of}
 use Rattle.xi_top.specs.Shows.{updates_in, rebuilt_from, rebuilt, IsShown, AreShown, SendsTo, NotesSendTo, requested, last_requested}
 use Rattle.xi_top.specs.Laws.{only_rebuilt_from, only_rebuilt, IsOnlyShown, OnlyViewIsShown}
-use Rattle.xi_top.proofs.SessionLemmas.{views_of-push, all_append}
+use Rattle.entry_lines.proofs.ForCallers.{all_append}
+use Rattle.xi_top.proofs.SessionLemmas.{views_of-push}
 use Rattle.xi_top.proofs.ViewLemmas.{AtMostFirst, Stays}
 use Rattle.xi_top.proofs.StepLemmas.{FirstStays, first_stays}
 use Rattle.xi_top.proofs.ShowsLemmas.{updates_in-push}

@@ -1,6 +1,5 @@
 -- What the steps of the only view come to.
 use Rattle.std.proofs.Common.{◌≡◌, ℕ, false, List, [], ◌∷◌, ◌++◌, length, Option, Some, None, refl, sym, ◌∙◌, ap, subst, arith, append-nil}
-use Rattle.plain_edits.specs.History.{loaded}
 use Rattle.std.proofs.lemmas.Result.{IfOk-weaker}
 use Rattle.std.specs.Prelude.{is_some, if◌then◌else◌, Result, IfOk, option_map}
 use Rattle.doc_session.specs.InMemory.{Doc}
@@ -14,15 +13,15 @@ use Rattle.doc_session.specs.Step.{AreEffectsOf, EventStep, event_step, refusal_
 use Rattle.doc_text.specs.Writing.{loaded_text}
 use Rattle.doc_text.proofs.ForCallers.{head-text}
 use Rattle.xi_top.specs.declared.act.ActEffects.{ActEffects}
-use Rattle.xi_top.specs.declared.act.Reply.{Reply as ReplyInMemory}
-use Rattle.xi_top.specs.declared.act.Reply.TheVariants.{Opened}
 use Rattle.xi_plain.specs.declared.command.EditAct.{EditAct}
 use Rattle.xi_plain.specs.declared.config.Config.{Config}
 use Rattle.plain_screen.specs.declared.screen.Update.{Update}
-use Rattle.xi_top.specs.Answer.{accepted, result_of}
+use Rattle.entry_lines.specs.Answer.{accepted, reply_of}
+use Rattle.entry_lines.specs.declared.reply.FrontReply.{FrontReply}
+use Rattle.entry_lines.specs.declared.reply.FrontReply.TheVariants.{Opened}
 use Rattle.xi_top.specs.Core.{ServesDocument, ServesView, Stands}
-use Rattle.xi_top.specs.InnerSession.{IsOutcome, IsTaken, Serves, TakesEvents, document_then, reply_of}
-use Rattle.xi_top.specs.Session.{OpenView, view_id, first_document, first_view, open_outcome, text_limit, updates_for, scroll_for, taking, front_outcome, edit_came, spent_total, other_step}
+use Rattle.xi_top.specs.InnerSession.{IsOutcome, IsTaken, Serves, TakesEvents, document_then}
+use Rattle.xi_top.specs.Session.{OpenView, view_id, first_document, first_view, open_outcome, result_of, text_limit, updates_for, scroll_for, taking, front_outcome, edit_came, spent_total, other_step}
 use Rattle.xi_top.proofs.ViewLemmas.{same_id}
 
 -- a document that was just loaded takes events
@@ -35,7 +34,7 @@ pub stands-first : (doc : Doc) (text : List ℕ) (config : Config) → text ≡ 
 stands-first doc text config none stands = subst (λ t. DocStandsFor doc (loaded_document t 0 text_limit config)) none stands
 
 -- a step that was taken, with this answer
-pub IsTaken-made : (reply : ReplyInMemory) (step : EventStep) (next : Doc) (effects : Effects) (came : ActEffects) →
+pub IsTaken-made : (reply : FrontReply) (step : EventStep) (next : Doc) (effects : Effects) (came : ActEffects) →
     ServesDocument next step.document → AreEffectsOf step effects →
     came ≡ record { reply = reply; next = Some next; update = effects.update; scroll = effects.scroll } → IsTaken step reply came
 IsTaken-made reply step next effects came served shown is =
@@ -54,7 +53,7 @@ told_only view step update first same =
     ap (updates_for view_id) same ∙ ap (λ id. updates_for id step.update) (sym first) ∙ sym (append-nil (updates_for view.id step.update))
 
 -- the only view takes a step that scrolls nowhere
-pub IsOutcome-taking : (before : Option Doc) (reply : ReplyInMemory) (steps : OpenView → EventStep) (view : OpenView) (came : ActEffects) →
+pub IsOutcome-taking : (before : Option Doc) (reply : FrontReply) (steps : OpenView → EventStep) (view : OpenView) (came : ActEffects) →
     view.id ≡ view_id → (steps view).scroll ≡ None → IsTaken (steps view) reply came →
     IsOutcome before (taking (reply_of reply) None steps (view ∷ [])) came
 IsOutcome-taking before reply steps view came first nowhere is = record {
@@ -65,7 +64,7 @@ IsOutcome-taking before reply steps view came first nowhere is = record {
 }
 
 -- all views take it, where a document in memory stands for the only one
-all_take : {E : Type 0} (doc : Doc) (reply : ReplyInMemory) (steps : OpenView → EventStep) (views : List OpenView) (result : Result ActEffects E) →
+all_take : {E : Type 0} (doc : Doc) (reply : FrontReply) (steps : OpenView → EventStep) (views : List OpenView) (result : Result ActEffects E) →
     Stands (Some doc) views → ((view : OpenView) → (steps view).scroll ≡ None) →
     ((view : OpenView) → DocStandsFor doc view.document → IfOk result (IsTaken (steps view) reply)) →
     IfOk result (IsOutcome (Some doc) (taking (reply_of reply) None steps views))
@@ -75,7 +74,7 @@ all_take doc reply steps (view ∷ []) result stands nowhere taken =
     IfOk-weaker result (IsTaken (steps view) reply) (IsOutcome (Some doc) (taking (reply_of reply) None steps (view ∷ [])))
     (λ came is. IsOutcome-taking (Some doc) reply steps view came stands.id (nowhere view) is) (taken view stands.serves.stands)
 
-pub IsOutcome-all : {E : Type 0} (document : Option Doc) (doc : Doc) (reply : ReplyInMemory) (steps : OpenView → EventStep) (views : List OpenView)
+pub IsOutcome-all : {E : Type 0} (document : Option Doc) (doc : Doc) (reply : FrontReply) (steps : OpenView → EventStep) (views : List OpenView)
     (result : Result ActEffects E) → document ≡ Some doc → Stands document views → ((view : OpenView) → (steps view).scroll ≡ None) →
     ((view : OpenView) → DocStandsFor doc view.document → IfOk result (IsTaken (steps view) reply)) →
     IfOk result (IsOutcome document (taking (reply_of reply) None steps views))
@@ -85,12 +84,12 @@ IsOutcome-all document doc reply steps views result is stands nowhere taken =
 
 -- where nothing is open, the first view is opened
 pub IsOutcome-opened : (document : Option Doc) (config : Config) (path : Option (List ℕ)) (views : List OpenView) (came : ActEffects) →
-    is_some document ≡ false → is_some path ≡ false → Stands document views → IsTaken (event_step (first_document config) Other) Opened came →
+    is_some document ≡ false → is_some path ≡ false → Stands document views → IsTaken (event_step (first_document config) Other) (Opened view_id) came →
     IsOutcome document (open_outcome config views path) came
 IsOutcome-opened (Some doc) config path views came here there stands is = absurd cc
 IsOutcome-opened None config (Some path) views came here there stands is = absurd cc
 IsOutcome-opened None config None (view ∷ views) came here there stands is = absurd stands
-IsOutcome-opened None config None [] came here there stands is = IsOutcome-taking None Opened other_step (first_view config) came refl refl is
+IsOutcome-opened None config None [] came here there stands is = IsOutcome-taking None (Opened view_id) other_step (first_view config) came refl refl is
 
 -- an edit of the only view that is taken
 pub IsOutcome-own : (doc : Doc) (view : OpenView) (act : EditAct) (made : Doc) (effects : Effects) (came : ActEffects) →

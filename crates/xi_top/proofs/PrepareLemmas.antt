@@ -1,5 +1,5 @@
 -- What an event and a line come to in memory, by what the calls below them say.
-use Rattle.std.proofs.Common.{◌≡◌, ℕ, ◌<◌, List, ◌++◌, length, Option, None, Result, Ok, Err, IfOk, IfErr, ◌∙◌, subst}
+use Rattle.std.proofs.Common.{◌≡◌, ℕ, ◌<◌, List, [], length, Option, None, Result, Ok, Err, IfOk, IfErr, ◌∙◌, subst}
 use Rattle.std.specs.Prelude.{OnOk, option_map}
 use Rattle.std.specs.Str.{encode_utf8_all}
 use Rattle.xi_plain.specs.declared.command.Command.{Command}
@@ -16,9 +16,10 @@ use Rattle.doc_session.specs.PositionView.{position_view}
 use Rattle.doc_session.specs.Stands.{DocStandsFor}
 use Rattle.doc_session.specs.Step.{AreEffectsOf, event_step, refusal_at}
 use Rattle.xi_top.specs.declared.act.ActEffects.{ActEffects}
-use Rattle.xi_top.specs.Answer.{Reply, answers}
-use Rattle.xi_top.specs.Session.{Session, config_after, view_id, outcome, update_notes, scroll_notes, updates_for, scroll_for}
-use Rattle.xi_top.specs.InnerSession.{IsDone, IsMade, IsOutcome, IsPrepared, AreLinesOf, UpdatesReadBack, reply_of}
+use Rattle.entry_lines.specs.Answer.{Reply, reply_of}
+use Rattle.entry_lines.specs.Piece.{AreLinesOf, UpdatesReadBack, entry_messages}
+use Rattle.xi_top.specs.Session.{Session, config_after, view_id, outcome, updates_for, scroll_for}
+use Rattle.xi_top.specs.InnerSession.{IsDone, IsMade, IsOutcome, IsPrepared}
 
 -- an event of a document in which no plugin has a session
 pub IsMade-after : (old : Doc) (event : Event) (result : Result (Doc × Effects) DocFault) → length old.text.sessions ≡ 0 →
@@ -39,12 +40,12 @@ IsMade-after old event (Ok made) none stands effects accepted refused kept = rec
 -- a command, by what its act came to and by the lines of that
 pub IsDone-by : (before : Option Doc) (session : Session) (command : Command) (effects : ActEffects) (piece : List ℕ) →
     IsOutcome before (outcome session command.act) effects → UpdatesReadBack (updates_for view_id effects.update) →
-    AreLinesOf (answers command.id (reply_of effects.reply) ++
-    (update_notes (updates_for view_id effects.update) ++ scroll_notes (scroll_for view_id (option_map position_view effects.scroll)))) (encode_utf8_all piece) →
+    AreLinesOf (entry_messages command.id (reply_of effects.reply) [] (updates_for view_id effects.update)
+    (scroll_for view_id (option_map position_view effects.scroll))) (encode_utf8_all piece) →
     IsDone before session command piece effects.next
 IsDone-by before session command effects piece is reads lines =
     let At : Reply → List ViewUpdate → Option Scroll → Type 0 =
-    λ reply updates scroll. AreLinesOf (answers command.id reply ++ (update_notes updates ++ scroll_notes scroll)) (encode_utf8_all piece) in
+    λ reply updates scroll. AreLinesOf (entry_messages command.id reply [] updates scroll) (encode_utf8_all piece) in
     let done = outcome session command.act in
     let by_reply : At done.reply (updates_for view_id effects.update) (scroll_for view_id (option_map position_view effects.scroll)) =
     subst (λ reply. At reply (updates_for view_id effects.update) (scroll_for view_id (option_map position_view effects.scroll))) is.reply lines in

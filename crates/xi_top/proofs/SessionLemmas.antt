@@ -1,17 +1,13 @@
 -- Lemmas on the plain session: one more entry.
-use Rattle.std.proofs.Common.{take_all, length-drop, length, ◌-◌, ◌≡◌, ℕ, zero, suc, ◌+◌, arith, zero-add, take, drop, List, [], ◌∷◌, ◌++◌, map, Some, None, refl, ap, sym, ◌∙◌, subst, append_assoc, append-nil}
-use Rattle.std.proofs.lemmas.List.{map-append}
-use Rattle.std.specs.List.{concat, AllByRecursion}
-use Rattle.std.specs.Str.{encode_utf8_all}
-use Rattle.std.proofs.lemmas.Str.{encodes-append}
-use Rattle.std.proofs.lemmas.List.Folds.{concat-append}
+use Rattle.std.proofs.Common.{take_all, length-drop, length, ◌-◌, ◌≡◌, ℕ, zero, suc, ◌+◌, arith, zero-add, take, drop, List, [], ◌∷◌, ◌++◌, Some, None, refl, ap, sym, ◌∙◌, append_assoc, append-nil}
+use Rattle.std.specs.List.{AllByRecursion}
 use Rattle.serde_json.specs.Data.{Data}
-use Rattle.json_rpc.specs.Line.{line_of, IsLineOf}
 use Rattle.xi_plain.specs.declared.command.Command.{Command}
 use Rattle.xi_plain.specs.declared.entry.Entry.{Entry}
-use Rattle.xi_top.specs.Session.{Session, first_session, messages, outcome, step, session_after, session_of, views_of, lines_written, written, piece_of}
+use Rattle.xi_top.specs.Session.{Session, first_session, messages, outcome, step, session_after, session_of, views_of, written, piece_of}
 use Rattle.xi_top.specs.Core.{IsOfLine, IsOpen, front_entry}
-use Rattle.xi_top.specs.InnerSession.{AreLinesOf}
+use Rattle.entry_lines.specs.Piece.{lines_written}
+use Rattle.entry_lines.proofs.ForCallers.{all_append, lines_written-append}
 use Rattle.std.proofs.Math.Seq.{take-nil}
 use Rattle.std.specs.Prelude.{true}
 use Rattle.xi_plain.specs.declared.command.Act.{Act}
@@ -61,10 +57,6 @@ messages_of-push journal entry =
     all_messages-append first_session journal (entry ∷ []) ∙
     ap (λ rest. messages_of journal ++ rest) (append-nil (messages (session_of journal) entry.command))
 
--- the lines of messages after messages
-pub lines_written-append : (front back : List Data) → lines_written (front ++ back) ≡ lines_written front ++ lines_written back
-lines_written-append front back = ap concat (map-append line_of front back) ∙ concat-append (map line_of front) (map line_of back)
-
 -- what entries write is the lines of their messages
 written-all : (session : Session) (entries : List Entry) → written session entries ≡ lines_written (all_messages session entries)
 unfolding all_messages
@@ -84,32 +76,6 @@ written-push journal entry =
     let said = messages (session_of journal) entry.command in
     written-messages (journal ++ entry ∷ []) ∙ ap lines_written (messages_of-push journal entry) ∙
     lines_written-append (messages_of journal) said ∙ ap (λ front. front ++ lines_written said) (sym (written-messages journal))
-
--- texts of lines, one after the other
-pub all_append : {X : Type 0} (P : X → Type 0) (xs ys : List X) → AllByRecursion P xs → AllByRecursion P ys → AllByRecursion P (xs ++ ys)
-all_append P [] ys front back = back
-all_append P (x ∷ xs) ys front back = (front.0, all_append P xs ys front.1 back)
-
-pub AreLinesOf-append : (front back : List Data) (xs ys : List ℕ) → AreLinesOf front xs → AreLinesOf back ys → AreLinesOf (front ++ back) (xs ++ ys)
-AreLinesOf-append front back xs ys first second = record {
-  joined =
-      ap (λ bytes. bytes ++ ys) first.joined ∙ ap (λ bytes. lines_written front ++ bytes) second.joined ∙
-      sym (lines_written-append front back);
-  each = all_append (λ m. IsLineOf m (line_of m)) front back first.each second.each;
-}
-
--- the piece of an entry, from the texts of its three parts
-pub AreLinesOf-parts : (answer update scroll : List Data) (a u s piece more : List ℕ) →
-    AreLinesOf answer (encode_utf8_all a) → AreLinesOf update (encode_utf8_all u) → AreLinesOf scroll (encode_utf8_all s) →
-    more ≡ a ++ u → piece ≡ more ++ s → AreLinesOf (answer ++ (update ++ scroll)) (encode_utf8_all piece)
-AreLinesOf-parts answer update scroll a u s piece more first second third two three =
-    let At : List ℕ → Type 0 = λ bytes. AreLinesOf (answer ++ (update ++ scroll)) bytes in
-    let whole : encode_utf8_all a ++ (encode_utf8_all u ++ encode_utf8_all s) ≡ encode_utf8_all piece =
-    sym (append_assoc (encode_utf8_all a) (encode_utf8_all u) (encode_utf8_all s)) ∙
-    ap (λ bytes. bytes ++ encode_utf8_all s) (sym (encodes-append a u)) ∙ sym (encodes-append (a ++ u) s) ∙
-    ap encode_utf8_all (ap (λ text. text ++ s) (sym two) ∙ sym three) in
-    subst At whole
-    (AreLinesOf-append answer (update ++ scroll) _ _ first (AreLinesOf-append update scroll _ _ second third))
 
 -- no line closes the session or asks the shelf
 asks_nothing : (act : Act) → may_have_note act NoCall ≡ true

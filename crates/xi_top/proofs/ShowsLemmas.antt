@@ -1,15 +1,12 @@
 -- One more entry is shown, where those before it are.
 use Rattle.std.proofs.Common.{◌≡◌, ℕ, ◌-◌, ◌<◌, length, arith, Bool, true, false, List, [], ◌∷◌, ◌++◌, map, Option, Some, None, refl, ap, sym, ◌∙◌, subst, append-nil, ◌⊎◌, inl, inr}
-use Rattle.std.specs.Prelude.{if◌then◌else◌, ℤ, pos, codes, ◌^◌}
+use Rattle.std.specs.Prelude.{if◌then◌else◌, ◌^◌}
 use Rattle.std.specs.Str.{bytes_eq}
 use Rattle.std.specs.List.{filter_map, cons_option, AllByRecursion}
 use Rattle.serde_json.specs.Data.{Data}
 use Rattle.json_rpc.specs.Line.{line_of, IsLineOf}
 use Rattle.json_rpc.proofs.ForCallers.{lines_of-lines}
 use Rattle.xi_plain.specs.declared.command.Id.{Id}
-use Rattle.xi_plain.specs.declared.command.Id.TheVariants.{NoId, Num, Word}
-use Rattle.xi_plain.specs.declared.command.Fault.{Fault}
-use Rattle.xi_plain.specs.declared.command.Fault.TheVariants.{Parse, Invalid, NoMethod, BadParams}
 use Rattle.xi_plain.specs.declared.command.Command.{Command}
 use Rattle.xi_plain.specs.declared.config.Config.{Config}
 use Rattle.xi_plain.specs.declared.entry.Entry.{Entry}
@@ -17,24 +14,21 @@ use Rattle.xi_plain.specs.declared.command.Act.{Act}
 use Rattle.plain_text.specs.declared.run.Run.{Run}
 use Rattle.plain_screen.specs.declared.screen.Update.{Update}
 use Rattle.plain_screen.specs.Screen.{Screen, screen_after}
-use Rattle.json_rpc.specs.Response.{reply_data, error_data}
-use Rattle.view_update.specs.Notes.{scroll_data, alert_data}
-use Rattle.view_update.specs.Written.{update_data}
 use Rattle.view_update.specs.declared.note.ViewUpdate.{ViewUpdate}
 use Rattle.view_update.specs.declared.note.Scroll.{Scroll}
 use Rattle.view_update.specs.Reading.{line_update}
-use Rattle.view_update.proofs.ForCallers.{others_are_no_updates}
 use Rattle.doc_session.specs.InMemory.{Doc}
-use Rattle.doc_session.specs.Document.{Document, no_request}
+use Rattle.doc_session.specs.Document.{Document}
 use Rattle.doc_session.specs.ScreenOf.{IsUpToDate}
 use Rattle.doc_session.specs.Step.{EventStep}
-use Rattle.xi_top.specs.Answer.{Reply, accepted, refused, spent, not_built, silent, answers, refusal, refused_by, spent_refusal, not_built_refusal}
-use Rattle.json_rpc.specs.Refusal.{code_of, message_of}
-use Rattle.xi_top.specs.Session.{OpenView, Session, first_session, session_of, view_of, view_id, views_of, first_view, Outcome, outcome, opening_outcome, taking, leaving, other_step, outcome_messages, stepped, update_notes, scroll_notes, updates_for, messages, step, lines_written, written, piece_of}
+use Rattle.entry_lines.specs.Answer.{Reply}
+use Rattle.entry_lines.specs.Piece.{AreLinesOf, UpdatesReadBack, lines_written}
+use Rattle.entry_lines.proofs.ForCallers.{pieces_say_their_updates}
+use Rattle.xi_top.specs.Session.{OpenView, Session, first_session, session_of, view_of, view_id, views_of, first_view, Outcome, outcome, opening_outcome, taking, leaving, other_step, outcome_messages, stepped, updates_for, messages, step, written, piece_of}
 use Rattle.xi_top.specs.Shows.{updates_in, screen_with, rebuilt_from, rebuilt, IsShown, AreShown, SendsTo, NotesSendTo, requested, last_requested, Shows}
 use Rattle.doc_text.proofs.ForCallers.{head-text}
 use Rattle.xi_top.specs.Core.{IsOfLine, IsOpen, Stands, StandsForSession, screen_of, IsShowing, front_entry}
-use Rattle.xi_top.specs.InnerSession.{MayBeAsked, UpdatesReadBack, AreLinesOf}
+use Rattle.xi_top.specs.InnerSession.{MayBeAsked}
 use Rattle.xi_top.specs.Laws.{HaveRevisions}
 use Rattle.xi_top.proofs.RevisionLemmas.{revisions_few}
 use Rattle.xi_top.proofs.ViewLemmas.{other_way, only_view, AtMostFirst}
@@ -63,34 +57,16 @@ updates_of-append (m ∷ front) back =
     ap (cons_option (line_update (line_of m))) (updates_of-append front back) ∙
     cons_option-append (line_update (line_of m)) (filter_map line_update (map line_of front)) (filter_map line_update (map line_of back))
 
--- a message that is no update says none
-pub updates_of-none : (m : Data) → line_update (line_of m) ≡ None → updates_of (m ∷ []) ≡ []
-unfolding updates_of
-updates_of-none m none = ap (λ said. cons_option said []) none
-
+-- a message that is one says it
 pub updates_of-some : (m : Data) (told : Option ViewUpdate) → line_update (line_of m) ≡ Some told → updates_of (m ∷ []) ≡ told ∷ []
 unfolding updates_of
 updates_of-some m told some = ap (λ said. cons_option said []) some
-
-pub updates_of-nil : updates_of [] ≡ []
-unfolding updates_of
-updates_of-nil = refl
 
 -- screens after updates after updates
 pub rebuilt_from-append : (id : List ℕ) (screen : Option Screen) (front back : List (Option ViewUpdate)) →
     rebuilt_from id screen (front ++ back) ≡ rebuilt_from id (rebuilt_from id screen front) back
 rebuilt_from-append id screen [] back = refl
 rebuilt_from-append id screen (note ∷ front) back = rebuilt_from-append id (screen_with id screen note) front back
-
--- ---- the updates of an entry's messages
-
-front_all : {X : Type 0} (P : X → Type 0) (xs ys : List X) → AllByRecursion P (xs ++ ys) → AllByRecursion P xs
-front_all P [] ys each = tt
-front_all P (x ∷ xs) ys each = (each.0, front_all P xs ys each.1)
-
-back_all : {X : Type 0} (P : X → Type 0) (xs ys : List X) → AllByRecursion P (xs ++ ys) → AllByRecursion P ys
-back_all P [] ys each = each
-back_all P (x ∷ xs) ys each = back_all P xs ys each.1
 
 -- each message's line is one line that reads as it
 pub AreLines : List Data → Type 0
@@ -100,69 +76,22 @@ pub no_lines : AreLines []
 unfolding AreLines
 no_lines = tt
 
--- an answer says no update
-error_none : (id : Id) (code : ℤ) (text : List ℕ) → IsLineOf (error_data id code text) (line_of (error_data id code text)) →
-    line_update (line_of (error_data id code text)) ≡ None
-error_none id code text line = others_are_no_updates.error id code text (line_of (error_data id code text)) line
-
-refused_none : (id : Id) (code : ℤ) (text : List ℕ) → IsLineOf (refused_by id code text) (line_of (refused_by id code text)) →
-    line_update (line_of (refused_by id code text)) ≡ None
-refused_none NoId code text line = others_are_no_updates.alert text (line_of (alert_data text)) line
-refused_none (Num n) code text line = error_none (Num n) code text line
-refused_none (Word word) code text line = error_none (Word word) code text line
-
-reply_none : (id : Id) (result : Data) → IsLineOf (reply_data id result) (line_of (reply_data id result)) →
-    line_update (line_of (reply_data id result)) ≡ None
-reply_none id result line = others_are_no_updates.reply id result (line_of (reply_data id result)) line
-
-refusal_none : (id : Id) (fault : Fault) → IsLineOf (refusal id fault) (line_of (refusal id fault)) → line_update (line_of (refusal id fault)) ≡ None
-refusal_none id Parse line = error_none NoId (code_of Parse) (message_of Parse) line
-refusal_none id Invalid line = error_none NoId (code_of Invalid) (message_of Invalid) line
-refusal_none id (NoMethod name) line = refused_none id (code_of (NoMethod name)) (message_of (NoMethod name)) line
-refusal_none id (BadParams name) line = refused_none id (code_of (BadParams name)) (message_of (BadParams name)) line
-
-updates_of-answers : (id : Id) (reply : Reply) → AllByRecursion (λ m. IsLineOf m (line_of m)) (answers id reply) → updates_of (answers id reply) ≡ []
-updates_of-answers NoId (accepted result) lines = updates_of-nil
-updates_of-answers (Num n) (accepted result) lines = updates_of-none (reply_data (Num n) result) (reply_none (Num n) result lines.0)
-updates_of-answers (Word text) (accepted result) lines = updates_of-none (reply_data (Word text) result) (reply_none (Word text) result lines.0)
-updates_of-answers id (refused fault) lines = updates_of-none (refusal id fault) (refusal_none id fault lines.0)
-updates_of-answers id spent lines = updates_of-none (spent_refusal id) (refused_none id (pos 3) (codes "spent") lines.0)
-updates_of-answers id not_built lines = updates_of-none (not_built_refusal id) (refused_none id (pos 9) (codes "not built") lines.0)
-updates_of-answers id silent lines = updates_of-nil
-
 -- the notes of updates
 pub note_list : List ViewUpdate → List (Option ViewUpdate)
 note_list [] = []
 note_list (told ∷ updates) = Some told ∷ note_list updates
 
-updates_of-update_notes : (updates : List ViewUpdate) → UpdatesReadBack updates → updates_of (update_notes updates) ≡ note_list updates
+note_list-is : (updates : List ViewUpdate) → map Some updates ≡ note_list updates
 unfolding note_list
-updates_of-update_notes [] reads = updates_of-nil
-updates_of-update_notes (told ∷ updates) reads =
-    let said = update_data told.view told.update in
-    updates_of-append (said ∷ []) (update_notes updates) ∙
-    ap (λ first. first ++ updates_of (update_notes updates)) (updates_of-some said (Some told) reads.0) ∙
-    ap (λ rest. Some told ∷ rest) (updates_of-update_notes updates reads.1)
+note_list-is [] = refl
+note_list-is (told ∷ updates) = ap (λ rest. Some told ∷ rest) (note_list-is updates)
 
-updates_of-scroll_notes : (scroll : Option Scroll) → AllByRecursion (λ m. IsLineOf m (line_of m)) (scroll_notes scroll) → updates_of (scroll_notes scroll) ≡ []
-updates_of-scroll_notes None lines = updates_of-nil
-updates_of-scroll_notes (Some place) lines =
-    updates_of-none (scroll_data place.view place.line place.col)
-    (others_are_no_updates.scroll place.view place.line place.col (line_of (scroll_data place.view place.line place.col)) lines.0)
-
+-- an entry's messages say its updates
 pub updates_of-outcome : (id : Id) (done : Outcome) → AllByRecursion (λ m. IsLineOf m (line_of m)) (outcome_messages id done) →
     UpdatesReadBack done.updates → updates_of (outcome_messages id done) ≡ note_list done.updates
 updates_of-outcome id done lines reads =
-    let P : Data → Type 0 = λ m. IsLineOf m (line_of m) in
-    let notes = back_all P (answers id done.reply) (update_notes done.updates ++ scroll_notes done.scroll) lines in
-    let answered = updates_of-answers id done.reply (front_all P (answers id done.reply) (update_notes done.updates ++ scroll_notes done.scroll) lines) in
-    let updated = updates_of-update_notes done.updates reads in
-    let scrolled = updates_of-scroll_notes done.scroll (back_all P (update_notes done.updates) (scroll_notes done.scroll) notes) in
-    updates_of-append (answers id done.reply) (update_notes done.updates ++ scroll_notes done.scroll) ∙
-    ap (λ front. front ++ updates_of (update_notes done.updates ++ scroll_notes done.scroll)) answered ∙
-    updates_of-append (update_notes done.updates) (scroll_notes done.scroll) ∙
-    ap (λ front. front ++ updates_of (scroll_notes done.scroll)) updated ∙
-    ap (λ back. note_list done.updates ++ back) scrolled ∙ append-nil (note_list done.updates)
+    sym (updates_in-lines (outcome_messages id done)) ∙ pieces_say_their_updates id done.reply [] done.updates done.scroll lines reads ∙
+    note_list-is done.updates
 
 -- ---- a journal with one more entry, in two parts
 

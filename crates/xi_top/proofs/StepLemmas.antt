@@ -29,7 +29,7 @@ use Rattle.doc_text.proofs.ForCallers.{part-collected}
 use Rattle.doc_session.specs.Effects.{pristine_from, screen_told, settled, update_after}
 use Rattle.doc_session.specs.Step.{EventStep, event_step, act_step, collected_document, command_refusal, effect_on, refusal_at, request_of, viewed_document}
 use Rattle.doc_session.proofs.ForCallers.{by_front, IsLastTold-settled, IsUpToDate-settled, part-settled, request_of-refused, updates_show}
-use Rattle.xi_top.specs.Answer.{Reply, spent}
+use Rattle.entry_lines.specs.Answer.{Reply, spent}
 use Rattle.xi_top.specs.Session.{OpenView, Session, first_session, view_of, named_view, views_of, Outcome, outcome, config_with, config_step, taking, leaving, keeping, open_outcome, opening_outcome, first_view, other_step, own_step, edit_came, edit_outcome, undone_outcome, spent_total, step, stepped, session_after}
 use Rattle.xi_top.specs.Shows.{SendsWithin, requested}
 use Rattle.xi_top.proofs.PlanLemmas.{sends-plan_from}

@@ -1,32 +1,25 @@
 -- What private functions say: what an act and a command come to in memory.
 use Rattle.std.specs.Prelude.{◌≡◌, ℕ, ◌^◌, ◌-◌, ◌<◌, List, length, Option, Some, None, Result, IfOk, IfErr, ⊤, option_map}
-use Rattle.std.specs.List.{AllByRecursion}
 use Rattle.std.specs.Option.{option_or}
 use Rattle.std.specs.Str.{encode_utf8_all}
-use Rattle.serde_json.specs.Data.{Data, null}
 use Rattle.plain_edits.specs.History.{head}
-use Rattle.json_rpc.specs.Line.{line_of, IsLineOf}
-use Rattle.view_update.specs.Written.{update_data}
-use Rattle.view_update.specs.declared.note.ViewUpdate.{ViewUpdate}
-use Rattle.view_update.specs.Reading.{line_update}
 use Rattle.doc_session.specs.InMemory.{Doc}
 use Rattle.doc_session.specs.Document.{Document}
 use Rattle.doc_session.specs.Stands.{DocStandsFor}
 use Rattle.xi_top.specs.declared.session.Prepared.{Prepared}
 use Rattle.xi_plain.specs.declared.command.Command.{Command}
-use Rattle.xi_top.specs.Session.{Session, view_id, outcome, messages, lines_written, step, updates_for, scroll_for, Outcome}
+use Rattle.xi_top.specs.Session.{Session, view_id, outcome, messages, step, updates_for, scroll_for, Outcome}
 use Rattle.doc_text.specs.Fault.{DocRefuses}
 use Rattle.doc_session.specs.Step.{AreEffectsOf, EventStep, event_step, refusal_at}
 use Rattle.doc_session.specs.declared.event.Effects.{Effects}
 use Rattle.doc_session.specs.declared.event.Event.{Event}
-use Rattle.json_rpc.specs.Response.{text_data}
 use Rattle.doc_text.specs.declared.fault.DocFault.{DocFault}
 use Rattle.doc_text.specs.declared.fault.DocFault.TheVariants as Fault
 use Rattle.doc_session.specs.PositionView.{position_view}
-use Rattle.xi_top.specs.declared.act.Reply.{Reply as ReplyInMemory}
-use Rattle.xi_top.specs.declared.act.Reply.TheVariants.{Opened, Accepted, Copied, Refused, Spent, NotBuilt, Silent}
+use Rattle.entry_lines.specs.declared.reply.FrontReply.{FrontReply}
 use Rattle.xi_top.specs.declared.act.ActEffects.{ActEffects}
-use Rattle.xi_top.specs.Answer.{Reply, accepted, refused, spent, not_built, silent}
+use Rattle.entry_lines.specs.Answer.{reply_of}
+use Rattle.entry_lines.specs.Piece.{AreLinesOf, UpdatesReadBack}
 use Rattle.xi_top.specs.Core.{ServesDocument, Stands, StandsForSession}
 
 -- no plugin has a session in the document, and it may take one more edit
@@ -37,19 +30,6 @@ TakesEvents doc = (length doc.text.sessions ≡ 0) × (head doc.text.engine.revi
 abbrev pub MayBeAsked : Option Doc → Type 0
 MayBeAsked None = ⊤
 MayBeAsked (Some doc) = TakesEvents doc × ∥ ((plain : Document) × DocStandsFor doc plain) ∥₁
-
--- the bytes are the lines of the messages, and each of these lines reads as its message
-pub record AreLinesOf (messages : List Data) (bytes : List ℕ) : Type 0 where
-  pub joined : bytes ≡ lines_written messages
-  pub each : AllByRecursion (λ message. IsLineOf message (line_of message)) messages
-
--- the line of an update reads back as it
-abbrev pub ReadsBack : ViewUpdate → Type 0
-ReadsBack told = line_update (line_of (update_data told.view told.update)) ≡ Some (Some told)
-
--- the line of each of them does
-abbrev pub UpdatesReadBack : List ViewUpdate → Type 0
-UpdatesReadBack updates = AllByRecursion ReadsBack updates
 
 -- the document that is in place then: the next one, where there is one
 abbrev pub document_then : Option Doc → Option Doc → Option Doc
@@ -74,16 +54,6 @@ pub record IsPrepared (before : Option Doc) (session : Session) (made : Prepared
   pub reads_back : UpdatesReadBack (outcome session made.command.act).updates
   pub stands : StandsForSession (document_then made.next before) made.config (step session made.command)
 
--- what a reply in memory is
-abbrev pub reply_of : ReplyInMemory → Reply
-reply_of Opened = accepted (text_data view_id)
-reply_of Accepted = accepted null
-reply_of (Copied text) = accepted (text_data text)
-reply_of (Refused fault) = refused fault
-reply_of Spent = spent
-reply_of NotBuilt = not_built
-reply_of Silent = silent
-
 -- what came of an act in memory, beside the document before, is the outcome
 pub record IsOutcome (before : Option Doc) (outcome : Outcome) (effects : ActEffects) : Type 0 where
   pub reply : reply_of effects.reply ≡ outcome.reply
@@ -97,7 +67,7 @@ Serves None plain = ⊥
 Serves (Some doc) plain = ServesDocument doc plain
 
 -- what came of an event that was taken, with this answer: the document of its step, and what this tells the front end
-pub record IsTaken (step : EventStep) (answer : ReplyInMemory) (effects : ActEffects) : Type 0 where
+pub record IsTaken (step : EventStep) (answer : FrontReply) (effects : ActEffects) : Type 0 where
   pub reply : effects.reply ≡ answer
   pub next : Serves effects.next step.document
   pub update : effects.update ≡ step.update

@@ -1,4 +1,3 @@
-pub mod Answer
 pub mod Session
 pub mod Shows
 pub mod Core

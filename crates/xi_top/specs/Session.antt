@@ -1,7 +1,6 @@
 -- THE PLAIN SESSION: what the entries of a journal do, one after the other, and what each writes.
 use Rattle.std.specs.Prelude.{ℕ, ◌^◌, false, if◌then◌else◌, List, [], ◌∷◌, ◌++◌, map, codes, Option, Some, None, unwrap_or}
 use Rattle.std.specs.Str.{encode_utf8_all, bytes_eq}
-use Rattle.std.specs.List.{concat}
 use Rattle.serde_json.specs.Data.{Data, null}
 use Rattle.xi_plain.specs.declared.command.Id.{Id}
 use Rattle.xi_plain.specs.declared.command.Fault.{Fault}
@@ -16,17 +15,17 @@ use Rattle.xi_plain.specs.declared.entry.Entry.{Entry}
 use Rattle.plain_screen.specs.declared.screen.Update.{Update}
 use Rattle.plain_edits.specs.Edits.{spent as spent_by}
 use Rattle.doc_session.specs.Layout.{Position}
-use Rattle.json_rpc.specs.Line.{line_of}
 use Rattle.json_rpc.specs.Response.{text_data}
-use Rattle.view_update.specs.Written.{update_data}
-use Rattle.view_update.specs.Notes.{scroll_data}
 use Rattle.view_update.specs.declared.note.ViewUpdate.{ViewUpdate}
 use Rattle.view_update.specs.declared.note.Scroll.{Scroll}
+use Rattle.entry_lines.specs.Answer.{Reply, accepted, refused, spent, not_built, silent}
+use Rattle.entry_lines.specs.Piece.{entry_messages, lines_written}
+use Rattle.doc_session.specs.declared.event.Body.{Body}
+use Rattle.doc_session.specs.declared.event.Body.TheVariants.{Null, Copied, Edited}
 use Rattle.doc_session.specs.declared.event.Event.TheVariants.{Config as Configured, Front, Other}
 use Rattle.doc_session.specs.Document.{Document, loaded_document}
 use Rattle.doc_text.specs.Refusal.{DocRefusal, of_edit}
 use Rattle.doc_session.specs.Step.{EventStep, event_step, refusal_at}
-use Rattle.xi_top.specs.Answer.{Reply, accepted, refused, result_of, spent, not_built, silent, answers}
 
 -- A VIEW that is open: its id, which is of ASCII, and its document
 pub record OpenView : Type 0 where
@@ -54,14 +53,6 @@ pub record Outcome : Type 0 where
   pub views : List OpenView
   pub updates : List ViewUpdate
   pub scroll : Option Scroll
-
--- the notes of updates and of a place to scroll to
-abbrev pub update_notes : List ViewUpdate → List Data
-update_notes updates = map (λ told. update_data told.view told.update) updates
-
-abbrev pub scroll_notes : Option Scroll → List Data
-scroll_notes None = []
-scroll_notes (Some place) = scroll_data place.view place.line place.col ∷ []
 
 -- the update and the place to scroll to, as they are told of the view with this id, where there are any
 abbrev pub updates_for : List ℕ → Option Update → List ViewUpdate
@@ -157,6 +148,12 @@ config_step config view = event_step view.document (Configured config)
 abbrev pub config_outcome : List OpenView → Config → Outcome
 config_outcome views config = taking (accepted null) None (config_step config) views
 
+-- the result of an edit of the front end: what was copied, and else null. (The number of a revision is told to plugins alone.)
+abbrev pub result_of : Body → Data
+result_of Null = null
+result_of (Copied text) = text_data text
+result_of (Edited rev group) = null
+
 -- the characters that would be spent in all, where an edit is refused for that
 abbrev pub spent_total : Option DocRefusal → Option ℕ
 spent_total (Some (of_edit (spent_by total))) = Some total
@@ -202,15 +199,11 @@ outcome session act = keeping session.views not_built
 
 -- the messages of an outcome in their order
 abbrev pub outcome_messages : Id → Outcome → List Data
-outcome_messages id done = answers id done.reply ++ (update_notes done.updates ++ scroll_notes done.scroll)
+outcome_messages id done = entry_messages id done.reply [] done.updates done.scroll
 
 -- the messages of an entry
 abbrev pub messages : Session → Command → List Data
 messages session command = outcome_messages command.id (outcome session command.act)
-
--- the lines of messages, one after the other
-abbrev pub lines_written : List Data → List ℕ
-lines_written written = concat (map line_of written)
 
 -- THE PIECE of an entry: the lines of its messages
 abbrev pub piece_of : Session → Command → List ℕ

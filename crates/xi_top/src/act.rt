@@ -7,11 +7,13 @@ ghost use Rattle.doc_text.specs.Refusal.{DocRefusal};
 ghost use Rattle.doc_session.specs.Stands.{DocStandsFor};
 ghost use Rattle.doc_session.specs.Step.{EventStep, IsEventFor, event_step};
 ghost use Rattle.xi_top.specs.Core.{ServesView, Stands};
-ghost use Rattle.xi_top.specs.InnerSession.{IsMade, IsOutcome, IsSpentOrLack, IsTaken, MayBeAsked, TakesEvents, reply_of};
-ghost use Rattle.xi_top.specs.Answer.{accepted, result_of};
-ghost use Rattle.xi_top.specs.Session.{OpenView, Session, config_after, config_outcome, view_id, named_view, outcome, edit_came, edit_outcome, undone_outcome, open_outcome, front_outcome, keeping, refusing, refusing_view, spent_total};
+ghost use Rattle.xi_top.specs.InnerSession.{IsMade, IsOutcome, IsSpentOrLack, IsTaken, MayBeAsked, TakesEvents};
+ghost use Rattle.entry_lines.specs.Answer.{accepted, reply_of};
+ghost use Rattle.xi_top.specs.Session.{OpenView, Session, config_after, config_outcome, view_id, named_view, outcome, edit_came, edit_outcome, undone_outcome, open_outcome, front_outcome, keeping, refusing, refusing_view, result_of, spent_total};
 
+use crate::piece::{FIRST_VIEW, first_view};
 use doc_session::{Body, Doc, DocFault, Effects, Event};
+use entry_lines::FrontReply;
 use plain_screen::Update;
 use plain_text::{NoMemory, Steps, Text, TryClone};
 use std::alloc::Global;
@@ -19,39 +21,17 @@ use std::marker::Brand;
 use std::sync::ledger::{Blank, Ledger};
 use xi_plain::{Act, Config, EditAct, Fault};
 
-/// The id of the first view.
-pub const FIRST_VIEW: &str = "view-id-1";
-
 /// The member of a line that names its view.
 const VIEW_MEMBER: &str = "view_id";
 
 /// The most characters that may be inserted into a document.
 const TEXT_LIMIT: u64 = 1 << 40;
 
-/// What an act is answered.
-#[derive(Drop)]
-pub enum Reply {
-    /// The first view was opened.
-    Opened,
-    /// It was accepted, and has no result.
-    Accepted,
-    /// It was accepted, and its result is this text.
-    Copied(Text),
-    /// It was refused.
-    Refused(Fault),
-    /// It would insert more characters than may be.
-    Spent,
-    /// The program does not do it yet.
-    NotBuilt,
-    /// It asks for no answer.
-    Silent,
-}
-
 /// What an act came to: what it is answered, the document that takes the place of the present one, where there is another, and what
 /// else the front end is told.
 #[derive(Drop)]
 pub struct ActEffects {
-    pub reply: Reply,
+    pub reply: FrontReply,
     pub next: Option<Doc>,
     pub update: Option<Update>,
     pub scroll: Option<(u64, u64)>,
@@ -71,14 +51,14 @@ pub fn act_on(
 {
     match act {
         Act::Bad(fault) => refused(alloc, document, fault),
-        Act::Nothing => others(alloc, document, Reply::Accepted),
+        Act::Nothing => others(alloc, document, FrontReply::Accepted),
         Act::Configure(_) => configure(alloc, document, config),
         Act::NewView { path } => open(alloc, document, config, path),
         Act::CloseView { view } => undone(alloc, document, view),
         Act::Save { view, path: _ } => undone(alloc, document, view),
         Act::Edit { view, act } => edit(alloc, document, view, act),
-        Act::Closing => Ok(changed_nothing(Reply::Silent)),
-        _ => others(alloc, document, Reply::NotBuilt),
+        Act::Closing => Ok(changed_nothing(FrontReply::Silent)),
+        _ => others(alloc, document, FrontReply::NotBuilt),
     }
 }
 
@@ -90,13 +70,13 @@ fn configure(alloc: Global, document: &Option<Doc>, config: Config) -> Result<Ac
         → IfOk result (IsOutcome document.now (config_outcome views config)) }
 {
     match document {
-        Some(doc) => step(alloc, doc, Event::Config(config), Reply::Accepted),
-        None => Ok(changed_nothing(Reply::Accepted)),
+        Some(doc) => step(alloc, doc, Event::Config(config), FrontReply::Accepted),
+        None => Ok(changed_nothing(FrontReply::Accepted)),
     }
 }
 
 /// A line that is none of a document's own: it ends its run of typing.
-fn others(alloc: Global, document: &Option<Doc>, reply: Reply) -> Result<ActEffects, NoMemory>
+fn others(alloc: Global, document: &Option<Doc>, reply: FrontReply) -> Result<ActEffects, NoMemory>
     requires { MayBeAsked document.now }
     ensures { (views : List OpenView) → Stands document.now views
         → IfOk result (IsOutcome document.now (keeping views (reply_of reply))) }
@@ -108,7 +88,7 @@ fn others(alloc: Global, document: &Option<Doc>, reply: Reply) -> Result<ActEffe
 }
 
 /// The step of a document at an event that it never refuses, answered so.
-fn step(alloc: Global, doc: &Doc, event: Event, reply: Reply) -> Result<ActEffects, NoMemory>
+fn step(alloc: Global, doc: &Doc, event: Event, reply: FrontReply) -> Result<ActEffects, NoMemory>
     requires alone { TakesEvents doc.now }
     requires event { IsEventFor 0 event }
     ensures { (plain : Document) → DocStandsFor doc.now plain → IfOk result (IsTaken (event_step plain event) reply) }
@@ -119,7 +99,7 @@ fn step(alloc: Global, doc: &Doc, event: Event, reply: Reply) -> Result<ActEffec
     }
 }
 
-fn changed_nothing(reply: Reply) -> ActEffects
+fn changed_nothing(reply: FrontReply) -> ActEffects
     ensures { result ≡ record { reply = reply; next = None; update = None; scroll = None } }
 {
     ActEffects {
@@ -135,7 +115,7 @@ fn refused(alloc: Global, document: &Option<Doc>, fault: &Fault) -> Result<ActEf
     ensures { (views : List OpenView) → Stands document.now views
         → IfOk result (IsOutcome document.now (refusing views fault.now)) }
 {
-    others(alloc, document, Reply::Refused(fault.copy(alloc)?))
+    others(alloc, document, FrontReply::Refused(fault.copy(alloc)?))
 }
 
 /// The refusal of a view that is not there.
@@ -145,7 +125,11 @@ fn refused_view(alloc: Global, document: &Option<Doc>) -> Result<ActEffects, NoM
         → IfOk result (IsOutcome document.now (refusing_view views)) }
 {
     let member = Text::from_ascii(alloc, VIEW_MEMBER)?;
-    others(alloc, document, Reply::Refused(Fault::BadParams(member)))
+    others(
+        alloc,
+        document,
+        FrontReply::Refused(Fault::BadParams(member)),
+    )
 }
 
 /// What is not done yet of a view.
@@ -155,7 +139,7 @@ fn undone(alloc: Global, document: &Option<Doc>, name: &Text) -> Result<ActEffec
         → IfOk result (IsOutcome document.now (undone_outcome views (named_view views name.now))) }
 {
     match document {
-        Some(_) if is_first_view(name) => others(alloc, document, Reply::NotBuilt),
+        Some(_) if is_first_view(name) => others(alloc, document, FrontReply::NotBuilt),
         _ => refused_view(alloc, document),
     }
 }
@@ -172,10 +156,11 @@ fn open(
         → IfOk result (IsOutcome document.now (open_outcome config views path.now)) }
 {
     if document.is_some() || path.is_some() {
-        return others(alloc, document, Reply::NotBuilt);
+        return others(alloc, document, FrontReply::NotBuilt);
     }
+    let view = first_view(alloc)?;
     let doc = Doc::of_text(alloc, Text::new(alloc), 0, TEXT_LIMIT, config)?;
-    let opened = step(alloc, &doc, Event::Other, Reply::Opened);
+    let opened = step(alloc, &doc, Event::Other, FrontReply::Opened(view));
     drop(doc);
     opened
 }
@@ -223,7 +208,7 @@ fn not_edited(alloc: Global, doc: &Doc, fault: DocFault) -> Result<ActEffects, N
         → IfOk result (IsOutcome (Some doc.now) (edit_came (view ∷ []) view (spent_total refusal) step)) }
 {
     match fault {
-        DocFault::Spent(_) => step(alloc, doc, Event::Other, Reply::Spent),
+        DocFault::Spent(_) => step(alloc, doc, Event::Other, FrontReply::Spent),
         DocFault::NoMemory => Err(NoMemory),
         DocFault::Unknown(_)
         | DocFault::Collected(_)
@@ -232,7 +217,7 @@ fn not_edited(alloc: Global, doc: &Doc, fault: DocFault) -> Result<ActEffects, N
     }
 }
 
-fn taken(reply: Reply, next: Doc, effects: Effects) -> ActEffects
+fn taken(reply: FrontReply, next: Doc, effects: Effects) -> ActEffects
     ensures { result ≡ record { reply = reply; next = Some next; update = effects.update; scroll = effects.scroll } }
 {
     let Effects {
@@ -272,12 +257,12 @@ fn edited(next: Doc, effects: Effects) -> ActEffects
     }
 }
 
-fn answer_of(body: Body) -> Reply
+fn answer_of(body: Body) -> FrontReply
     ensures { reply_of result ≡ accepted (result_of body) }
 {
     match body {
-        Body::Copied { text } => Reply::Copied(text),
-        Body::Null | Body::Edited { .. } => Reply::Accepted,
+        Body::Copied { text } => FrontReply::Copied(text),
+        Body::Null | Body::Edited { .. } => FrontReply::Accepted,
     }
 }
 

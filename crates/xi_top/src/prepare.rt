@@ -57,14 +57,13 @@ fn done(
         → IfOk result (λ made. IsDone document.now session command.now made.0 made.1) }
 {
     let effects = act_on(alloc, document, config, &command.act)?;
-    let piece = piece_of(alloc, &command.id, &effects);
-    let (effects, piece) = both(effects, piece)?;
     let ActEffects {
         reply,
         next,
         update,
-        scroll: _,
+        scroll,
     } = effects;
-    drop((reply, update));
+    let piece = piece_of(alloc, &command.id, reply, update, scroll);
+    let (next, piece) = both(next, piece)?;
     Ok((piece, next))
 }

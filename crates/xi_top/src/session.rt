@@ -122,6 +122,13 @@ impl<K: Sink> Core<K> {
         Entered::Taken
     }
 
+    /// The sink, to look at.
+    pub fn sink(&self) -> &K
+        ensures { result.now ≡ sink_of self.now }
+    {
+        &self.sink
+    }
+
     /// Puts in the closing entry, which takes no memory.
     pub fn close_down(&mut self)
         requires { HasRoom self.old }

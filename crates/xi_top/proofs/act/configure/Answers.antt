@@ -1,6 +1,6 @@
 use Rattle.std.proofs.Common.{refl}
+use Rattle.entry_lines.specs.declared.reply.FrontReply.TheVariants.{Accepted}
 use Rattle.xi_top.specs.Session.{config_step}
-use Rattle.xi_top.specs.declared.act.Reply.TheVariants.{Accepted}
 use Rattle.xi_top.proofs.OpenLemmas.{IsOutcome-all}
 use Rattle.xi_top.proofs.act.configure.Goals as goal
 

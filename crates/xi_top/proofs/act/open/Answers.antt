@@ -1,10 +1,10 @@
-use Rattle.std.proofs.Common.{sym, ◌∙◌}
+use Rattle.std.proofs.Common.{List, ℕ, IfOk, sym, ◌∙◌, subst}
 use Rattle.std.proofs.lemmas.Result.{IfOk-weaker}
 use Rattle.doc_session.specs.declared.event.Event.TheVariants.{Other}
 use Rattle.doc_session.specs.Step.{event_step}
-use Rattle.xi_top.specs.declared.act.Reply.TheVariants.{Opened}
+use Rattle.entry_lines.specs.declared.reply.FrontReply.TheVariants.{Opened}
 use Rattle.xi_top.specs.InnerSession.{IsOutcome, IsTaken}
-use Rattle.xi_top.specs.Session.{first_document, open_outcome}
+use Rattle.xi_top.specs.Session.{first_document, open_outcome, view_id}
 use Rattle.xi_top.proofs.OpenLemmas.{TakesEvents-loaded, stands-first, IsOutcome-opened}
 use Rattle.xi_top.proofs.act.open.Goals as goal
 
@@ -16,8 +16,9 @@ returns c = λ views stands.
     let config = c.args.config in
     let document = c.args.document.now in
     let first = stands-first c.in_ok-doc.doc c.new.result config c.new.ensures c.in_ok-doc.ensures.stands in
-    IfOk-weaker c.step-opened.result (IsTaken (event_step (first_document config) Other) Opened)
+    let By : List ℕ → Type 0 = λ id. IfOk c.step-opened.result (IsTaken (event_step (first_document config) Other) (Opened id)) in
+    IfOk-weaker c.step-opened.result (IsTaken (event_step (first_document config) Other) (Opened view_id))
     (IsOutcome document (open_outcome config views c.args.path.now))
     (λ came is. IsOutcome-opened document config c.args.path.now views came
     (sym c.is_some.ensures ∙ c.if-is_some.false) (sym c.is_some-else-is_some.ensures ∙ c.if-is_some-2.false) stands is)
-    (c.step-opened.ensures (first_document config) first)
+    (subst By c.in_ok-view.ensures (c.step-opened.ensures (first_document config) first))
