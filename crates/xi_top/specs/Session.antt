@@ -21,7 +21,7 @@ use Rattle.view_update.specs.declared.note.Scroll.{Scroll}
 use Rattle.entry_lines.specs.Answer.{Reply, accepted, refused, spent, not_built, silent}
 use Rattle.entry_lines.specs.Piece.{entry_messages, lines_written}
 use Rattle.doc_session.specs.declared.event.Body.{Body}
-use Rattle.doc_session.specs.declared.event.Body.TheVariants.{Null, Copied, Edited}
+use Rattle.doc_session.specs.declared.event.Body.TheVariants.{Null, Chunk, Copied, Edited, Lines}
 use Rattle.doc_session.specs.declared.event.Event.TheVariants.{Config as Configured, Front, Other}
 use Rattle.doc_session.specs.Document.{Document, loaded_document}
 use Rattle.doc_text.specs.Refusal.{DocRefusal, of_edit}
@@ -148,11 +148,13 @@ config_step config view = event_step view.document (Configured config)
 abbrev pub config_outcome : List OpenView → Config → Outcome
 config_outcome views config = taking (accepted null) None (config_step config) views
 
--- the result of an edit of the front end: what was copied, and else null. (The number of a revision is told to plugins alone.)
+-- the result of an edit of the front end: what was copied, and else null. (Numbers of revisions, chunks and counts of lines are told to plugins alone.)
 abbrev pub result_of : Body → Data
 result_of Null = null
 result_of (Copied text) = text_data text
 result_of (Edited rev group) = null
+result_of (Chunk text offset) = null
+result_of (Lines count) = null
 
 -- the characters that would be spent in all, where an edit is refused for that
 abbrev pub spent_total : Option DocRefusal → Option ℕ

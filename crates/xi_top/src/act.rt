@@ -262,7 +262,9 @@ fn answer_of(body: Body) -> FrontReply
 {
     match body {
         Body::Copied { text } => FrontReply::Copied(text),
-        Body::Null | Body::Edited { .. } => FrontReply::Accepted,
+        Body::Null | Body::Edited { .. } | Body::Chunk { .. } | Body::Lines(_) => {
+            FrontReply::Accepted
+        }
     }
 }
 
