@@ -28,6 +28,7 @@ fn turns_are_cut_in_whatever_pieces_they_come(rt: HostRuntime) {
     assert!(rt; gives_in_pieces(alloc, b"a\nb\n\nc\n\n", 3, "a b /c /.E"));
     assert!(rt; gives_in_pieces(alloc, b"a\nb\n\nc\n\n", 2, "a b /c /-"));
     assert!(rt; gives_in_pieces(alloc, b"\n\n", 3, "//.E"));
+    assert!(rt; gives_in_pieces(alloc, b"\na\n\n", 3, "/a /.E"));
     assert!(rt; gives_in_pieces(alloc, b"a\r\n\r\n\nb\n\n", 2, "a\r \r /b /-"));
     assert!(rt; gives_in_pieces(alloc, b"", 2, "..E"));
 }

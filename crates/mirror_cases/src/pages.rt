@@ -148,6 +148,13 @@ fn what_tells_nothing_is_not_read(rt: HostRuntime) {
     assert!(rt;
         plays(
             alloc,
+            "{\"method\":\"new_buffer\",\"params\":{\"len\":1,\"rev\":0}}; {\"method\":\"update\",\"params\":{\"author\":0,\"delta\":{\"base_len\":0,\"els\":[]},\"new_len\":0,\"rev\":1}}; {\"method\":\"did_close\",\"params\":{}}; asks",
+            "unread; unread; unread; "
+        )
+    );
+    assert!(rt;
+        plays(
+            alloc,
             "open v 1; asks; chunk 0 0 a; update v 0 1 1 {\"copy\":[0,1]}; update v 2 1 1 {\"copy\":[0,1]}; update v 1 2 1 {\"copy\":[0,1]}; update v 1 1 1 {\"copy\":[0,1]}; update v 1 1 1 {\"copy\":[0,1]}; page v",
             "ok; 0:v from 0 most 4; ok; gap 0; gap 0; length 1; ok; gap 1; 1 a"
         )
