@@ -33,6 +33,13 @@ const EMPTY_EDIT: &str =
 const GROUP_OF_ZERO: &str =
     "{\"method\":\"edit\",\"params\":{\"after_cursor\":false,\"author\":\"\",\"delta\":{\"base_len\":0,\"els\":[]},\"priority\":0,\"rev\":0,\"undo_group\":0,\"view_id\":\"\"}}\n";
 
+const GET_DATA_ALONE: &str =
+    "{\"method\":\"get_data\",\"params\":{\"max_size\":0,\"rev\":0,\"start\":0,\"view_id\":\"\"}}\n";
+
+const LINE_COUNT_ALONE: &str = "{\"method\":\"line_count\",\"params\":{\"view_id\":\"\"}}\n";
+
+const ALERT_ALONE: &str = "{\"method\":\"alert\",\"params\":{\"msg\":\"\"}}\n";
+
 const NO_SPANS: &str =
     "{\"method\":\"update_spans\",\"params\":{\"len\":0,\"rev\":0,\"spans\":[],\"start\":0,\"view_id\":\"v\"}}\n";
 
@@ -188,12 +195,35 @@ fn writes_no_spans(alloc: Global) -> Result<bool, NoMemory> {
     writes(alloc, Id::NoId, act, NO_SPANS)
 }
 
+fn writes_data_alone(alloc: Global) -> Result<bool, NoMemory> {
+    let act = Act::GetData {
+        view: Text::new(alloc),
+        rev: 0,
+        start: 0,
+        max: 0,
+    };
+    writes(alloc, Id::NoId, act, GET_DATA_ALONE)
+}
+
+fn writes_count_alone(alloc: Global) -> Result<bool, NoMemory> {
+    let view = Text::new(alloc);
+    writes(alloc, Id::NoId, Act::LineCount { view }, LINE_COUNT_ALONE)
+}
+
+fn writes_alert_alone(alloc: Global) -> Result<bool, NoMemory> {
+    let msg = Text::new(alloc);
+    writes(alloc, Id::NoId, Act::Alert { msg }, ALERT_ALONE)
+}
+
 #[test]
 fn what_may_be_left_out_is(rt: HostRuntime) {
     let alloc = rt.alloc();
     assert!(rt; matches!(writes_empty_edit(alloc, None, EMPTY_EDIT), Ok(true)));
     assert!(rt; matches!(writes_empty_edit(alloc, Some(0), GROUP_OF_ZERO), Ok(true)));
     assert!(rt; matches!(writes_no_spans(alloc), Ok(true)));
+    assert!(rt; matches!(writes_data_alone(alloc), Ok(true)));
+    assert!(rt; matches!(writes_count_alone(alloc), Ok(true)));
+    assert!(rt; matches!(writes_alert_alone(alloc), Ok(true)));
 }
 
 /// Whether the alert with this id is written with an id of null, which the core refuses.
