@@ -5,3 +5,5 @@ pub mod OnceLemmas
 pub mod RedoLemmas
 pub mod UnseenLemmas
 pub mod StyleLemmas
+pub mod SavingLemmas
+pub mod ReadingLemmas

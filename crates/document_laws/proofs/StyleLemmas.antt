@@ -22,7 +22,7 @@ use Rattle.undo_groups.specs.Groups.{Groups, next_redo, next_undo, redone_one, u
 use Rattle.edit_groups.specs.Typing.{kind_of}
 use Rattle.edit_ops.specs.Commands.{Effect}
 use Rattle.doc_session.specs.declared.event.Event.{Event}
-use Rattle.doc_session.specs.declared.event.Event.TheVariants.{Ack, Config as Configure, Edit, Ended, Front, Other, Spans}
+use Rattle.doc_session.specs.declared.event.Event.TheVariants.{Ack, Config as Configure, Count, Edit, Ended, Front, Other, Read, Saved, Spans}
 use Rattle.doc_text.specs.Asking.{asked_spans}
 use Rattle.doc_text.specs.Collecting.{collection_after, with_collection}
 use Rattle.doc_text.specs.Writing.{head_text}
@@ -32,7 +32,7 @@ use Rattle.doc_session.specs.declared.looking.Viewing.{Viewing}
 use Rattle.doc_session.specs.declared.looking.Viewing.TheVariants.{Layout, Other as NoCommand}
 use Rattle.doc_session.specs.Looking.{viewed_lines, viewing_of}
 use Rattle.doc_session.specs.Effects.{pristine_from, settled}
-use Rattle.doc_session.specs.Step.{act_step, collected_document, command_step, done_step, effect_on, given_document, history_step, idle_step, is_idle, looking_step, selected_document, styled_document, taken_step, typed_document, typed_step, undone_document, viewed_document, viewing_step, with_text}
+use Rattle.doc_session.specs.Step.{act_step, collected_document, command_step, done_step, effect_on, given_document, history_step, idle_step, is_idle, looking_step, saved_document, selected_document, styled_document, taken_step, typed_document, typed_step, undone_document, viewed_document, viewing_step, with_text}
 use Rattle.document_laws.specs.Laws.{AreOverText, SaysNoStyles, StylesFollow}
 use Rattle.document_laws.proofs.GroupLemmas.{part-stepped}
 use Rattle.doc_text.proofs.ForCallers.{head_text-loaded}
@@ -149,9 +149,12 @@ module _ (d : Document) (over : AreOverText d) where
   follows-taken (Edit caller edit named) none =
       follows-settled no_request d (given_document d caller edit named) refl
   follows-taken (Spans caller rev start len spans) none = absurd none
+  follows-taken (Read caller rev start max) none = follows-still
+  follows-taken (Count caller) none = follows-still
   follows-taken (Ack caller rev) none = follows-still
   follows-taken (Ended caller) none = follows-still
   follows-taken (Configure config) none = follows-viewing (Layout config)
+  follows-taken Saved none = follows-settled no_request d (saved_document d) follows-still
   follows-taken Other none = follows-viewing NoCommand
 
   follows-event : (event : Event) → SaysNoStyles event → StylesFollow d event
@@ -194,7 +197,10 @@ pub layers_follow : (d : Document) (event : Event) → AreOverText d → StylesF
 layers_follow d (Front act) over = follows-event d over (Front act) tt
 layers_follow d (Edit caller edit named) over = follows-event d over (Edit caller edit named) tt
 layers_follow d (Spans caller rev start len spans) over = spans-event d caller rev start len spans over
+layers_follow d (Read caller rev start max) over = follows-event d over (Read caller rev start max) tt
+layers_follow d (Count caller) over = follows-event d over (Count caller) tt
 layers_follow d (Ack caller rev) over = follows-event d over (Ack caller rev) tt
 layers_follow d (Ended caller) over = follows-event d over (Ended caller) tt
 layers_follow d (Configure config) over = follows-event d over (Configure config) tt
+layers_follow d Saved over = follows-event d over Saved tt
 layers_follow d Other over = follows-event d over Other tt

@@ -20,7 +20,7 @@ use Rattle.edit_groups.specs.Typing.{kind_of, run_on}
 use Rattle.doc_session.specs.declared.event.Body.{Body}
 use Rattle.doc_session.specs.declared.event.Body.TheVariants.{Null}
 use Rattle.doc_session.specs.declared.event.Event.{Event}
-use Rattle.doc_session.specs.declared.event.Event.TheVariants.{Ack, Config as Configure, Edit, Ended, Front, Other, Spans}
+use Rattle.doc_session.specs.declared.event.Event.TheVariants.{Ack, Config as Configure, Count, Edit, Ended, Front, Other, Read, Saved, Spans}
 use Rattle.doc_text.specs.Asking.{asked_refusal}
 use Rattle.doc_text.specs.Collecting.{acknowledged_text, collection_after, ended_text, least_acknowledged, with_collection}
 use Rattle.doc_text.specs.Notices.{notice_of, notice_to}
@@ -33,7 +33,7 @@ use Rattle.doc_session.specs.Looking.{viewed_lines, viewing_of}
 use Rattle.doc_session.specs.Effects.{settled, update_after}
 use Rattle.doc_session.specs.Layout.{Position}
 use Rattle.doc_text.specs.Refusal.{edit_refused}
-use Rattle.doc_session.specs.Step.{EventStep, act_step, answer_to, collected_document, command_step, done_step, effect_on, event_step, history_step, idle_step, is_idle, looking_step, refusal_at, revised_document, revision_step, scroll_if, scrolls, selected_document, step_to, taken_step, typed_step, undone_document, viewed_document, viewing_step, with_text}
+use Rattle.doc_session.specs.Step.{EventStep, act_step, answer_to, collected_document, command_step, done_step, effect_on, event_step, history_step, idle_step, is_idle, looking_step, refusal_at, revised_document, revision_step, saved_document, scroll_if, scrolls, selected_document, step_to, taken_step, typed_step, undone_document, viewed_document, viewing_step, with_text}
 use Rattle.edit_groups.proofs.ForCallers.{least-within}
 use Rattle.doc_text.proofs.ForCallers.{floor-found, head-after}
 use Rattle.document_laws.specs.Laws.{AcknowledgementsAreUnseen, AreAlike, CollectionIsUnseen, IsOfFront, TellTheSame, after_event, bare, bare_groups}
@@ -181,9 +181,12 @@ along-taken : (d : Document) (event : Event) → IsOfFront event → GoAlong (ta
 along-taken d (Front act) front = along-act d act
 along-taken d (Edit caller edit named) front = absurd front
 along-taken d (Spans caller rev start len spans) front = absurd front
+along-taken d (Read caller rev start max) front = absurd front
+along-taken d (Count caller) front = absurd front
 along-taken d (Ack caller rev) front = absurd front
 along-taken d (Ended caller) front = absurd front
 along-taken d (Configure config) front = along-viewing d (Layout config)
+along-taken d Saved front = along-step_to no_request d (saved_document d) (saved_document (bare d)) Null None None (bare-again (saved_document d))
 along-taken d Other front = along-viewing d NoCommand
 
 along-event : (d : Document) (event : Event) → IsOfFront event → GoAlong (event_step d event) (event_step (bare d) event)
@@ -252,9 +255,12 @@ floor-taken : (d : Document) (event : Event) → IsOfFront event → HasFloor d 
 floor-taken d (Front act) front has = floor-act d act has
 floor-taken d (Edit caller edit named) front has = absurd front
 floor-taken d (Spans caller rev start len spans) front has = absurd front
+floor-taken d (Read caller rev start max) front has = absurd front
+floor-taken d (Count caller) front has = absurd front
 floor-taken d (Ack caller rev) front has = absurd front
 floor-taken d (Ended caller) front has = absurd front
 floor-taken d (Configure config) front has = floor-viewing d (Layout config) has
+floor-taken d Saved front has = floor-settled no_request d (saved_document d) has
 floor-taken d Other front has = floor-viewing d NoCommand has
 
 floor-event : (d : Document) (event : Event) → IsOfFront event → HasFloor d → HasFloor (after_event d event)
@@ -265,9 +271,12 @@ floor-event d event front has = floor-collected (taken_step d event).document (f
 refusal-bare : (d : Document) (event : Event) → IsOfFront event → HasFloor d → refusal_at d event ≡ refusal_at (bare d) event
 refusal-bare d (Edit caller edit named) front has = absurd front
 refusal-bare d (Spans caller rev start len spans) front has = absurd front
+refusal-bare d (Read caller rev start max) front has = absurd front
+refusal-bare d (Count caller) front has = absurd front
 refusal-bare d (Ack caller rev) front has = absurd front
 refusal-bare d (Ended caller) front has = absurd front
 refusal-bare d (Configure config) front has = refl
+refusal-bare d Saved front has = refl
 refusal-bare d Other front has = refl
 refusal-bare d (Front act) front has = ap edit_refused (by (is_idle d effect))
   where
@@ -343,5 +352,8 @@ acknowledgements_are_unseen d (Ended caller) told has = (
   record { body = refl; update = refl; scroll = refl; notice = refl },
   told_by_sessions d (ended_text d.text caller).sessions has (bare-set d.text.sessions _ _),
 )
+acknowledgements_are_unseen d (Read caller rev start max) told has = absurd told
+acknowledgements_are_unseen d (Count caller) told has = absurd told
 acknowledgements_are_unseen d (Configure config) told has = absurd told
+acknowledgements_are_unseen d Saved told has = absurd told
 acknowledgements_are_unseen d Other told has = absurd told

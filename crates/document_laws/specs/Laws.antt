@@ -1,8 +1,9 @@
--- Laws of undo, redo, collection and styles, over the steps of a plain document.
-use Rattle.std.specs.Prelude.{◌≡◌, ◌≢◌, ℕ, zero, suc, ◌+◌, ◌<◌, ◌≤◌, true, false, List, [], ◌∷◌, length, map, Some, None, ⊤}
-use Rattle.std.specs.List.{concat}
+-- Laws of undo, redo, collection, styles, saves and readings, over the steps of a plain document.
+use Rattle.std.specs.Prelude.{◌≡◌, ◌≢◌, ℕ, zero, suc, ◌+◌, ◌<◌, ◌≤◌, ◌==◌, Bool, true, false, List, [], ◌∷◌, length, map, take, Some, None, ⊤}
+use Rattle.std.specs.List.{concat, list_any, AllByRecursion}
 use Rattle.plain_text.specs.Numbers.{has, with_number}
-use Rattle.plain_edits.specs.History.{History, head}
+use Rattle.plain_text.specs.Text.{byte_len}
+use Rattle.plain_edits.specs.History.{History, head, text_at}
 use Rattle.plain_edits.specs.Undo.{undone_now}
 use Rattle.xi_plain.specs.declared.command.EditAct.TheVariants.{Insert, Undo, Redo}
 use Rattle.xi_plain.specs.declared.config.Config.{Config}
@@ -12,13 +13,15 @@ use Rattle.undo_groups.specs.Groups.{Groups, after_opening, next_redo, next_undo
 use Rattle.edit_groups.specs.declared.typing.Kind.TheVariants as Kinds
 use Rattle.edit_groups.specs.Typing.{run_on}
 use Rattle.doc_session.specs.declared.event.Event.{Event}
-use Rattle.doc_session.specs.declared.event.Body.TheVariants.{Null}
-use Rattle.doc_session.specs.declared.event.Event.TheVariants.{Ack, Config as Configure, Edit, Ended, Front, Other, Spans}
-use Rattle.doc_text.specs.Writing.{head_text}
+use Rattle.doc_session.specs.declared.event.Body.{Body}
+use Rattle.doc_session.specs.declared.event.Body.TheVariants.{Chunk, Null}
+use Rattle.doc_session.specs.declared.event.Event.TheVariants.{Ack, Config as Configure, Count, Edit, Ended, Front, Other, Read, Saved, Spans}
+use Rattle.doc_text.specs.Asking.{acknowledgement_refusal}
+use Rattle.doc_text.specs.Writing.{head_text, is_pristine}
 use Rattle.doc_session.specs.Document.{Document, loaded_document}
 use Rattle.doc_session.specs.InMemory.{Doc}
 use Rattle.doc_session.specs.Stands.{DocStandsFor}
-use Rattle.doc_session.specs.Step.{EventStep, event_step, refusal_at, with_text}
+use Rattle.doc_session.specs.Step.{EventStep, collected_document, event_step, refusal_at, with_text}
 
 -- the document after an event, after an undo, and after a redo
 abbrev pub after_event : Document → Event → Document
@@ -105,14 +108,17 @@ pub record TellTheSame (one other : EventStep) : Type 0 where
   pub scroll : one.scroll ≡ other.scroll
   pub notice : one.notice ≡ other.notice
 
--- an event of the front end
+-- an event of the front end, as a save is
 abbrev pub IsOfFront : Event → Type 0
 IsOfFront (Front act) = ⊤
 IsOfFront (Edit caller edit named) = ⊥
 IsOfFront (Spans caller rev start len spans) = ⊥
+IsOfFront (Read caller rev start max) = ⊥
+IsOfFront (Count caller) = ⊥
 IsOfFront (Ack caller rev) = ⊥
 IsOfFront (Ended caller) = ⊥
 IsOfFront (Configure config) = ⊤
+IsOfFront Saved = ⊤
 IsOfFront Other = ⊤
 
 -- what the session of a plugin tells
@@ -120,9 +126,12 @@ abbrev pub IsOfSession : Event → Type 0
 IsOfSession (Front act) = ⊥
 IsOfSession (Edit caller edit named) = ⊥
 IsOfSession (Spans caller rev start len spans) = ⊥
+IsOfSession (Read caller rev start max) = ⊥
+IsOfSession (Count caller) = ⊥
 IsOfSession (Ack caller rev) = ⊤
 IsOfSession (Ended caller) = ⊤
 IsOfSession (Configure config) = ⊥
+IsOfSession Saved = ⊥
 IsOfSession Other = ⊥
 
 -- COLLECTION IS INVISIBLE: two such documents refuse the same events of the front end for the same causes, tell the same of the others, and are
@@ -167,3 +176,74 @@ pub record StylesFollow (document : Document) (event : Event) : Type 0 where
 pub record LayersFollow : Type 0 where
   pub loaded : (text : List ℕ) (plugins limit : ℕ) (config : Config) → AreOverText (loaded_document text plugins limit config)
   pub each : (document : Document) (event : Event) → AreOverText document → StylesFollow document event
+
+-- ---- saves
+
+-- SAVING IS SEEN: after a save the text is pristine, and it stays so until there is another revision, after which it is not, whatever it shows
+pub record SavingIsSeen : Type 0 where
+  pub saved : (document : Document) → is_pristine (after_event document Saved).text ≡ true
+  pub stays : (document : Document) (event : Event) → head (after_event document event).text.history ≡ head document.text.history →
+      is_pristine document.text ≡ true → is_pristine (after_event document event).text ≡ true
+  pub ends : (doc : Doc) (plain : Document) (event : Event) → DocStandsFor doc plain →
+      head plain.text.history < head (after_event plain event).text.history → is_pristine (after_event plain event).text ≡ false
+
+-- ---- what plugins ask
+
+-- an event that only asks
+abbrev pub IsAsking : Event → Type 0
+IsAsking (Read caller rev start max) = ⊤
+IsAsking (Count caller) = ⊤
+IsAsking event = ⊥
+
+-- nothing waits in a document to be collected
+abbrev pub IsCollected : Document → Type 0
+IsCollected document = collected_document document ≡ document
+
+-- a step tells the front end and the plugins nothing
+pub record TellsNothing (step : EventStep) : Type 0 where
+  pub update : step.update ≡ None
+  pub scroll : step.scroll ≡ None
+  pub notice : step.notice ≡ None
+
+-- ASKING IS UNSEEN: a document in which nothing waits to be collected, as it is when it was just loaded and after each event, is the same after
+-- what is only asked, and nothing is told beside the answer
+pub record AskingIsUnseen : Type 0 where
+  pub loaded : (text : List ℕ) (plugins limit : ℕ) (config : Config) → IsCollected (loaded_document text plugins limit config)
+  pub left : (document : Document) (event : Event) → IsCollected (after_event document event)
+  pub same : (document : Document) (event : Event) → IsAsking event → IsCollected document → after_event document event ≡ document
+  pub untold : (document : Document) (event : Event) → IsAsking event → TellsNothing (event_step document event)
+
+-- the chunk that is answered, if it is one
+abbrev pub chunk_in : Body → List ℕ
+chunk_in (Chunk text offset) = text
+chunk_in body = []
+
+-- the chunks that a plugin is answered which reads the text of a revision from an offset on, with so much room each time: each from where the
+-- one before ended
+abbrev pub chunks_of : Document → ℕ → ℕ → ℕ → List ℕ → List (List ℕ)
+chunks_of document caller rev start [] = []
+chunks_of document caller rev start (max ∷ rooms) =
+    let step = event_step document (Read caller rev start max) in
+    chunk_in step.body ∷ chunks_of step.document caller rev (start + byte_len (chunk_in step.body)) rooms
+
+-- none of these readings is refused
+abbrev pub AreTaken : Document → ℕ → ℕ → ℕ → List ℕ → Type 0
+AreTaken document caller rev start [] = ⊤
+AreTaken document caller rev start (max ∷ rooms) =
+    let step = event_step document (Read caller rev start max) in
+    (refusal_at document (Read caller rev start max) ≡ None) × AreTaken step.document caller rev (start + byte_len (chunk_in step.body)) rooms
+
+-- one of the chunks is empty
+abbrev pub has_empty : List (List ℕ) → Bool
+has_empty chunks = list_any (λ chunk. length chunk == 0) chunks
+
+-- chunks that were read of a text: joined they are a beginning of it, and all of it where one of them is empty
+pub record AreChunksOf (text : List ℕ) (chunks : List (List ℕ)) : Type 0 where
+  pub front : concat chunks ≡ take (length (concat chunks)) text
+  pub whole : has_empty chunks ≡ true → concat chunks ≡ text
+
+-- READING GIVES THE TEXT of a kept revision, in chunks with room for at least four bytes each: none of the readings is refused
+abbrev pub ReadingGivesTheText : Type 0
+ReadingGivesTheText = (document : Document) (caller rev : ℕ) (rooms : List ℕ) → IsCollected document →
+    acknowledgement_refusal document.text.history rev ≡ None → AllByRecursion (λ max. 4 ≤ max) rooms →
+    AreTaken document caller rev 0 rooms × AreChunksOf (text_at document.text.history rev) (chunks_of document caller rev 0 rooms)

@@ -1,6 +1,6 @@
 //! Laws of the steps of a document. The functions do nothing: their clauses are the laws.
 
-ghost use Rattle.document_laws.specs.Laws.{AcknowledgementsAreUnseen, CollectionIsUnseen, LayersFollow, NewGroupEndsRedo, RedoTakesUndoBack, StepsAreFew, UndoTakesNewest, UndoTakesRunBack};
+ghost use Rattle.document_laws.specs.Laws.{AcknowledgementsAreUnseen, AskingIsUnseen, CollectionIsUnseen, LayersFollow, NewGroupEndsRedo, ReadingGivesTheText, RedoTakesUndoBack, SavingIsSeen, StepsAreFew, UndoTakesNewest, UndoTakesRunBack};
 
 /// An undo takes a run of typing back whole: however many insertions it has, the text is the one before the first.
 pub fn undo_takes_run_back()
@@ -42,4 +42,19 @@ pub fn acknowledgements_are_unseen()
 /// Styles of plugins stay with their characters: at every event, a collection and what a session tells too, and no style comes but by spans.
 pub fn layers_follow()
     ensures { LayersFollow }
+{}
+
+/// After a save the text is pristine, until there is another revision.
+pub fn saving_is_seen()
+    ensures { SavingIsSeen }
+{}
+
+/// What plugins only ask changes nothing, and nobody else is told of it.
+pub fn asking_is_unseen()
+    ensures { AskingIsUnseen }
+{}
+
+/// A plugin that reads a revision chunk by chunk has its text.
+pub fn reading_gives_the_text()
+    ensures { ReadingGivesTheText }
 {}
