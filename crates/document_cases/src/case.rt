@@ -7,7 +7,7 @@ ghost use Rattle.doc_session.specs.Step.{IsEventFor};
 
 use crate::events::read_event;
 use crate::told::{told, with_text};
-use crate::words::{number, text_left};
+use crate::words::{long_text, number, text_left};
 use anyhow::{Context, bail, ensure};
 use case_lines::{Words, content_of, first_line, unquoted};
 use doc_session::{Doc, DocFault, Effects, Event};
@@ -90,7 +90,8 @@ impl CaseRun {
         let mut words = Words { rest: line };
         match words.next_word() {
             b"" | b"#" => Ok(()),
-            b"text" => self.begin(alloc, &mut words),
+            b"text" => self.begin(alloc, text_left(alloc, &mut words)?),
+            b"letters" => self.begin(alloc, long_text(alloc, &mut words)?),
             b"times" => self.repeat(alloc, &mut words),
             _ => match self.said(alloc, line)? {
                 Some(said) => self.compare(alloc, line, said.as_str()),
@@ -100,12 +101,12 @@ impl CaseRun {
     }
 
     /// Another document begins.
-    fn begin(&mut self, alloc: Global, words: &mut Words<'_>) -> anyhow::Result<()>
+    fn begin(&mut self, alloc: Global, text: Text) -> anyhow::Result<()>
         requires { length self.old.doc.text.sessions ≡ 2 }
         ensures { length self.new.doc.text.sessions ≡ 2 }
     {
         self.ensure_said()?;
-        *self = CaseRun::new(alloc, text_left(alloc, words)?, self.count)?;
+        *self = CaseRun::new(alloc, text, self.count)?;
         Ok(())
     }
 

@@ -38,9 +38,12 @@ fn event(alloc: Global, words: &mut Words<'_>) -> anyhow::Result<Event>
     match words.next_word() {
         b"edit" => edit(alloc, words),
         b"spans" => spans(alloc, words),
+        b"read" => read(words),
+        b"count" => count(words),
         b"ack" => ack(words),
         b"ended" => ended(words),
         b"config" => config(words),
+        b"save" => Ok(Event::Saved),
         b"other" => Ok(Event::Other),
         word => Ok(Event::Front(read_act(alloc, word, words)?)),
     }
@@ -153,6 +156,28 @@ fn span_in(len: u64, words: &mut Words<'_>) -> anyhow::Result<Span>
     let style = number(words)?;
     ensure!(start <= end && end <= len, "the span is not in its range");
     Ok(Span { start, end, style })
+}
+
+fn read(words: &mut Words<'_>) -> anyhow::Result<Event>
+    ensures { IfOk result (IsEventFor 2) }
+{
+    let caller = plugin(words)?;
+    let rev = field(b"rev=", words)?;
+    let start = field(b"start=", words)?;
+    let max = field(b"max=", words)?;
+    Ok(Event::Read {
+        caller,
+        rev,
+        start,
+        max,
+    })
+}
+
+fn count(words: &mut Words<'_>) -> anyhow::Result<Event>
+    ensures { IfOk result (IsEventFor 2) }
+{
+    let caller = plugin(words)?;
+    Ok(Event::Count { caller })
 }
 
 fn ack(words: &mut Words<'_>) -> anyhow::Result<Event>

@@ -8,21 +8,24 @@
 //! |---|---|
 //! | `# remark` | nothing, as does an empty line |
 //! | `text ab` | a document of this text begins, and its view is opened; a case begins with the empty text. There are two plugins, at most 30 characters may be inserted, and lines are not wrapped |
+//! | `letters 9 é` | such a document begins, of so many letters `a` and the text behind them |
 //! | `insert X`, `paste X`, `find X` | the front end does this with a text; `insert` alone has the empty one |
 //! | `insert_newline`, `insert_tab`, `delete_backward`, `delete_forward`, `delete_word_backward`, `delete_word_forward`, `cut`, `copy`, `undo`, `redo`, `select_all`, `collapse`, `find_next`, `find_previous` | the front end does this |
 //! | `move word_left`, `extend word_left` | it moves the carets, or one end of each region; other motions are `left`, `right`, `up`, `down`, `word_right`, `line_start`, `line_end`, `text_start` and `text_end` |
 //! | `click 0 3`, `drag 0 3`, `gesture toggle 0 3` | at a line of the layout and a column of it, both from 0, in bytes; other gestures are `point`, `range`, `word` and `line` |
 //! | `goto_line 3`, `scroll 0 9`, `request_lines 0 9` | it goes to a line, shows lines, or asks for some: from the first up to the last, which is not included |
-//! | `other` | a line of the front end that is none of the document's |
+//! | `save`, `other` | the text is saved; a line of the front end that is none of the document's |
 //! | `config tab=4 width=80 spaces` | tabs are so wide, lines are wrapped there (at 0: nowhere), and a tab is typed as spaces, or as one with `tabs` |
 //! | `edit plugin=1 base=0 len=3 copy 0 1 insert X copy 1 3` | a plugin's edit against revision 0, with the elements of its delta; `len`, the length of the base's text, and the places are bytes. Among the elements stand `into 2`, the group that it names, and `after_cursor`, which leaves a caret at its gap left of it |
 //! | `spans plugin=1 rev=0 start=1 len=3 0 2 5` | a plugin styles a range of the text of revision 0: its bytes from 0 up to 2 get the style 5. There may be more of these, or none |
+//! | `read plugin=1 rev=0 start=1 max=7`, `count plugin=1` | a plugin reads the text of revision 0 from its byte 1 on, at most 7 bytes of it; it asks how many logical lines the head text has |
 //! | `ack plugin=1 rev=3`, `ended plugin=1` | a plugin has the text of revision 3; its session ends |
 //! | `times 20 undo` | this event comes so many times |
 //! | `shows 2 aXé` | the head is revision 2 and shows this text; `shows 2` alone says that it is empty |
 //! | `kept 5`, `lines 3` | some revision can still show 5 characters; the layout has 3 lines |
 //! | `refused unknown base: the head is 2` | the last event is refused, with these words |
-//! | `answers null`, `answers text ab`, `answers rev=2 group=1` | its answer |
+//! | `answers null`, `answers text ab`, `answers rev=2 group=1`, `answers chunk at=1 ab`, `answers lines 2` | its answer |
+//! | `takes 1048576` | how many bytes the chunk takes that is the answer |
 //! | `scrolls 0 2`, `scrolls nowhere` | where the front end is to scroll: a line, and a column in bytes |
 //! | `notes plugin=1 rev=2 len=4 base=3 insert Z copy 0 3`, `notes nothing` | what plugins are told: whose revision it is (0 is the front end), the length of its text, and the delta from the one before |
 //! | `updates changed copy 2 skip 1 ins 3`, `updates nothing` | the operations of the update, and whether the text is `pristine` |

@@ -19,6 +19,7 @@ pub fn told(
 ) -> anyhow::Result<Option<String>> {
     let said = match part {
         b"answers" => answered(alloc, &effects.body)?,
+        b"takes" => taken(alloc, &effects.body)?,
         b"scrolls" => scrolled(alloc, effects.scroll)?,
         b"notes" => noted(alloc, effects.notice.as_ref())?,
         b"updates" => updated(alloc, effects.update.as_ref())?,
@@ -35,6 +36,21 @@ fn answered(alloc: Global, body: &Body) -> anyhow::Result<String> {
         Body::Null => format!(in alloc; "answers null")?,
         Body::Copied { text } => with_text(format!(in alloc; "answers text")?, text.as_str())?,
         Body::Edited { rev, group } => format!(in alloc; "answers rev={rev} group={group}")?,
+        Body::Chunk { text, offset } => {
+            with_text(
+                format!(in alloc; "answers chunk at={offset}")?,
+                text.as_str(),
+            )?
+        }
+        Body::Lines(lines) => format!(in alloc; "answers lines {lines}")?,
+    })
+}
+
+/// How many bytes a chunk takes that is answered.
+fn taken(alloc: Global, body: &Body) -> anyhow::Result<String> {
+    Ok(match body {
+        Body::Chunk { text, .. } => format!(in alloc; "takes {}", text.byte_len())?,
+        _ => format!(in alloc; "takes nothing")?,
     })
 }
 

@@ -37,6 +37,17 @@ pub fn text_left(alloc: Global, words: &mut Words<'_>) -> anyhow::Result<Text> {
     text(alloc, written)
 }
 
+/// A text of so many letters, and behind them what all words up to the end of the line are.
+pub fn long_text(alloc: Global, words: &mut Words<'_>) -> anyhow::Result<Text> {
+    let mut long = Text::new(alloc);
+    for _ in 0..number(words)? {
+        long.push_str("a")?;
+    }
+    let end = text_left(alloc, words)?;
+    long.push_str(end.as_str())?;
+    Ok(long)
+}
+
 fn text(alloc: Global, written: &[u8]) -> anyhow::Result<Text> {
     let Some(bytes) = unquoted(alloc, written)? else {
         bail!("a backslash needs n, t, s or a backslash after it");
