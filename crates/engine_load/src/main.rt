@@ -11,6 +11,7 @@
 //! | `stale N` | N insertions of one character at the start, each against the revision 100 before the head, or the first |
 //! | `collect N` | N groups at the end of the text: each inserts a character, but every tenth deletes ten; from the twenty-first on the oldest is collected after each |
 //! | `catch_up N` | N groups of one insertion each; then all but the last twenty are collected at once |
+//! | `lag10 N`, `lag100 N`, `lag1000 N` | N groups of one insertion each; from the twentieth before a floor so many revisions behind the head on, the oldest is collected at that floor after each |
 //! | `all N` | each of these in its turn |
 //!
 //! Nothing stands on it. It is for measuring: its output says only what was run, and its time is taken from outside.
@@ -45,9 +46,12 @@ enum Load {
     Stale,
     Collect,
     CatchUp,
+    Lag10,
+    Lag100,
+    Lag1000,
 }
 
-const ALL: [Load; 9] = [
+const ALL: [Load; 12] = [
     Load::Typing,
     Load::Groups,
     Load::Group,
@@ -57,6 +61,9 @@ const ALL: [Load; 9] = [
     Load::Stale,
     Load::Collect,
     Load::CatchUp,
+    Load::Lag10,
+    Load::Lag100,
+    Load::Lag1000,
 ];
 
 impl Load {
@@ -71,6 +78,9 @@ impl Load {
             Load::Stale => "stale",
             Load::Collect => "collect",
             Load::CatchUp => "catch_up",
+            Load::Lag10 => "lag10",
+            Load::Lag100 => "lag100",
+            Load::Lag1000 => "lag1000",
         }
     }
 }
@@ -98,7 +108,7 @@ fn main(rt: HostRuntime) -> anyhow::Result<()> {
     let mut words = env::args(&rt)?.skip(1);
     let (Some(kind), Some(count)) = (words.next(), words.next()) else {
         bail!(
-            "usage: engine_load typing|groups|group|sets|cut|cut_apart|stale|collect|catch_up|all N"
+            "usage: engine_load typing|groups|group|sets|cut|cut_apart|stale|collect|catch_up|lag10|lag100|lag1000|all N"
         );
     };
     run_named(&rt, kind.as_str(), count.as_str())
@@ -167,7 +177,22 @@ fn insert(alloc: Global, engine: &mut Engine, load: Load) -> anyhow::Result<()> 
             let oldest = next.saturating_sub(LIVE);
             collect(alloc, engine, oldest, oldest)
         }
+        Load::Lag10 => append_behind(alloc, engine, next, 10),
+        Load::Lag100 => append_behind(alloc, engine, next, 100),
+        Load::Lag1000 => append_behind(alloc, engine, next, 1_000),
     }
+}
+
+/// A new group at the end of the head text, after which the oldest is collected at the floor that is so many revisions back.
+fn append_behind(alloc: Global, engine: &mut Engine, next: u64, lag: u64) -> anyhow::Result<()> {
+    append(alloc, engine, next)?;
+    let floor = next.saturating_sub(lag);
+    let mut groups = BTreeSet::new(alloc);
+    groups.insert(floor.saturating_sub(LIVE).max(1))?;
+    if LIVE < floor && engine.may_collect(alloc, floor, &groups)? {
+        engine.collect(alloc, floor, &groups)?;
+    }
+    Ok(())
 }
 
 /// A new group at the end of the head text, and its undo.
