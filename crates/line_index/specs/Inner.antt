@@ -75,6 +75,7 @@ pub record IsChangedTo (steps : List UnitStep) (run : Run) (at : ℕ) : Type 0 w
   pub change : IsChange middle
   pub reaches : run.end + right ≡ at
 
+-- steps that keep a base up to a gap, but for the run from their first change to their last; none where they change nothing
 abbrev pub IsSeen : List UnitStep → Option Run → ℕ → Type 0
 IsSeen steps None at = steps ≡ replicate at Kept
 IsSeen steps (Some run) at = IsChangedTo steps run at

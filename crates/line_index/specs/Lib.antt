@@ -5,3 +5,4 @@ pub mod Index
 pub mod Inner
 pub mod How
 pub mod Laws
+pub mod Rows

@@ -11,6 +11,7 @@ mod cutting;
 mod index;
 pub mod laws;
 mod offsets;
+pub mod rows;
 mod touched;
 mod tree;
 mod whole;
