@@ -2,3 +2,5 @@ mod SessionLemmas
 mod RoundLemmas
 mod MemberLemmas
 mod AloneLemmas
+mod PostLemmas
+mod ThreadLemmas

@@ -71,7 +71,7 @@ module _ {P : Type 0} (told : P → Option (List Turned)) (serves : List Entry �
   members_new caller (plugin ∷ plugins) (member ∷ members) (first, rest) = (
     record {
       number = first.number;
-      session = session_new serves answers caller member.port (told member.began.value) (told member.plugin) member.standing first.port
+      session = session_new serves answers caller [] member.port (told member.began.value) (told member.plugin) member.standing refl first.port
           (ap told (first.began ∙ sym first.now)) first.going;
     },
     members_new (caller + 1) plugins members rest,

@@ -51,13 +51,14 @@ port_caller caller (visit ∷ visits) = port_caller caller visits
 
 module _ (serves : List Entry → ℕ → Ask → Reply → List Entry → Type 0) (answers : List Entry → ℕ → Query → Answer → Type 0) where
   -- before the first visit
-  pub session_new : (caller : ℕ) (port : PortState) (began told : Option (List Turned)) (standing : Standing) → port ≡ new_port caller
-      → began ≡ told → standing ≡ Going → IsSession serves answers caller [] port began told standing []
-  session_new caller port began told standing is same going =
+  pub session_new : (caller : ℕ) (journal : List Entry) (port : PortState) (began told : Option (List Turned)) (standing : Standing)
+      → entries_of caller journal ≡ [] → port ≡ new_port caller → began ≡ told → standing ≡ Going
+      → IsSession serves answers caller journal port began told standing []
+  session_new caller journal port began told standing none is same going =
       record {
         moved = is;
         place = omega (arith, ap (λ p. p.place) is);
-        served = record { each = tt; stand = omega arith; alone = refl };
+        served = record { each = tt; stand = omega arith; alone = none };
         tells = subst (λ t. TellsMore began t []) same (TellsMore-none began);
         stands = subst (λ s. HasStanding s []) (sym going) refl;
       }

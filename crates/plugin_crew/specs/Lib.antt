@@ -5,3 +5,5 @@ pub mod Order
 pub mod Member
 pub mod Taker
 pub mod Alone
+pub mod Post
+pub mod Threads

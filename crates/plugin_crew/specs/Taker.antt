@@ -38,11 +38,15 @@ HasTaken before Fault after = (entry : Entry) × (after ≡ before ++ entry ∷ 
 HasTaken before Closed after = after ≡ before
 HasTaken before NoMemory after = after ≡ before
 
--- the line was served as one of the front end, between journals with these entries of it
-abbrev pub IsTakenBy : (List Entry → ℕ → Ask → Reply → List Entry → Type 0) → List ℕ → List Entry → Took → List Entry → Type 0
-IsTakenBy serves line old took new =
-    (before after : List Entry) × (given : Reply) × serves before 0 (FrontLine line) given after
+-- the ask was served as one of the front end, between journals with these entries of it
+abbrev pub IsEnteredBy : (List Entry → ℕ → Ask → Reply → List Entry → Type 0) → Ask → List Entry → Took → List Entry → Type 0
+IsEnteredBy serves ask old took new =
+    (before after : List Entry) × (given : Reply) × serves before 0 ask given after
     × (front_entries before ≡ old) × (front_entries after ≡ new) × (took ≡ took_of given)
+
+-- so was the line
+abbrev pub IsTakenBy : (List Entry → ℕ → Ask → Reply → List Entry → Type 0) → List ℕ → List Entry → Took → List Entry → Type 0
+IsTakenBy serves line old took new = IsEnteredBy serves (FrontLine line) old took new
 
 -- the entry that came with the reply was sent, or was not
 abbrev pub SaysSent : Reply → List Entry → List Entry → Type 0

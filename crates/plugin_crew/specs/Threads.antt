@@ -1,0 +1,103 @@
+-- A RUN ON THREADS: a room, whose front takes lines, and plugins that have their turns at it.
+use Rattle.std.specs.Prelude.{◌≡◌, ℕ, ◌+◌, Bool, true, ◌&&◌, List, [], ◌∷◌, map, Option, length}
+use Rattle.atomic_table.specs.Seated.{TableId}
+use Rattle.xi_plain.specs.declared.entry.Entry.{Entry}
+use Rattle.xi_plain.specs.declared.ask.Ask.{Ask}
+use Rattle.xi_plain.specs.declared.ask.Query.{Query}
+use Rattle.xi_plain.specs.declared.reply.Reply.{Reply}
+use Rattle.xi_plain.specs.declared.reply.Answer.{Answer}
+use Rattle.xi_plain.specs.Journal.{front_entries}
+use Rattle.room_lock.specs.Room.{Known}
+use Rattle.plugin_session.specs.Turn.{Turned, TellsMore}
+use Rattle.plugin_session.specs.Visit.{Visit, IsServed, turns_of}
+use Rattle.plugin_session.specs.Hired.{Hiring}
+use Rattle.plugin_crew.specs.declared.post.Gathered.{Gathered}
+use Rattle.plugin_crew.specs.declared.standing.Standing.{Standing}
+use Rattle.plugin_crew.specs.Standing.{HasStanding, is_served}
+use Rattle.plugin_crew.specs.Post.{HasServed}
+
+-- the plugin of this number was given a pass of the room
+pub record IsGiven {O P : Type 0} (room : TableId) (first : O) (caller : ℕ) (given : Hiring O P) : Type 0 where
+  pub object : given.first ≡ first
+  pub here : given.pass.room ≡ room
+  pub number : given.pass.caller ≡ caller
+
+-- so was each, from this number on
+abbrev pub AreGiven : {O P : Type 0} → TableId → O → ℕ → List (Hiring O P) → Type 0
+AreGiven room first caller [] = Unit {0}
+AreGiven room first caller (given ∷ givens) = IsGiven room first caller given × AreGiven room first (caller + 1) givens
+
+-- the plugins as they were given
+abbrev pub begun_in : {O P : Type 0} → List (Hiring O P) → List P
+begun_in givens = map (λ given. given.plugin) givens
+
+-- THE FRONT of a run on threads: its pass is that of caller 0 in this room, and each plugin was given one of the others, in order
+pub record IsStaffed {O P : Type 0} (room : TableId) (first : O) (pass : Known) (givens : List (Hiring O P)) : Type 0 where
+  pub here : pass.room ≡ room
+  pub caller : pass.caller ≡ 0
+  pub made : pass.made ≡ length givens + 1
+  pub given : AreGiven room first 1 givens
+
+-- the plugins that came back, and their passes, in their order; and whether memory was wanting for none
+abbrev pub plugins_in : {P : Type 0} → List (Gathered P) → List P
+plugins_in cames = map (λ came. came.plugin) cames
+
+abbrev pub passes_in : {P : Type 0} → List (Gathered P) → List Known
+passes_in cames = map (λ came. came.pass) cames
+
+abbrev pub all_in : {P : Type 0} → List (Gathered P) → Bool
+all_in [] = true
+all_in (came ∷ cames) = is_served came.standing && all_in cames
+
+module _ {O P : Type 0} (serves : O → List Entry → ℕ → Ask → Reply → List Entry → Type 0)
+    (answers : O → List Entry → ℕ → Query → Answer → Type 0) (told : P → Option (List Turned)) where
+  -- each plugin had its turns by the pass that it was given
+  abbrev pub HaveServed : List (Hiring O P) → List (Gathered P) → Type 0
+  HaveServed [] [] = Unit {0}
+  HaveServed [] (came ∷ cames) = ⊥
+  HaveServed (given ∷ givens) [] = ⊥
+  HaveServed (given ∷ givens) (came ∷ cames) =
+      HasServed (serves given.first) (answers given.first) given.pass came.pass (told given.plugin) (told came.plugin) came.standing
+      × HaveServed givens cames
+
+  -- ALL CAME BACK: the pass of the front, by which it has these entries, and then each plugin's, in order; so came the plugins
+  pub record AreBack (room : TableId) (first : O) (entries : List Entry) (begun : List P) (passes : List Known) (plugins : List P) (all : Bool) : Type 0 where
+    pub front : Known
+    pub givens : List (Hiring O P)
+    pub cames : List (Gathered P)
+    pub staffed : IsStaffed room first front givens
+    pub begun_is : begun_in givens ≡ begun
+    pub entered : front_entries front.seen ≡ entries
+    pub served : HaveServed givens cames
+    pub passes_are : passes ≡ front ∷ passes_in cames
+    pub plugins_are : plugins ≡ plugins_in cames
+    pub all_is : all ≡ all_in cames
+
+module _ {P : Type 0} (told : P → Option (List Turned)) (serves : List Entry → ℕ → Ask → Reply → List Entry → Type 0)
+    (answers : List Entry → ℕ → Query → Answer → Type 0) where
+  -- the plugin was served by the journal: by these visits, whose turns it tells more than at first; its session stands so
+  pub record WasServed (caller : ℕ) (journal : List Entry) (began now : P) (standing : Standing) : Type 0 where
+    pub visits : List Visit
+    pub served : IsServed serves answers caller journal visits
+    pub tells : TellsMore (told began) (told now) (turns_of visits)
+    pub stands : HasStanding standing visits
+
+  -- so was each, from this number on
+  abbrev pub WereServed : ℕ → List Entry → List P → List (Gathered P) → Type 0
+  WereServed caller journal [] [] = Unit {0}
+  WereServed caller journal [] (came ∷ cames) = ⊥
+  WereServed caller journal (began ∷ begun) [] = ⊥
+  WereServed caller journal (began ∷ begun) (came ∷ cames) =
+      WasServed caller journal began came.plugin came.standing × WereServed (caller + 1) journal begun cames
+
+module _ {O P : Type 0} (journal : O → List Entry) (serves : O → List Entry → ℕ → Ask → Reply → List Entry → Type 0)
+    (answers : O → List Entry → ℕ → Query → Answer → Type 0) (grown : O → O → Type 0) (told : P → Option (List Turned)) where
+  -- A RUN ON THREADS THAT ENDED: the object is grown from the one that the room was made with; the front end has these entries; and every
+  -- plugin was served by the journal, and came back, in order
+  pub record HasEnded (first object : O) (entries : List Entry) (begun plugins : List P) (all : Bool) : Type 0 where
+    pub object_grown : grown first object
+    pub front : front_entries (journal object) ≡ entries
+    pub cames : List (Gathered P)
+    pub served : WereServed told (serves first) (answers first) 1 (journal object) begun cames
+    pub plugins_are : plugins ≡ plugins_in cames
+    pub all_is : all ≡ all_in cames
