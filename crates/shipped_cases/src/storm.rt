@@ -60,6 +60,7 @@ fn each_eighth_change_is_answered_by_an_edit_of_the_first(rt: HostRuntime) {
             r#"{"method":"edit","params":{"after_cursor":false,"author":"storm","delta":{"base_len":11,"els":[{"insert":"*"},{"copy":[0,11]}]},"priority":1,"rev":10,"view_id":"view-id-1"}}|{"method":"ack","params":{"rev":17,"view_id":"view-id-1"}}|"#
         )
     );
+    assert!(rt; !plugin.is_short());
 }
 
 #[test]

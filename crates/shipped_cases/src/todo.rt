@@ -47,6 +47,7 @@ fn each_revision_is_read_and_then_marked(rt: HostRuntime) {
             ""
         )
     );
+    assert!(rt; !plugin.is_short());
 }
 
 #[test]

@@ -21,7 +21,7 @@ use Rattle.shipped_plugins.specs.Turns.{Upshot, passed}
 use Rattle.shipped_plugins.specs.Todo.{Version, TodoState, ack_ask, read_ask, answer_asks, asked_at, number_of, reads, settles, told_version, todo_step, todo_turn}
 use Rattle.shipped_plugins.specs.Storm.{SizedVersion, StormState, storm_start, storm_delta, edit_ask, first_of, counts, quiet_changes, storm_step, storm_turn, told_change}
 use Rattle.shipped_plugins.proofs.TurnLemmas.{all_append}
-use Rattle.shipped_plugins.specs.Laws.{is_read, HasIdsFrom, IdsComeOnce, acknowledges, is_version, is_told, acks_of, tells_of, tellings_of, waiting_for, AcksAreTold, AreBehind, AcksFollowSpans, IsLengthIn, heard_change, TellLengths, FitsIn, EditsFit}
+use Rattle.shipped_plugins.specs.Laws.{is_read, HasIdsFrom, IdsComeOnce, acknowledges, is_version, is_told, acks_of, tells_of, tellings_of, waiting_for, AcksAreTold, AreBehind, AcksFollowSpans, IsLengthIn, heard_change, FitsIn, EditsFit}
 
 -- what a version makes the marker ask, where there is an id for it or none
 abbrev read_step : TodoState → Version → Bool → Upshot TodoState

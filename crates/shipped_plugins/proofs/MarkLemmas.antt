@@ -1,16 +1,16 @@
 -- Where `TODO` stands in bytes: the places that memchr tells are those of the definition, and the spans stand at places of the text.
-use Rattle.std.proofs.Common.{◌≡◌, inl, inr, ℕ, zero, suc, ◌+◌, ◌-◌, ◌<◌, ◌≤◌, true, false, List, [], ◌∷◌, ◌++◌, length, map, take, drop, refl, sym, ap, subst, ◌∙◌, arith, append_assoc, append-nil, length-append}
-use Rattle.std.specs.Prelude.{nat_eq, codes}
+use Rattle.std.proofs.Common.{◌≡◌, inl, inr, ℕ, zero, suc, ◌+◌, ◌-◌, ◌<◌, ◌≤◌, false, List, [], ◌∷◌, ◌++◌, length, map, take, drop, refl, sym, ap, subst, ◌∙◌, arith, append_assoc, append-nil, length-append}
+use Rattle.std.specs.Prelude.{nat_eq}
 use Rattle.std.specs.List.{starts_with, AllByRecursion}
 use Rattle.std.specs.Str.{encode_utf8_all}
 use Rattle.std.proofs.lemmas.Bool.{cases_Bool, cond-true, cond-false}
-use Rattle.std.proofs.lemmas.List.{drop_at, length-take, map-append}
+use Rattle.std.proofs.lemmas.List.{drop_at, length-take}
 use Rattle.std.proofs.lemmas.Slice.Eq.{bytes_eq-Decides}
-use Rattle.memchr.specs.Find.{OccursAt, occurs_at, match_len, matches_from as places_from, matches as places}
+use Rattle.memchr.specs.Find.{occurs_at, match_len, matches_from as places_from, matches as places}
 use Rattle.memchr.proofs.lemmas.MatchLemmas.{OccursAt-part, OccursAt-from_part, OccursAt-true, occurs_at-true, matches-none}
 use Rattle.plain_text.specs.declared.run.Run.{Run}
 use Rattle.plain_text.proofs.callers.PlaceLemmas.{same_test}
-use Rattle.find_core.specs.Matches.{matches_from, matches_of}
+use Rattle.find_core.specs.Matches.{matches_from}
 use Rattle.find_core.proofs.ForCallers.{matches_of-inside}
 use Rattle.xi_plain.specs.declared.span.WireSpan.{WireSpan}
 use Rattle.shipped_plugins.specs.Marks.{mark, marks_of, mark_span, spans_of}

@@ -1,20 +1,20 @@
 -- The spans of a chunk stand at places of each text that begins with it.
-use Rattle.std.proofs.Common.{◌≡◌, ℕ, ◌+◌, ◌-◌, ◌<◌, ◌≤◌, true, false, List, [], ◌∷◌, ◌++◌, length, map, take, drop, refl, sym, ap, subst, ◌∙◌, arith, append_assoc, length-drop, take-append-drop}
+use Rattle.std.proofs.Common.{◌≡◌, ℕ, ◌+◌, ◌-◌, true, false, List, [], ◌∷◌, ◌++◌, length, map, take, drop, refl, sym, ap, subst, ◌∙◌, arith, append_assoc, length-drop, take-append-drop}
 use Rattle.std.specs.Prelude.{is_some, slice_index}
 use Rattle.std.specs.List.{AllByRecursion}
 use Rattle.std.specs.Str.{chars, encode_utf8_all, all_scalars, IsUtf8, IsCharBoundary}
 use Rattle.std.proofs.lemmas.List.{length-take}
-use Rattle.std.proofs.lemmas.Str.{chars-encodes, chars-append, encodes-append}
+use Rattle.std.proofs.lemmas.Str.{chars-encodes, chars-append}
 use Rattle.memchr.specs.Find.{OccursAt}
 use Rattle.memchr.proofs.lemmas.MatchLemmas.{OccursAt-from_part, OccursAt-split}
 use Rattle.plain_text.specs.Text.{byte_len, is_place, place_of}
 use Rattle.plain_text.specs.declared.run.Run.{Run}
-use Rattle.plain_text.proofs.callers.TextLemmas.{length-encodes, all_scalars-drop}
-use Rattle.plain_text.proofs.callers.PlaceLemmas.{IsPlaced, IsPlaced-from, is_place-boundary, drop-place, gap_from-seam}
+use Rattle.plain_text.proofs.callers.TextLemmas.{all_scalars-drop}
+use Rattle.plain_text.proofs.callers.PlaceLemmas.{IsPlaced-from, is_place-boundary, drop-place, gap_from-seam}
 use Rattle.find_core.specs.Laws.{AreMatchesFrom, IsMatchAt}
 use Rattle.find_core.proofs.ForCallers.{matches_of-are}
-use Rattle.shipped_plugins.specs.Marks.{mark, marks_of, mark_span, spans_of}
-use Rattle.shipped_plugins.specs.Laws.{StandsIn, SpansStand, SpansStandInTexts}
+use Rattle.shipped_plugins.specs.Marks.{mark, marks_of, mark_span}
+use Rattle.shipped_plugins.specs.Laws.{StandsIn, SpansStandInTexts}
 use Rattle.shipped_plugins.proofs.MarkLemmas.{run_at}
 
 -- the end of a text's front is a place of the text

@@ -16,7 +16,7 @@ use Rattle.xi_plain.specs.declared.command.Command.{Command}
 use Rattle.xi_plain.specs.declared.span.WireSpan.{WireSpan}
 use Rattle.find_core.proofs.ForCallers.{matches_of-inside}
 use Rattle.plugin_side.specs.Range.{IsTakenSpan, IsTakenCommand}
-use Rattle.shipped_plugins.specs.Turns.{Upshot, Gives, Comes}
+use Rattle.shipped_plugins.specs.Turns.{Gives, Comes}
 use Rattle.shipped_plugins.specs.Marks.{mark, marks_of, mark_span, spans_of}
 use Rattle.shipped_plugins.specs.Todo.{Version, TodoState, read_ask, reads, spans_ask}
 

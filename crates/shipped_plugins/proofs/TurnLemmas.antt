@@ -1,5 +1,5 @@
 -- Lines that are given, and lines that are heeded one after the other.
-use Rattle.std.proofs.Common.{◌≡◌, ℕ, ◌+◌, ◌-◌, suc, ◌<◌, ◌≤◌, List, [], ◌∷◌, ◌++◌, length, length-append, map, take, drop, get_or, arith, refl, sym, ap, subst, ◌∙◌, append_assoc, append-nil, add-one}
+use Rattle.std.proofs.Common.{◌≡◌, ℕ, ◌+◌, ◌-◌, suc, ◌<◌, ◌≤◌, List, [], ◌∷◌, ◌++◌, length, length-append, take, drop, get_or, arith, refl, sym, ap, subst, ◌∙◌, append_assoc, append-nil, add-one}
 use Rattle.std.proofs.Math.Seq.{drop-cons}
 use Rattle.std.proofs.lemmas.List.{map-append, drop_all, take_at, get_or_push}
 use Rattle.std.specs.List.{AllByRecursion}
@@ -13,7 +13,7 @@ use Rattle.plugin_wire.specs.Asked.{ask_of, ask_from}
 use Rattle.plugin_side.specs.Asking.{command_data}
 use Rattle.plugin_side.specs.declared.heard.Heard.{Heard}
 use Rattle.plugin_side.specs.Heard.{heard_in}
-use Rattle.shipped_plugins.specs.Turns.{Upshot, passed, utf8_of, line_bytes, command_lines, ReadsBack, Gives, GivesFirst, Comes, ComesFirst, heeded, HeedsAll, HeedsFirst}
+use Rattle.shipped_plugins.specs.Turns.{Upshot, utf8_of, line_bytes, command_lines, ReadsBack, Gives, GivesFirst, Comes, ComesFirst, heeded, HeedsAll, HeedsFirst}
 
 -- ---- lines that are given
 

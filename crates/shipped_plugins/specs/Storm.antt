@@ -4,10 +4,10 @@ use Rattle.plain_edits.specs.declared.delta.El.TheVariants.{Copy, Insert}
 use Rattle.plain_edits.specs.declared.delta.Delta.{Delta}
 use Rattle.xi_plain.specs.declared.config.Notice.{Notice}
 use Rattle.xi_plain.specs.declared.command.Id.TheVariants.{NoId}
-use Rattle.xi_plain.specs.declared.command.Act.TheVariants.{PluginEdit, Ack}
+use Rattle.xi_plain.specs.declared.command.Act.TheVariants.{PluginEdit}
 use Rattle.xi_plain.specs.declared.command.Command.{Command}
 use Rattle.plugin_side.specs.declared.heard.Told.{Told}
-use Rattle.plugin_side.specs.declared.heard.Told.TheVariants.{Started, Opened, Changed, Closed, Stopped}
+use Rattle.plugin_side.specs.declared.heard.Told.TheVariants.{Changed}
 use Rattle.plugin_side.specs.declared.heard.Heard.{Heard}
 use Rattle.plugin_side.specs.declared.heard.Heard.TheVariants as Hears
 use Rattle.shipped_plugins.specs.Turns.{Upshot, passed, heeded}

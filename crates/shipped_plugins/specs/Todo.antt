@@ -9,9 +9,9 @@ use Rattle.xi_plain.specs.declared.command.Id.TheVariants.{NoId, Num, Word}
 use Rattle.xi_plain.specs.declared.command.Act.TheVariants.{GetData, UpdateSpans, Ack}
 use Rattle.xi_plain.specs.declared.command.Command.{Command}
 use Rattle.plugin_side.specs.declared.heard.Told.{Told}
-use Rattle.plugin_side.specs.declared.heard.Told.TheVariants.{Started, Opened, Changed, Closed, Stopped}
+use Rattle.plugin_side.specs.declared.heard.Told.TheVariants.{Opened, Changed}
 use Rattle.plugin_side.specs.declared.heard.Answered.{Answered}
-use Rattle.plugin_side.specs.declared.heard.Answered.TheVariants.{Chunk, Edited, Lines, Null, Failed, Other}
+use Rattle.plugin_side.specs.declared.heard.Answered.TheVariants.{Chunk}
 use Rattle.plugin_side.specs.declared.heard.Heard.{Heard}
 use Rattle.plugin_side.specs.declared.heard.Heard.TheVariants as Hears
 use Rattle.shipped_plugins.specs.Turns.{Upshot, passed, heeded}

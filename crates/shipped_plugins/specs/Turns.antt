@@ -1,5 +1,6 @@
 -- TURNS of a plugin that takes one line after the other: what each line comes to, and what a turn gives.
-use Rattle.std.specs.Prelude.{◌≡◌, ℕ, List, [], ◌∷◌, ◌++◌, map}
+use Rattle.std.specs.Prelude.{◌≡◌, ℕ, Bool, List, [], ◌∷◌, ◌++◌, map}
+use Rattle.std.specs.Bool.{MatchBool}
 use Rattle.std.specs.List.{AllByRecursion}
 use Rattle.std.specs.Str.{encode_utf8_all}
 use Rattle.xi_plain.specs.declared.command.Command.{Command}
@@ -13,6 +14,11 @@ use Rattle.plugin_side.specs.Heard.{heard_in}
 pub record Upshot (S : Type 0) : Type 0 where
   pub after : S
   pub asks : List Command
+
+-- a plugin after its turns: what it remembers, and whether the last of them was short of memory
+pub record AfterTurns (S : Type 0) : Type 0 where
+  pub state : S
+  pub short : Bool
 
 -- nothing changes, and nothing is asked
 abbrev pub passed : {S : Type 0} → S → Upshot S
@@ -79,3 +85,8 @@ module _ {S : Type 0} (step : S → Heard → Upshot S) where
     pub back : List (List ℕ)
     pub parts : lines ≡ front ++ back
     pub comes : ComesFirst (heeded before front) after from to
+
+  -- A TURN: all lines were heeded, and what they ask was given; or it was short of memory, and the first of them were
+  abbrev pub TurnHeeds : AfterTurns S → AfterTurns S → List (List ℕ) → List (List ℕ) → Type 0
+  TurnHeeds before after lines given =
+      MatchBool after.short (HeedsFirst before.state after.state lines [] given) (HeedsAll before.state after.state lines [] given)

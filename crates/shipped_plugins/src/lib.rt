@@ -6,8 +6,10 @@
 //! comes twice, that no revision is acknowledged more often than it was told, and that an edit fits the text of its revision.
 #![tactic(auto)]
 
+mod counting;
 mod give;
 pub mod laws;
+mod marking;
 mod marks;
 mod storm;
 mod todo;

@@ -1,181 +1,65 @@
-ghost use Rattle.std.specs.Prelude.{◌≡◌, false, [], ◌∷◌, None, Some, IfOk, OnOk, OnErr};
-ghost use Rattle.std.specs.Str.{encode_utf8_all};
-ghost use Rattle.plugin_side.specs.Heard.{heard_in};
-ghost use Rattle.plugin_side.specs.Range.{IsTakenCommand};
-ghost use Rattle.shipped_plugins.specs.Storm.{counts, edit_ask, first_of, sized_of, storm_delta, storm_start, storm_step, told_change};
-ghost use Rattle.shipped_plugins.specs.Todo.{ack_ask};
-ghost use Rattle.shipped_plugins.specs.Turns.{Comes, ComesFirst, Gives, GivesFirst, HeedsAll, HeedsFirst, utf8_of};
+ghost use Rattle.std.specs.Prelude.{◌≡◌, None, false};
+ghost use Rattle.shipped_plugins.specs.Storm.{storm_start, storm_step};
+ghost use Rattle.shipped_plugins.specs.Turns.{TurnHeeds, utf8_of};
 
-use crate::give::give_with_ack;
-use crate::version::SizedVersion;
-use plain_text::{List, NoMemory, Text, Texts, TryClone};
+use crate::counting::Counting;
+use plain_text::{Text, Texts};
 use plugin_session::{Plugin, Turn};
-use plugin_side::{Heard, Told, hear};
 use std::alloc::Global;
 use std::marker::Model;
-use xi_plain::{Act, Command, Delta, El, Id};
-
-// So many changes pass; at the next one it edits.
-const QUIET_CHANGES: u64 = 7;
 
 /// Edits, at each eighth notice of a change, the text that the first of the eight told of, and then acknowledges the eighth. It is never
 /// done, and passes over all else that it is handed.
 #[derive(Drop)]
 pub struct StormPlugin {
-    count: u64,
-    first: Option<SizedVersion>,
+    counting: Counting,
+    short: bool,
     alloc: Global,
 }
 
 impl Model for StormPlugin {
     ghost use Rattle.shipped_plugins.specs.Storm.{StormState};
+    ghost use Rattle.shipped_plugins.specs.Turns.{AfterTurns};
 
-    ghost Value = { StormState };
+    ghost Value = { AfterTurns StormState };
 
-    ghost view = { λ p. record { count = p.count; first = p.first } };
+    ghost view = { λ p. record { state = p.counting; short = p.short } };
 }
 
 impl StormPlugin {
     /// It takes no memory before its first turn.
     pub fn new(alloc: Global) -> StormPlugin
-        ensures { result ≡ storm_start }
+        ensures state { result.state ≡ storm_start }
+        ensures short { result.short ≡ false }
     {
         StormPlugin {
-            count: 0,
-            first: None,
+            counting: Counting::new(alloc),
+            short: false,
             alloc,
         }
     }
 
-    /// Takes the lines one after the other, and puts the lines that it asks at the end. Want of memory ends it at the line where it came:
-    /// what stands behind that is not heard.
-    pub fn heed(&mut self, lines: &[Text], given: &mut Texts) -> Result<(), NoMemory>
-        ensures all { OnOk result (HeedsAll storm_step self.old self.new
-            (utf8_of lines.now) (utf8_of given.old) (utf8_of given.new)) }
-        ensures first { OnErr result (HeedsFirst storm_step self.old self.new
-            (utf8_of lines.now) (utf8_of given.old) (utf8_of given.new)) }
+    /// Whether its last turn was short of memory: it then heeded the first of its lines alone, and of what they ask it gave the first.
+    pub fn is_short(&self) -> bool
+        ensures { result ≡ self.now.short }
     {
-        for line in lines {
-            self.heed_line(line, given)?;
-        }
-        Ok(())
-    }
-
-    fn heed_line(&mut self, line: &Text, given: &mut Texts) -> Result<(), NoMemory>
-        ensures all { OnOk result (Comes (storm_step self.old (heard_in (encode_utf8_all line.now)))
-            self.new (utf8_of given.old) (utf8_of given.new)) }
-        ensures first { OnErr result (HeedsFirst storm_step self.old self.new
-            (encode_utf8_all line.now ∷ []) (utf8_of given.old) (utf8_of given.new)) }
-    {
-        match hear(self.alloc, line)? {
-            Heard::Told(told) => self.count(told_change(told), given),
-            Heard::Answer { .. } => Ok(()),
-            Heard::Nothing => Ok(()),
-        }
-    }
-
-    /// Counts a change, or edits.
-    fn count(&mut self, now: Option<SizedVersion>, given: &mut Texts) -> Result<(), NoMemory>
-        ensures all { OnOk result (Comes (counts self.old now)
-            self.new (utf8_of given.old) (utf8_of given.new)) }
-        ensures first { OnErr result (ComesFirst (counts self.old now)
-            self.new (utf8_of given.old) (utf8_of given.new)) }
-    {
-        let Some(now) = now else {
-            return Ok(());
-        };
-        let first = self.first.take();
-        if self.count < QUIET_CHANGES {
-            self.count += 1;
-            self.first = Some(first_of(first, now));
-            return Ok(());
-        }
-        self.count = 0;
-        edit_first(self.alloc, first, now, given)
+        self.short
     }
 }
 
 impl Plugin for StormPlugin {
     ghost told = { λ _. None };
 
-    /// Counts the changes that the lines tell of, and edits at each eighth. Out of memory it gives what was made by then.
+    /// Counts the changes that the lines tell of, and edits at each eighth. Short of memory it gives what was made by then, and the lines behind that are not heard.
     fn turn(&mut self, lines: &[Text]) -> Turn
-        ensures heeds { HeedsFirst storm_step self.old self.new (utf8_of lines.now) [] (utf8_of result.lines) }
+        ensures heeds { TurnHeeds storm_step self.old self.new (utf8_of lines.now) (utf8_of result.lines) }
         ensures goes_on { result.done ≡ false }
     {
         let mut given = Texts::new(self.alloc);
-        let _short = self.heed(lines, &mut given);
+        self.short = self.counting.heed(lines, &mut given).is_err();
         Turn {
             lines: given,
             done: false,
         }
     }
-}
-
-/// The version that a notice of a change tells of.
-fn told_change(told: Told) -> Option<SizedVersion>
-    ensures { result ≡ told_change told }
-{
-    match told {
-        Told::Changed(notice) => SizedVersion::of(notice),
-        _ => None,
-    }
-}
-
-fn first_of(first: Option<SizedVersion>, now: SizedVersion) -> SizedVersion
-    ensures { result ≡ first_of first now }
-{
-    match first {
-        Some(first) => first,
-        None => now,
-    }
-}
-
-/// Edits the first version, and acknowledges the present one.
-fn edit_first(
-    alloc: Global,
-    first: Option<SizedVersion>,
-    now: SizedVersion,
-    given: &mut Texts,
-) -> Result<(), NoMemory>
-    ensures all { OnOk result (Gives (edit_ask (first_of first now) ∷ ack_ask now.version ∷ [])
-        (utf8_of given.old) (utf8_of given.new)) }
-    ensures first { OnErr result (GivesFirst (edit_ask (first_of first now) ∷ ack_ask now.version ∷ [])
-        (utf8_of given.old) (utf8_of given.new)) }
-{
-    let edited = match &first {
-        Some(first) => edit_ask(alloc, first)?,
-        None => edit_ask(alloc, &now)?,
-    };
-    give_with_ack(alloc, &edited, &now.version, given)
-}
-
-fn edit_ask(alloc: Global, sized: &SizedVersion) -> Result<Command, NoMemory>
-    ensures command { IfOk result (λ command. command ≡ edit_ask sized.now) }
-    ensures taken { IfOk result (λ command. IsTakenCommand command) }
-{
-    Ok(Command {
-        id: Id::NoId,
-        act: Act::PluginEdit {
-            view: sized.version.view.copy(alloc)?,
-            rev: sized.version.rev,
-            delta: storm_delta(alloc, sized.len)?,
-            priority: 1,
-            after_cursor: false,
-            author: Text::from_ascii(alloc, "storm")?,
-            named: None,
-        },
-    })
-}
-
-/// The delta that puts `*` before a text of this length.
-fn storm_delta(alloc: Global, len: u64) -> Result<Delta, NoMemory>
-    ensures { IfOk result (λ delta. delta ≡ storm_delta len) }
-{
-    let mut els = List::new(alloc);
-    els.push(El::Insert {
-        text: Text::from_ascii(alloc, "*")?,
-    })?;
-    els.push(El::Copy { a: 0, b: len })?;
-    Ok(Delta { els, base_len: len })
 }

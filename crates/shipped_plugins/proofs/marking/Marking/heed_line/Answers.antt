@@ -6,7 +6,7 @@ use Rattle.plugin_side.specs.Heard.{heard_in}
 use Rattle.shipped_plugins.specs.Turns.{ComesFirst, utf8_of}
 use Rattle.shipped_plugins.specs.Todo.{settles, todo_step}
 use Rattle.shipped_plugins.proofs.TurnLemmas.{HeedsFirst-one}
-use Rattle.shipped_plugins.proofs.todo.TodoMarks.heed_line.Goals as goal
+use Rattle.shipped_plugins.proofs.marking.Marking.heed_line.Goals as goal
 
 pub returns-in-Answer-clause-first : goal.returns-in-Answer-clause-first
 returns-in-Answer-clause-first c =

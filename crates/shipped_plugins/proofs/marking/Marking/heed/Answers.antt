@@ -2,7 +2,7 @@ use Rattle.shipped_plugins.specs.Turns.{utf8_of}
 use Rattle.shipped_plugins.specs.Todo.{todo_step}
 use Rattle.shipped_plugins.proofs.TurnLemmas.{HeededSoFar-next, HeededSoFar-short}
 use Rattle.shipped_plugins.proofs.StepLemmas.{on_err_any}
-use Rattle.shipped_plugins.proofs.todo.TodoMarks.heed.Goals as goal
+use Rattle.shipped_plugins.proofs.marking.Marking.heed.Goals as goal
 
 pub returns-in_err-heed_line-clause-first : goal.returns-in_err-heed_line-clause-first
 returns-in_err-heed_line-clause-first c =

@@ -2,7 +2,7 @@ use Rattle.shipped_plugins.specs.Turns.{utf8_of}
 use Rattle.shipped_plugins.specs.Storm.{storm_step}
 use Rattle.shipped_plugins.proofs.TurnLemmas.{HeededSoFar-next, HeededSoFar-short}
 use Rattle.shipped_plugins.proofs.StepLemmas.{on_err_any}
-use Rattle.shipped_plugins.proofs.storm.StormPlugin.heed.Goals as goal
+use Rattle.shipped_plugins.proofs.counting.Counting.heed.Goals as goal
 
 pub returns-in_err-heed_line-clause-first : goal.returns-in_err-heed_line-clause-first
 returns-in_err-heed_line-clause-first c =

@@ -6,7 +6,7 @@ use Rattle.plugin_side.specs.Heard.{heard_in}
 use Rattle.shipped_plugins.specs.Turns.{ComesFirst, utf8_of}
 use Rattle.shipped_plugins.specs.Storm.{counts, storm_step}
 use Rattle.shipped_plugins.proofs.TurnLemmas.{HeedsFirst-one}
-use Rattle.shipped_plugins.proofs.storm.StormPlugin.heed_line.Goals as goal
+use Rattle.shipped_plugins.proofs.counting.Counting.heed_line.Goals as goal
 
 pub returns-in-Told-clause-first : goal.returns-in-Told-clause-first
 returns-in-Told-clause-first c =

@@ -1,7 +1,7 @@
 use Rattle.std.proofs.Common.{◌<◌, ◌^◌, length, rules, ap, ◌∙◌}
 use Rattle.plain_text.proofs.callers.TextLemmas.{length-encodes}
 use Rattle.shipped_plugins.proofs.StepLemmas.{spans_ask-is, IsTakenCommand-spans}
-use Rattle.shipped_plugins.proofs.todo.spans_ask.Goals as goal
+use Rattle.shipped_plugins.proofs.marking.spans_ask.Goals as goal
 
 pub returns-clause-command : goal.returns-clause-command
 returns-clause-command c =

@@ -2,8 +2,8 @@ use Rattle.std.proofs.Common.{sym, ap, ◌∙◌}
 use Rattle.shipped_plugins.specs.Turns.{utf8_of}
 use Rattle.shipped_plugins.proofs.TurnLemmas.{Gives-pushed}
 use Rattle.shipped_plugins.proofs.StepLemmas.{Comes-read, popped-back}
-use Rattle.shipped_plugins.proofs.todo.TodoMarks.read_version.Goals as goal
-use Rattle.shipped_plugins.proofs.todo.TodoMarks.read_version.Goals.{in-Some-1, in-None-1}
+use Rattle.shipped_plugins.proofs.marking.Marking.read_version.Goals as goal
+use Rattle.shipped_plugins.proofs.marking.Marking.read_version.Goals.{in-Some-1, in-None-1}
 
 pub returns-in-Ok-clause-all : goal.returns-in-Ok-clause-all
 returns-in-Ok-clause-all c =
