@@ -6,8 +6,6 @@ mod carets;
 #[cfg(test)]
 mod clusters;
 #[cfg(test)]
-mod index;
-#[cfg(test)]
 mod made;
 #[cfg(test)]
 mod motions;
