@@ -38,13 +38,15 @@ pub record IsStaffed {O P : Type 0} (room : TableId) (first : O) (pass : Known) 
   pub made : pass.made ≡ length givens + 1
   pub given : AreGiven room first 1 givens
 
--- the plugins that came back, and their passes, in their order; and whether memory was wanting for none
+-- the plugins that came back, in their order
 abbrev pub plugins_in : {P : Type 0} → List (Gathered P) → List P
 plugins_in cames = map (λ came. came.plugin) cames
 
+-- their passes
 abbrev pub passes_in : {P : Type 0} → List (Gathered P) → List Known
 passes_in cames = map (λ came. came.pass) cames
 
+-- whether memory was wanting for none of them
 abbrev pub all_in : {P : Type 0} → List (Gathered P) → Bool
 all_in [] = true
 all_in (came ∷ cames) = is_served came.standing && all_in cames
