@@ -1,0 +1,3 @@
+-- What is counted, and what the words ask.
+pub mod Count
+pub mod Words

@@ -1,0 +1,54 @@
+ghost use Rattle.std.specs.Prelude.{OnOk};
+ghost use Rattle.xi_top.specs.Core.{IsServing};
+
+use crate::count_sink::CountSink;
+use crate::kind::kind_of;
+use crate::table::{Table, Written};
+use crate::text::typing_of;
+use crate::words::Size;
+use anyhow::bail;
+use std::alloc::Global;
+use xi_top::{Core, Entered};
+
+const OPENING: &[u8] = b"{\"id\":0,\"method\":\"new_view\",\"params\":{}}";
+
+/// Enters the lines of a script into a session with a text of this size, and counts what they write.
+pub fn run_script(alloc: Global, size: Size, script: &str) -> anyhow::Result<Table> {
+    let Ok(mut core) = Core::make(alloc, CountSink::new()) else {
+        bail!("no memory");
+    };
+    enter(alloc, &mut core, OPENING)?;
+    let typing = typing_of(alloc, size)?;
+    enter(alloc, &mut core, typing.as_bytes())?;
+    enter_lines(alloc, &mut core, script)
+}
+
+fn enter_lines(alloc: Global, core: &mut Core<CountSink>, script: &str) -> anyhow::Result<Table>
+    requires { IsServing core.old }
+{
+    let mut table = Table::new(alloc)?;
+    for line in script.lines() {
+        let written = enter(alloc, core, line.as_bytes())?;
+        table.take(kind_of(alloc, line)?, written)?;
+    }
+    Ok(table)
+}
+
+/// Enters a line, and says what it made the core write.
+fn enter(alloc: Global, core: &mut Core<CountSink>, line: &[u8]) -> anyhow::Result<Written>
+    requires { IsServing core.old }
+    ensures { OnOk result (IsServing core.new) }
+{
+    let before = core.sink().count();
+    match core.enter(alloc, line) {
+        Entered::Taken => {
+            let after = core.sink().count();
+            Ok(Written {
+                len: after.bytes.saturating_sub(before.bytes),
+                is_refusal: before.refusals < after.refusals,
+            })
+        }
+        Entered::SinkFault => bail!("the session would write more than 2^40 bytes"),
+        Entered::NoMemory => bail!("no memory"),
+    }
+}
