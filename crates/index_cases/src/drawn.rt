@@ -105,7 +105,7 @@ fn session_agrees(alloc: Global, seed: u64, width: u32, parts: u64) -> Result<bo
 // Ten sessions, of an empty text and of longer ones.
 fn sessions_agree(alloc: Global, width: u32) -> bool {
     for seed in 0u64..10 {
-        match session_agrees(alloc, seed, width, seed.wrapping_mul(60)) {
+        match session_agrees(alloc, seed, width, seed.wrapping_mul(12)) {
             Ok(true) => {}
             _ => return false,
         }
