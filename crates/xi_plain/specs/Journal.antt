@@ -32,15 +32,14 @@ closes act = false
 abbrev pub is_closing : Entry → Bool
 is_closing entry = closes entry.command.act
 
--- whether the shelf may have answered the opening of a file so; it is not asked where files are not opened yet
+-- whether the shelf may have answered the opening of a file so: it is always asked
 abbrev pub may_open : ShelfNote → Bool
-may_open NoCall = true
 may_open (Held bytes) = true
 may_open Absent = true
 may_open Failed = true
 may_open note = false
 
--- and a saving, for which it is not asked where the view is not there
+-- and a saving, for which it is not asked where the view is not there (that it is asked where the view is there, the session says)
 abbrev pub may_save : ShelfNote → Bool
 may_save NoCall = true
 may_save Done = true
@@ -63,15 +62,21 @@ abbrev pub may_follow : Entry → List Entry → Bool
 may_follow entry entries =
     if is_closing entry then length entries == 0 else (if entry.sent then true else list_all is_closing entries)
 
--- whether the entry is of one of the callers that there are, and its note can be
-abbrev pub can_be : ℕ → Entry → Bool
-can_be plugins entry = nat_le entry.caller plugins && may_have_note entry.command.act entry.shelf
+-- whether each entry is of one of the callers that there are, where there are so many plugins, and may be followed by those after it
+abbrev pub is_ordered : ℕ → List Entry → Bool
+is_ordered plugins [] = true
+is_ordered plugins (entry ∷ entries) = nat_le entry.caller plugins && (may_follow entry entries && is_ordered plugins entries)
 
--- whether the journal is legal, where there are so many plugins, as far as its entries alone can tell: each can be, and may be followed by
--- those after it
+abbrev pub IsOrdered : ℕ → List Entry → Type 0
+IsOrdered plugins journal = is_ordered plugins journal ≡ true
+
+-- whether the entry's note is of a kind that its act can have
+abbrev pub has_own_note : Entry → Bool
+has_own_note entry = may_have_note entry.command.act entry.shelf
+
+-- whether the journal is legal, as far as its entries alone can tell: they may stand so, and each has a note of its own kind
 abbrev pub is_legal : ℕ → List Entry → Bool
-is_legal plugins [] = true
-is_legal plugins (entry ∷ entries) = can_be plugins entry && (may_follow entry entries && is_legal plugins entries)
+is_legal plugins journal = is_ordered plugins journal && list_all has_own_note journal
 
 -- THE LEGAL JOURNALS
 abbrev pub IsLegal : ℕ → List Entry → Type 0

@@ -1,7 +1,7 @@
 -- Lemmas on a run between two bytes: how each step goes on or stops.
 use Rattle.std.proofs.Common.{◌≡◌, ◌≢◌, ℕ, ◌+◌, ◌<◌, ◌≤◌, inl, inr, true, false, List, [], ◌∷◌, ◌++◌, length, take, map, Option, Some, None, Ok, Err, refl, ap, sym, ◌∙◌, subst, append_assoc, append-nil, length-append, arith}
 use Rattle.std.proofs.lemmas.List.{map-append}
-use Rattle.std.specs.Prelude.{IfSome, Bool, ◌&&◌, unwrap_or}
+use Rattle.std.specs.Prelude.{IfSome, Bool, ◌&&◌, nat_le, unwrap_or}
 use Rattle.std.specs.Result.{IsErrAnd}
 use Rattle.std.specs.List.{AllByRecursion, concat}
 use Rattle.xi_plain.specs.declared.command.Command.{Command}
@@ -16,9 +16,9 @@ use Rattle.outside.specs.Sink.{SinkState, Gains}
 use Rattle.outside.specs.Source.{SourceState, Gives}
 use Rattle.outside.proofs.ForCallers.{Gives-append, Gains-append, Gains-none, Rose-earlier}
 use Rattle.xi_top.specs.declared.session.Core.{Core}
-use Rattle.xi_plain.specs.Journal.{closing_entry, may_follow, can_be, is_legal, IsLegal, commands, front_entries}
+use Rattle.xi_plain.specs.Journal.{closing_entry, may_follow, is_ordered, IsOrdered, commands, front_entries}
 use Rattle.xi_top.specs.Session.{first_session, written}
-use Rattle.xi_top.specs.Core.{IsOfLine, IsOpen, IsServing, AddsSentEntry, AddsUnsentEntry, ChangesNothing, journal_of, sink_of, piece_after, front_entry}
+use Rattle.xi_top.specs.Core.{IsOfLine, IsOpen, IsUnasked, IsLegalUnasked, IsServing, AddsSentEntry, AddsUnsentEntry, ChangesNothing, journal_of, sink_of, piece_after, front_entry}
 use Rattle.xi_top.proofs.SessionLemmas.{written-push, IsOfLine-command_of}
 use Rattle.xi_top.proofs.ClosedLemmas.{shows_closed}
 use Rattle.xi_top.specs.declared.ending.Ending.{Ending}
@@ -37,38 +37,44 @@ failed_with (Err e) ending is = ap Err is
 
 -- ---- legal journals
 
-may_stand : (can follows legal : Bool) → can ≡ true → follows ≡ true → legal ≡ true → can && (follows && legal) ≡ true
-may_stand can follows legal is may rest = rw (is, may, rest) refl
+may_stand : (is follows ordered : Bool) → is ≡ true → follows ≡ true → ordered ≡ true → is && (follows && ordered) ≡ true
+may_stand is follows ordered first may rest = rw (first, may, rest) refl
 
--- an entry of the front end that asks no shelf can be
-can_be_front : (entry : Entry) → entry.caller ≡ 0 → entry.shelf ≡ NoCall → IsOfLine entry.command.act → can_be 0 entry ≡ true
-can_be_front entry front none asks = rw (front, none) asks.1
+is_front : (caller : ℕ) → caller ≡ 0 → nat_le caller 0 ≡ true
+is_front caller front = rw (front) refl
 
-legal_front : (entries rest : List Entry) → AllByRecursion IsOpen entries → IsLegal 0 rest → IsLegal 0 (entries ++ rest)
-legal_front [] rest each legal = legal
-legal_front (entry ∷ entries) rest each legal =
-    let follows : may_follow entry (entries ++ rest) ≡ true = rw (each.0.asks.0, each.0.sent) refl in
-    may_stand (can_be 0 entry) (may_follow entry (entries ++ rest)) (is_legal 0 (entries ++ rest))
-    (can_be_front entry each.0.caller each.0.shelf each.0.asks) follows (legal_front entries rest each.1 legal)
+ordered_front : (entries rest : List Entry) → AllByRecursion IsOpen entries → IsOrdered 0 rest → IsOrdered 0 (entries ++ rest)
+ordered_front [] rest each ordered = ordered
+ordered_front (entry ∷ entries) rest each ordered =
+    let follows : may_follow entry (entries ++ rest) ≡ true = rw (each.0.asks, each.0.sent) refl in
+    may_stand (nat_le entry.caller 0) (may_follow entry (entries ++ rest)) (is_ordered 0 (entries ++ rest))
+    (is_front entry.caller each.0.caller) follows (ordered_front entries rest each.1 ordered)
 
-legal_open : (entries : List Entry) → AllByRecursion IsOpen entries → IsLegal 0 (entries ++ closing_entry ∷ [])
-legal_open entries each = legal_front entries (closing_entry ∷ []) each refl
+unasked_front : (entries rest : List Entry) → AllByRecursion IsOpen entries → IsUnasked rest → IsUnasked (entries ++ rest)
+unasked_front [] rest each unasked = unasked
+unasked_front (entry ∷ entries) rest each unasked = (each.0.shelf, unasked_front entries rest each.1 unasked)
+
+legal_front : (entries rest : List Entry) → AllByRecursion IsOpen entries → IsLegalUnasked rest → IsLegalUnasked (entries ++ rest)
+legal_front entries rest each legal = (ordered_front entries rest each legal.0, unasked_front entries rest each legal.1)
+
+legal_open : (entries : List Entry) → AllByRecursion IsOpen entries → IsLegalUnasked (entries ++ closing_entry ∷ [])
+legal_open entries each = legal_front entries (closing_entry ∷ []) each (refl, (refl, tt))
 
 legal_cut : (sent : List Entry) (command : Command) → AllByRecursion IsOpen sent → IsOfLine command.act →
-    IsLegal 0 ((sent ++ front_entry command false ∷ []) ++ closing_entry ∷ [])
+    IsLegalUnasked ((sent ++ front_entry command false ∷ []) ++ closing_entry ∷ [])
 legal_cut sent command each asks =
     let last = front_entry command false in
-    let follows : may_follow last (closing_entry ∷ []) ≡ true = rw asks.0 refl in
-    subst (IsLegal 0) (sym (append_assoc sent (last ∷ []) (closing_entry ∷ [])))
+    let follows : may_follow last (closing_entry ∷ []) ≡ true = rw asks refl in
+    subst IsLegalUnasked (sym (append_assoc sent (last ∷ []) (closing_entry ∷ [])))
     (legal_front sent (last ∷ (closing_entry ∷ [])) each
-    (may_stand (can_be 0 last) (may_follow last (closing_entry ∷ [])) true (can_be_front last refl refl asks) follows refl))
+    (may_stand (nat_le 0 0) (may_follow last (closing_entry ∷ [])) true refl follows refl, (refl, (refl, tt))))
 
 -- in a legal journal without plugins all entries are the front end's
-holds_front : (outcome : Outcome) (taken left : List ℕ) (entries : List Entry) → IsLegal 0 (entries ++ closing_entry ∷ []) →
+holds_front : (outcome : Outcome) (taken left : List ℕ) (entries : List Entry) → IsLegalUnasked (entries ++ closing_entry ∷ []) →
     HoldsLines outcome taken left (commands entries) → HoldsLines outcome taken left (commands (front_entries entries))
 holds_front outcome taken left entries legal lines =
     let At : List Entry → Type 0 = λ front. HoldsLines outcome taken left (commands front) in
-    subst At (sym (front_entries-alone entries (closing_entry ∷ []) legal)) lines
+    subst At (sym (front_entries-alone entries (closing_entry ∷ []) legal.0)) lines
 
 -- open entries were sent, and the closing one counts as sent
 sent_front : (entries rest : List Entry) → AllByRecursion IsOpen entries → AreSent rest → AreSent (entries ++ rest)
@@ -200,7 +206,7 @@ module _ {K : Type 0} (tell : K → SinkState) (start : SinkState) where
       Stops tell start taken left new (Err SinkFault)
   stops_sink taken left line old new n whole adds lines =
       let last = front_entry (command_of line) false in
-      let Legal : List Entry → Type 0 = λ entries. IsLegal 0 (entries ++ closing_entry ∷ []) in
+      let Legal : List Entry → Type 0 = λ entries. IsLegalUnasked (entries ++ closing_entry ∷ []) in
       let cut : IsCutOff start (tell (sink_of new)) (journal_of new ++ closing_entry ∷ []) = record {
         sent = journal_of old;
         last = last;

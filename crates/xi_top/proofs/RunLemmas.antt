@@ -7,10 +7,11 @@ use Rattle.front_wire.specs.Front.{command_of}
 use Rattle.outside.specs.Faults.{Rose}
 use Rattle.outside.specs.Sink.{SinkState}
 use Rattle.outside.proofs.ForCallers.{Gains-none}
-use Rattle.xi_plain.specs.Journal.{closing_entry, commands, IsLegal}
+use Rattle.xi_plain.specs.Journal.{closing_entry, commands}
 use Rattle.xi_plain.proofs.ForCallers.{front_entries-alone}
 use Rattle.xi_top.proofs.ClosedLemmas.{shows_none}
 use Rattle.xi_top.specs.declared.ending.Ending.TheVariants.{NoMemory, SourceFault, SinkFault, TooMany, TooLong}
+use Rattle.xi_top.specs.Core.{IsLegalUnasked}
 use Rattle.xi_top.specs.Ending.{Outcome, status_of, most_lines}
 use Rattle.xi_top.specs.Written.{IsSent, IsCutOff, IsWritten, IsWrittenByCount}
 use Rattle.xi_top.specs.Run.{Outside, Passage, IsRun, RunsAlone, HasCauses}
@@ -19,7 +20,7 @@ use Rattle.xi_top.specs.Run.{Outside, Passage, IsRun, RunsAlone, HasCauses}
 pub asked-lines : (passage : Passage) (journal : List Entry) (outcome : Outcome) (run : IsRun passage journal outcome) →
     commands run.entries ≡ map command_of run.lines.lines
 asked-lines passage journal outcome run =
-    ap commands (sym (front_entries-alone run.entries (closing_entry ∷ []) (subst (IsLegal 0) run.closed run.legal))) ∙ run.lines.asked
+    ap commands (sym (front_entries-alone run.entries (closing_entry ∷ []) (subst IsLegalUnasked run.closed run.legal).0)) ∙ run.lines.asked
 
 -- ---- the causes
 

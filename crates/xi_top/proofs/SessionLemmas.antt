@@ -10,10 +10,6 @@ use Rattle.entry_lines.specs.Piece.{lines_written}
 use Rattle.entry_lines.proofs.ForCallers.{all_append, lines_written-append}
 use Rattle.std.proofs.Math.Seq.{take-nil}
 use Rattle.std.specs.Prelude.{true}
-use Rattle.xi_plain.specs.declared.command.Act.{Act}
-use Rattle.xi_plain.specs.declared.command.Act.TheVariants.{NewView, Save}
-use Rattle.xi_plain.specs.declared.entry.ShelfNote.TheVariants.{NoCall}
-use Rattle.xi_plain.specs.Journal.{may_have_note}
 use Rattle.front_wire.specs.Front.{command_of}
 use Rattle.front_wire.proofs.ForCallers.{closes-command_of}
 
@@ -77,15 +73,9 @@ written-push journal entry =
     written-messages (journal ++ entry ∷ []) ∙ ap lines_written (messages_of-push journal entry) ∙
     lines_written-append (messages_of journal) said ∙ ap (λ front. front ++ lines_written said) (sym (written-messages journal))
 
--- no line closes the session or asks the shelf
-asks_nothing : (act : Act) → may_have_note act NoCall ≡ true
-asks_nothing (NewView None) = refl
-asks_nothing (NewView (Some path)) = refl
-asks_nothing (Save view path) = refl
-asks_nothing act = refl
-
+-- no line closes the session
 pub IsOfLine-command_of : (line : List ℕ) → IsOfLine (command_of line).act
-IsOfLine-command_of line = (closes-command_of line, asks_nothing (command_of line).act)
+IsOfLine-command_of line = closes-command_of line
 
 -- the first bytes, in two parts
 pub take-plus : (m n : ℕ) (xs : List ℕ) → take (m + n) xs ≡ take m xs ++ take n (drop m xs)

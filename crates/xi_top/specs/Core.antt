@@ -6,7 +6,7 @@ use Rattle.xi_plain.specs.declared.command.Command.{Command}
 use Rattle.xi_plain.specs.declared.config.Config.{Config}
 use Rattle.xi_plain.specs.declared.entry.Entry.{Entry}
 use Rattle.xi_plain.specs.declared.entry.ShelfNote.TheVariants.{NoCall}
-use Rattle.xi_plain.specs.Journal.{closes, may_have_note}
+use Rattle.xi_plain.specs.Journal.{closes, IsOrdered}
 use Rattle.plain_screen.specs.Screen.{Screen}
 use Rattle.outside.specs.Faults.{Rose, counted}
 use Rattle.outside.specs.Sink.{SinkState, Gains}
@@ -22,9 +22,9 @@ pub record ServesDocument (doc : Doc) (plain : Document) : Type 0 where
   pub stands : DocStandsFor doc plain
   pub no_sessions : length doc.text.sessions ≡ 0
 
--- a line of the front end asks so: it closes nothing, and the shelf is not asked
+-- a line of the front end asks so: it closes nothing
 abbrev pub IsOfLine : Act → Type 0
-IsOfLine act = (closes act ≡ false) × (may_have_note act NoCall ≡ true)
+IsOfLine act = closes act ≡ false
 
 -- the entry is one of the front end's lines, and its piece was sent whole
 pub record IsOpen (entry : Entry) : Type 0 where
@@ -32,6 +32,14 @@ pub record IsOpen (entry : Entry) : Type 0 where
   pub asks : IsOfLine entry.command.act
   pub shelf : entry.shelf ≡ NoCall
   pub sent : entry.sent ≡ true
+
+-- THE JOURNALS that a session can have while no file is opened or saved: their entries may stand so where there are no plugins, and the
+-- shelf is asked for none of them
+abbrev pub IsUnasked : List Entry → Type 0
+IsUnasked journal = AllByRecursion (λ entry. entry.shelf ≡ NoCall) journal
+
+abbrev pub IsLegalUnasked : List Entry → Type 0
+IsLegalUnasked journal = IsOrdered 0 journal × IsUnasked journal
 
 -- the document in memory is that of the first view
 pub record ServesView (doc : Doc) (view : OpenView) : Type 0 where

@@ -4,8 +4,9 @@ use Rattle.xi_plain.specs.declared.entry.Entry.{Entry}
 use Rattle.outside.specs.Faults.{Rose}
 use Rattle.outside.specs.Source.{SourceState, source_state, Gives}
 use Rattle.outside.specs.Sink.{SinkState, sink_state}
-use Rattle.xi_plain.specs.Journal.{closing_entry, commands, front_entries, IsLegal}
+use Rattle.xi_plain.specs.Journal.{closing_entry, commands, front_entries}
 use Rattle.xi_top.specs.declared.ending.Ending.TheVariants.{SourceFault}
+use Rattle.xi_top.specs.Core.{IsLegalUnasked}
 use Rattle.xi_top.specs.Ending.{Outcome, status_of, most_lines}
 use Rattle.xi_top.specs.Lines.{HoldsLines}
 use Rattle.xi_top.specs.Written.{IsWritten}
@@ -46,7 +47,7 @@ pub record IsRun (passage : Passage) (journal : List Entry) (outcome : Outcome) 
   pub leaves : IfSome passage.after.source.left (λ bytes. bytes ≡ left)
   pub entries : List Entry
   pub closed : journal ≡ entries ++ closing_entry ∷ []
-  pub legal : IsLegal 0 journal
+  pub legal : IsLegalUnasked journal
   pub lines : HoldsLines outcome taken left (commands (front_entries entries))
   pub written : IsWritten outcome passage.before.sink passage.after.sink journal
   pub source_failed : HasFailedIf outcome passage.before.source passage.after.source

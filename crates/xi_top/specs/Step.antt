@@ -9,7 +9,7 @@ use Rattle.outside.specs.declared.source.Pulled.TheVariants.{Got, End, Failed}
 use Rattle.outside.specs.Source.{SourceState, Gives, failures_after}
 use Rattle.outside.specs.Sink.{SinkState, Gains}
 use Rattle.xi_plain.specs.declared.entry.Entry.{Entry}
-use Rattle.xi_plain.specs.Journal.{closing_entry, commands, front_entries, IsLegal}
+use Rattle.xi_plain.specs.Journal.{closing_entry, commands, front_entries}
 use Rattle.xi_top.specs.declared.session.Core.{Core}
 use Rattle.xi_top.specs.declared.feed.Intake.{Intake}
 use Rattle.xi_top.specs.declared.step.Run.{Run}
@@ -17,7 +17,7 @@ use Rattle.xi_top.specs.declared.step.Stepped.{Stepped}
 use Rattle.xi_top.specs.declared.step.Stepped.TheVariants.{Goes, Ends}
 use Rattle.xi_top.specs.declared.ending.Ending.TheVariants.{SourceFault}
 use Rattle.xi_top.specs.Session.{first_session, written}
-use Rattle.xi_top.specs.Core.{IsServing, HasRoom, journal_of, sink_of}
+use Rattle.xi_top.specs.Core.{IsLegalUnasked, IsServing, HasRoom, journal_of, sink_of}
 use Rattle.xi_top.specs.Ending.{Outcome, most_lines, too_long}
 use Rattle.xi_top.specs.Lines.{IsShort, IsWithinLimit, HoldsLines}
 use Rattle.xi_top.specs.Written.{IsWritten}
@@ -64,7 +64,7 @@ pub record Stops {K : Type 0} (tell : K → SinkState) (start : SinkState) (take
   pub room : HasRoom core
   pub lines : HoldsLines outcome taken left (commands (front_entries (journal_of core)))
   pub written : IsWritten outcome start (tell (sink_of core)) (journal_of core ++ closing_entry ∷ [])
-  pub legal : IsLegal 0 (journal_of core ++ closing_entry ∷ [])
+  pub legal : IsLegalUnasked (journal_of core ++ closing_entry ∷ [])
   pub stays : start.faults ≤ (tell (sink_of core)).faults
 
 -- the run stopped at its input's end, or just before
