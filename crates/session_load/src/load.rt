@@ -1,5 +1,5 @@
 ghost use Rattle.std.specs.Prelude.{OnOk};
-ghost use Rattle.xi_top.specs.Core.{IsServing};
+ghost use Rattle.core_session.specs.Core.{IsServing};
 
 use crate::count_sink::CountSink;
 use crate::kind::kind_of;
@@ -7,8 +7,8 @@ use crate::table::{Table, Written};
 use crate::text::typing_of;
 use crate::words::Size;
 use anyhow::bail;
+use core_session::{Core, Entered};
 use std::alloc::Global;
-use xi_top::{Core, Entered};
 
 const OPENING: &[u8] = b"{\"id\":0,\"method\":\"new_view\",\"params\":{}}";
 

@@ -15,12 +15,11 @@ use Rattle.outside.specs.Faults.{counted}
 use Rattle.outside.specs.Sink.{SinkState, Gains}
 use Rattle.outside.specs.Source.{SourceState, Gives}
 use Rattle.outside.proofs.ForCallers.{Gives-append, Gains-append, Gains-none, Rose-earlier}
-use Rattle.xi_top.specs.declared.session.Core.{Core}
+use Rattle.core_session.specs.declared.session.Core.{Core}
 use Rattle.xi_plain.specs.Journal.{closing_entry, may_follow, is_ordered, IsOrdered, commands, front_entries}
-use Rattle.xi_top.specs.Session.{first_session, written}
-use Rattle.xi_top.specs.Core.{IsOfLine, IsOpen, IsUnasked, IsLegalUnasked, IsServing, AddsSentEntry, AddsUnsentEntry, ChangesNothing, journal_of, sink_of, piece_after, front_entry}
-use Rattle.xi_top.proofs.SessionLemmas.{written-push, IsOfLine-command_of}
-use Rattle.xi_top.proofs.ClosedLemmas.{shows_closed}
+use Rattle.core_session.specs.Session.{first_session, written}
+use Rattle.core_session.specs.Core.{IsOfLine, IsOpen, IsUnasked, IsLegalUnasked, IsServing, AddsSentEntry, AddsUnsentEntry, ChangesNothing, journal_of, sink_of, piece_after, front_entry}
+use Rattle.core_session.proofs.ForCallers.{written-push, IsOfLine-command_of, shows_closed}
 use Rattle.xi_top.specs.declared.ending.Ending.{Ending}
 use Rattle.xi_top.specs.declared.ending.Ending.TheVariants.{NoMemory, SourceFault, SinkFault, TooMany, TooLong}
 use Rattle.xi_top.specs.Ending.{Outcome, most_lines, too_long}

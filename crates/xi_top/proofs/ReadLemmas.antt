@@ -12,14 +12,14 @@ use Rattle.outside.specs.declared.source.Pulled.TheVariants.{Got, End, Failed}
 use Rattle.outside.specs.Source.{SourceState, Gives}
 use Rattle.outside.specs.Sink.{SinkState, Gains}
 use Rattle.outside.proofs.ForCallers.{Gives-append, Rose-earlier}
-use Rattle.xi_top.specs.declared.session.Core.{Core}
+use Rattle.core_session.specs.declared.session.Core.{Core}
 use Rattle.xi_top.specs.declared.step.Run.{Run}
 use Rattle.xi_top.specs.declared.step.Stepped.{Stepped}
 use Rattle.xi_top.specs.declared.step.Stepped.TheVariants.{Goes, Ends}
 use Rattle.xi_top.specs.declared.ending.Ending.TheVariants.{NoMemory, SourceFault, SinkFault, TooMany, TooLong}
 use Rattle.xi_top.specs.Ending.{Outcome, status_of}
-use Rattle.xi_top.specs.Session.{first_session, written}
-use Rattle.xi_top.specs.Core.{IsOpen, journal_of, sink_of, front_entry}
+use Rattle.core_session.specs.Session.{first_session, written}
+use Rattle.core_session.specs.Core.{IsOpen, journal_of, sink_of, front_entry}
 use Rattle.xi_top.specs.Run.{HasFailedIf, IsReadByCount, IsRun}
 use Rattle.xi_top.specs.Step.{AsksOnce, HasAnswered, IsNoSourceFault, IsStep, Stops, StepsBy, begun_of, most_read, run_sink}
 use Rattle.xi_top.specs.InTime.{AnswersInTime, IsAnswered, sent_entries}

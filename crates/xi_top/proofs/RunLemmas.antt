@@ -9,9 +9,9 @@ use Rattle.outside.specs.Sink.{SinkState}
 use Rattle.outside.proofs.ForCallers.{Gains-none}
 use Rattle.xi_plain.specs.Journal.{closing_entry, commands}
 use Rattle.xi_plain.proofs.ForCallers.{front_entries-alone}
-use Rattle.xi_top.proofs.ClosedLemmas.{shows_none}
+use Rattle.core_session.proofs.ForCallers.{shows_none}
 use Rattle.xi_top.specs.declared.ending.Ending.TheVariants.{NoMemory, SourceFault, SinkFault, TooMany, TooLong}
-use Rattle.xi_top.specs.Core.{IsLegalUnasked}
+use Rattle.core_session.specs.Core.{IsLegalUnasked}
 use Rattle.xi_top.specs.Ending.{Outcome, status_of, most_lines}
 use Rattle.xi_top.specs.Written.{IsSent, IsCutOff, IsWritten, IsWrittenByCount}
 use Rattle.xi_top.specs.Run.{Outside, Passage, IsRun, RunsAlone, HasCauses}

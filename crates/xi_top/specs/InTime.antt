@@ -9,8 +9,8 @@ use Rattle.outside.specs.Source.{SourceState, Gives}
 use Rattle.outside.specs.Sink.{Gains}
 use Rattle.xi_plain.specs.declared.command.Command.{Command}
 use Rattle.xi_plain.specs.declared.entry.Entry.{Entry}
-use Rattle.xi_top.specs.Session.{first_session, written}
-use Rattle.xi_top.specs.Core.{front_entry}
+use Rattle.core_session.specs.Session.{first_session, written}
+use Rattle.core_session.specs.Core.{front_entry}
 use Rattle.xi_top.specs.Run.{Outside, Passage, IsNoRun}
 use Rattle.xi_top.specs.Step.{AsksOnce}
 

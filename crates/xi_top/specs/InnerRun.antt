@@ -5,8 +5,8 @@ use Rattle.xi_plain.specs.declared.command.Command.{Command}
 use Rattle.outside.specs.Faults.{counted}
 use Rattle.outside.specs.Source.{SourceState, Gives}
 use Rattle.outside.specs.Sink.{SinkState}
-use Rattle.xi_top.specs.declared.session.Core.{Core}
-use Rattle.xi_top.specs.Core.{IsServing, AddsSentEntry, AddsUnsentEntry, ChangesNothing, sink_of}
+use Rattle.core_session.specs.declared.session.Core.{Core}
+use Rattle.core_session.specs.Core.{IsServing, AddsSentEntry, AddsUnsentEntry, ChangesNothing, sink_of}
 use Rattle.xi_top.specs.declared.step.Run.{Run}
 use Rattle.xi_top.specs.declared.step.Stepped.{Stepped}
 use Rattle.xi_top.specs.declared.step.Stepped.TheVariants.{Goes, Ends}

@@ -1,7 +1,3 @@
-pub mod Session
-pub mod Shows
-pub mod Core
-pub mod Laws
 pub mod Ending
 pub mod Lines
 pub mod Written
@@ -9,6 +5,4 @@ pub mod Run
 pub mod Step
 pub mod InTime
 pub mod Calm
-pub mod Rows
-pub mod InnerSession
 pub mod InnerRun

@@ -6,7 +6,7 @@ use Rattle.outside.specs.Source.{SourceState, source_state, Gives}
 use Rattle.outside.specs.Sink.{SinkState, sink_state}
 use Rattle.xi_plain.specs.Journal.{closing_entry, commands, front_entries}
 use Rattle.xi_top.specs.declared.ending.Ending.TheVariants.{SourceFault}
-use Rattle.xi_top.specs.Core.{IsLegalUnasked}
+use Rattle.core_session.specs.Core.{IsLegalUnasked}
 use Rattle.xi_top.specs.Ending.{Outcome, status_of, most_lines}
 use Rattle.xi_top.specs.Lines.{HoldsLines}
 use Rattle.xi_top.specs.Written.{IsWritten}

@@ -10,14 +10,14 @@ use Rattle.outside.specs.Source.{SourceState, Gives, failures_after}
 use Rattle.outside.specs.Sink.{SinkState, Gains}
 use Rattle.xi_plain.specs.declared.entry.Entry.{Entry}
 use Rattle.xi_plain.specs.Journal.{closing_entry, commands, front_entries}
-use Rattle.xi_top.specs.declared.session.Core.{Core}
+use Rattle.core_session.specs.declared.session.Core.{Core}
 use Rattle.xi_top.specs.declared.feed.Intake.{Intake}
 use Rattle.xi_top.specs.declared.step.Run.{Run}
 use Rattle.xi_top.specs.declared.step.Stepped.{Stepped}
 use Rattle.xi_top.specs.declared.step.Stepped.TheVariants.{Goes, Ends}
 use Rattle.xi_top.specs.declared.ending.Ending.TheVariants.{SourceFault}
-use Rattle.xi_top.specs.Session.{first_session, written}
-use Rattle.xi_top.specs.Core.{IsLegalUnasked, IsServing, HasRoom, journal_of, sink_of}
+use Rattle.core_session.specs.Session.{first_session, written}
+use Rattle.core_session.specs.Core.{IsLegalUnasked, IsServing, HasRoom, journal_of, sink_of}
 use Rattle.xi_top.specs.Ending.{Outcome, most_lines, too_long}
 use Rattle.xi_top.specs.Lines.{IsShort, IsWithinLimit, HoldsLines}
 use Rattle.xi_top.specs.Written.{IsWritten}

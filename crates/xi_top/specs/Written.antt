@@ -5,8 +5,8 @@ use Rattle.xi_plain.specs.declared.entry.Entry.{Entry}
 use Rattle.outside.specs.Faults.{Rose, counted}
 use Rattle.outside.specs.Sink.{SinkState, Gains}
 use Rattle.xi_plain.specs.Journal.{closing_entry}
-use Rattle.xi_top.specs.Shows.{Shows}
-use Rattle.xi_top.specs.Core.{piece_after}
+use Rattle.core_session.specs.Shows.{Shows}
+use Rattle.core_session.specs.Core.{piece_after}
 use Rattle.xi_top.specs.declared.ending.Ending.TheVariants.{SinkFault}
 use Rattle.xi_top.specs.Ending.{Outcome}
 

@@ -1,10 +1,10 @@
 ghost use Rattle.outside.specs.Sink.{sink_state};
 ghost use Rattle.front_wire.specs.Front.{command_of};
-ghost use Rattle.xi_top.specs.Core.{IsServing};
+ghost use Rattle.core_session.specs.Core.{IsServing};
 ghost use Rattle.xi_top.specs.InnerRun.{Enters};
 
 use crate::ending::Ending;
-use crate::session::{Core, Entered};
+use core_session::{Core, Entered};
 use outside::Sink;
 use std::alloc::Global;
 

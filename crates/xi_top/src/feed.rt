@@ -1,11 +1,11 @@
 ghost use Rattle.std.specs.Prelude.{◌≡◌, ℕ, ◌+◌, ◌<◌, ◌≤◌, ◌++◌, List, [], length, OnOk};
 ghost use Rattle.outside.specs.Sink.{SinkState, sink_state};
-ghost use Rattle.xi_top.specs.Core.{IsServing};
+ghost use Rattle.core_session.specs.Core.{IsServing};
 ghost use Rattle.xi_top.specs.Ending.{most_lines};
 
 use crate::ending::Ending;
 use crate::enter::enter;
-use crate::session::Core;
+use core_session::Core;
 use memchr::memchr;
 use outside::Sink;
 use std::alloc::Global;

@@ -7,7 +7,7 @@ ghost use Rattle.xi_top.specs.InnerRun.{IsHeavier, step_after};
 
 use crate::ending::Ending;
 use crate::feed::Intake;
-use crate::session::Core;
+use core_session::Core;
 use outside::{Pulled, Sink, Source};
 use std::alloc::Global;
 use xi_plain::Entry;

@@ -1,4 +1,4 @@
-use Rattle.xi_top.specs.Core.{IsServing}
+use Rattle.core_session.specs.Core.{IsServing}
 use Rattle.session_load.proofs.load.enter_lines.Given as goal
 
 -- the session takes lines

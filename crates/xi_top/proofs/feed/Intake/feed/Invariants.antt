@@ -1,6 +1,6 @@
 use Rattle.std.proofs.Common.{◌≡◌, ◌+◌, ◌≤◌, ℕ, List, ◌++◌, length}
 use Rattle.outside.specs.Sink.{SinkState, sink_state}
-use Rattle.xi_top.specs.Core.{IsServing}
+use Rattle.core_session.specs.Core.{IsServing}
 use Rattle.xi_top.specs.InnerRun.{HasTaken, IsSmall, weight, begun_of}
 use Rattle.xi_top.proofs.feed.Intake.feed.Given as goal
 

@@ -1,0 +1,37 @@
+-- What a session wrote by its closing entry, and before its first one.
+use Rattle.std.proofs.Common.{◌≡◌, List, [], ◌∷◌, ◌++◌, refl, sym, ◌∙◌, append-nil}
+use Rattle.xi_plain.specs.declared.entry.Entry.{Entry}
+use Rattle.core_session.specs.declared.session.Core.{Core}
+use Rattle.xi_plain.specs.Journal.{closing_entry}
+use Rattle.core_session.specs.Session.{first_session, views_of, written}
+use Rattle.core_session.specs.Core.{IsServing, journal_of}
+use Rattle.core_session.specs.Shows.{AreShown, last_requested, Shows}
+use Rattle.core_session.proofs.ShowsLemmas.{no_lines, shows_push}
+use Rattle.core_session.proofs.SessionLemmas.{written-push}
+
+-- what a session wrote shows its journal with the closing entry, which writes nothing
+pub shows_closed : {K : Type 0} (core : Core K) → IsServing core → Shows (journal_of core ++ closing_entry ∷ []) (written first_session (journal_of core))
+shows_closed core serving =
+    let journal = journal_of core in
+    let shows = (shows_push journal closing_entry serving.showing no_lines tt).shows in
+    record {
+      pieces = sym (written-push journal closing_entry ∙ append-nil (written first_session journal));
+      screens = shows.screens;
+      sends = shows.sends;
+    }
+
+-- no byte shows no entry
+pub shows_none : Shows [] []
+shows_none = record {
+  pieces = refl;
+  screens = λ front back is. none_before front back is;
+  sends = λ front entry back is. absurd (none_there front entry back is);
+}
+  where
+    none_before : (front back : List Entry) → [] ≡ front ++ back → AreShown (last_requested front) (views_of front) (written first_session front)
+    none_before [] back is = tt
+    none_before (entry ∷ front) back is = absurd cc
+
+    none_there : (front : List Entry) (entry : Entry) (back : List Entry) → [] ≡ front ++ (entry ∷ back) → ⊥
+    none_there [] entry back is = cc
+    none_there (first ∷ front) entry back is = cc

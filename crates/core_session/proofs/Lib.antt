@@ -1,0 +1,12 @@
+pub mod SessionLemmas
+pub mod ViewLemmas
+pub mod PlanLemmas
+pub mod ScreenLemmas
+pub mod StepLemmas
+pub mod RevisionLemmas
+pub mod ShowsLemmas
+pub mod OpenLemmas
+pub mod FaultLemmas
+pub mod PrepareLemmas
+pub mod ClosedLemmas
+pub mod ForCallers

@@ -1,0 +1,68 @@
+-- What an event and a line come to in memory, by what the calls below them say.
+use Rattle.std.proofs.Common.{◌≡◌, ℕ, ◌<◌, List, [], length, Option, None, Result, Ok, Err, IfOk, IfErr, ◌∙◌, subst}
+use Rattle.std.specs.Prelude.{OnOk, option_map}
+use Rattle.std.specs.Str.{encode_utf8_all}
+use Rattle.xi_plain.specs.declared.command.Command.{Command}
+use Rattle.xi_plain.specs.declared.config.Config.{Config}
+use Rattle.view_update.specs.declared.note.ViewUpdate.{ViewUpdate}
+use Rattle.view_update.specs.declared.note.Scroll.{Scroll}
+use Rattle.doc_session.specs.InMemory.{Doc}
+use Rattle.doc_session.specs.declared.event.Effects.{Effects}
+use Rattle.doc_session.specs.declared.event.Event.{Event}
+use Rattle.doc_text.specs.declared.fault.DocFault.{DocFault}
+use Rattle.doc_session.specs.Document.{Document}
+use Rattle.doc_text.specs.Fault.{DocRefuses}
+use Rattle.doc_session.specs.PositionView.{position_view}
+use Rattle.doc_session.specs.Stands.{DocStandsFor}
+use Rattle.doc_session.specs.Step.{AreEffectsOf, event_step, refusal_at}
+use Rattle.core_session.specs.declared.act.ActEffects.{ActEffects}
+use Rattle.entry_lines.specs.Answer.{Reply, reply_of}
+use Rattle.entry_lines.specs.Piece.{AreLinesOf, UpdatesReadBack, entry_messages}
+use Rattle.core_session.specs.Session.{Session, config_after, view_id, outcome, updates_for, scroll_for}
+use Rattle.core_session.specs.InnerSession.{IsDone, IsMade, IsOutcome, IsPrepared}
+
+-- an event of a document in which no plugin has a session
+pub IsMade-after : (old : Doc) (event : Event) (result : Result (Doc × Effects) DocFault) → length old.text.sessions ≡ 0 →
+    ((plain : Document) → DocStandsFor old plain → IfOk result (λ made. DocStandsFor made.0 (event_step plain event).document)) →
+    ((plain : Document) → DocStandsFor old plain → IfOk result (λ made. AreEffectsOf (event_step plain event) made.1)) →
+    ((plain : Document) → DocStandsFor old plain → OnOk result (refusal_at plain event ≡ None)) →
+    ((plain : Document) → DocStandsFor old plain → IfErr result (DocRefuses (refusal_at plain event))) →
+    IfOk result (λ made. length made.0.text.sessions ≡ length old.text.sessions) → IsMade old event result
+IsMade-after old event (Err fault) none stands effects accepted refused kept =
+    record { served = stands; effects = effects; accepted = accepted; refused = refused }
+IsMade-after old event (Ok made) none stands effects accepted refused kept = record {
+  served = λ plain here. record { stands = stands plain here; no_sessions = kept ∙ none };
+  effects = effects;
+  accepted = accepted;
+  refused = refused;
+}
+
+-- a command, by what its act came to and by the lines of that
+pub IsDone-by : (before : Option Doc) (session : Session) (command : Command) (effects : ActEffects) (piece : List ℕ) →
+    IsOutcome before (outcome session command.act) effects → UpdatesReadBack (updates_for view_id effects.update) →
+    AreLinesOf (entry_messages command.id (reply_of effects.reply) [] (updates_for view_id effects.update)
+    (scroll_for view_id (option_map position_view effects.scroll))) (encode_utf8_all piece) →
+    IsDone before session command piece effects.next
+IsDone-by before session command effects piece is reads lines =
+    let At : Reply → List ViewUpdate → Option Scroll → Type 0 =
+    λ reply updates scroll. AreLinesOf (entry_messages command.id reply [] updates scroll) (encode_utf8_all piece) in
+    let done = outcome session command.act in
+    let by_reply : At done.reply (updates_for view_id effects.update) (scroll_for view_id (option_map position_view effects.scroll)) =
+    subst (λ reply. At reply (updates_for view_id effects.update) (scroll_for view_id (option_map position_view effects.scroll))) is.reply lines in
+    let by_updates : At done.reply done.updates (scroll_for view_id (option_map position_view effects.scroll)) =
+    subst (λ updates. At done.reply updates (scroll_for view_id (option_map position_view effects.scroll))) is.updates by_reply in
+    record {
+      lines = subst (λ scroll. At done.reply done.updates scroll) is.scroll by_updates;
+      reads_back = subst UpdatesReadBack is.updates reads;
+      stands = is.stands;
+    }
+
+-- the same with the configuration after it
+pub IsPrepared-by : (before : Option Doc) (session : Session) (command : Command) (piece : List ℕ) (next : Option Doc) (config : Config) →
+    IsDone before session command piece next → config ≡ config_after session.config command.act → 0 < config.tab →
+    IsPrepared before session (record { command = command; piece = piece; next = next; config = config })
+IsPrepared-by before session command piece next config done is tab = record {
+  lines = done.lines;
+  reads_back = done.reads_back;
+  stands = record { views = done.stands; config = is; tab = tab };
+}

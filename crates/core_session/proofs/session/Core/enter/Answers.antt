@@ -1,0 +1,39 @@
+use Rattle.std.proofs.Common.{List, refl, arith, ◌<◌, ◌-◌, length, subst}
+use Rattle.std.specs.Prelude.{◌^◌}
+use Rattle.xi_plain.specs.declared.entry.Entry.{Entry}
+use Rattle.core_session.specs.Core.{StandsForSession}
+use Rattle.core_session.specs.Session.{session_of}
+use Rattle.core_session.proofs.ShowsLemmas.{MayBeAsked-stands}
+use Rattle.core_session.proofs.session.Core.enter.Goals as goal
+
+-- a journal has fewer entries than a list can have
+pub prepare-requires-clause-asked : goal.prepare-requires-clause-asked
+prepare-requires-clause-asked g c =
+    let journal = c.args.self.now.journal in
+    let few : length journal.items < 2 ^ 63 - 1 = omega (arith, journal.ok.0, journal.ok.1, journal.small, c.requires.room) in
+    MayBeAsked-stands c.args.self.now.document journal.items c.requires.stands.views few
+
+pub returns-then-is_err-clause-no_memory : goal.returns-then-is_err-clause-no_memory
+returns-then-is_err-clause-no_memory g c = λ _. record {
+  serving = record {
+    room = omega (arith, c.reserve.ensures.len, c.reserve.ensures.capacity, c.requires.room);
+    sent = rw c.reserve.ensures.items c.requires.sent;
+    showing = rw c.reserve.ensures.items c.requires.showing;
+    stands = rw c.reserve.ensures.items c.requires.stands;
+  };
+  journal = c.reserve.ensures.items;
+  sink = refl;
+}
+
+pub put-requires-clause-serving : goal.put-requires-clause-serving
+put-requires-clause-serving g c = record {
+  room = omega (arith, c.reserve.ensures.len, c.reserve.ensures.capacity, c.requires.room);
+  sent = rw c.reserve.ensures.items c.requires.sent;
+  showing = rw c.reserve.ensures.items c.requires.showing;
+  stands = rw c.reserve.ensures.items c.requires.stands;
+}
+
+pub returns-in-Ok-clause-dropped : goal.returns-in-Ok-clause-dropped
+returns-in-Ok-clause-dropped g c = λ untaken.
+    let At : List Entry → Type 0 = λ entries. StandsForSession c.put.new.self.document c.put.new.self.config (session_of entries) in
+    subst At c.reserve.ensures.items (c.put.ensures.dropped untaken)

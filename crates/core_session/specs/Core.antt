@@ -1,0 +1,128 @@
+-- What a session in memory keeps, and what a call does to it.
+use Rattle.std.specs.Prelude.{◌≡◌, ℕ, ◌<◌, ◌≤◌, Bool, true, false, List, [], ◌∷◌, ◌++◌, length, take, Option, Some, None, vec_len, vec_capacity, ⊤}
+use Rattle.std.specs.List.{AllByRecursion}
+use Rattle.xi_plain.specs.declared.command.Act.{Act}
+use Rattle.xi_plain.specs.declared.command.Command.{Command}
+use Rattle.xi_plain.specs.declared.config.Config.{Config}
+use Rattle.xi_plain.specs.declared.entry.Entry.{Entry}
+use Rattle.xi_plain.specs.declared.entry.ShelfNote.TheVariants.{NoCall}
+use Rattle.xi_plain.specs.Journal.{closes, IsOrdered}
+use Rattle.plain_screen.specs.Screen.{Screen}
+use Rattle.outside.specs.Faults.{Rose, counted}
+use Rattle.outside.specs.Sink.{SinkState, Gains}
+use Rattle.doc_session.specs.InMemory.{Doc}
+use Rattle.doc_session.specs.Document.{Document}
+use Rattle.doc_session.specs.Stands.{DocStandsFor}
+use Rattle.core_session.specs.declared.session.Core.{Core}
+use Rattle.core_session.specs.Session.{OpenView, Session, first_session, session_of, view_id, view_of, views_of, piece_of, written}
+use Rattle.core_session.specs.Shows.{Shows, rebuilt}
+
+-- the document in memory stands for the plain one, and no plugin has a session in it
+pub record ServesDocument (doc : Doc) (plain : Document) : Type 0 where
+  pub stands : DocStandsFor doc plain
+  pub no_sessions : length doc.text.sessions ≡ 0
+
+-- a line of the front end asks so: it closes nothing
+abbrev pub IsOfLine : Act → Type 0
+IsOfLine act = closes act ≡ false
+
+-- the entry is one of the front end's lines, and its piece was sent whole
+pub record IsOpen (entry : Entry) : Type 0 where
+  pub caller : entry.caller ≡ 0
+  pub asks : IsOfLine entry.command.act
+  pub shelf : entry.shelf ≡ NoCall
+  pub sent : entry.sent ≡ true
+
+-- THE JOURNALS that a session can have while no file is opened or saved: their entries may stand so where there are no plugins, and the
+-- shelf is asked for none of them
+abbrev pub IsUnasked : List Entry → Type 0
+IsUnasked journal = AllByRecursion (λ entry. entry.shelf ≡ NoCall) journal
+
+abbrev pub IsLegalUnasked : List Entry → Type 0
+IsLegalUnasked journal = IsOrdered 0 journal × IsUnasked journal
+
+-- the document in memory is that of the first view
+pub record ServesView (doc : Doc) (view : OpenView) : Type 0 where
+  pub id : view.id ≡ view_id
+  pub serves : ServesDocument doc view.document
+
+-- the document in memory, where there is one, is that of the only view that is open
+abbrev pub Stands : Option Doc → List OpenView → Type 0
+Stands None [] = ⊤
+Stands None (view ∷ views) = ⊥
+Stands (Some doc) [] = ⊥
+Stands (Some doc) (view ∷ []) = ServesView doc view
+Stands (Some doc) (view ∷ next ∷ views) = ⊥
+
+-- the document and the configuration in memory are those of the session, and a tab has columns
+pub record StandsForSession (document : Option Doc) (held : Config) (session : Session) : Type 0 where
+  pub views : Stands document session.views
+  pub config : held ≡ session.config
+  pub tab : 0 < held.tab
+
+-- THE JOURNAL of a session
+abbrev pub journal_of : {K : Type 0} → Core K → List Entry
+journal_of core = core.journal.items
+
+-- its sink
+abbrev pub sink_of : {K : Type 0} → Core K → K
+sink_of core = core.sink
+
+-- its room: there is some for the closing entry
+abbrev pub HasRoom : {K : Type 0} → Core K → Type 0
+HasRoom core = vec_len core.journal < vec_capacity core.journal
+
+-- the document and the configuration in memory are those of the session that these entries define
+abbrev pub HasSessionAfter : {K : Type 0} → Core K → List Entry → Type 0
+HasSessionAfter core journal = StandsForSession core.document core.config (session_of journal)
+
+-- the screen that the front end has of a view; it is empty where none is open
+abbrev pub screen_of : Option OpenView → Screen
+screen_of None = []
+screen_of (Some view) = view.document.screen
+
+-- what the entries write shows them, and by its updates the front end has, of each view, the screen that the view's document says
+pub record IsShowing (journal : List Entry) : Type 0 where
+  pub shows : Shows journal (written first_session journal)
+  pub screens : (id : List ℕ) → rebuilt id (written first_session journal) ≡ Some (screen_of (view_of (views_of journal) id))
+
+-- THE SESSION TAKES LINES: all its entries were sent, what they wrote shows them, and its document and its configuration are those that
+-- they define
+pub record IsServing {K : Type 0} (core : Core K) : Type 0 where
+  pub room : HasRoom core
+  pub sent : AllByRecursion IsOpen (journal_of core)
+  pub showing : IsShowing (journal_of core)
+  pub stands : StandsForSession core.document core.config (session_of (journal_of core))
+
+-- the entry of a command of the front end
+abbrev pub front_entry : Command → Bool → Entry
+front_entry command sent = record { caller = 0; command = command; shelf = NoCall; sent = sent }
+
+-- the piece that a command writes after these entries
+abbrev pub piece_after : List Entry → Command → List ℕ
+piece_after journal command = piece_of (session_of journal) command
+
+-- the command is one more entry, which was sent: the sink gained its piece, and no call of it failed
+pub record AddsSentEntry {K : Type 0} (tell : K → SinkState) (old new : Core K) (command : Command) : Type 0 where
+  pub serving : IsServing new
+  pub entry : journal_of new ≡ journal_of old ++ front_entry command true ∷ []
+  pub gains : Gains (tell (sink_of old)).held (tell (sink_of new)).held (piece_after (journal_of old) command)
+  pub faults_stay : (tell (sink_of old)).faults ≤ (tell (sink_of new)).faults
+  pub failures_same : (tell (sink_of new)).failures ≡ (tell (sink_of old)).failures
+
+-- the command is one more entry, which was not sent: one call of the sink failed after it had gained the first n bytes of the piece, and
+-- not all
+pub record AddsUnsentEntry {K : Type 0} (tell : K → SinkState) (old new : Core K) (command : Command) (n : ℕ) : Type 0 where
+  pub room : HasRoom new
+  pub entry : journal_of new ≡ journal_of old ++ front_entry command false ∷ []
+  pub part : n < length (piece_after (journal_of old) command)
+  pub gains : Gains (tell (sink_of old)).held (tell (sink_of new)).held (take n (piece_after (journal_of old) command))
+  pub faults_stay : (tell (sink_of old)).faults ≤ (tell (sink_of new)).faults
+  pub rose : Rose (tell (sink_of old)).faults (tell (sink_of new)).faults
+  pub failures_counted : (tell (sink_of new)).failures ≡ counted (tell (sink_of old)).failures
+
+-- no entry is added, and the session takes lines as before
+pub record ChangesNothing {K : Type 0} (old new : Core K) : Type 0 where
+  pub serving : IsServing new
+  pub journal : journal_of new ≡ journal_of old
+  pub sink : sink_of new ≡ sink_of old

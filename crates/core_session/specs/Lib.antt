@@ -1,0 +1,4 @@
+pub mod Session
+pub mod Shows
+pub mod Core
+pub mod InnerSession

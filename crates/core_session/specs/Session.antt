@@ -1,0 +1,241 @@
+-- THE PLAIN SESSION: what the entries of a journal do, one after the other, and what each writes.
+use Rattle.std.specs.Prelude.{ℕ, ◌^◌, ◌≤◌, false, if◌then◌else◌, List, [], ◌∷◌, ◌++◌, map, codes, Option, Some, None, unwrap_or}
+use Rattle.std.specs.List.{AllByRecursion}
+use Rattle.std.specs.Str.{encode_utf8_all, bytes_eq}
+use Rattle.serde_json.specs.Data.{Data, null}
+use Rattle.xi_plain.specs.declared.command.Id.{Id}
+use Rattle.xi_plain.specs.declared.command.Fault.{Fault}
+use Rattle.xi_plain.specs.declared.command.Fault.TheVariants.{BadParams}
+use Rattle.xi_plain.specs.declared.command.EditAct.{EditAct}
+use Rattle.xi_plain.specs.declared.command.Act.{Act}
+use Rattle.xi_plain.specs.declared.command.Act.TheVariants.{Bad, Nothing, Configure, NewView, CloseView, Save, Edit, Closing}
+use Rattle.xi_plain.specs.declared.command.Command.{Command}
+use Rattle.xi_plain.specs.declared.config.Changes.{Changes}
+use Rattle.xi_plain.specs.declared.config.Config.{Config}
+use Rattle.xi_plain.specs.declared.entry.Entry.{Entry}
+use Rattle.plain_screen.specs.declared.screen.Update.{Update}
+use Rattle.plain_edits.specs.Edits.{spent as spent_by}
+use Rattle.plain_edits.specs.History.{head}
+use Rattle.doc_session.specs.Layout.{Position}
+use Rattle.json_rpc.specs.Response.{text_data}
+use Rattle.view_update.specs.declared.note.ViewUpdate.{ViewUpdate}
+use Rattle.view_update.specs.declared.note.Scroll.{Scroll}
+use Rattle.entry_lines.specs.Answer.{Reply, accepted, refused, spent, not_built, silent}
+use Rattle.entry_lines.specs.Piece.{entry_messages, lines_written}
+use Rattle.doc_session.specs.declared.event.Body.{Body}
+use Rattle.doc_session.specs.declared.event.Body.TheVariants.{Null, Chunk, Copied, Edited, Lines}
+use Rattle.doc_session.specs.declared.event.Event.TheVariants.{Config as Configured, Front, Other}
+use Rattle.doc_session.specs.Document.{Document, loaded_document}
+use Rattle.doc_text.specs.Refusal.{DocRefusal, of_edit}
+use Rattle.doc_session.specs.Step.{EventStep, event_step, refusal_at}
+
+-- A VIEW that is open: its id, which is of ASCII, and its document
+pub record OpenView : Type 0 where
+  pub id : List ℕ
+  pub document : Document
+
+-- the view with this id, where it is open
+abbrev pub view_of : List OpenView → List ℕ → Option OpenView
+view_of [] id = None
+view_of (view ∷ views) id = if bytes_eq id view.id then Some view else view_of views id
+
+-- the view that a text names, in bytes, where it is open
+abbrev pub named_view : List OpenView → List ℕ → Option OpenView
+named_view views name = view_of views (encode_utf8_all name)
+
+-- A SESSION: how all its texts are laid out and edited, and the views that are open
+pub record Session : Type 0 where
+  pub config : Config
+  pub views : List OpenView
+
+-- what an act comes to: what it is answered, the views that are open after it, and the updates and the place to scroll to that the
+-- front end is told, if any
+pub record Outcome : Type 0 where
+  pub reply : Reply
+  pub views : List OpenView
+  pub updates : List ViewUpdate
+  pub scroll : Option Scroll
+
+-- the update and the place to scroll to, as they are told of the view with this id, where there are any
+abbrev pub updates_for : List ℕ → Option Update → List ViewUpdate
+updates_for id None = []
+updates_for id (Some update) = record { view = id; update = update } ∷ []
+
+abbrev pub scroll_for : List ℕ → Option Position → Option Scroll
+scroll_for id None = None
+scroll_for id (Some point) = Some (record { view = id; line = point.line; col = point.col })
+
+-- the views after each of them took its step, and the updates of these steps in the order of the views
+abbrev pub stepped : (OpenView → EventStep) → List OpenView → List OpenView
+stepped steps views = map (λ (view : OpenView). record view { document = (steps view).document }) views
+
+abbrev pub told : (OpenView → EventStep) → List OpenView → List ViewUpdate
+told steps [] = []
+told steps (view ∷ views) = updates_for view.id (steps view).update ++ told steps views
+
+-- each view takes its step, which is answered so
+abbrev pub taking : Reply → Option Scroll → (OpenView → EventStep) → List OpenView → Outcome
+taking reply scroll steps views = record { reply = reply; views = stepped steps views; updates = told steps views; scroll = scroll }
+
+-- the step of a view at a line that is none of its own: its run of typing ends, and its front end is told what it lacks
+abbrev pub other_step : OpenView → EventStep
+other_step view = event_step view.document Other
+
+-- the step of each view where this one takes a step of its own
+abbrev pub own_step : OpenView → EventStep → OpenView → EventStep
+own_step own step view = if bytes_eq own.id view.id then step else other_step view
+
+-- what is no view's own is answered so
+abbrev pub keeping : List OpenView → Reply → Outcome
+keeping views reply = taking reply None other_step views
+
+-- an act that is refused is no view's own
+abbrev pub refusing : List OpenView → Fault → Outcome
+refusing views fault = keeping views (refused fault)
+
+-- nor is one on a view that is not there
+abbrev pub refusing_view : List OpenView → Outcome
+refusing_view views = refusing views (BadParams (codes "view_id"))
+
+-- the closing leaves the views as they are
+abbrev pub leaving : List OpenView → Outcome
+leaving views = record { reply = silent; views = views; updates = []; scroll = None }
+
+-- the id of the first view
+abbrev pub view_id : List ℕ
+view_id = codes "view-id-1"
+
+-- the most characters that may be inserted into a document
+abbrev pub text_limit : ℕ
+text_limit = 2 ^ 40
+
+-- how texts are laid out and edited at first: tabs of four columns, which are typed as such, and lines that are not wrapped
+abbrev pub first_config : Config
+first_config = record { tab = 4; width = 0; spaces = false }
+
+-- a session without entries
+abbrev pub first_session : Session
+first_session = record { config = first_config; views = [] }
+
+-- the configuration after a change: a member of which nothing is said stays
+abbrev pub config_with : Config → Changes → Config
+config_with config changes = record {
+  tab = unwrap_or changes.tab config.tab;
+  width = unwrap_or changes.width config.width;
+  spaces = unwrap_or changes.spaces config.spaces;
+}
+
+-- that of a session after an act
+abbrev pub config_after : Config → Act → Config
+config_after config (Configure changes) = config_with config changes
+config_after config act = config
+
+-- the document of the first view, on an empty text, without plugins
+abbrev pub first_document : Config → Document
+first_document config = loaded_document [] 0 text_limit config
+
+-- the first view, before its front end was told anything
+abbrev pub first_view : Config → OpenView
+first_view config = record { id = view_id; document = first_document config }
+
+-- the first view is opened
+abbrev pub opening_outcome : Config → Outcome
+opening_outcome config = taking (accepted (text_data view_id)) None other_step (first_view config ∷ [])
+
+-- the step of a view that is told a configuration
+abbrev pub config_step : Config → OpenView → EventStep
+config_step config view = event_step view.document (Configured config)
+
+-- a change of the configuration is accepted: each view takes its step, and nothing is scrolled
+abbrev pub config_outcome : List OpenView → Config → Outcome
+config_outcome views config = taking (accepted null) None (config_step config) views
+
+-- the result of an edit of the front end: what was copied, and else null. (Numbers of revisions, chunks and counts of lines are told to plugins alone.)
+abbrev pub result_of : Body → Data
+result_of Null = null
+result_of (Copied text) = text_data text
+result_of (Edited rev group) = null
+result_of (Chunk text offset) = null
+result_of (Lines count) = null
+
+-- the characters that would be spent in all, where an edit is refused for that
+abbrev pub spent_total : Option DocRefusal → Option ℕ
+spent_total (Some (of_edit (spent_by total))) = Some total
+spent_total refusal = None
+
+-- an edit of the front end in a view, where its characters would be spent or not: it is the view's own step, and answered as that says,
+-- unless it is refused. (The front end's edits are never refused for another reason.)
+abbrev pub edit_came : List OpenView → OpenView → Option ℕ → EventStep → Outcome
+edit_came views view None step = taking (accepted (result_of step.body)) (scroll_for view.id step.scroll) (own_step view step) views
+edit_came views view (Some total) step = keeping views spent
+
+-- a view is edited
+abbrev pub front_outcome : List OpenView → OpenView → EditAct → Outcome
+front_outcome views view act =
+    edit_came views view (spent_total (refusal_at view.document (Front act))) (event_step view.document (Front act))
+
+-- an edit of the view that was named, where it is open
+abbrev pub edit_outcome : List OpenView → Option OpenView → EditAct → Outcome
+edit_outcome views None act = refusing_view views
+edit_outcome views (Some view) act = front_outcome views view act
+
+-- what is not done yet of a view is refused, where the view is open
+abbrev pub undone_outcome : List OpenView → Option OpenView → Outcome
+undone_outcome views None = refusing_view views
+undone_outcome views (Some view) = keeping views not_built
+
+-- a view is opened, where none was, on no file
+abbrev pub open_outcome : Config → List OpenView → Option (List ℕ) → Outcome
+open_outcome config [] None = opening_outcome config
+open_outcome config views path = keeping views not_built
+
+-- THE OUTCOME of an act. A view that is not there is refused first, and what is not done yet last
+abbrev pub outcome : Session → Act → Outcome
+outcome session (Bad fault) = refusing session.views fault
+outcome session Nothing = keeping session.views (accepted null)
+outcome session (Configure changes) = config_outcome session.views (config_with session.config changes)
+outcome session (NewView path) = open_outcome session.config session.views path
+outcome session (CloseView name) = undone_outcome session.views (named_view session.views name)
+outcome session (Save name path) = undone_outcome session.views (named_view session.views name)
+outcome session (Edit name act) = edit_outcome session.views (named_view session.views name) act
+outcome session Closing = leaving session.views
+outcome session act = keeping session.views not_built
+
+-- the messages of an outcome in their order
+abbrev pub outcome_messages : Id → Outcome → List Data
+outcome_messages id done = entry_messages id done.reply [] done.updates done.scroll
+
+-- the messages of an entry
+abbrev pub messages : Session → Command → List Data
+messages session command = outcome_messages command.id (outcome session command.act)
+
+-- THE PIECE of an entry: the lines of its messages
+abbrev pub piece_of : Session → Command → List ℕ
+piece_of session command = lines_written (messages session command)
+
+-- THE STEP: the session after an entry, and after entries
+abbrev pub step : Session → Command → Session
+step session command = record {
+  config = config_after session.config command.act;
+  views = (outcome session command.act).views;
+}
+
+abbrev pub session_after : Session → List Entry → Session
+session_after session [] = session
+session_after session (entry ∷ entries) = session_after (step session entry.command) entries
+
+-- the session that the entries of a journal define, and its views
+abbrev pub session_of : List Entry → Session
+session_of journal = session_after first_session journal
+
+abbrev pub views_of : List Entry → List OpenView
+views_of journal = (session_of journal).views
+
+-- WHAT ENTRIES WRITE: the pieces of each, one after the other
+abbrev pub written : Session → List Entry → List ℕ
+written session [] = []
+written session (entry ∷ entries) = piece_of session entry.command ++ written (step session entry.command) entries
+
+-- the document of each of the views has at most so many revisions after its loading
+abbrev pub HaveRevisions : ℕ → List OpenView → Type 0
+HaveRevisions most views = AllByRecursion (λ view. head view.document.text.history ≤ most) views

@@ -1,0 +1,38 @@
+ghost use Rattle.std.specs.Prelude.{◌≡◌, ◌<◌};
+ghost use Rattle.front_wire.specs.Fair.{AreFairChanges, IsFairAct};
+ghost use Rattle.core_session.specs.Session.{config_with, config_after};
+
+use xi_plain::{Act, Changes, Config};
+
+/// How texts are laid out and edited before anyone says otherwise.
+pub const FIRST_CONFIG: Config = Config {
+    tab: 4,
+    width: 0,
+    spaces: false,
+};
+
+/// How they are after a command.
+pub fn config_after(config: Config, act: &Act) -> Config
+    requires tab { 0 < config.tab }
+    requires fair { IsFairAct act.now }
+    ensures is { result ≡ config_after config act.now }
+    ensures tab { 0 < result.tab }
+{
+    match act {
+        Act::Configure(changes) => config_with(config, *changes),
+        _ => config,
+    }
+}
+
+fn config_with(config: Config, changes: Changes) -> Config
+    requires tab { 0 < config.tab }
+    requires fair { AreFairChanges changes }
+    ensures is { result ≡ config_with config changes }
+    ensures tab { 0 < result.tab }
+{
+    Config {
+        tab: changes.tab.unwrap_or(config.tab),
+        width: changes.width.unwrap_or(config.width),
+        spaces: changes.spaces.unwrap_or(config.spaces),
+    }
+}

@@ -1,0 +1,104 @@
+-- All views are laid out and edited as their session is.
+use Rattle.std.proofs.Common.{◌≡◌, ℕ, Bool, true, false, List, [], ◌∷◌, Option, Some, None, refl, ◌∙◌, subst}
+use Rattle.std.specs.Prelude.{if◌then◌else◌}
+use Rattle.std.specs.List.{AllByRecursion}
+use Rattle.std.specs.Str.{bytes_eq, encode_utf8_all}
+use Rattle.xi_plain.specs.declared.command.EditAct.{EditAct}
+use Rattle.xi_plain.specs.declared.command.Act.{Act}
+use Rattle.xi_plain.specs.declared.command.Act.TheVariants.{Configure, NewView, CloseView, Save, Edit, Closing}
+use Rattle.xi_plain.specs.declared.config.Config.{Config}
+use Rattle.xi_plain.specs.declared.entry.Entry.{Entry}
+use Rattle.doc_session.specs.declared.event.Event.TheVariants.{Config as Configured, Front, Other}
+use Rattle.doc_session.specs.Step.{EventStep, event_step, refusal_at}
+use Rattle.doc_session.proofs.ForCallers.{config-event_step}
+use Rattle.core_session.specs.Session.{OpenView, Session, first_document, first_session, config_with, config_after, config_step, edit_came, edit_outcome, named_view, open_outcome, other_step, outcome, own_step, session_after, spent_total, step, stepped, undone_outcome, view_of}
+use Rattle.session_laws.specs.Laws.{AllAreConfigured}
+
+-- these views are laid out and edited so
+AreConfigured : Config → List OpenView → Type 0
+AreConfigured config views = AllByRecursion (λ (view : OpenView). view.document.view.config ≡ config) views
+
+configured_steps : (config next : Config) (steps : OpenView → EventStep) (views : List OpenView) →
+    ((view : OpenView) → view.document.view.config ≡ config → (steps view).document.view.config ≡ next) → AreConfigured config views →
+    AreConfigured next (stepped steps views)
+unfolding AreConfigured
+configured_steps config next steps [] each all = tt
+configured_steps config next steps (view ∷ views) each all = (each view all.0, configured_steps config next steps views each all.1)
+
+configured_others : (config : Config) (views : List OpenView) → AreConfigured config views → AreConfigured config (stepped other_step views)
+configured_others config views all = configured_steps config config other_step views (λ view is. config-event_step view.document Other ∙ is) all
+
+-- ---- an edit
+
+-- the view that was named is one of them
+found_configured : (config : Config) (views : List OpenView) (id : List ℕ) (own : OpenView) → view_of views id ≡ Some own →
+    AreConfigured config views → own.document.view.config ≡ config
+unfolding AreConfigured
+found_configured config [] id own found all = absurd cc
+found_configured config (view ∷ views) id own found all =
+    by (bytes_eq id view.id) found (λ there. found_configured config views id own there all.1)
+  where
+    by : (here : Bool) → (if here then Some view else view_of views id) ≡ Some own →
+        (view_of views id ≡ Some own → own.document.view.config ≡ config) → own.document.view.config ≡ config
+    by true is later =
+        let At : OpenView → Type 0 = λ v. v.document.view.config ≡ config in
+        let same : view ≡ own = cc in
+        subst At same all.0
+    by false is later = later is
+
+configured_own : (config : Config) (own : OpenView) (step : EventStep) (views : List OpenView) → step.document.view.config ≡ config →
+    AreConfigured config views → AreConfigured config (stepped (own_step own step) views)
+configured_own config own step views is all = configured_steps config config (own_step own step) views (λ view at. by view at (bytes_eq own.id view.id)) all
+  where
+    by : (view : OpenView) → view.document.view.config ≡ config → (here : Bool) → (if here then step else other_step view).document.view.config ≡ config
+    by view at true = is
+    by view at false = config-event_step view.document Other ∙ at
+
+configured_came : (config : Config) (views : List OpenView) (own : OpenView) (total : Option ℕ) (act : EditAct) → own.document.view.config ≡ config →
+    AreConfigured config views → AreConfigured config (edit_came views own total (event_step own.document (Front act))).views
+configured_came config views own (Some total) act is all = configured_others config views all
+configured_came config views own None act is all =
+    configured_own config own (event_step own.document (Front act)) views (config-event_step own.document (Front act) ∙ is) all
+
+configured_edit : (config : Config) (views : List OpenView) (name : List ℕ) (found : Option OpenView) (act : EditAct) → named_view views name ≡ found →
+    AreConfigured config views → AreConfigured config (edit_outcome views found act).views
+configured_edit config views name None act is all = configured_others config views all
+configured_edit config views name (Some own) act is all =
+    configured_came config views own (spent_total (refusal_at own.document (Front act))) act
+    (found_configured config views (encode_utf8_all name) own is all) all
+
+-- ---- all acts
+
+configured_undone : (config : Config) (views : List OpenView) (found : Option OpenView) → AreConfigured config views →
+    AreConfigured config (undone_outcome views found).views
+configured_undone config views None all = configured_others config views all
+configured_undone config views (Some own) all = configured_others config views all
+
+configured_open : (config : Config) (views : List OpenView) (path : Option (List ℕ)) → AreConfigured config views →
+    AreConfigured config (open_outcome config views path).views
+unfolding AreConfigured
+configured_open config [] None all = (config-event_step (first_document config) Other, tt)
+configured_open config [] (Some path) all = tt
+configured_open config (view ∷ views) path all = configured_others config (view ∷ views) all
+
+configured_outcome : (session : Session) (act : Act) → AreConfigured session.config session.views →
+    AreConfigured (config_after session.config act) (outcome session act).views
+configured_outcome session (Edit name act) all = configured_edit session.config session.views name (named_view session.views name) act refl all
+configured_outcome session (CloseView name) all = configured_undone session.config session.views (named_view session.views name) all
+configured_outcome session (Save name path) all = configured_undone session.config session.views (named_view session.views name) all
+configured_outcome session Closing all = all
+configured_outcome session (NewView path) all = configured_open session.config session.views path all
+configured_outcome session (Configure changes) all =
+    let next = config_with session.config changes in
+    configured_steps session.config next (config_step next) session.views (λ view at. config-event_step view.document (Configured next)) all
+configured_outcome session act all = configured_others session.config session.views all
+
+configured_after : (session : Session) (entries : List Entry) → AreConfigured session.config session.views →
+    AreConfigured (session_after session entries).config (session_after session entries).views
+configured_after session [] all = all
+configured_after session (entry ∷ entries) all =
+    configured_after (step session entry.command) entries (configured_outcome session entry.command.act all)
+
+pub all_are_configured : AllAreConfigured
+unfolding AreConfigured
+all_are_configured journal = configured_after first_session journal tt

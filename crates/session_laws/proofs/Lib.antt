@@ -1,0 +1,4 @@
+pub mod ConfigLemmas
+pub mod LawLemmas
+pub mod OnlyViewLemmas
+pub mod RowLemmas

@@ -1,0 +1,103 @@
+-- Worked rows: what a session writes, what a run comes to, and what is none.
+use Rattle.std.specs.Prelude.{◌≡◌, ℕ, pos, List, [], ◌∷◌, ◌++◌, drop, codes, true, false, Some, None}
+use Rattle.xi_plain.specs.declared.command.Id.{Id}
+use Rattle.xi_plain.specs.declared.command.Id.TheVariants.{NoId, Num}
+use Rattle.xi_plain.specs.declared.command.EditAct.TheVariants.{Insert}
+use Rattle.xi_plain.specs.declared.command.Act.{Act}
+use Rattle.xi_plain.specs.declared.command.Act.TheVariants.{NewView, Edit}
+use Rattle.xi_plain.specs.declared.entry.Entry.{Entry}
+use Rattle.xi_plain.specs.declared.entry.ShelfNote.TheVariants.{NoCall}
+use Rattle.outside.specs.Sink.{SinkState}
+use Rattle.xi_plain.specs.Journal.{closing_entry}
+use Rattle.core_session.specs.Session.{first_session, session_of, view_id, written}
+use Rattle.core_session.specs.Shows.{rebuilt}
+use Rattle.core_session.specs.Core.{piece_after}
+use Rattle.session_laws.specs.Laws.{only_rebuilt}
+use Rattle.xi_top.specs.Written.{IsCutOff, IsProperPart}
+use Rattle.xi_top.specs.Run.{Passage, RunsAlone}
+
+-- an entry of the front end that was sent
+abbrev pub entry_of : Id → Act → Entry
+entry_of id act = record { caller = 0; command = record { id = id; act = act }; shelf = NoCall; sent = true }
+
+-- the opening of the first view, and the insertion of characters into it
+abbrev pub opening : Entry
+opening = entry_of (Num (pos 0)) (NewView None)
+
+abbrev pub insertion : List ℕ → Entry
+insertion chars = entry_of NoId (Edit view_id (Insert chars))
+
+-- what the opening writes, and the insertions of `a`, `é` and LF after it
+abbrev pub opening_bytes : List ℕ
+opening_bytes =
+    codes "{\"id\":0,\"result\":\"view-id-1\"}\n{\"method\":\"update\",\"params\":{\"update\":{\"ops\":[{\"lines\":[{\"cursor\":[0]" ++
+    codes ",\"ln\":1,\"styles\":[],\"text\":\"\"}],\"n\":1,\"op\":\"ins\"}],\"pristine\":true},\"view_id\":\"view-id-1\"}}\n"
+
+abbrev pub first_bytes : List ℕ
+first_bytes =
+    codes "{\"method\":\"update\",\"params\":{\"update\":{\"ops\":[{\"lines\":[{\"cursor\":[1],\"ln\":1,\"styles\":[],\"text\":\"a\"}" ++
+    codes "],\"n\":1,\"op\":\"ins\"}],\"pristine\":false},\"view_id\":\"view-id-1\"}}\n{\"method\":\"scroll_to\",\"params\":{\"col\":1," ++
+    codes "\"line\":0,\"view_id\":\"view-id-1\"}}\n"
+
+abbrev pub second_bytes : List ℕ
+second_bytes =
+    codes "{\"method\":\"update\",\"params\":{\"update\":{\"ops\":[{\"lines\":[{\"cursor\":[3],\"ln\":1,\"styles\":[],\"text\":\"a" ++
+    (195 ∷ 169 ∷ []) ++
+    codes "\"}],\"n\":1,\"op\":\"ins\"}],\"pristine\":false},\"view_id\":\"view-id-1\"}}\n{\"method\":\"scroll_to\",\"params\":{\"col\":3," ++
+    codes "\"line\":0,\"view_id\":\"view-id-1\"}}\n"
+
+abbrev pub third_bytes : List ℕ
+third_bytes =
+    codes "{\"method\":\"update\",\"params\":{\"update\":{\"ops\":[{\"lines\":[{\"cursor\":[],\"ln\":1,\"styles\":[],\"text\":\"a" ++
+    (195 ∷ 169 ∷ []) ++
+    codes "\\n\"},{\"cursor\":[0],\"ln\":2,\"styles\":[],\"text\":\"\"}],\"n\":2,\"op\":\"ins\"}],\"pristine\":false},\"view_id\":\"view-id-1\"}" ++
+    codes "}\n{\"method\":\"scroll_to\",\"params\":{\"col\":0,\"line\":1,\"view_id\":\"view-id-1\"}}\n"
+
+-- the first view is answered, and has one empty line with the caret; the closing entry writes nothing
+abbrev pub FirstView : Type 0
+FirstView = written first_session (opening ∷ closing_entry ∷ []) ≡ opening_bytes
+
+-- an insertion after it tells its line, and where the caret is
+abbrev pub FirstInsertion : Type 0
+FirstInsertion = written first_session (opening ∷ insertion (97 ∷ []) ∷ []) ≡ opening_bytes ++ first_bytes
+
+-- an update of a second view
+abbrev pub second_view_bytes : List ℕ
+second_view_bytes = codes "{\"method\":\"update\",\"params\":{\"update\":{\"ops\":[],\"pristine\":true},\"view_id\":\"view-id-2\"}}\n"
+
+-- bytes with a note of unknown shape show no screen. An update of a second view leaves the first one's screen as it was, and shows a front
+-- end that knows the first alone nothing
+pub record StrangeNotes : Type 0 where
+  pub no_params : rebuilt view_id (codes "{\"method\":\"update\",\"params\":{}}\n") ≡ None
+  pub other_view : rebuilt view_id second_view_bytes ≡ Some []
+  pub only_view : only_rebuilt second_view_bytes ≡ None
+
+-- each of three insertions tells its line and where the caret is; the last begins a line
+abbrev pub ThreeInsertions : Type 0
+ThreeInsertions = written (session_of (opening ∷ [])) (insertion (97 ∷ []) ∷ insertion (233 ∷ []) ∷ insertion (10 ∷ []) ∷ []) ≡
+    first_bytes ++ (second_bytes ++ third_bytes)
+
+-- a run whose first read fails has the closing entry alone
+abbrev pub FirstReadFails : Type 0
+FirstReadFails = (passage : Passage) (journal : List Entry) (bytes : List ℕ) → passage.before.source.left ≡ Some bytes →
+    passage.after.source.left ≡ Some bytes → RunsAlone passage journal 4 → journal ≡ closing_entry ∷ []
+
+-- an insertion that was not sent
+abbrev pub unsent_insertion : Entry
+unsent_insertion = record (insertion (233 ∷ [])) { sent = false }
+
+-- where the third of three entries was not sent, the sink holds what the first two write, and a part of the third piece
+abbrev pub ThirdWriteFails : Type 0
+ThirdWriteFails = (before after : SinkState) (gained : List ℕ) → before.held ≡ Some [] → after.held ≡ Some gained →
+    IsCutOff before after (opening ∷ (insertion (97 ∷ []) ∷ (unsent_insertion ∷ (closing_entry ∷ [])))) →
+    (part : List ℕ) × (gained ≡ (opening_bytes ++ first_bytes) ++ part) ×
+    IsProperPart part (piece_after (opening ∷ insertion (97 ∷ []) ∷ []) unsent_insertion.command)
+
+-- a line of the input
+abbrev pub opening_line : List ℕ
+opening_line = codes "{\"id\":0,\"method\":\"new_view\"}\n"
+
+-- no run that took the first ten bytes of it alone has an entry, whatever that is: half a line is none
+abbrev pub HalfLine : Type 0
+HalfLine = (passage : Passage) (entry : Entry) → passage.before.source.left ≡ Some opening_line →
+    passage.after.source.left ≡ Some (drop 10 opening_line) → RunsAlone passage (entry ∷ closing_entry ∷ []) 3 → ⊥
