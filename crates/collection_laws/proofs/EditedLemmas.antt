@@ -9,9 +9,11 @@ use Rattle.std.proofs.lemmas.List.Sums.{suffix_len-le-length}
 use Rattle.std.proofs.Math.Seq.{take-append-add, drop-append-add}
 use Rattle.plain_text.specs.Woven.{woven}
 use Rattle.plain_text.proofs.callers.ListLemmas.{AllByRecursion-weaker, AllByRecursion-take, at-woven, woven_same}
-use Rattle.plain_edits.specs.History.{Tagged, inserted_by, Revision, edit, History, head, edit_priority, priority_of, is_visible, visible_at, IsTaggedBy}
+use Rattle.plain_edits.specs.declared.rank.Rank.{Rank}
+use Rattle.plain_edits.specs.History.{Tagged, inserted_by, Revision, edit, History, head, edit_rank, rank_of, is_visible, visible_at, IsTaggedBy}
+use Rattle.plain_edits.specs.Rank.{is_lower}
 use Rattle.plain_edits.specs.Place.{eldest, is_by, goes_right, left_in_run}
-use Rattle.plain_edits.specs.Edits.{PlainEdit, with_deletion, edited}
+use Rattle.plain_edits.specs.Edits.{PlainEdit, with_deletion, edited, insertion_rank}
 use Rattle.plain_edits.specs.Blocks.{block_at, older_len, put_behind, block_after}
 use Rattle.plain_edits.specs.HistorySteps.{MayEdit}
 use Rattle.plain_edits.proofs.callers.BlockLemmas.{characters-edited}
@@ -34,31 +36,31 @@ eldest-above : (floor : ℕ) (x : Tagged) (xs : List Tagged) → AllByRecursion 
 eldest-above floor x [] each = each.0
 eldest-above floor x (y ∷ xs) each = omega (arith, each.0, eldest-above floor y xs each.1)
 
-left_in_run-map : (revisions others : List Revision) (floor priority bound : ℕ) (s : Tagged → Tagged) (xs : List Tagged) →
-    ((rev : ℕ) → floor < rev → priority_of others rev ≡ priority_of revisions rev) →
+left_in_run-map : (revisions others : List Revision) (floor : ℕ) (rank : Rank) (bound : ℕ) (s : Tagged → Tagged) (xs : List Tagged) →
+    ((rev : ℕ) → floor < rev → rank_of others rev ≡ rank_of revisions rev) →
     AllByRecursion (λ x. floor < x.inserted) xs → AllByRecursion (λ x. (s x).inserted ≡ x.inserted) xs →
-    left_in_run others priority bound (map s xs) ≡ left_in_run revisions priority bound xs
-left_in_run-map revisions others floor priority zero s xs alike above each = refl
-left_in_run-map revisions others floor priority (suc bound) s [] alike above each = refl
-left_in_run-map revisions others floor priority (suc bound) s (x ∷ xs) alike above each =
+    left_in_run others rank bound (map s xs) ≡ left_in_run revisions rank bound xs
+left_in_run-map revisions others floor rank zero s xs alike above each = refl
+left_in_run-map revisions others floor rank (suc bound) s [] alike above each = refl
+left_in_run-map revisions others floor rank (suc bound) s (x ∷ xs) alike above each =
     ap (decided others all') (eldest-map s all each) ∙
-    ap (λ p. if nat_le p priority then length all' - length (after_last by all') + left_in_run others priority bound (after_last by all')
-    else left_in_run others priority bound (before_first by all')) (alike (eldest all) (eldest-above floor x xs above)) ∙
-    ap₂ (λ ys n. if goes_right revisions priority (eldest all) then n - length ys + left_in_run others priority bound ys
-    else left_in_run others priority bound (before_first by all')) after (length-map all s) ∙
-    ap (λ ys. if goes_right revisions priority (eldest all)
-    then length all - length (map s (after_last by all)) + left_in_run others priority bound (map s (after_last by all))
-    else left_in_run others priority bound ys) before ∙
-    ap₂ (λ n m. if goes_right revisions priority (eldest all) then length all - length (map s (after_last by all)) + n else m)
-    (left_in_run-map revisions others floor priority bound s (after_last by all) alike
+    ap (λ other. if not (is_lower rank other) then length all' - length (after_last by all') + left_in_run others rank bound (after_last by all')
+    else left_in_run others rank bound (before_first by all')) (alike (eldest all) (eldest-above floor x xs above)) ∙
+    ap₂ (λ ys n. if goes_right revisions rank (eldest all) then n - length ys + left_in_run others rank bound ys
+    else left_in_run others rank bound (before_first by all')) after (length-map all s) ∙
+    ap (λ ys. if goes_right revisions rank (eldest all)
+    then length all - length (map s (after_last by all)) + left_in_run others rank bound (map s (after_last by all))
+    else left_in_run others rank bound ys) before ∙
+    ap₂ (λ n m. if goes_right revisions rank (eldest all) then length all - length (map s (after_last by all)) + n else m)
+    (left_in_run-map revisions others floor rank bound s (after_last by all) alike
     (AllByRecursion-drop (λ t. floor < t.inserted) (length all - suffix_len (λ t. not (by t)) all) all above)
     (AllByRecursion-drop (λ t. (s t).inserted ≡ t.inserted) (length all - suffix_len (λ t. not (by t)) all) all each))
-    (left_in_run-map revisions others floor priority bound s (before_first by all) alike
+    (left_in_run-map revisions others floor rank bound s (before_first by all) alike
     (AllByRecursion-take (λ t. floor < t.inserted) (prefix_len (λ t. not (by t)) all) all above)
     (AllByRecursion-take (λ t. (s t).inserted ≡ t.inserted) (prefix_len (λ t. not (by t)) all) all each)) ∙
-    ap (λ n. if goes_right revisions priority (eldest all)
-    then length all - n + left_in_run revisions priority bound (after_last by all)
-    else left_in_run revisions priority bound (before_first by all)) (length-map (after_last by all) s)
+    ap (λ n. if goes_right revisions rank (eldest all)
+    then length all - n + left_in_run revisions rank bound (after_last by all)
+    else left_in_run revisions rank bound (before_first by all)) (length-map (after_last by all) s)
   where
     all : List Tagged
     all = x ∷ xs
@@ -71,9 +73,9 @@ left_in_run-map revisions others floor priority (suc bound) s (x ∷ xs) alike a
 
     decided : List Revision → List Tagged → ℕ → ℕ
     decided revs ys m =
-        if goes_right revs priority m
-        then length ys - length (after_last (is_by m) ys) + left_in_run revs priority bound (after_last (is_by m) ys)
-        else left_in_run revs priority bound (before_first (is_by m) ys)
+        if goes_right revs rank m
+        then length ys - length (after_last (is_by m) ys) + left_in_run revs rank bound (after_last (is_by m) ys)
+        else left_in_run revs rank bound (before_first (is_by m) ys)
 
     others_too : AllByRecursion (λ t. not (by (s t)) ≡ not (by t)) all
     others_too =
@@ -193,7 +195,7 @@ module _ (history : History) (e : PlainEdit) (forgets : MayForget history) (may 
     new = map (inserted_by new_rev) (e.added gap)
 
     abbrev stays_left : ℕ
-    stays_left = left_in_run history.revisions e.priority (length newer) newer
+    stays_left = left_in_run history.revisions (insertion_rank e) (length newer) newer
 
     cut : blk ≡ older ++ newer
     cut = sym (take-append-drop (older_len e.base blk) blk)
@@ -238,11 +240,11 @@ module _ (history : History) (e : PlainEdit) (forgets : MayForget history) (may 
         blk-left ∙ ap (sifted k s) cut ∙ sifted-append k s older newer ∙ ap (λ xs. sifted k s older ++ xs) sifted-newer
 
     -- as many of the run stay left
-    stays_left-left : left_in_run left.revisions e.priority (length (run after blk')) (run after blk') ≡ stays_left
+    stays_left-left : left_in_run left.revisions (insertion_rank e) (length (run after blk')) (run after blk') ≡ stays_left
     stays_left-left =
-        ap₂ (left_in_run left.revisions e.priority) (ap length newer-left ∙ length-map newer s) newer-left ∙
-        left_in_run-map history.revisions left.revisions history.floor e.priority (length newer) s newer
-        (λ rev later. ap edit_priority (revision_at-after history forgets.formed.floor rev later))
+        ap₂ (left_in_run left.revisions (insertion_rank e)) (ap length newer-left ∙ length-map newer s) newer-left ∙
+        left_in_run-map history.revisions left.revisions history.floor (insertion_rank e) (length newer) s newer
+        (λ rev later. ap edit_rank (revision_at-after history forgets.formed.floor rev later))
         (AllByRecursion-weaker (λ t. IsOurs history t × (after t ≡ true)) (λ t. history.floor < t.inserted)
         (λ t both. late t both.1) newer ours-newer)
         (AllByRecursion-weaker (λ t. IsOurs history t × (after t ≡ true)) (λ t. (s t).inserted ≡ t.inserted)

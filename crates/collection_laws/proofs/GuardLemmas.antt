@@ -7,9 +7,10 @@ use Rattle.std.proofs.lemmas.List.{take-append-drop, drop-append-le}
 use Rattle.std.proofs.Math.Seq.{drop-nil}
 use Rattle.plain_text.specs.Woven.{woven, nth_index}
 use Rattle.plain_text.proofs.callers.ListLemmas.{AllByRecursion-append, AllByRecursion-map, AllByRecursion-woven, nth_index-here, nth_index-yes, nth_index-no, flat_map_none}
+use Rattle.plain_edits.specs.declared.rank.Rank.{Rank}
 use Rattle.plain_edits.specs.History.{Tagged, inserted_by, Revision, edit, undo, History, loaded, head, revision_at, is_visible, IsTaggedBy}
 use Rattle.plain_edits.specs.Place.{index_right_of, later_run, left_in_run, insertion_place}
-use Rattle.plain_edits.specs.Edits.{PlainEdit, gap_count, inserted_at, is_deleted_by, with_deletion, edited}
+use Rattle.plain_edits.specs.Edits.{PlainEdit, gap_count, inserted_at, is_deleted_by, with_deletion, edited, insertion_rank}
 use Rattle.plain_edits.specs.HistorySteps.{Step, edits, undoes, collects, after_step, MayCome, is_edit, AreBased}
 use Rattle.plain_edits.proofs.callers.HistoryLemmas.{AllByRecursion-inserted_at, becomes, revision_at-append, revision_at-push, is_visible-append, is_visible-deleted_later}
 use Rattle.plain_edits.proofs.callers.PlaceLemmas.{is_visible-inserted, left_in_run-le, length-left, length-later_run, later_run-le, later_run_is_later}
@@ -98,10 +99,10 @@ drop-drop k (suc n) m [] sum = drop-nil k ∙ sym (drop-nil m)
 drop-drop zero (suc n) m (x ∷ xs) sum = absurd (omega (arith, sum))
 drop-drop (suc k) (suc n) m (x ∷ xs) sum = drop-drop k n m xs (omega (arith, sum))
 
-is_guarded-place : (history : History) (base priority gap : ℕ) →
-    is_guarded history.revisions base (drop (insertion_place history base priority gap) history.characters) ≡ true
-is_guarded-place history base priority gap =
-    (let at : insertion_place history base priority gap ≡ length left - count + j =
+is_guarded-place : (history : History) (base : ℕ) (rank : Rank) (gap : ℕ) →
+    is_guarded history.revisions base (drop (insertion_place history base rank gap) history.characters) ≡ true
+is_guarded-place history base rank gap =
+    (let at : insertion_place history base rank gap ≡ length left - count + j =
     omega (arith, length-left history base gap, length-later_run history base gap) in
     ap (λ n. is_guarded history.revisions base (drop n history.characters)) at) ∙
     ap (λ xs. is_guarded history.revisions base (drop (length left - count + j) xs)) (sym (take-append-drop q history.characters)) ∙
@@ -122,10 +123,10 @@ is_guarded-place history base priority gap =
     count = suffix_len (λ tagged. nat_lt base tagged.inserted) left
 
     j : ℕ
-    j = left_in_run history.revisions priority (length (later_run history base gap)) (later_run history base gap)
+    j = left_in_run history.revisions rank (length (later_run history base gap)) (later_run history base gap)
 
     inside : j ≤ length (later_run history base gap)
-    inside = left_in_run-le history.revisions priority (length (later_run history base gap)) (later_run history base gap)
+    inside = left_in_run-le history.revisions rank (length (later_run history base gap)) (later_run history base gap)
 
 -- ---- after an edit
 
@@ -241,11 +242,11 @@ module _ (history : History) (e : PlainEdit) (within : e.base ≤ head history) 
           (is_guarded history.revisions e.base (drop d history.characters) ≡ true) ⊎ (inserted_at history e (0 + d) ≡ [])
       hit d true guard = inl guard
       hit d false bare =
-          inr (flat_map_none (λ gap. insertion_place history e.base e.priority gap) (λ gap. map (inserted_by (head history + 1)) (e.added gap)) (0 + d) 0
+          inr (flat_map_none (λ gap. insertion_place history e.base (insertion_rank e) gap) (λ gap. map (inserted_by (head history + 1)) (e.added gap)) (0 + d) 0
           (gap_count history e.base) (λ gap low high at. both_ways _ bare
-          ((let place : d ≡ insertion_place history e.base e.priority gap = omega (arith, at) in
+          ((let place : d ≡ insertion_place history e.base (insertion_rank e) gap = omega (arith, at) in
           ap (λ n. is_guarded history.revisions e.base (drop n history.characters)) place) ∙
-          is_guarded-place history e.base e.priority gap)))
+          is_guarded-place history e.base (insertion_rank e) gap)))
 
 IsInsertedFirst-edited : (history : History) (e : PlainEdit) → AllByRecursion (IsTaggedBy (head history)) history.characters →
     AllByRecursion IsInsertedFirst history.characters → AllByRecursion IsInsertedFirst (edited history e).characters

@@ -240,19 +240,13 @@ module _ (history : History) (forgets : MayForget history) where
       ap₂ (λ b groups. cond b (group ∷ groups) groups) (ap (λ b. not (has history.collected group) && b) (is_at_rest-left floor group low))
       (resting_groups-left retired floor low)
 
-  collection_at-left : (floor : ℕ) (groups : List ℕ) → collection_at left floor groups ≡ collection_at history floor groups
-  collection_at-left floor [] = refl
-  collection_at-left floor (group ∷ groups) =
-      ap (λ n. if floor == n then Some (record { floor = floor; groups = group ∷ groups }) else None) same_head
-
   -- THE COLLECTION after an entry is the same
   pub collection_of-left : (retired : List ℕ) (most : ℕ) → history.floor ≤ most →
       collection_of left retired most ≡ collection_of history retired most
   collection_of-left retired most low =
-      ap (λ floor. collection_at left floor (resting_groups left retired floor)) (clean_floor-left most low) ∙
-      ap (collection_at left floor) (resting_groups-left retired floor
-      ((greatest_clean_floor history.revisions most).greatest history.floor low forgets.formed.clean)) ∙
-      collection_at-left floor (resting_groups history retired floor)
+      ap (λ floor. collection_at floor (resting_groups left retired floor)) (clean_floor-left most low) ∙
+      ap (collection_at floor) (resting_groups-left retired floor
+      ((greatest_clean_floor history.revisions most).greatest history.floor low forgets.formed.clean))
     where
       floor : ℕ
       floor = clean_floor history.revisions most

@@ -2,34 +2,35 @@
 use Rattle.std.proofs.Common.{◌≡◌, ℕ, ◌<◌, ◌≤◌, Bool, true, false, not, ◌&&◌, ◌||◌, cond, if◌then◌else◌, ◌==◌, List, [], ◌∷◌, fold, length, Option, Some, None, Result, Ok, Err, IfOk, refl, ap, ap₂, sym, ◌∙◌, subst, inl, inr, arith}
 use Rattle.std.specs.Prelude.{IfSome}
 use Rattle.std.specs.BTreeSet.{BTreeSet}
-use Rattle.std.specs.List.{AllByRecursion, filter, list_all, list_any}
+use Rattle.std.specs.List.{AllByRecursion, filter}
 use Rattle.std.proofs.Math.Logic.{∥∥₁_elim, ∥∥₁_map}
 use Rattle.std.specs.Coded.{Coded-set, coded_list, coded_ℕ}
-use Rattle.std.proofs.Math.Seq.{drop-length}
-use Rattle.std.proofs.lemmas.Bool.{cases_lt, and_parts, and_from, or_right, eq-eqb, ne_eqb}
+use Rattle.std.proofs.lemmas.Bool.{and_parts, and_from, or_right}
 use Rattle.plain_text.specs.Numbers.{has, with_number, without_number, IsRising}
 use Rattle.plain_text.proofs.callers.NumberLemmas.{IsRising-without, has-with_numbers}
 use Rattle.number_set.proofs.ForCallers.{has-own, no}
-use Rattle.plain_edits.specs.Collection.{Collection, clean_floor, collected_at, collection_at, collection_of, is_at_rest, is_based_from, is_clean, resting_groups}
-use Rattle.plain_edits.specs.Edits.{is_edit_of}
-use Rattle.plain_edits.specs.History.{History, Revision, head, undone}
-use Rattle.plain_edits.proofs.callers.CollectionLemmas.{all_has, greatest_clean_floor, is_at_rest_iff}
+use Rattle.plain_edits.specs.Collection.{Collection, clean_floor, collected_at, collection_at, collection_of, is_at_rest, resting_groups}
+use Rattle.plain_edits.specs.History.{History, Revision, head}
+use Rattle.plain_edits.proofs.callers.CollectionLemmas.{all_has, greatest_clean_floor}
 use Rattle.undo_groups.specs.Groups.{Groups, IsStack, forgotten, is_known}
-use Rattle.edit_groups.proofs.ForCallers.{has-removed, least-within, same_order}
+use Rattle.edit_groups.proofs.ForCallers.{has-removed}
 use Rattle.edit_groups.specs.declared.typing.Typing.{Typing}
 use Rattle.rev_collect.specs.Choice.{collection_said}
 use Rattle.rev_engine.specs.Asked.{IsCollectionTaken}
 use Rattle.rev_engine.specs.State.{State}
 use Rattle.rev_engine.specs.Engine.{StandsFor}
+use Rattle.rev_engine.proofs.ForCallers.{floor-stands, formed-stands}
 use Rattle.doc_text.specs.Agree.{Agree, IsNewest, is_given}
-use Rattle.doc_text.specs.Collecting.{AreAcknowledged, AreEnded, HasNoneLeft, collected_text, collection_after, least_acknowledged, with_collection}
+use Rattle.doc_text.specs.Collecting.{AreAcknowledged, AreEnded, collected_text, collection_after, least_acknowledged, with_collection}
 use Rattle.doc_text.specs.Writing.{Writing}
 use Rattle.doc_text.specs.InMemory.{TextState, head_shown}
 use Rattle.doc_text.specs.Inner.{MayCollectIn}
 use Rattle.doc_text.specs.Stands.{IsTextOf, TextStandsFor}
 use Rattle.doc_text.specs.Whole.{IsWhole, IsWholeOf}
 use Rattle.doc_text.proofs.HeadLemmas.{head-stands, head_shown-stands}
-use Rattle.doc_text.proofs.SessionLemmas.{AreAcknowledged-raised, least-ended}
+use Rattle.doc_text.proofs.OnceLemmas.{HasNoneLeft-collected}
+use Rattle.doc_text.proofs.RestLemmas.{clean-head, rests-head}
+use Rattle.doc_text.proofs.SessionLemmas.{AreAcknowledged-raised, least-ended, least-kept}
 
 -- ---- numbers without some
 
@@ -44,12 +45,6 @@ has-without_numbers xs [] m up = refl
 has-without_numbers xs (n ∷ gone) m up =
     has-without_numbers (without_number xs n) gone m (IsRising-without xs n up) ∙
     ap (λ b. if has gone m then false else b) (has-removed xs n m up) ∙ in_turn (n == m) (has gone m) (has xs m)
-
--- without all of them
-without_all : (xs : List ℕ) → fold without_number xs xs ≡ []
-without_all [] = refl
-without_all (x ∷ xs) =
-    ap (λ b. fold without_number (cond b xs (x ∷ without_number xs x)) xs) (same_order x) ∙ without_all xs
 
 -- ---- forgotten groups
 
@@ -128,16 +123,11 @@ module _ (revisions : List Revision) (collected : List ℕ) (groups : Groups) (t
 -- ---- what is collected
 
 module _ (h : History) (retired : List ℕ) where
-  groups-at : (floor : ℕ) (groups : List ℕ) (found : Collection) → collection_at h floor groups ≡ Some found → (found.floor ≡ floor) × (found.groups ≡ groups)
+  groups-at : (floor : ℕ) (groups : List ℕ) (found : Collection) → collection_at floor groups ≡ Some found → (found.floor ≡ floor) × (found.groups ≡ groups)
   groups-at floor [] found is = absurd cc
-  groups-at floor (group ∷ groups) found is = by (floor == head h) is
-    where
-      by : (here : Bool) → (if here then Some (record { floor = floor; groups = group ∷ groups }) else None) ≡ Some found →
-          (found.floor ≡ floor) × (found.groups ≡ group ∷ groups)
-      by true is =
-          let same : record { floor = floor; groups = group ∷ groups } ≡ found = cc in
-          (sym (ap (λ (c : Collection). c.floor) same), sym (ap (λ (c : Collection). c.groups) same))
-      by false is = absurd cc
+  groups-at floor (group ∷ groups) found is =
+      let same : record { floor = floor; groups = group ∷ groups } ≡ found = cc in
+      (sym (ap (λ (c : Collection). c.floor) same), sym (ap (λ (c : Collection). c.groups) same))
 
   among : (p : ℕ → Bool) (xs all : List ℕ) → ((g : ℕ) → has xs g ≡ true → has all g ≡ true) → AllByRecursion (λ g. has all g ≡ true) (filter p xs)
   among p [] all each = tt
@@ -165,42 +155,9 @@ module _ (h : History) (retired : List ℕ) where
       subst (AllByRecursion (λ group. has retired group ≡ true)) (sym (groups-at floor (resting_groups h retired floor) found is).1)
       (among _ retired retired (λ g there. there))
 
-  -- nothing where a session lags behind the head
-  lags : (floor : ℕ) (groups : List ℕ) → floor < head h → collection_at h floor groups ≡ None
-  lags floor [] below = refl
-  lags floor (group ∷ groups) below =
-      ap (λ here. if here then Some (record { floor = floor; groups = group ∷ groups }) else None)
-      (ne_eqb floor (head h) (λ same. absurd (omega (arith, same, below))))
-
-  pub collection_of-lags : (most : ℕ) → most < head h → collection_of h retired most ≡ None
-  collection_of-lags most below =
-      let floor = clean_floor h.revisions most in
-      lags floor (resting_groups h retired floor) (omega (arith, (greatest_clean_floor h.revisions most).is_within, below))
-
--- nor where no group is retired
+-- nothing where no group is retired
 pub collection_of-nothing : (h : History) (retired : List ℕ) (most : ℕ) → retired ≡ [] → collection_of h retired most ≡ None
 collection_of-nothing h retired most none = ap (λ groups. collection_of h groups most) none
-
--- ---- at the head
-
--- it is clean, and a group is at rest there
-clean-head : (revisions : List Revision) → clean_floor revisions (length revisions) ≡ length revisions
-clean-head revisions =
-    let n = length revisions in
-    let is = greatest_clean_floor revisions n in
-    let clean : is_clean revisions n ≡ true = ap (list_all (is_based_from n)) (drop-length revisions) in
-    let low : n ≤ clean_floor revisions n = is.greatest n (omega arith) clean in
-    let high : clean_floor revisions n ≤ n = is.is_within in
-    omega (arith, low, high)
-
-rests-head : (h : History) (group : ℕ) → is_at_rest h (head h) group ≡ true
-rests-head h group =
-    (is_at_rest_iff h (head h) group).1 (record {
-      is_over = ap (list_any (is_edit_of group)) (drop-length h.revisions);
-      is_settled = λ rev low high.
-          let here : rev ≡ head h = omega (arith, low, high) in
-          ap (λ at. has (undone h.revisions at) group) here;
-    })
 
 all_pass : (p : ℕ → Bool) (xs : List ℕ) → ((x : ℕ) → has xs x ≡ true → p x ≡ true) → filter p xs ≡ xs
 all_pass p [] each = refl
@@ -208,41 +165,24 @@ all_pass p (x ∷ xs) each =
     ap (λ b. cond b (x ∷ filter p xs) (filter p xs)) (each x (has-own x xs)) ∙
     ap (λ ys. x ∷ ys) (all_pass p xs (λ y there. each y (or_right (x == y) (has xs y) there)))
 
--- all retired groups are collected there
-collection_of-head : (h : History) (groups : Groups) (typing : Option Typing) → Agree h.revisions h.collected groups typing →
-    collection_of h groups.retired (head h) ≡ collection_at h (head h) groups.retired
-collection_of-head h groups typing agree =
+-- all retired groups are
+resting-head : (h : History) (groups : Groups) (typing : Option Typing) → Agree h.revisions h.collected groups typing →
+    resting_groups h groups.retired (clean_floor h.revisions (head h)) ≡ groups.retired
+resting-head h groups typing agree =
     let kept : (g : ℕ) → has groups.retired g ≡ true → not (has h.collected g) ≡ true =
     λ g there. (and_parts (is_given groups g) (not (has h.collected g)) (sym (agree.known g) ∙ or_right (has groups.live g) (has groups.retired g) there)).1 in
-    ap (λ floor. collection_at h floor (resting_groups h groups.retired floor)) (clean-head h.revisions) ∙
-    ap (collection_at h (head h))
-    (all_pass (λ g. not (has h.collected g) && is_at_rest h (head h) g) groups.retired
-    (λ g there. and_from (not (has h.collected g)) (is_at_rest h (head h) g) (kept g there) (rests-head h g)))
+    ap (resting_groups h groups.retired) (clean-head h.revisions) ∙
+    all_pass (λ g. not (has h.collected g) && is_at_rest h (head h) g) groups.retired
+    (λ g there. and_from (not (has h.collected g)) (is_at_rest h (head h) g) (kept g there) (rests-head h g))
+
+-- so where nothing waits and no session is open, none is left
+pub none-retired : (text : TextState) (plain : Writing) → TextStandsFor text plain → AreEnded plain.sessions → plain.groups.retired ≡ []
+none-retired text plain stands ended =
+    let h = plain.history in
+    sym (resting-head h plain.groups plain.typing stands.parts.agree) ∙
+    ap (λ most. resting_groups h plain.groups.retired (clean_floor h.revisions most)) (sym (least-ended (head h) plain.sessions ended)) ∙ stands.none_left
 
 -- ---- texts
-
--- no retired group is left where no session is open
-left-at : (plain : Writing) (retired : List ℕ) → plain.groups.retired ≡ retired →
-    (with_collection plain (collection_at plain.history (head plain.history) retired)).groups.retired ≡ []
-left-at plain [] is = is
-left-at plain (group ∷ retired) is =
-    let head_is = head plain.history in
-    ap (λ here. (with_collection plain (if here then Some (record { floor = head_is; groups = group ∷ retired }) else None)).groups.retired) (eq-eqb head_is head_is refl) ∙
-    ap (λ (s : Groups). s.retired) (fold_forgotten plain.groups (group ∷ retired)) ∙
-    ap (λ xs. fold without_number xs (group ∷ retired)) is ∙ without_all (group ∷ retired)
-
-sessions-with : (plain : Writing) (found : Option Collection) → (with_collection plain found).sessions ≡ plain.sessions
-sessions-with plain None = refl
-sessions-with plain (Some found) = refl
-
-pub HasNoneLeft-collected : (text : TextState) (plain : Writing) → IsTextOf text plain → HasNoneLeft (collected_text plain)
-HasNoneLeft-collected text plain stands = λ ended.
-    let all = subst AreEnded (sessions-with plain (collection_after plain)) ended in
-    let h = plain.history in
-    ap (λ found. (with_collection plain found).groups.retired)
-    (ap (collection_of h plain.groups.retired) (least-ended (head h) plain.sessions all) ∙
-    collection_of-head h plain.groups plain.typing stands.agree) ∙
-    left-at plain plain.groups.retired refl
 
 -- THE TEXT IN MEMORY after a collection
 abbrev pub less_text : TextState → State → Groups → TextState
@@ -317,23 +257,23 @@ module _ (text : TextState) (plain : Writing) (stands : IsTextOf text plain) whe
       sym (collection_of-nothing plain.history plain.groups.retired (least_acknowledged (head plain.history) plain.sessions)
       (sym (ap (λ (s : Groups). s.retired) stands.groups) ∙ empty text.groups.retired none))
 
-  -- nor where a session lags
-  pub nothing-lags : least_acknowledged (head text.engine.revisions) text.sessions < head text.engine.revisions → None ≡ collection_after plain
-  nothing-lags below =
-      sym (collection_of-lags plain.history plain.groups.retired (least_acknowledged (head plain.history) plain.sessions)
-      (omega (arith, below, least-uncollected, head-uncollected)))
+  -- nor where a session had acknowledged less than the floor, which none has
+  pub nothing-below : least_acknowledged (head text.engine.revisions) text.sessions < text.engine.revisions.floor → None ≡ collection_after plain
+  nothing-below below =
+      let floor : text.engine.revisions.floor ≡ plain.history.floor = floor-stands text.engine plain.history stands.state.stands in
+      absurd (omega (
+        arith,
+        below,
+        floor,
+        least-uncollected,
+        least-kept plain.history plain.sessions ((formed-stands text.engine plain.history stands.state.stands).floor) stands.acknowledged,
+      ))
 
-  -- and else what there is at the head
-  pub found-head : (least_acknowledged (head text.engine.revisions) text.sessions < head text.engine.revisions → ⊥) →
-      collection_of plain.history text.groups.retired (head text.engine.revisions) ≡ collection_after plain
-  found-head none =
-      let within = least-within (head text.engine.revisions) text.sessions in
-      let here : head text.engine.revisions ≡ least_acknowledged (head plain.history) plain.sessions =
-      not_below (least_acknowledged (head text.engine.revisions) text.sessions) (head text.engine.revisions) within none ∙ least-uncollected in
-      ap₂ (collection_of plain.history) (ap (λ (s : Groups). s.retired) stands.groups) here
-    where
-      not_below : (a b : ℕ) → a ≤ b → (a < b → ⊥) → b ≡ a
-      not_below a b within none = elim (cases_lt a b) [ inl below ↦ absurd (none below) | inr over ↦ omega (arith, over, within) ]
+  -- and else what there is
+  pub found-least : (most : ℕ) → most ≡ least_acknowledged (head text.engine.revisions) text.sessions →
+      collection_of plain.history text.groups.retired most ≡ collection_after plain
+  found-least most is =
+      ap₂ (collection_of plain.history) (ap (λ (s : Groups). s.retired) stands.groups) (is ∙ least-uncollected)
 
 -- what the engine finds may be collected
 pub MayCollectIn-found : {E : Type 0} (text : TextState) (retired : List ℕ) (most : ℕ) (result : Result (Option (ℕ × BTreeSet ℕ)) E) → retired ≡ text.groups.retired →
@@ -355,7 +295,7 @@ module _ (text : TextState) (plain : Writing) (stands : IsTextOf text plain) (fo
   pub TextStandsFor-collected : (made : TextState) → IsTextOf made (with_collection plain found) → TextStandsFor made (collected_text plain)
   TextStandsFor-collected made uncollected = record {
     parts = subst (λ f. IsTextOf made (with_collection plain f)) is uncollected;
-    none_left = HasNoneLeft-collected text plain stands;
+    none_left = HasNoneLeft-collected plain;
   }
 
 -- its floor is one that each session has acknowledged

@@ -3,6 +3,9 @@ pub mod GroupLemmas
 pub mod HeadLemmas
 pub mod MoveLemmas
 pub mod SessionLemmas
+pub mod OnceLemmas
+pub mod RestLemmas
+pub mod LaterLemmas
 pub mod CollectLemmas
 pub mod LoadLemmas
 pub mod FrontLemmas

@@ -39,6 +39,12 @@ AreAcknowledged-raised h later (Some rev ∷ sessions) floor same are =
       AreAcknowledged-raised h later sessions (omega (arith, floor, min-le_right rev rest)) same are.1,
     )
 
+-- the least of it is a kept revision
+pub least-kept : (h : History) (sessions : List (Option ℕ)) → h.floor ≤ head h → AreAcknowledged h sessions → h.floor ≤ least_acknowledged (head h) sessions
+least-kept h [] within are = within
+least-kept h (None ∷ sessions) within are = least-kept h sessions within are.1
+least-kept h (Some rev ∷ sessions) within are = omega (arith, are.0.0, least-kept h sessions within are.1)
+
 -- where a session changes
 AreAcknowledged-set : (h : History) (sessions : List (Option ℕ)) (i : ℕ) (session : Option ℕ) → IsAcknowledged h session → AreAcknowledged h sessions →
     AreAcknowledged h (slice_set sessions i session)

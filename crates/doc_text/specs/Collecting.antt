@@ -1,7 +1,7 @@
 -- Sessions of plugins, what they acknowledge, and which old undo groups are collected after an event.
 use Rattle.std.specs.Prelude.{◌≡◌, ℕ, ◌≤◌, List, [], Option, Some, None, ⊤}
 use Rattle.std.specs.List.{fold, AllByRecursion}
-use Rattle.plain_edits.specs.Collection.{Collection, collected_at, collection_of}
+use Rattle.plain_edits.specs.Collection.{Collection, clean_floor, collected_at, collection_of, resting_groups}
 use Rattle.plain_edits.specs.History.{History, head}
 use Rattle.undo_groups.specs.Groups.{forgotten}
 pub use Rattle.edit_groups.specs.Sessions.{acknowledged_by, least_acknowledged, session_of, with_session}
@@ -49,6 +49,9 @@ collected_text text = with_collection text (collection_after text)
 abbrev pub AreEnded : List (Option ℕ) → Type 0
 AreEnded sessions = AllByRecursion (λ session. session ≡ None) sessions
 
--- NOTHING WAITS where no session is open: no group is left that no undo reaches any more
+-- NOTHING WAITS that may be collected: no group that no undo reaches any more is at rest at the greatest clean floor up to the least
+-- revision that an open session has acknowledged, or up to the head where none is open
 abbrev pub HasNoneLeft : Writing → Type 0
-HasNoneLeft text = AreEnded text.sessions → text.groups.retired ≡ []
+HasNoneLeft text =
+    resting_groups text.history text.groups.retired
+    (clean_floor text.history.revisions (least_acknowledged (head text.history) text.sessions)) ≡ []

@@ -35,20 +35,20 @@ impl TextState {
         }
     }
 
-    // What is collected now, if anything: the groups of a floor. That is nothing where no group is retired, and where a session lags.
+    // What is collected now, if anything: the groups of a floor. That is nothing where no group is retired. No session has acknowledged
+    // less than the floor.
     fn collectable(&self, alloc: Global) -> Result<Option<(u64, BTreeSet<u64>)>, NoMemory>
         ensures found { (plain : Writing) → IsTextOf self.now plain
             → IfOk result (λ found. collection_said found ≡ collection_after plain) }
         ensures may { IfOk result (λ found. IfSome found (λ some. MayCollectIn self.now some.0 some.1.keys)) }
     {
         let engine = &*self.engine;
-        let head = engine.head();
-        let _floor = engine.floor();
-        if !self.stack.has_retired() || self.sessions.least(head) < head {
+        let least = self.sessions.least(engine.head());
+        if !self.stack.has_retired() || least < engine.floor() {
             return Ok(None);
         }
         let retired = retired_groups(alloc, &self.stack)?;
-        engine.collectable(alloc, head, &retired)
+        engine.collectable(alloc, least, &retired)
     }
 
     // The text after a collection, which the engine makes and the stack too.

@@ -13,13 +13,12 @@ use Rattle.xi_plain.specs.Chunk.{beginning, chunk_at, most_bytes}
 use Rattle.xi_plain.specs.declared.config.Config.{Config}
 use Rattle.doc_text.specs.Asking.{acknowledgement_refusal}
 use Rattle.doc_text.specs.Collecting.{least_acknowledged, with_collection}
-use Rattle.doc_text.proofs.ForCallers.{beginning-greatest, byte_len-append, collection_of-nothing, reading_refusal-by, take-beginning}
+use Rattle.doc_text.proofs.ForCallers.{beginning-greatest, byte_len-append, collected_once, collection_of-nothing, reading_refusal-by, take-beginning}
 use Rattle.doc_session.specs.declared.event.Event.{Event}
 use Rattle.doc_session.specs.declared.event.Event.TheVariants.{Ack, Config as Configure, Count, Edit, Ended, Front, Other, Read, Saved, Spans}
 use Rattle.doc_session.specs.Document.{Document, loaded_document}
 use Rattle.doc_session.specs.Step.{collected_document, taken_step, with_text}
 use Rattle.document_laws.specs.Laws.{AreTaken, AskingIsUnseen, IsAsking, IsCollected, ReadingGivesTheText, TellsNothing, chunks_of, has_empty}
-use Rattle.document_laws.proofs.OnceLemmas.{collected_once}
 
 -- ---- what is only asked
 

@@ -1,27 +1,26 @@
 -- Undo and redo after one another, and how many undos there are.
-use Rattle.std.proofs.Common.{◌≡◌, ◌⊎◌, ℕ, zero, suc, ◌+◌, ◌-◌, ◌<◌, ◌≤◌, true, false, if◌then◌else◌, List, [], ◌∷◌, ◌++◌, length, take, drop, Option, Some, None, refl, ap, ap₂, sym, ◌∙◌, inl, inr, arith}
+use Rattle.std.proofs.Common.{◌≡◌, ◌⊎◌, ℕ, zero, suc, ◌+◌, ◌-◌, ◌<◌, ◌≤◌, true, false, if◌then◌else◌, List, [], ◌∷◌, ◌++◌, length, take, drop, Option, Some, None, refl, ap, ap₂, sym, ◌∙◌, inl, inr, arith, append_assoc}
 use Rattle.std.specs.Prelude.{slice_index}
-use Rattle.std.proofs.Math.Nat.{min-le_left}
 use Rattle.std.proofs.lemmas.Bool.{cases_lt, or_cases, eq-eqb}
 use Rattle.std.proofs.lemmas.List.{take-append-drop, take_more, drop_more}
 use Rattle.plain_text.specs.Numbers.{has, with_number}
 use Rattle.number_set.proofs.ForCallers.{has-append, has-one, has-own, has-take, no, parted}
 use Rattle.plain_edits.specs.Edits.{undid}
-use Rattle.plain_edits.specs.History.{History, head, text_at, IsSound}
+use Rattle.plain_edits.specs.History.{Revision, undo, History, head, text_at, IsSound}
 use Rattle.plain_edits.specs.Undo.{undone_now}
 use Rattle.plain_edits.proofs.callers.HistoryLemmas.{text_at-undid_back}
 use Rattle.undo_groups.specs.Groups.{Groups, IsStack, next_redo, next_undo, redone_one, undone_one}
 use Rattle.undo_groups.specs.Laws.{RedoTakesUndoBack as StackLaw}
-use Rattle.doc_text.specs.Collecting.{AreAcknowledged, AreEnded, HasNoneLeft, collection_after, least_acknowledged, with_collection}
+use Rattle.doc_text.specs.Collecting.{AreAcknowledged, HasNoneLeft, collection_after, with_collection}
+use Rattle.doc_text.specs.Laws.{GoesOn}
 use Rattle.doc_text.specs.Writing.{head_text}
 use Rattle.doc_session.specs.Document.{Document, no_request}
 use Rattle.doc_session.specs.declared.looking.Viewing.TheVariants.{Other as NoCommand}
 use Rattle.doc_session.specs.Effects.{settled}
 use Rattle.doc_session.specs.Step.{collected_document, history_step, taken_step, undone_document, viewed_document, with_text}
-use Rattle.doc_text.proofs.ForCallers.{IsLast-next_undo, collection_of-lags, collection_of-nothing, fold_forgotten, has-next_undo}
+use Rattle.doc_text.proofs.ForCallers.{HasNoneLeft-later, IsLast-next_undo, collected_once, fold_forgotten, has-next_undo, nothing_after}
 use Rattle.document_laws.specs.Laws.{IsNewestLeft, NewGroupEndsRedo, after_event, after_redo, after_undo, after_undos}
 use Rattle.document_laws.proofs.GroupLemmas.{head-undid, next_redo-opened, next_redo-undone, part-settled, part-stepped, some_undo, undone-undone_one, undone_now-undid, undone_one-some}
-use Rattle.document_laws.proofs.OnceLemmas.{collected_once}
 
 -- the document after an undo, where there is one
 after_undo-some : (d : Document) (group : ℕ) → next_undo d.text.groups ≡ Some group →
@@ -34,26 +33,12 @@ after_redo-some d group found = ap (λ o. collected_document (history_step d o (
 
 -- ---- nothing is collected at a new revision, where nothing waited before
 
--- all sessions ended, or one has acknowledged no later revision
-lags_or_ended : (h : History) (most : ℕ) (sessions : List (Option ℕ)) → AreAcknowledged h sessions →
-    AreEnded sessions ⊎ (least_acknowledged most sessions ≤ head h)
-lags_or_ended h most [] are = inl tt
-lags_or_ended h most (None ∷ sessions) are =
-    elim (lags_or_ended h most sessions are.1) [ inl ended ↦ inl (refl, ended) | inr lags ↦ inr lags ]
-lags_or_ended h most (Some rev ∷ sessions) are = inr (omega (arith, min-le_left rev (least_acknowledged most sessions), are.0.1))
-
 module _ (d : Document) (are : AreAcknowledged d.text.history d.text.sessions) (left : HasNoneLeft d.text) where
-  none_collected : (e : Document) → e.text.sessions ≡ d.text.sessions → e.text.groups.retired ≡ d.text.groups.retired → head d.text.history < head e.text.history →
-      collected_document e ≡ e
-  none_collected e sessions retired later =
-      let most = least_acknowledged (head e.text.history) e.text.sessions in
-      let none : collection_after e.text ≡ None =
-      elim (lags_or_ended d.text.history (head e.text.history) d.text.sessions are) [
-        | inl ended ↦ collection_of-nothing e.text.history e.text.groups.retired most (retired ∙ left ended)
-        | inr lags ↦ collection_of-lags e.text.history e.text.groups.retired most
-            (omega (arith, ap (least_acknowledged (head e.text.history)) sessions, lags, later))
-      ] in
-      ap (λ found. with_text e (with_collection e.text found)) none
+  none_left : (e : Document) (more : List Revision) → GoesOn d.text e.text more → HasNoneLeft e.text
+  none_left e more on = HasNoneLeft-later d.text e.text more are on left
+
+  none_collected : (e : Document) (more : List Revision) → GoesOn d.text e.text more → collected_document e ≡ e
+  none_collected e more on = ap (λ found. with_text e (with_collection e.text found)) (nothing_after e.text (none_left e more on))
 
   pub redo_after_undo : StackLaw → IsSound d.text.history → undone_now d.text.history ≡ d.text.groups.undone → IsStack d.text.groups → 0 < d.text.groups.index →
       (head_text (after_redo (after_undo d)).text ≡ head_text d.text) × ((after_redo (after_undo d)).text.groups ≡ d.text.groups)
@@ -62,26 +47,30 @@ module _ (d : Document) (are : AreAcknowledged d.text.history d.text.sessions) (
       let group = slice_index s.live (s.index - 1) in
       let next = undone_document d (undone_one s) in
       let d1 = after_undo d in
-      let heads1 : head (settled no_request d next).text.history ≡ head d.text.history + 1 =
-      part-settled (λ (x : Document). head x.text.history) d next (λ screen asked. refl) ∙ head-undid d.text.history (undone_one s).undone in
       let is1 : d1 ≡ settled no_request d next =
       after_undo-some d group (some_undo s some) ∙
-      none_collected (settled no_request d next) (part-settled (λ (x : Document). x.text.sessions) d next (λ screen asked. refl))
-      (part-settled (λ (x : Document). x.text.groups.retired) d next (λ screen asked. refl) ∙ ap (λ (g : Groups). g.retired) (undone_one-some s some)) (omega (arith, heads1)) in
+      none_collected (settled no_request d next) (undo (undone_one s).undone ∷ []) (record {
+        revisions = part-settled (λ (x : Document). x.text.history.revisions) d next (λ screen asked. refl);
+        collected = part-settled (λ (x : Document). x.text.history.collected) d next (λ screen asked. refl);
+        sessions = part-settled (λ (x : Document). x.text.sessions) d next (λ screen asked. refl);
+        retired = part-settled (λ (x : Document). x.text.groups.retired) d next (λ screen asked. refl) ∙ ap (λ (g : Groups). g.retired) (undone_one-some s some);
+      }) in
       let groups1 : d1.text.groups ≡ undone_one s = ap (λ (x : Document). x.text.groups) is1 ∙ part-settled (λ (x : Document). x.text.groups) d next (λ screen asked. refl) in
       let history1 : d1.text.history ≡ undid d.text.history (undone_one s).undone = ap (λ (x : Document). x.text.history) is1 ∙ part-settled (λ (x : Document). x.text.history) d next (λ screen asked. refl) in
       let found : next_redo d1.text.groups ≡ Some group = ap next_redo groups1 ∙ next_redo-undone s some stack.reached in
       let next2 = undone_document d1 (redone_one d1.text.groups) in
       let back : redone_one d1.text.groups ≡ s = ap redone_one groups1 ∙ law s stack some in
-      let heads2 : head (settled no_request d1 next2).text.history ≡ head d1.text.history + 1 =
-      part-settled (λ (x : Document). head x.text.history) d1 next2 (λ screen asked. refl) ∙ head-undid d1.text.history (redone_one d1.text.groups).undone in
       let is2 : after_redo d1 ≡ settled no_request d1 next2 =
       after_redo-some d1 group found ∙
-      none_collected (settled no_request d1 next2)
-      (part-settled (λ (x : Document). x.text.sessions) d1 next2 (λ screen asked. refl) ∙ ap (λ (x : Document). x.text.sessions) is1 ∙
-      part-settled (λ (x : Document). x.text.sessions) d next (λ screen asked. refl))
-      (part-settled (λ (x : Document). x.text.groups.retired) d1 next2 (λ screen asked. refl) ∙ ap (λ (g : Groups). g.retired) back)
-      (omega (arith, heads2, ap (λ (x : Document). head x.text.history) is1, heads1)) in
+      none_collected (settled no_request d1 next2) (undo (undone_one s).undone ∷ undo (redone_one d1.text.groups).undone ∷ []) (record {
+        revisions = part-settled (λ (x : Document). x.text.history.revisions) d1 next2 (λ screen asked. refl) ∙
+            ap (λ (h : History). h.revisions ++ undo (redone_one d1.text.groups).undone ∷ []) history1 ∙
+            append_assoc d.text.history.revisions (undo (undone_one s).undone ∷ []) (undo (redone_one d1.text.groups).undone ∷ []);
+        collected = part-settled (λ (x : Document). x.text.history.collected) d1 next2 (λ screen asked. refl) ∙ ap (λ (h : History). h.collected) history1;
+        sessions = part-settled (λ (x : Document). x.text.sessions) d1 next2 (λ screen asked. refl) ∙ ap (λ (x : Document). x.text.sessions) is1 ∙
+            part-settled (λ (x : Document). x.text.sessions) d next (λ screen asked. refl);
+        retired = part-settled (λ (x : Document). x.text.groups.retired) d1 next2 (λ screen asked. refl) ∙ ap (λ (g : Groups). g.retired) back;
+      }) in
       let history2 : (after_redo d1).text.history ≡ undid (undid d.text.history (undone_one s).undone) (undone_now d.text.history) =
       ap (λ (x : Document). x.text.history) is2 ∙ part-settled (λ (x : Document). x.text.history) d1 next2 (λ screen asked. refl) ∙
       ap₂ (λ h (g : Groups). undid h g.undone) history1 back ∙ ap (undid (undid d.text.history (undone_one s).undone)) (sym undone) in

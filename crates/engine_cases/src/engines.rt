@@ -17,6 +17,7 @@ fn placed(rev: u64, len: u64, at: u64, added: &'static str, priority: u32) -> Ro
         to: at,
         added,
         priority,
+        author: 0,
         group: 1,
     }
 }
@@ -41,6 +42,31 @@ fn stale_edits_go_beside_each_other_by_priority(rt: HostRuntime) {
     assert!(rt; show(alloc, "ab", &[x, y, z], 3, "aYXZb"));
     assert!(rt; show(alloc, "ab", &[y], 1, "aYb"));
     assert!(rt; show(alloc, "ab", &[y, x], 2, "aYXb"));
+}
+
+// An insertion at the gap of `ac`, by an author with this priority.
+fn by_author(added: &'static str, priority: u32, author: u32) -> Row {
+    Row {
+        author,
+        ..placed(0, 2, 1, added, priority)
+    }
+}
+
+#[test]
+fn stale_edits_of_one_priority_go_by_their_authors(rt: HostRuntime) {
+    let alloc = rt.alloc();
+    let (x, y) = (by_author("X", 1, 1), by_author("Y", 1, 2));
+    assert!(rt; show(alloc, "ac", &[x, y], 2, "aXYc"));
+    assert!(rt; show(alloc, "ac", &[y, x], 2, "aXYc"));
+    let (one, other) = (by_author("X", 1, 1), by_author("Y", 1, 1));
+    assert!(rt; show(alloc, "ac", &[one, other], 2, "aXYc"));
+    assert!(rt; show(alloc, "ac", &[other, one], 2, "aYXc"));
+    let (front, plugin) = (by_author("X", 65_536, 0), by_author("Y", 65_536, 1));
+    assert!(rt; show(alloc, "ac", &[front, plugin], 2, "aXYc"));
+    assert!(rt; show(alloc, "ac", &[plugin, front], 2, "aXYc"));
+    let (first, last) = (by_author("X", 2, 1), by_author("Y", 1, 2));
+    assert!(rt; show(alloc, "ac", &[first, last], 2, "aYXc"));
+    assert!(rt; show(alloc, "ac", &[last, first], 2, "aYXc"));
 }
 
 #[test]
@@ -89,6 +115,7 @@ fn adding(len: u64, from: u64, to: u64) -> Row {
         to,
         added: "added",
         priority: 0,
+        author: 0,
         group: 1,
     }
 }

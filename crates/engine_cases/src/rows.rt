@@ -15,6 +15,7 @@ pub(crate) struct Row {
     pub(crate) to: u64,
     pub(crate) added: &'static str,
     pub(crate) priority: u32,
+    pub(crate) author: u32,
     pub(crate) group: u64,
 }
 
@@ -27,6 +28,7 @@ pub(crate) fn insertion(rev: u64, len: u64, at: u64, added: &'static str, group:
         to: at,
         added,
         priority: 0,
+        author: 0,
         group,
     }
 }
@@ -40,6 +42,7 @@ pub(crate) fn deletion(rev: u64, len: u64, from: u64, to: u64, group: u64) -> Ro
         to,
         added: "",
         priority: 0,
+        author: 0,
         group,
     }
 }
@@ -51,7 +54,7 @@ fn edit_of(alloc: Global, row: Row) -> Result<Edit, NoMemory> {
         delta,
         priority: row.priority,
         after_cursor: false,
-        author: 0,
+        author: row.author,
         group: row.group,
     })
 }

@@ -187,7 +187,7 @@ fn push(alloc: Global, plain: &PlainHistory, list: &mut RevList, edit: &Edit) ->
         may && !list.is_collected(edit.group) && list.head() <= MOST,
         "it cannot be asked"
     );
-    let made = rebase(alloc, list, edit.rev, &units, edit.priority)?;
+    let made = rebase(alloc, list, edit.rev, &units, edit.priority, edit.author)?;
     let rev = plain.head();
     let is_inserted = has_exactly(plain, &made.inserted, |t| t.inserted() == rev);
     let is_deleted = has_exactly(plain, &made.deleted, |t| has(t.deleted(), rev));

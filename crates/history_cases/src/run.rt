@@ -195,7 +195,7 @@ fn edited(alloc: Global, plain: &mut PlainHistory, limit: u64, edit: &Edit) -> R
         return Ok(Some(Refusal::Closed));
     }
     ensure!(plain.head() <= MOST, "too many revisions");
-    let (group, priority, author) = (edit.group, edit.priority as u64, edit.author as u64);
+    let (group, priority, author) = (edit.group, edit.priority, edit.author);
     match plain.edit(alloc, limit, edit.rev, &edit.delta, group, priority, author) {
         Ok(_) => Ok(None),
         Err(EditFault::NoMemory) => bail!("out of memory"),

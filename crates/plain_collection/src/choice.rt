@@ -1,5 +1,5 @@
 ghost use Rattle.std.specs.Prelude.{◌≡◌, IfOk};
-ghost use Rattle.plain_edits.specs.Collection.{collection_of, is_where_to_collect, resting_groups};
+ghost use Rattle.plain_edits.specs.Collection.{collection_of, resting_groups};
 
 use crate::floors::clean_floor;
 use crate::rest::is_at_rest;
@@ -21,13 +21,6 @@ impl Model for Collection {
     ghost Value = { CollectionRecord };
 
     ghost view = { λ c. record { floor = c.floor; groups = c.groups } };
-}
-
-/// The rule of where: whether groups are collected at this floor.
-fn is_where_to_collect(history: &PlainHistory, floor: u64) -> bool
-    ensures { result ≡ is_where_to_collect history.now floor }
-{
-    floor == history.head()
 }
 
 /// The retired groups that are not collected yet and are at rest at a floor.
@@ -60,7 +53,7 @@ pub fn collection_of(
 {
     let floor = clean_floor(history, most);
     let groups = resting_groups(alloc, history, retired, floor)?;
-    if groups.is_empty() || !is_where_to_collect(history, floor) {
+    if groups.is_empty() {
         return Ok(None);
     }
     Ok(Some(Collection { floor, groups }))

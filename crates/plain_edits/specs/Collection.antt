@@ -1,5 +1,5 @@
 -- When old groups may be collected, what a collection is, and which characters no kept revision can show again.
-use Rattle.std.specs.Prelude.{◌≡◌, ℕ, zero, suc, ◌+◌, ◌-◌, ◌≤◌, Bool, true, false, not, ◌&&◌, ◌||◌, if◌then◌else◌, nat_le, ◌==◌, List, [], ◌∷◌, drop, Option, Some, None}
+use Rattle.std.specs.Prelude.{◌≡◌, ℕ, zero, suc, ◌+◌, ◌-◌, ◌≤◌, Bool, true, false, not, ◌&&◌, ◌||◌, if◌then◌else◌, nat_le, List, [], ◌∷◌, drop, Option, Some, None}
 use Rattle.std.specs.List.{list_all, list_any, count_by, filter, fold, range_with_len, AllByRecursion}
 use Rattle.plain_text.specs.Numbers.{has, with_number}
 use Rattle.plain_edits.specs.History.{Tagged, Revision, edit, undo, History, head, group_of, undone, is_undone}
@@ -62,26 +62,22 @@ pub record Collection : Type 0 where
   pub floor : ℕ
   pub groups : List ℕ
 
--- THE RULE OF WHERE: whether groups are collected at this floor
-abbrev pub is_where_to_collect : History → ℕ → Bool
-is_where_to_collect history floor = floor == head history
-
 -- the retired groups that are not collected yet and are at rest at a floor
 abbrev pub resting_groups : History → List ℕ → ℕ → List ℕ
 resting_groups history retired floor =
     filter (λ group. not (has history.collected group) && is_at_rest history floor group) retired
 
--- the collection of these groups, if there are any, at a floor where groups are collected
-abbrev pub collection_at : History → ℕ → List ℕ → Option Collection
-collection_at history floor [] = None
-collection_at history floor (group ∷ groups) =
-    if is_where_to_collect history floor then Some (record { floor = floor; groups = group ∷ groups }) else None
+-- the collection of these groups at a floor, if there are any
+abbrev pub collection_at : ℕ → List ℕ → Option Collection
+collection_at floor [] = None
+collection_at floor (group ∷ groups) = Some (record { floor = floor; groups = group ∷ groups })
 
--- what is collected after an entry, if anything, where `retired` are the retired groups and each open session has acknowledged the
--- revision `most`, which is the head where none is open: the resting groups at the greatest clean floor up to there
+-- THE RULE OF WHERE: what is collected after an entry, if anything, where `retired` are the retired groups and `most` is the least
+-- revision that the open sessions have acknowledged, or the head where none is open: the resting groups at the greatest clean floor up
+-- to there
 abbrev pub collection_of : History → List ℕ → ℕ → Option Collection
 collection_of history retired most =
-    collection_at history (clean_floor history.revisions most)
+    collection_at (clean_floor history.revisions most)
     (resting_groups history retired (clean_floor history.revisions most))
 
 -- the history after a collection, if one comes

@@ -1,10 +1,12 @@
 -- What an edit and an undo add to a history, when they may come, and what edits of one base come to.
-use Rattle.std.specs.Prelude.{◌≡◌, ℕ, ◌+◌, ◌<◌, Bool, true, false, not, ◌&&◌, if◌then◌else◌, nat_lt, nat_le, ◌==◌, List, [], ◌∷◌, ◌++◌, length, map, take, Option, Some, None}
+use Rattle.std.specs.Prelude.{◌≡◌, ℕ, ◌+◌, ◌<◌, Bool, true, false, not, ◌&&◌, if◌then◌else◌, nat_lt, ◌==◌, List, [], ◌∷◌, ◌++◌, length, map, take, Option, Some, None}
 use Rattle.std.specs.List.{flat_map, range_with_len, count_by, list_all, list_any, AllByRecursion}
 use Rattle.plain_edits.specs.declared.delta.Misfit.{Misfit}
 use Rattle.plain_edits.specs.declared.delta.Delta.{Delta}
+use Rattle.plain_edits.specs.declared.rank.Rank.{Rank}
 use Rattle.plain_text.specs.Numbers.{has}
 use Rattle.plain_text.specs.Woven.{woven}
+use Rattle.plain_edits.specs.Rank.{is_lower}
 use Rattle.plain_edits.specs.Delta.{misfit_of, keeps, adds, inserted_len}
 use Rattle.plain_edits.specs.History.{Tagged, inserted_by, Revision, edit, undo, History, head, is_visible, visible_at, text_at, undone, inserted_count}
 use Rattle.plain_edits.specs.Place.{insertion_place}
@@ -18,6 +20,10 @@ pub record PlainEdit : Type 0 where
   pub priority : ℕ
   pub author : ℕ
 
+-- the rank of what it inserts
+abbrev pub insertion_rank : PlainEdit → Rank
+insertion_rank e = record { priority = e.priority; author = e.author }
+
 -- how many gaps the text of a revision has
 abbrev pub gap_count : History → ℕ → ℕ
 gap_count history rev = length (visible_at history rev) + 1
@@ -25,7 +31,7 @@ gap_count history rev = length (visible_at history rev) + 1
 -- the characters that the edit inserts at an index: the text of the gap whose insertion place it is
 abbrev pub inserted_at : History → PlainEdit → ℕ → List Tagged
 inserted_at history e index =
-    flat_map (λ gap. if insertion_place history e.base e.priority gap == index
+    flat_map (λ gap. if insertion_place history e.base (insertion_rank e) gap == index
     then map (inserted_by (head history + 1)) (e.added gap) else [])
     (range_with_len 0 (gap_count history e.base))
 
@@ -93,17 +99,18 @@ edit_refusal history limit base delta =
     if nat_lt base history.floor then Some (collected history.floor) else
     misfit_or_spent (misfit_of (text_at history base) delta) limit (inserted_count history + inserted_len delta.els))
 
--- the edits in rising order of priority; those of equal priority in the order of the list
+-- the edits in rising order of rank; those of equal rank in the order of the list
 abbrev pub with_earlier : PlainEdit → List PlainEdit → List PlainEdit
 with_earlier e [] = e ∷ []
-with_earlier e (f ∷ edits) = if nat_le e.priority f.priority then e ∷ f ∷ edits else f ∷ with_earlier e edits
+with_earlier e (f ∷ edits) =
+    if is_lower (insertion_rank f) (insertion_rank e) then f ∷ with_earlier e edits else e ∷ f ∷ edits
 
-abbrev pub by_priority : List PlainEdit → List PlainEdit
-by_priority [] = []
-by_priority (e ∷ edits) = with_earlier e (by_priority edits)
+abbrev pub by_rank : List PlainEdit → List PlainEdit
+by_rank [] = []
+by_rank (e ∷ edits) = with_earlier e (by_rank edits)
 
--- what edits of one text come to: at each gap their texts in rising order of priority, and each character that all of them keep
+-- what edits of one text come to: at each gap their texts in rising order of rank, and each character that all of them keep
 abbrev pub merged : List ℕ → List PlainEdit → List ℕ
 merged text edits =
-    woven (λ gap. flat_map (λ e. e.added gap) (by_priority edits))
+    woven (λ gap. flat_map (λ e. e.added gap) (by_rank edits))
     (λ index c. if list_all (λ e. e.kept index) edits then c ∷ [] else []) 0 text

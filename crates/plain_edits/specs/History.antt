@@ -2,6 +2,7 @@
 use Rattle.std.specs.Prelude.{ℕ, zero, suc, ◌≤◌, Bool, not, ◌&&◌, ◌||◌, nat_lt, nat_le, List, [], ◌∷◌, length, map, take, Option, Some, None, slice_get}
 use Rattle.std.specs.List.{filter, count_by, list_all, AllByRecursion}
 use Rattle.plain_text.specs.Numbers.{has}
+use Rattle.plain_edits.specs.declared.rank.Rank.{Rank}
 
 -- a character, the revision that inserted it, and the revisions that delete it, which rise
 pub record Tagged : Type 0 where
@@ -58,17 +59,18 @@ edit_group None = 0
 edit_group (Some (edit base group priority author)) = group
 edit_group (Some (undo groups)) = 0
 
-abbrev pub edit_priority : Option Revision → ℕ
-edit_priority None = 0
-edit_priority (Some (edit base group priority author)) = priority
-edit_priority (Some (undo groups)) = 0
+-- the rank of what it inserts; the loaded text and an undo have the lowest
+abbrev pub edit_rank : Option Revision → Rank
+edit_rank None = record { priority = 0; author = 0 }
+edit_rank (Some (edit base group priority author)) = record { priority = priority; author = author }
+edit_rank (Some (undo groups)) = record { priority = 0; author = 0 }
 
--- the group and the priority of a revision
+-- the group and the rank of a revision
 abbrev pub group_of : List Revision → ℕ → ℕ
 group_of revisions rev = edit_group (revision_at revisions rev)
 
-abbrev pub priority_of : List Revision → ℕ → ℕ
-priority_of revisions rev = edit_priority (revision_at revisions rev)
+abbrev pub rank_of : List Revision → ℕ → Rank
+rank_of revisions rev = edit_rank (revision_at revisions rev)
 
 -- the groups that are undone after these revisions, where `groups` were before
 abbrev pub undone_after : List ℕ → List Revision → List ℕ

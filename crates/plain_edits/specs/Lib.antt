@@ -1,5 +1,6 @@
 pub mod Delta
 pub mod UnitDelta
+pub mod Rank
 pub mod History
 pub mod Place
 pub mod Edits

@@ -7,8 +7,10 @@
 
 mod delta;
 mod fault;
+mod rank;
 mod style;
 
 pub use delta::{Added, Adds, Delta, El, Els, Misfit, UnitDelta};
 pub use fault::EditFault;
+pub use rank::Rank;
 pub use style::{Span, Spans, Style};

@@ -47,7 +47,7 @@ fn push_gap(
     requires { head history.now + 1 < 2 ^ 64 }
     ensures { OnOk result (made.new ≡ made.old ++ inserted_from history.now (edit_of e.now) index gap) }
 {
-    if history.insertion_place(e.base, e.priority, gap) == index {
+    if history.insertion_place(e.base, e.rank(), gap) == index {
         let text = text_at_gap(alloc, e.added.as_slice(), gap)?;
         push_text(alloc, history.head() + 1, text.as_str(), made)?;
     }

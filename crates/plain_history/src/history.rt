@@ -10,7 +10,7 @@ use crate::revision::Revision;
 use crate::tagged::Tagged;
 use crate::unit_edit::UnitEdit;
 use crate::{collection, deltas, edit, place, undo, visible};
-use plain_edits::{Delta, EditFault};
+use plain_edits::{Delta, EditFault, Rank};
 use plain_text::{List, NoMemory, Text};
 use std::alloc::Global;
 use std::marker::Model;
@@ -80,15 +80,15 @@ impl PlainHistory {
         self.revisions.len() as u64
     }
 
-    /// The index of the list of characters at which an insertion with a priority goes, at a gap of the base's text.
-    pub fn insertion_place(&self, base: u64, priority: u64, gap: u64) -> u64
-        ensures { result ≡ insertion_place self.now base priority gap }
+    /// The index of the list of characters at which an insertion of a rank goes, at a gap of the base's text.
+    pub fn insertion_place(&self, base: u64, rank: Rank, gap: u64) -> u64
+        ensures { result ≡ insertion_place self.now base rank gap }
     {
         let revisions = self.revisions.as_slice();
         let characters = self.characters.as_slice();
         let right = place::index_right_of(revisions, base, gap, characters);
         let run = place::later_run(base, &characters[..right]);
-        (right - run.len() + place::left_in_run(revisions, priority, run.len(), run)) as u64
+        (right - run.len() + place::left_in_run(revisions, rank, run.len(), run)) as u64
     }
 
     /// What a revision shows.
@@ -144,8 +144,8 @@ impl PlainHistory {
         base: u64,
         delta: &Delta,
         group: u64,
-        priority: u64,
-        author: u64,
+        priority: u32,
+        author: u32,
     ) -> Result<u64, EditFault>
         requires { head self.old < 2 ^ 63 - 1 }
         ensures accepted { OnOk result (edit_refusal self.old limit base delta.now ≡ None) }

@@ -8,7 +8,8 @@ ghost use Rattle.plain_edits.specs.Place.{eldest, is_by, goes_right, left_in_run
 
 use crate::revision::Revision;
 use crate::tagged::Tagged;
-use crate::visible::{is_visible, priority_of};
+use crate::visible::{is_visible, rank_of};
+use plain_edits::Rank;
 
 /// The index of the visible character right of a gap of a revision's text, or the length of the list.
 pub fn index_right_of(revisions: &[Revision], base: u64, gap: u64, characters: &[Tagged]) -> usize
@@ -100,26 +101,26 @@ fn after_last(rev: u64, run: &[Tagged]) -> &[Tagged]
     &run[end_of(rev, run)..]
 }
 
-/// The rule of order: whether an insertion with this priority goes right of those of an earlier revision.
-fn goes_right(revisions: &[Revision], priority: u64, rev: u64) -> bool
-    ensures { result ≡ goes_right revisions.now priority rev }
+/// The rule of order: whether an insertion of this rank goes right of those of an earlier revision.
+fn goes_right(revisions: &[Revision], rank: Rank, rev: u64) -> bool
+    ensures { result ≡ goes_right revisions.now rank rev }
 {
-    priority_of(revisions, rev) <= priority
+    !rank.is_lower(rank_of(revisions, rev))
 }
 
 /// How many characters of the run stay left of the insertion; `bound` is at least the length of the run.
-pub fn left_in_run(revisions: &[Revision], priority: u64, bound: usize, run: &[Tagged]) -> usize
-    ensures is { result ≡ left_in_run revisions.now priority bound run.now }
+pub fn left_in_run(revisions: &[Revision], rank: Rank, bound: usize, run: &[Tagged]) -> usize
+    ensures is { result ≡ left_in_run revisions.now rank bound run.now }
     ensures inside { result ≤ length run.now }
 {
     if bound == 0 || run.is_empty() {
         return 0;
     }
     let rev = eldest(run);
-    if goes_right(revisions, priority, rev) {
+    if goes_right(revisions, rank, rev) {
         let rest = after_last(rev, run);
-        run.len() - rest.len() + left_in_run(revisions, priority, bound - 1, rest)
+        run.len() - rest.len() + left_in_run(revisions, rank, bound - 1, rest)
     } else {
-        left_in_run(revisions, priority, bound - 1, before_first(rev, run))
+        left_in_run(revisions, rank, bound - 1, before_first(rev, run))
     }
 }

@@ -1,12 +1,19 @@
 ghost use Rattle.std.specs.Prelude.{◌≡◌, Some, List, map};
 ghost use Rattle.std.specs.Option.{option_copied};
-ghost use Rattle.plain_edits.specs.History.{edit, undo, edit_group, edit_priority};
+ghost use Rattle.plain_edits.specs.History.{edit, undo, edit_group, edit_rank};
 ghost use Rattle.plain_edits.specs.Edits.{is_edit_of};
 ghost use Rattle.plain_edits.specs.Collection.{is_based_from};
 ghost use Rattle.plain_history.specs.Views.{undone_by};
 
+use plain_edits::Rank;
 use plain_text::List;
 use std::marker::Model;
+
+/// The rank of a revision that inserts nothing.
+pub(crate) const LOWEST: Rank = Rank {
+    priority: 0,
+    author: 0,
+};
 
 /// A revision: an edit against a base, or an undo, which says all groups that are undone from it on.
 #[derive(Drop)]
@@ -19,8 +26,8 @@ enum Step {
     Edit {
         base: u64,
         group: u64,
-        priority: u64,
-        author: u64,
+        priority: u32,
+        author: u32,
     },
     Undo {
         groups: List<u64>,
@@ -38,7 +45,7 @@ impl Model for Revision {
 }
 
 impl Revision {
-    pub fn edit(base: u64, group: u64, priority: u64, author: u64) -> Revision
+    pub fn edit(base: u64, group: u64, priority: u32, author: u32) -> Revision
         ensures { result ≡ edit base group priority author }
     {
         Revision {
@@ -69,13 +76,20 @@ impl Revision {
         }
     }
 
-    /// The priority of an edit, and 0 for an undo.
-    pub fn priority(&self) -> u64
-        ensures { result ≡ edit_priority (Some self.now) }
+    /// What orders the insertions of an edit; an undo has the lowest rank.
+    pub fn rank(&self) -> Rank
+        ensures { result ≡ edit_rank (Some self.now) }
     {
         match &self.step {
-            Step::Edit { priority, .. } => *priority,
-            Step::Undo { .. } => 0,
+            Step::Edit {
+                priority,
+                author,
+                ..
+            } => Rank {
+                priority: *priority,
+                author: *author,
+            },
+            Step::Undo { .. } => LOWEST,
         }
     }
 

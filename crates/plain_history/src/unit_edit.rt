@@ -1,8 +1,9 @@
 ghost use Rattle.std.specs.Prelude.{◌≡◌, ℕ, IfOk};
+ghost use Rattle.plain_edits.specs.Edits.{insertion_rank};
 ghost use Rattle.plain_history.specs.UnitEdit.{edit_of, over_text};
 
 use crate::deltas;
-use plain_edits::{Adds, Delta};
+use plain_edits::{Adds, Delta, Rank};
 use plain_text::{NoMemory, Runs, Text, TryClone};
 use std::alloc::Global;
 
@@ -13,8 +14,8 @@ pub struct UnitEdit {
     pub kept: Runs,
     pub added: Adds,
     pub group: u64,
-    pub priority: u64,
-    pub author: u64,
+    pub priority: u32,
+    pub author: u32,
 }
 
 impl UnitEdit {
@@ -25,8 +26,8 @@ impl UnitEdit {
         text: &Text,
         delta: &Delta,
         group: u64,
-        priority: u64,
-        author: u64,
+        priority: u32,
+        author: u32,
     ) -> Result<UnitEdit, NoMemory>
         ensures { IfOk result (λ e. edit_of e ≡ over_text base text.now delta.now group priority author) }
     {
@@ -38,6 +39,16 @@ impl UnitEdit {
             priority,
             author,
         })
+    }
+
+    /// What orders its insertions.
+    pub fn rank(&self) -> Rank
+        ensures { result ≡ insertion_rank (edit_of self.now) }
+    {
+        Rank {
+            priority: self.priority,
+            author: self.author,
+        }
     }
 }
 

@@ -4,10 +4,11 @@ ghost use Rattle.std.specs.Prelude.{◌≡◌, ℕ, ◌||◌, take, nat_lt, [], 
 ghost use Rattle.std.specs.List.{filter, list_all, count_by};
 ghost use Rattle.std.specs.Option.{option_copied};
 ghost use Rattle.plain_text.specs.Numbers.{has};
-ghost use Rattle.plain_edits.specs.History.{revision_at, group_of, priority_of, undone, is_undone, is_visible, undone_after};
+ghost use Rattle.plain_edits.specs.History.{revision_at, group_of, rank_of, undone, is_undone, is_visible, undone_after};
 
-use crate::revision::Revision;
+use crate::revision::{LOWEST, Revision};
 use crate::tagged::Tagged;
+use plain_edits::Rank;
 use plain_text::{NoMemory, Text};
 use std::alloc::Global;
 
@@ -70,13 +71,13 @@ pub fn group_of(revisions: &[Revision], rev: u64) -> u64
     }
 }
 
-/// The priority of a revision; the loaded text and an undo have priority 0.
-pub fn priority_of(revisions: &[Revision], rev: u64) -> u64
-    ensures { result ≡ priority_of revisions.now rev }
+/// What orders the insertions of a revision; the loaded text and an undo have the lowest rank.
+pub fn rank_of(revisions: &[Revision], rev: u64) -> Rank
+    ensures { result ≡ rank_of revisions.now rev }
 {
     match revision_at(revisions, rev) {
-        Some(revision) => revision.priority(),
-        None => 0,
+        Some(revision) => revision.rank(),
+        None => LOWEST,
     }
 }
 

@@ -1,13 +1,15 @@
 -- Laws of undo, collection, change, carets and styles, whatever the histories.
-use Rattle.std.specs.Prelude.{◌≡◌, ℕ, ◌+◌, ◌≤◌, ◌↔◌, Bool, true, false, not, if◌then◌else◌, List, length, None, IfSome}
+use Rattle.std.specs.Prelude.{◌≡◌, ◌≢◌, ℕ, ◌+◌, ◌≤◌, ◌↔◌, Bool, true, false, not, if◌then◌else◌, List, ◌++◌, length, None, IfSome}
 use Rattle.std.specs.List.{list_all, AllByRecursion}
 use Rattle.plain_text.specs.Numbers.{has, IsRising, flipped}
 use Rattle.plain_text.specs.declared.run.Run.{Run}
 use Rattle.plain_edits.specs.declared.style.Span.{Span}
 use Rattle.plain_edits.specs.declared.delta.UnitDelta.{UnitDelta}
+use Rattle.plain_edits.specs.declared.rank.Rank.{Rank}
+use Rattle.plain_edits.specs.Rank.{is_lower}
 use Rattle.plain_edits.specs.Delta.{applied}
 use Rattle.plain_edits.specs.UnitDelta.{IsCanonical, unit_keeps, unit_adds}
-use Rattle.plain_edits.specs.History.{History, head, loaded, undone, is_visible, visible_at, text_at, IsSound}
+use Rattle.plain_edits.specs.History.{Revision, History, head, loaded, undone, is_visible, visible_at, text_at, IsSound}
 use Rattle.plain_edits.specs.Edits.{PlainEdit, edited, undid}
 use Rattle.plain_edits.specs.Collection.{is_clean, clean_floor, IsAtRest, is_at_rest, collected_at, Qualifies, MayCollect, resting_groups, collection_of, is_dropped}
 use Rattle.plain_edits.specs.Change.{passes_at, change_keeps, change_adds}
@@ -15,6 +17,12 @@ use Rattle.plain_edits.specs.Blocks.{edited_by_blocks}
 use Rattle.plain_edits.specs.Caret.{index_after, moved_caret, mapped_gap}
 use Rattle.plain_edits.specs.Styles.{Layer, style_of, is_shown_at, carried_layer, mapped_layer, layer_after_steps, number_at, spanned_style, with_spans}
 use Rattle.plain_edits.specs.HistorySteps.{Step, after_step, after_steps, heads_after, MayCome, IsWellFormed}
+
+-- the order of ranks: of two distinct ranks one is lower, and only one, and it passes on
+pub record RanksAreOrdered : Type 0 where
+  pub one : (rank other : Rank) → rank ≢ other → is_lower rank other ≡ false → is_lower other rank ≡ true
+  pub only_one : (rank other : Rank) → is_lower rank other ≡ true → is_lower other rank ≡ false
+  pub passes : (rank other last : Rank) → is_lower rank other ≡ true → is_lower other last ≡ true → is_lower rank last ≡ true
 
 -- the edit step goes by blocks: each insertion goes into the block of its gap
 abbrev pub EditsGoByBlocks : Type 0
@@ -59,6 +67,12 @@ pub record HistoriesStayWellFormed : Type 0 where
 abbrev pub CollectionsMayCome : Type 0
 CollectionsMayCome = (history : History) (retired : List ℕ) (most : ℕ) → IsWellFormed history → history.floor ≤ most → most ≤ head history →
     IfSome (collection_of history retired most) (λ collection. MayCollect history collection.floor collection.groups)
+
+-- where nothing is collected, nothing is after more revisions, while no session acknowledges more and no group retires
+abbrev pub LaterRevisionsGiveNothing : Type 0
+LaterRevisionsGiveNothing = (history next : History) (more : List Revision) (retired : List ℕ) (most : ℕ) → most ≤ head history →
+    next.revisions ≡ history.revisions ++ more → next.collected ≡ history.collected →
+    collection_of history retired most ≡ None → collection_of next retired most ≡ None
 
 -- no revision from the floor to the head shows a dropped character
 abbrev pub DroppedIsHidden : Type 0

@@ -6,7 +6,7 @@ use Rattle.plain_edits.specs.declared.delta.Delta.{Delta}
 use Rattle.plain_edits.specs.declared.delta.El.TheVariants.{Copy as copy_el}
 use Rattle.plain_edits.specs.declared.style.Span.{Span}
 use Rattle.plain_edits.specs.History.{History, loaded, text_at}
-use Rattle.plain_edits.specs.Edits.{PlainEdit, plain_edit, undid, MayUndo, unknown, collected, misfit, spent, edit_refusal, merged}
+use Rattle.plain_edits.specs.Edits.{PlainEdit, plain_edit, edited, undid, MayUndo, unknown, collected, misfit, spent, edit_refusal, merged}
 use Rattle.plain_edits.specs.Collection.{is_group, clean_floor, is_at_rest, collected_at, collection_of, kept}
 use Rattle.plain_edits.specs.Change.{shown_indices, change_keeps, change_adds}
 use Rattle.plain_edits.specs.Caret.{moved_caret, moved_regions, mapped_gap}
@@ -37,10 +37,12 @@ three_line_ends =
     then_edit (then_edit (then_edit (loaded []) 0 (inserting 0 0 (codes "\n")) 1 0) 1 (inserting 1 1 (codes "\n")) 2 0) 2
     (inserting 2 2 (codes "\n")) 3 0
 
--- group 1 is retired and collected at the head, but not while a session has acknowledged less; what was asked before then is refused
+-- group 1 is retired and collected at what the sessions have acknowledged, from its own revision on; what was asked before then is refused
 pub record CollectionAfterGroups : Type 0 where
   pub collects : collection_of three_line_ends (1 ∷ []) 3 ≡ Some (record { floor = 3; groups = 1 ∷ [] })
-  pub waits : collection_of three_line_ends (1 ∷ []) 2 ≡ None
+  pub lags : collection_of three_line_ends (1 ∷ []) 2 ≡ Some (record { floor = 2; groups = 1 ∷ [] })
+  pub waits : collection_of three_line_ends (1 ∷ []) 0 ≡ None
+  pub later : collection_of three_line_ends (3 ∷ []) 2 ≡ None
   pub not_twice : collection_of (collected_at three_line_ends 3 (1 ∷ [])) (1 ∷ []) 3 ≡ None
   pub kept : kept (collected_at three_line_ends 3 (1 ∷ [])) ≡ 3
   pub below : edit_refusal (collected_at three_line_ends 3 (1 ∷ [])) 9 0 (inserting 0 0 []) ≡ Some (collected 3)
@@ -67,6 +69,28 @@ pub record DroppedCharacters : Type 0 where
 pub record CleanFloors : Type 0 where
   pub up_to_second : clean_floor eldest_decides.revisions 2 ≡ 0
   pub up_to_third : clean_floor eldest_decides.revisions 3 ≡ 3
+
+-- a text goes in at gap 1 of `ac`, against the loaded text, with a priority and by an author
+abbrev pub by_author : History → List ℕ → ℕ → ℕ → ℕ → History
+by_author history text group priority author =
+    edited history (plain_edit history 0 (inserting 2 1 text) group priority author)
+
+-- of equal priorities the higher author stands right, in both orders, and of equal ranks the later edit
+pub record RanksAtOneGap : Type 0 where
+  pub lower_first :
+      text_at (by_author (by_author (loaded (codes "ac")) (codes "X") 1 1 1) (codes "Y") 2 1 2) 2 ≡ codes "aXYc"
+  pub higher_first :
+      text_at (by_author (by_author (loaded (codes "ac")) (codes "Y") 2 1 2) (codes "X") 1 1 1) 2 ≡ codes "aXYc"
+  pub one_author :
+      text_at (by_author (by_author (loaded (codes "ac")) (codes "X") 1 1 1) (codes "Y") 2 1 1) 2 ≡ codes "aXYc"
+  pub one_author_turned :
+      text_at (by_author (by_author (loaded (codes "ac")) (codes "Y") 2 1 1) (codes "X") 1 1 1) 2 ≡ codes "aYXc"
+  pub priority_first :
+      text_at (by_author (by_author (loaded (codes "ac")) (codes "X") 1 2 1) (codes "Y") 2 1 2) 2 ≡ codes "aYXc"
+  pub front_end_first :
+      text_at (by_author (by_author (loaded (codes "ac")) (codes "X") 1 65536 0) (codes "Y") 2 65536 1) 2 ≡ codes "aXYc"
+  pub plugin_first :
+      text_at (by_author (by_author (loaded (codes "ac")) (codes "Y") 2 65536 1) (codes "X") 1 65536 0) 2 ≡ codes "aXYc"
 
 -- `X` of priority 2 and `Y` of priority 1, both at gap 1 of `ac`, and an edit that drops `c`
 abbrev pub of_two : ℕ → List ℕ → PlainEdit

@@ -7,6 +7,7 @@ use Rattle.plain_screen.specs.declared.screen.Op.{Op}
 use Rattle.plain_screen.specs.declared.screen.Op.TheVariants.{Copy}
 use Rattle.plain_text.specs.Numbers.{has}
 use Rattle.plain_text.specs.Text.{place_of, gap_at}
+use Rattle.plain_edits.specs.declared.rank.Rank.{Rank}
 use Rattle.plain_edits.specs.Delta.{applied}
 use Rattle.plain_edits.specs.History.{History, head, undone, visible_at, text_at, loaded, IsSound}
 use Rattle.plain_edits.specs.Place.{insertion_place}
@@ -45,8 +46,8 @@ UndoGoesBack = (history : History) (groups : List ℕ) → IsSound history →
 
 -- the places of two gaps differ: they stand in the order of the gaps
 abbrev pub PlacesRise : Type 0
-PlacesRise = (history : History) (base priority gap later : ℕ) → gap < later → later ≤ length (visible_at history base) →
-    insertion_place history base priority gap < insertion_place history base priority later
+PlacesRise = (history : History) (base : ℕ) (rank : Rank) (gap later : ℕ) → gap < later → later ≤ length (visible_at history base) →
+    insertion_place history base rank gap < insertion_place history base rank later
 
 -- one copy of a whole screen leaves it
 abbrev pub WholeCopyStays : Type 0

@@ -1,6 +1,11 @@
 //! Laws of undo, collection, change, carets and styles, each the contract of a function: they hold of all sound histories.
 
-ghost use Rattle.plain_laws.specs.HistoryLaws.{EditsGoByBlocks, CanonicalDeltasAreOne, LastUndoCounts, UndoneEditsHide, CollectionsChangeNoText, StepsGiveNothingBack, HistoriesStayWellFormed, CollectionsMayCome, DroppedIsHidden, DroppedStays, ChangesLead, CaretsFollowChanges, StylesFollowChanges, StylesStay, SpansReachTheirCharacters, RestIsTested, RestingGroupsQualify, CleanFloorsAreGreatest, FlippedIsExclusive};
+ghost use Rattle.plain_laws.specs.HistoryLaws.{RanksAreOrdered, EditsGoByBlocks, CanonicalDeltasAreOne, LastUndoCounts, UndoneEditsHide, CollectionsChangeNoText, StepsGiveNothingBack, HistoriesStayWellFormed, CollectionsMayCome, LaterRevisionsGiveNothing, DroppedIsHidden, DroppedStays, ChangesLead, CaretsFollowChanges, StylesFollowChanges, StylesStay, SpansReachTheirCharacters, RestIsTested, RestingGroupsQualify, CleanFloorsAreGreatest, FlippedIsExclusive};
+
+/// Of two distinct ranks one is lower, and only one, and it passes on.
+pub fn ranks_are_ordered()
+    ensures { RanksAreOrdered }
+{}
 
 /// An edit goes block by block: an insertion goes into the block of its gap.
 pub fn edits_go_by_blocks()
@@ -40,6 +45,11 @@ pub fn histories_stay_well_formed()
 /// What is collected after an entry may be collected.
 pub fn collections_may_come()
     ensures { CollectionsMayCome }
+{}
+
+/// Where nothing is collected, nothing is after more revisions, while no session acknowledges more and no group retires.
+pub fn later_revisions_give_nothing()
+    ensures { LaterRevisionsGiveNothing }
 {}
 
 /// No revision from the floor to the head shows a dropped character.

@@ -1,13 +1,13 @@
 //! Worked rows of undo, collection, change and styles, each the contract of a function.
 
-ghost use Rattle.plain_laws.specs.HistoryRows.{HiddenOnArrival, CollectionAfterGroups, DroppedCharacters, CleanFloors, MergedEdits, EditRefusals, StalePluginInsertion, CaretBesideInsertion, EditsSince, StaleSpans, SelectiveUndo, FlippedSets};
+ghost use Rattle.plain_laws.specs.HistoryRows.{HiddenOnArrival, CollectionAfterGroups, DroppedCharacters, CleanFloors, RanksAtOneGap, MergedEdits, EditRefusals, StalePluginInsertion, CaretBesideInsertion, EditsSince, StaleSpans, SelectiveUndo, FlippedSets};
 
 /// An edit in an undone group is hidden on arrival and hides nothing.
 pub fn hidden_on_arrival()
     ensures { HiddenOnArrival }
 {}
 
-/// A retired group is collected at the head, and what lies before is then refused.
+/// A retired group is collected once the sessions have acknowledged its edits, and what lies before is then refused.
 pub fn collection_after_groups()
     ensures { CollectionAfterGroups }
 {}
@@ -20,6 +20,11 @@ pub fn dropped_characters()
 /// An edit against an old base keeps the floors after that base from being clean.
 pub fn clean_floors()
     ensures { CleanFloors }
+{}
+
+/// Of equal priorities the higher author stands right, whichever comes first.
+pub fn ranks_at_one_gap()
+    ensures { RanksAtOneGap }
 {}
 
 /// Edits of one text come to one text, in whatever order they are named.

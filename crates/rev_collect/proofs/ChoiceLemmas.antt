@@ -72,6 +72,6 @@ resting_without h group groups floor moves =
 
 -- where none rests up to a revision, nothing is collected
 pub nothing_collected : (h : History) (retired : List ℕ) (most : ℕ) → ((floor : ℕ) → floor ≤ most → resting_groups h retired floor ≡ []) →
-    None ≡ collection_at h (clean_floor h.revisions most) (resting_groups h retired (clean_floor h.revisions most))
+    None ≡ collection_at (clean_floor h.revisions most) (resting_groups h retired (clean_floor h.revisions most))
 nothing_collected h retired most none =
-    sym (ap (collection_at h (clean_floor h.revisions most)) (none (clean_floor h.revisions most) ((greatest_clean_floor h.revisions most).is_within)))
+    sym (ap (collection_at (clean_floor h.revisions most)) (none (clean_floor h.revisions most) ((greatest_clean_floor h.revisions most).is_within)))

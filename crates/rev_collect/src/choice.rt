@@ -1,6 +1,6 @@
 ghost use Rattle.std.specs.Prelude.{◌≡◌, ◌≤◌, IfOk};
 ghost use Rattle.plain_edits.specs.History.{head};
-ghost use Rattle.plain_edits.specs.Collection.{collection_of, is_where_to_collect};
+ghost use Rattle.plain_edits.specs.Collection.{collection_of};
 ghost use Rattle.rev_collect.specs.Choice.{collection_said};
 
 use crate::floors::clean_floor;
@@ -14,7 +14,7 @@ use std::collections::BTreeSet;
 /// acknowledged, or the head where none is open: a floor, and the groups that are collected there. `None` comes exactly where that is
 /// nothing. Groups that were collected before are passed over. It costs the logarithm of the number of groups for each retired one, and
 /// no more where each of them is collected or has its first edit after `acknowledged`; else the height of the list for each revision
-/// after the greatest clean floor up to there, and, where groups are collected at that floor, one pass over the retired ones.
+/// after the greatest clean floor up to there, and one pass over the retired ones.
 pub fn collectable(
     alloc: Global,
     revs: &RevList,
@@ -30,19 +30,9 @@ pub fn collectable(
         return Ok(None);
     }
     let floor = clean_floor(revs, acknowledged);
-    if !is_where_to_collect(revs, floor) {
-        return Ok(None);
-    }
     let groups = resting_groups(alloc, revs, retired, floor)?;
     if groups.is_empty() {
         return Ok(None);
     }
     Ok(Some((floor, groups)))
-}
-
-// THE RULE OF WHERE: whether groups are collected at this floor.
-fn is_where_to_collect(revs: &RevList, floor: u64) -> bool
-    ensures { result ≡ is_where_to_collect revs.now floor }
-{
-    floor == revs.head()
 }

@@ -3,6 +3,7 @@ use Rattle.std.proofs.Common.{◌≡◌, ℕ, Bool, true, false, List, [], ◌�
 use Rattle.std.specs.List.{AllByRecursion}
 use Rattle.std.proofs.lemmas.Bool.{both_ways}
 use Rattle.std.proofs.lemmas.List.Elements.{filter-append}
+use Rattle.plain_edits.specs.declared.rank.Rank.{Rank}
 use Rattle.plain_edits.specs.History.{Tagged, Revision}
 use Rattle.plain_edits.specs.Place.{goes_right, left_in_run}
 use Rattle.plain_text.proofs.callers.ListLemmas.{filter-yes, filter-no, filter_none, filter_all}
@@ -51,18 +52,18 @@ module _ {X : Type 0} (p : X → Bool) where
   Falls-fails [] x back falls fails = falls.0 fails
   Falls-fails (y ∷ front) x back falls fails = Falls-fails front x back falls.1 fails
 
--- whether the character stays left of an insertion with the priority
-abbrev pub stays : List Revision → ℕ → Tagged → Bool
-stays revisions priority tagged = goes_right revisions priority tagged.inserted
+-- whether the character stays left of an insertion of the rank
+abbrev pub stays : List Revision → Rank → Tagged → Bool
+stays revisions rank tagged = goes_right revisions rank tagged.inserted
 
-module _ (revisions : List Revision) (priority : ℕ) where
+module _ (revisions : List Revision) (rank : Rank) where
   abbrev left_of : Tagged → Bool
-  left_of = stays revisions priority
+  left_of = stays revisions rank
 
   -- of a run where those that stay left stand first, as many stay left as pass
-  left_in_run-falls : (run : List Tagged) → Falls left_of run → left_in_run revisions priority (length run) run ≡ length (filter left_of run)
+  left_in_run-falls : (run : List Tagged) → Falls left_of run → left_in_run revisions rank (length run) run ≡ length (filter left_of run)
   left_in_run-falls run =
-      left_in_run-by_cuts revisions priority (λ xs k. Falls left_of xs → k ≡ length (filter left_of xs)) (λ _. refl)
+      left_in_run-by_cuts revisions rank (λ xs k. Falls left_of xs → k ≡ length (filter left_of xs)) (λ _. refl)
       (λ front x back k least none goes rest falls.
       let all = filter_all left_of front (Falls-passes left_of front x back falls goes) in
       let parts = filter-append left_of front (x ∷ back) ∙ ap₂ (λ xs ys. xs ++ ys) all (filter-yes left_of x back goes) in
@@ -74,9 +75,9 @@ module _ (revisions : List Revision) (priority : ℕ) where
       (length run) run (omega arith)
 
   -- a run of characters that stay left and characters that go right
-  pub left_in_run-parts : (front back : List Tagged) → AllByRecursion (λ tagged. stays revisions priority tagged ≡ true) front →
-      AllByRecursion (λ tagged. stays revisions priority tagged ≡ false) back →
-      left_in_run revisions priority (length (front ++ back)) (front ++ back) ≡ length front
+  pub left_in_run-parts : (front back : List Tagged) → AllByRecursion (λ tagged. stays revisions rank tagged ≡ true) front →
+      AllByRecursion (λ tagged. stays revisions rank tagged ≡ false) back →
+      left_in_run revisions rank (length (front ++ back)) (front ++ back) ≡ length front
   left_in_run-parts front back pass fail =
       left_in_run-falls (front ++ back) (Falls-append left_of front back pass fail) ∙
       ap length (filter-append left_of front back ∙ ap₂ (λ xs ys. xs ++ ys) (filter_all left_of front pass) (filter_none left_of back fail) ∙ append-nil front)

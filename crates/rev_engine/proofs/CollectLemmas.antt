@@ -13,7 +13,7 @@ use Rattle.plain_text.specs.Text.{byte_len}
 use Rattle.plain_edits.specs.History.{Tagged, History, head, undone}
 use Rattle.plain_edits.specs.Edits.{is_edit_of}
 use Rattle.plain_edits.specs.Undo.{undone_now}
-use Rattle.plain_edits.specs.Collection.{Collection, clean_floor, collected_at, collection_at, collection_of, is_at_rest, is_clean, is_dropped, is_where_to_collect, resting_groups, IsAtRest, MayCollect}
+use Rattle.plain_edits.specs.Collection.{Collection, clean_floor, collected_at, collection_at, collection_of, is_at_rest, is_clean, is_dropped, resting_groups, IsAtRest, MayCollect}
 use Rattle.plain_edits.proofs.callers.CollectionLemmas.{greatest_clean_floor, is_at_rest_iff}
 use Rattle.collection_laws.specs.Left.{left_of}
 use Rattle.collection_laws.proofs.ForCallers.{collection_of-left, head-left, left_of-collected, undone-left}
@@ -186,14 +186,9 @@ module _ (g : History) where
       by false is rest = rest
 
   taken_at : (floor : ℕ) (groups : List ℕ) → MayCollect g floor groups →
-      IfSome (collection_at g floor groups) (λ collection. IsCollectionTaken g collection.floor collection.groups)
+      IfSome (collection_at floor groups) (λ collection. IsCollectionTaken g collection.floor collection.groups)
   taken_at floor [] may = tt
-  taken_at floor (group ∷ groups) may = by (is_where_to_collect g floor) refl
-    where
-      by : (b : Bool) → is_where_to_collect g floor ≡ b → IfSome (if b then Some (record { floor = floor; groups = group ∷ groups }) else None)
-          (λ (collection : Collection). IsCollectionTaken g collection.floor collection.groups)
-      by true is = may
-      by false is = tt
+  taken_at floor (group ∷ groups) may = may
 
   taken-collection_of : (retired : List ℕ) (most : ℕ) → is_clean g.revisions g.floor ≡ true → g.floor ≤ most → most ≤ head g →
       IfSome (collection_of g retired most) (λ collection. IsCollectionTaken g collection.floor collection.groups)

@@ -7,12 +7,12 @@ use Rattle.plain_text.specs.Numbers.{has}
 use Rattle.plain_text.specs.Woven.{woven}
 use Rattle.plain_edits.specs.Delta.{keeps, adds, misfit_of}
 use Rattle.plain_edits.specs.History.{Tagged, History, head, undone, visible_at, text_at, inserted_count, IsSound}
-use Rattle.plain_edits.specs.Edits.{PlainEdit, edited, is_edit_of}
+use Rattle.plain_edits.specs.Edits.{PlainEdit, edited, is_edit_of, insertion_rank}
 use Rattle.plain_edits.specs.Delta.{inserted_len}
 use Rattle.plain_edits.proofs.callers.HistoryLemmas.{IsSound-edited, text_at-edited}
-use Rattle.rev_engine.specs.Given.{AskedEdit, meant, after, after_all, IsTaken, AreTaken}
+use Rattle.rev_engine.specs.Given.{AskedEdit, asked_rank, meant, after, after_all, IsTaken, AreTaken}
 use Rattle.rev_engine.specs.Asked.{IsGiven}
-use Rattle.rev_engine.specs.Commute.{DifferInPriority, IsForHead, AreForHead, AreOpen, ShowsMerged, EditsCommute}
+use Rattle.rev_engine.specs.Commute.{DifferInRank, IsForHead, AreForHead, AreOpen, ShowsMerged, EditsCommute}
 use Rattle.plain_edits.specs.Blocks.{block_at}
 use Rattle.plain_edits.proofs.callers.BlockLemmas.{at-by_blocks}
 use Rattle.plain_edits.proofs.callers.RunLemmas.{AllByRecursion-parts, AllByRecursion-to_map}
@@ -110,7 +110,7 @@ record Comes (limit : ℕ) (first : History) (done : List PlainEdit) (last : His
 
 comes : (limit : ℕ) (first : History) → TakesEdits first → (order : List AskedEdit) (done : List PlainEdit) (last : History) (dones : List Done)
     (at : ℕ → Tagged → Tagged) → IsMerging first done last dones at → IsReady limit first last order → AllByRecursion (IsForHead first) order →
-    Differ (λ e. e.priority) (done ++ map (meant first) order) → Comes limit first done last order
+    Differ insertion_rank (done ++ map (meant first) order) → Comes limit first done last order
 comes limit first takes [] done last dones at state ready each differ = record {
   taken = λ _. tt;
   final = done;
@@ -123,9 +123,9 @@ comes limit first takes (asked ∷ order) done last dones at state ready each di
     let e : PlainEdit = meant first asked in
     let edits : List PlainEdit = map (meant first) order in
     let middle : IsPermutation (done ++ e ∷ edits) (e ∷ (done ++ edits)) = IsPermutation-middle done e edits in
-    let apart : Differ (λ f. f.priority) (e ∷ (done ++ edits)) =
-    Differ-permutation (λ (f : PlainEdit). f.priority) (done ++ e ∷ edits) (e ∷ (done ++ edits)) middle differ in
-    let others = (AllByRecursion-parts (λ f. f.priority ≢ e.priority) done edits apart.0).0 in
+    let apart : Differ insertion_rank (e ∷ (done ++ edits)) =
+    Differ-permutation insertion_rank (done ++ e ∷ edits) (e ∷ (done ++ edits)) middle differ in
+    let others = (AllByRecursion-parts (λ f. insertion_rank f ≢ insertion_rank e) done edits apart.0).0 in
     let live = takes.live asked.group each.0.group_fresh in
     let same = meant-same limit first last asked order takes each.0 ready in
     let step = IsMerging-edited first takes.sound done last dones at state e each.0.base live others in
@@ -146,10 +146,10 @@ comes limit first takes (asked ∷ order) done last dones at state ready each di
       moved = IsPermutation-trans (done ++ e ∷ edits) (e ∷ (done ++ edits)) rest.final middle rest.moved;
     }
 
-Differ-meant : (history : History) (edits : List AskedEdit) → DifferInPriority edits → Differ (λ e. e.priority) (map (meant history) edits)
+Differ-meant : (history : History) (edits : List AskedEdit) → DifferInRank edits → Differ insertion_rank (map (meant history) edits)
 Differ-meant history [] differ = tt
 Differ-meant history (asked ∷ edits) differ = (
-  AllByRecursion-to_map (λ e. e.priority ≢ asked.priority) (meant history) edits differ.0,
+  AllByRecursion-to_map (λ e. insertion_rank e ≢ asked_rank asked) (meant history) edits differ.0,
   Differ-meant history edits differ.1,
 )
 
@@ -192,7 +192,7 @@ edits_commute_in limit history edits order takes for_head moved =
       numbers = omega (arith, for_head.numbers, length_permutation edits order moved);
     })
     (AllByRecursion-permutation (IsForHead history) edits order moved for_head.each)
-    (Differ-permutation (λ (e : PlainEdit). e.priority) asked_for in_order across differ) in (
+    (Differ-permutation insertion_rank asked_for in_order across differ) in (
       λ are. all.taken (AllByRecursion-permutation (λ asked. has history.collected asked.group ≡ false) edits order moved are),
       text_at-merging history takes.sound all.final (after_all history order) all.dones all.at all.state ∙
           sym (merged-permutation text asked_for all.final (IsPermutation-trans asked_for in_order all.final across all.moved) differ),

@@ -105,7 +105,7 @@ module _ (union : List ℕ) (revisions : History) (rev : ℕ) (edit : UnitEdit) 
       union_is =
           put.union_is ∙
           (ap (λ xs. put_in (insertion_flags revisions step) (added_text edit.units) xs) is.union_is ∙
-          sym (step-text revisions rev edit.units edit.priority (insertion_flags revisions step) (added_text edit.units)
+          sym (step-text revisions rev edit.units edit.priority edit.author (insertion_flags revisions step) (added_text edit.units)
           (base ∙ length-shown_at union revisions rev (positions-history union revisions h is)) refl refl h (sym is.revisions_is)));
       revisions_is =
           put.revisions_is ∙

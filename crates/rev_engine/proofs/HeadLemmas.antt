@@ -9,7 +9,7 @@ use Rattle.plain_edits.specs.declared.delta.Added.{Added}
 use Rattle.plain_edits.specs.Delta.{is_in_runs, text_at_gap}
 use Rattle.plain_edits.specs.UnitDelta.{AreAdds, AreRuns, IsCanonical}
 use Rattle.plain_edits.specs.History.{Tagged, History, IsSound, head, inserted_by, is_visible, text_at, undone, visible_at}
-use Rattle.plain_edits.specs.Edits.{PlainEdit, edited, with_deletion}
+use Rattle.plain_edits.specs.Edits.{PlainEdit, edited, with_deletion, insertion_rank}
 use Rattle.plain_edits.specs.Blocks.{block_after, block_at, left_in_block}
 use Rattle.plain_edits.specs.Change.{block, change_adds, change_keeps, passes_at}
 use Rattle.plain_text.proofs.callers.ListLemmas.{AllByRecursion-append, AllByRecursion-map, AllByRecursion-weaker, filter_all, filter_none}
@@ -99,7 +99,7 @@ module _ (h : History) (e : PlainEdit) (sound : IsSound h) (at_head : e.base ≡
   text_in g = map (inserted_by (head h + 1)) (e.added g)
 
   abbrev left : ℕ → ℕ
-  left g = left_in_block h.revisions e.base e.priority (block_at h e.base g)
+  left g = left_in_block h.revisions e.base (insertion_rank e) (block_at h e.base g)
 
   characters_are : last.characters ≡ woven (block_after h e) (λ n x. item n x ∷ []) 0 (visible_at h (head h))
   characters_are = characters-edited h e ∙ ap (λ rev. woven (block_after h e) (λ n x. item n x ∷ []) 0 (visible_at h rev)) at_head

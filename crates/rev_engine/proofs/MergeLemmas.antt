@@ -1,18 +1,19 @@
--- Edits of one text, taken one after the other: their texts stand at the gaps of the text in rising order of priority.
-use Rattle.std.proofs.Common.{◌≡◌, ◌≢◌, ℕ, ◌+◌, ◌<◌, ◌≤◌, Bool, true, false, cond, ◌&&◌, if◌then◌else◌, nat_le, List, [], ◌∷◌, ◌++◌, map, flat_map, refl, ap, ap₂, sym, subst, ◌∙◌, arith}
+-- Edits of one text, taken one after the other: their texts stand at the gaps of the text in rising order of rank.
+use Rattle.std.proofs.Common.{◌≡◌, ◌≢◌, ℕ, ◌+◌, ◌<◌, ◌≤◌, Bool, true, false, cond, ◌&&◌, if◌then◌else◌, List, [], ◌∷◌, ◌++◌, map, flat_map, refl, ap, ap₂, sym, subst, ◌∙◌, arith}
 use Rattle.std.specs.List.{AllByRecursion, list_all}
-use Rattle.std.proofs.lemmas.Bool.{leb-true, leb-false}
 use Rattle.std.proofs.lemmas.List.{append_assoc, length_push}
 use Rattle.std.proofs.lemmas.List.Folds.{flat_map-map}
 use Rattle.std.proofs.lemmas.List.Elements.{filter_passes, recursion_from_All}
 use Rattle.plain_text.specs.Numbers.{has}
 use Rattle.plain_text.specs.Woven.{woven}
-use Rattle.plain_edits.specs.History.{Tagged, edit, History, head, priority_of, undone, is_visible, visible_at, text_at, IsTaggedBy, IsSound}
-use Rattle.plain_edits.specs.Edits.{PlainEdit, with_deletion, edited, with_earlier, by_priority, merged}
+use Rattle.plain_edits.specs.History.{Tagged, edit, History, head, rank_of, undone, is_visible, visible_at, text_at, IsTaggedBy, IsSound}
+use Rattle.plain_edits.specs.Rank.{is_lower}
+use Rattle.plain_edits.specs.Edits.{PlainEdit, with_deletion, edited, with_earlier, by_rank, merged, insertion_rank}
 use Rattle.plain_text.proofs.callers.ListLemmas.{AllByRecursion-append, AllByRecursion-weaker, AllByRecursion-map, at-woven, woven_same, filter_none, filter_all, flat_map_same, map-flat_map}
 use Rattle.plain_edits.proofs.callers.HistoryLemmas.{IsTaggedBy-more, IsTaggedBy-deleted, is_visible-append, is_visible-deleted_later, shown, shown-append}
 use Rattle.plain_edits.proofs.callers.EditLemmas.{is_visible-with_deletion, is_visible-edited}
 use Rattle.plain_edits.specs.Blocks.{block_at}
+use Rattle.plain_edits.proofs.callers.RankLemmas.{is_lower-other, is_lower-passes}
 use Rattle.plain_edits.proofs.callers.BlockLemmas.{block_fails, woven-map}
 use Rattle.plain_edits.proofs.callers.WeaveLemmas.{AllByRecursion-block}
 use Rattle.plain_edits.proofs.callers.RunLemmas.{AllByRecursion-filter, AllByRecursion-parts}
@@ -64,7 +65,7 @@ StaysOf-edited last e base kept x y later live stays false = record {
       is_visible-with_deletion last e live y;
 }
 
--- ---- the edits that were taken, in rising order of priority
+-- ---- the edits that were taken, in rising order of rank
 
 -- an edit that was taken, and the revision that it is
 pub record Done : Type 0 where
@@ -81,26 +82,41 @@ text_of n d = map (inserted_by d.rev) (d.edit.added n)
 abbrev pub blocks_of : List Done → ℕ → List Tagged
 blocks_of dones n = flat_map (text_of n) dones
 
+-- what the one inserts goes left of what the other does
+abbrev pub IsLower : PlainEdit → PlainEdit → Type 0
+IsLower e f = is_lower (insertion_rank e) (insertion_rank f) ≡ true
+
 abbrev pub Rises : List Done → Type 0
 Rises [] = Unit {0}
-Rises (d ∷ dones) = AllByRecursion (λ other. d.edit.priority < other.edit.priority) dones × Rises dones
+Rises (d ∷ dones) = AllByRecursion (λ other. IsLower d.edit other.edit) dones × Rises dones
 
--- the edits of lower priority than one more, and those of higher
+-- the edits of lower rank than one more, and those of higher
 pub record Parts (e : PlainEdit) (dones : List Done) : Type 0 where
   pub front : List Done
   pub back : List Done
   pub whole : dones ≡ front ++ back
-  pub below : AllByRecursion (λ d. d.edit.priority < e.priority) front
-  pub above : AllByRecursion (λ d. e.priority < d.edit.priority) back
+  pub below : AllByRecursion (λ d. IsLower d.edit e) front
+  pub above : AllByRecursion (λ d. IsLower e d.edit) back
   pub earlier : with_earlier e (edits_of dones) ≡ edits_of front ++ e ∷ edits_of back
 
-pub parts : (e : PlainEdit) (dones : List Done) → Rises dones → AllByRecursion (λ d. d.edit.priority ≢ e.priority) dones → Parts e dones
+pub parts : (e : PlainEdit) (dones : List Done) → Rises dones → AllByRecursion (λ d. insertion_rank d.edit ≢ insertion_rank e) dones → Parts e dones
 parts e [] rises differ = record { front = []; back = []; whole = refl; below = tt; above = tt; earlier = refl }
 parts e (d ∷ dones) rises differ =
-    elim (nat_le e.priority d.edit.priority) as (λ b. nat_le e.priority d.edit.priority ≡ b → Parts e (d ∷ dones)) [
-      | true ↦ λ least.
-          let other : d.edit.priority ≢ e.priority = differ.0 in
-          let less : e.priority < d.edit.priority = omega (arith, leb-true e.priority d.edit.priority least) in
+    elim (is_lower (insertion_rank d.edit) (insertion_rank e)) as (λ b. is_lower (insertion_rank d.edit) (insertion_rank e) ≡ b → Parts e (d ∷ dones)) [
+      | true ↦ λ lower.
+          let rest = parts e dones rises.1 differ.1 in
+          record {
+            front = d ∷ rest.front;
+            back = rest.back;
+            whole = ap (λ ds. d ∷ ds) rest.whole;
+            below = (lower, rest.below);
+            above = rest.above;
+            earlier =
+                ap (λ b. if b then d.edit ∷ with_earlier e (edits_of dones) else e ∷ d.edit ∷ edits_of dones) lower ∙
+                ap (λ fs. d.edit ∷ fs) rest.earlier;
+          }
+      | false ↦ λ least.
+          let less : IsLower e d.edit = is_lower-other (insertion_rank d.edit) (insertion_rank e) differ.0 least in
           record {
             front = [];
             back = d ∷ dones;
@@ -108,33 +124,21 @@ parts e (d ∷ dones) rises differ =
             below = tt;
             above = (
               less,
-              AllByRecursion-weaker (λ other. d.edit.priority < other.edit.priority) (λ other. e.priority < other.edit.priority)
-                  (λ other more. omega arith) dones rises.0,
+              AllByRecursion-weaker (λ other. IsLower d.edit other.edit) (λ other. IsLower e other.edit)
+                  (λ other more. is_lower-passes (insertion_rank e) (insertion_rank d.edit) (insertion_rank other.edit) less more) dones rises.0,
             );
-            earlier = ap (λ b. if b then e ∷ d.edit ∷ edits_of dones else d.edit ∷ with_earlier e (edits_of dones)) least;
-          }
-      | false ↦ λ greater.
-          let rest = parts e dones rises.1 differ.1 in
-          record {
-            front = d ∷ rest.front;
-            back = rest.back;
-            whole = ap (λ ds. d ∷ ds) rest.whole;
-            below = (leb-false e.priority d.edit.priority greater, rest.below);
-            above = rest.above;
-            earlier =
-                ap (λ b. if b then e ∷ d.edit ∷ edits_of dones else d.edit ∷ with_earlier e (edits_of dones)) greater ∙
-                ap (λ fs. d.edit ∷ fs) rest.earlier;
+            earlier = ap (λ b. if b then d.edit ∷ with_earlier e (edits_of dones) else e ∷ d.edit ∷ edits_of dones) least;
           }
     ] refl
 
 -- one more edit between the two parts
 pub Rises-insert : (front : List Done) (d : Done) (back : List Done) → Rises (front ++ back) →
-    AllByRecursion (λ other. other.edit.priority < d.edit.priority) front → AllByRecursion (λ other. d.edit.priority < other.edit.priority) back →
+    AllByRecursion (λ other. IsLower other.edit d.edit) front → AllByRecursion (λ other. IsLower d.edit other.edit) back →
     Rises (front ++ d ∷ back)
 Rises-insert [] d back rises below above = (above, rises)
 Rises-insert (f ∷ front) d back rises below above =
-    let each = AllByRecursion-parts (λ other. f.edit.priority < other.edit.priority) front back rises.0 in (
-      AllByRecursion-append (λ other. f.edit.priority < other.edit.priority) front (d ∷ back) each.0 (below.0, each.1),
+    let each = AllByRecursion-parts (λ other. IsLower f.edit other.edit) front back rises.0 in (
+      AllByRecursion-append (λ other. IsLower f.edit other.edit) front (d ∷ back) each.0 (below.0, each.1),
       Rises-insert front d back rises.1 below.1 above,
     )
 
@@ -155,7 +159,7 @@ AllByRecursion-flat_map_each P Q f holds (x ∷ xs) each =
 pub record IsDone (base : ℕ) (history : History) (d : Done) : Type 0 where
   pub after : base < d.rev
   pub within : d.rev ≤ head history
-  pub priority : priority_of history.revisions d.rev ≡ d.edit.priority
+  pub rank : rank_of history.revisions d.rev ≡ insertion_rank d.edit
   pub seen : (c : ℕ) → is_visible history.revisions (head history) (inserted_by d.rev c) ≡ true
 
 -- the characters that a history shows at its head
@@ -199,7 +203,7 @@ pub record IsMerging (first : History) (done : List PlainEdit) (last : History) 
       woven (λ g. block_at first (head first) g ++ blocks_of dones g) (λ n x. at n x ∷ []) 0 (visible_at first (head first))
   pub each : AllByRecursion (IsDone (head first) last) dones
   pub rises : Rises dones
-  pub is : edits_of dones ≡ by_priority done
+  pub is : edits_of dones ≡ by_rank done
   pub others_before : (x : Tagged) → IsTaggedBy (head first) x → is_visible last.revisions (head first) x ≡ seen_in first x
   pub others : (x : Tagged) → IsTaggedBy (head first) x → seen_in last x ≡ seen_in first x
   pub stays : (n : ℕ) (x : Tagged) → IsTaggedBy (head first) x → seen_in first x ≡ true →
@@ -221,7 +225,7 @@ text_at-merging first sound done last dones at state =
     now = seen_in last
 
     texts : ℕ → List ℕ
-    texts n = flat_map (λ e. e.added n) (by_priority done)
+    texts n = flat_map (λ e. e.added n) (by_rank done)
 
     keeps : ℕ → ℕ → List ℕ
     keeps n c = if list_all (λ e. e.kept n) done then c ∷ [] else []

@@ -1,16 +1,18 @@
 -- One more edit of the same text.
-use Rattle.std.proofs.Common.{◌≡◌, ◌≢◌, ℕ, ◌+◌, ◌<◌, ◌≤◌, Bool, true, false, if◌then◌else◌, nat_lt, nat_le, List, [], ◌∷◌, ◌++◌, length, map, drop, filter, refl, ap, ap₂, sym, subst, ◌∙◌, arith, append_assoc}
+use Rattle.std.proofs.Common.{◌≡◌, ◌≢◌, ℕ, ◌+◌, ◌<◌, ◌≤◌, Bool, true, false, not, if◌then◌else◌, nat_lt, List, [], ◌∷◌, ◌++◌, length, map, drop, filter, refl, ap, ap₂, sym, subst, ◌∙◌, arith, append_assoc}
 use Rattle.std.specs.List.{AllByRecursion, list_all}
-use Rattle.std.proofs.lemmas.Bool.{lt-ltb, ltb-true, le-ltb, le-leb, lt-leb}
+use Rattle.std.proofs.lemmas.Bool.{lt-ltb, ltb-true, le-ltb}
 use Rattle.std.proofs.lemmas.List.{map-append}
 use Rattle.std.proofs.Math.Seq.{take-append_seam, take-append-add, drop-append-add}
 use Rattle.plain_text.specs.Numbers.{has}
 use Rattle.plain_text.specs.Woven.{woven}
-use Rattle.plain_edits.specs.History.{Tagged, edit, History, head, edit_priority, priority_of, undone, is_visible, visible_at, IsTaggedBy, IsSound}
-use Rattle.plain_edits.specs.Edits.{PlainEdit, with_deletion, edited, with_earlier, by_priority}
+use Rattle.plain_edits.specs.History.{Tagged, edit, History, head, edit_rank, rank_of, undone, is_visible, visible_at, IsTaggedBy, IsSound}
+use Rattle.plain_edits.specs.Rank.{is_lower}
+use Rattle.plain_edits.specs.Edits.{PlainEdit, with_deletion, edited, with_earlier, by_rank, insertion_rank}
 use Rattle.plain_text.proofs.callers.ListLemmas.{AllByRecursion-append, AllByRecursion-weaker, AllByRecursion-map}
-use Rattle.plain_edits.proofs.callers.HistoryLemmas.{IsTaggedBy-more, IsSound-edited, is_visible-later, revision_at-push, priority_of-append, undone-edit}
+use Rattle.plain_edits.proofs.callers.HistoryLemmas.{IsTaggedBy-more, IsSound-edited, is_visible-later, revision_at-push, rank_of-append, undone-edit}
 use Rattle.plain_edits.proofs.callers.EditLemmas.{is_visible-inserted_at}
+use Rattle.plain_edits.proofs.callers.RankLemmas.{is_lower-back}
 use Rattle.plain_edits.specs.Change.{block}
 use Rattle.plain_edits.specs.Blocks.{block_at, left_in_block, put_behind, block_after}
 use Rattle.plain_edits.proofs.callers.BlockLemmas.{characters-edited}
@@ -18,22 +20,22 @@ use Rattle.plain_edits.proofs.callers.RunLemmas.{AllByRecursion-parts, left_in_b
 use Rattle.plain_edits.proofs.callers.WeaveLemmas.{woven_within, woven-items, filter-weave, block-weave}
 use Rattle.rev_engine.proofs.BlockLemmas.{stays, left_in_run-parts}
 use Rattle.plain_edits.specs.History.{inserted_by}
-use Rattle.rev_engine.proofs.MergeLemmas.{head-edited, is_visible-at_head, is_visible-at_base, StaysOf-edited, Done, text_of, blocks_of, Rises, Parts, parts, Rises-insert, flat_map-append, AllByRecursion-flat_map_each, IsDone, IsShown, IsOld, AllByRecursion-both, each_shown, each_old, IsMerging}
+use Rattle.rev_engine.proofs.MergeLemmas.{head-edited, is_visible-at_head, is_visible-at_base, StaysOf-edited, Done, IsLower, text_of, blocks_of, Rises, Parts, parts, Rises-insert, flat_map-append, AllByRecursion-flat_map_each, IsDone, IsShown, IsOld, AllByRecursion-both, each_shown, each_old, IsMerging}
 
--- what holds of each edit holds of each in rising order of priority
+-- what holds of each edit holds of each in rising order of rank
 pub AllByRecursion-with_earlier : (P : PlainEdit → Type 0) (e : PlainEdit) (edits : List PlainEdit) → P e → AllByRecursion P edits →
     AllByRecursion P (with_earlier e edits)
 AllByRecursion-with_earlier P e [] one each = (one, tt)
 AllByRecursion-with_earlier P e (f ∷ edits) one each =
-    elim (nat_le e.priority f.priority) as (λ b. AllByRecursion P (if b then e ∷ f ∷ edits else f ∷ with_earlier e edits)) [
-      | true ↦ (one, each)
-      | false ↦ (each.0, AllByRecursion-with_earlier P e edits one each.1)
+    elim (is_lower (insertion_rank f) (insertion_rank e)) as (λ b. AllByRecursion P (if b then f ∷ with_earlier e edits else e ∷ f ∷ edits)) [
+      | true ↦ (each.0, AllByRecursion-with_earlier P e edits one each.1)
+      | false ↦ (one, each)
     ]
 
-pub AllByRecursion-by_priority : (P : PlainEdit → Type 0) (edits : List PlainEdit) → AllByRecursion P edits → AllByRecursion P (by_priority edits)
-AllByRecursion-by_priority P [] each = tt
-AllByRecursion-by_priority P (e ∷ edits) each =
-    AllByRecursion-with_earlier P e (by_priority edits) each.0 (AllByRecursion-by_priority P edits each.1)
+pub AllByRecursion-by_rank : (P : PlainEdit → Type 0) (edits : List PlainEdit) → AllByRecursion P edits → AllByRecursion P (by_rank edits)
+AllByRecursion-by_rank P [] each = tt
+AllByRecursion-by_rank P (e ∷ edits) each =
+    AllByRecursion-with_earlier P e (by_rank edits) each.0 (AllByRecursion-by_rank P edits each.1)
 
 AllByRecursion-of_map : {X Y : Type 0} (P : Y → Type 0) (f : X → Y) (xs : List X) → AllByRecursion P (map f xs) → AllByRecursion (λ x. P (f x)) xs
 AllByRecursion-of_map P f [] each = tt
@@ -42,12 +44,12 @@ AllByRecursion-of_map P f (x ∷ xs) each = (each.0, AllByRecursion-of_map P f x
 module _ (first : History) (sound : IsSound first)
     (done : List PlainEdit) (last : History) (dones : List Done) (at : ℕ → Tagged → Tagged) (state : IsMerging first done last dones at)
     (e : PlainEdit) (at_base : e.base ≡ head first) (live : has (undone first.revisions (head first)) e.group ≡ false)
-    (differ : AllByRecursion (λ f. f.priority ≢ e.priority) done) where
-  differ_dones : AllByRecursion (λ d. d.edit.priority ≢ e.priority) dones
+    (differ : AllByRecursion (λ f. insertion_rank f ≢ insertion_rank e) done) where
+  differ_dones : AllByRecursion (λ d. insertion_rank d.edit ≢ insertion_rank e) dones
   differ_dones =
-      AllByRecursion-of_map (λ f. f.priority ≢ e.priority) (λ d. d.edit) dones
-      (subst (AllByRecursion (λ f. f.priority ≢ e.priority)) (sym state.is)
-      (AllByRecursion-by_priority (λ f. f.priority ≢ e.priority) done differ))
+      AllByRecursion-of_map (λ f. insertion_rank f ≢ insertion_rank e) (λ d. d.edit) dones
+      (subst (AllByRecursion (λ f. insertion_rank f ≢ insertion_rank e)) (sym state.is)
+      (AllByRecursion-by_rank (λ f. insertion_rank f ≢ insertion_rank e) done differ))
 
   pub cut : Parts e dones
   cut = parts e dones state.rises differ_dones
@@ -73,21 +75,22 @@ module _ (first : History) (sound : IsSound first)
       (λ d is. AllByRecursion-map (λ tagged. nat_lt e.base tagged.inserted ≡ true) (inserted_by d.rev)
       (λ c. lt-ltb e.base d.rev (omega (arith, is.after, at_base))) (d.edit.added n)) ds each
 
-  front_stays : (n : ℕ) → AllByRecursion (λ tagged. stays last.revisions e.priority tagged ≡ true) (blocks_of cut.front n)
+  front_stays : (n : ℕ) → AllByRecursion (λ tagged. stays last.revisions (insertion_rank e) tagged ≡ true) (blocks_of cut.front n)
   front_stays n =
-      AllByRecursion-flat_map_each (λ tagged. stays last.revisions e.priority tagged ≡ true)
-      (λ d. IsDone (head first) last d × (d.edit.priority < e.priority)) (text_of n)
-      (λ d is. AllByRecursion-map (λ tagged. stays last.revisions e.priority tagged ≡ true) (inserted_by d.rev)
-      (λ c. le-leb (priority_of last.revisions d.rev) e.priority (omega (arith, is.0.priority, is.1))) (d.edit.added n))
-      cut.front (AllByRecursion-both (IsDone (head first) last) (λ d. d.edit.priority < e.priority) _ (λ d is less. (is, less)) cut.front each_parts.0 cut.below)
+      AllByRecursion-flat_map_each (λ tagged. stays last.revisions (insertion_rank e) tagged ≡ true)
+      (λ d. IsDone (head first) last d × IsLower d.edit e) (text_of n)
+      (λ d is. AllByRecursion-map (λ tagged. stays last.revisions (insertion_rank e) tagged ≡ true) (inserted_by d.rev)
+      (λ c. ap (λ rank. not (is_lower (insertion_rank e) rank)) is.0.rank ∙
+      ap not (is_lower-back (insertion_rank d.edit) (insertion_rank e) is.1)) (d.edit.added n))
+      cut.front (AllByRecursion-both (IsDone (head first) last) (λ d. IsLower d.edit e) _ (λ d is less. (is, less)) cut.front each_parts.0 cut.below)
 
-  back_goes : (n : ℕ) → AllByRecursion (λ tagged. stays last.revisions e.priority tagged ≡ false) (blocks_of cut.back n)
+  back_goes : (n : ℕ) → AllByRecursion (λ tagged. stays last.revisions (insertion_rank e) tagged ≡ false) (blocks_of cut.back n)
   back_goes n =
-      AllByRecursion-flat_map_each (λ tagged. stays last.revisions e.priority tagged ≡ false)
-      (λ d. IsDone (head first) last d × (e.priority < d.edit.priority)) (text_of n)
-      (λ d is. AllByRecursion-map (λ tagged. stays last.revisions e.priority tagged ≡ false) (inserted_by d.rev)
-      (λ c. lt-leb (priority_of last.revisions d.rev) e.priority (omega (arith, is.0.priority, is.1))) (d.edit.added n))
-      cut.back (AllByRecursion-both (IsDone (head first) last) (λ d. e.priority < d.edit.priority) _ (λ d is more. (is, more)) cut.back each_parts.1 cut.above)
+      AllByRecursion-flat_map_each (λ tagged. stays last.revisions (insertion_rank e) tagged ≡ false)
+      (λ d. IsDone (head first) last d × IsLower e d.edit) (text_of n)
+      (λ d is. AllByRecursion-map (λ tagged. stays last.revisions (insertion_rank e) tagged ≡ false) (inserted_by d.rev)
+      (λ c. ap (λ rank. not (is_lower (insertion_rank e) rank)) is.0.rank ∙ ap not is.1) (d.edit.added n))
+      cut.back (AllByRecursion-both (IsDone (head first) last) (λ d. IsLower e d.edit) _ (λ d is more. (is, more)) cut.back each_parts.1 cut.above)
 
   -- the blocks of the base are those of the first history, and behind them the texts of the edits
   abbrev old : ℕ → List Tagged
@@ -128,16 +131,16 @@ module _ (first : History) (sound : IsSound first)
       (visible_at first (head first)) within (each_shown first sound) ∙
       (let none : 0 + g ≡ g = omega arith in ap (λ k. old k ++ blocks_of dones k) none) ∙ ap (λ xs. old g ++ xs) (parts_of g)
 
-  -- and the text of one more edit goes between those of lower priority and those of higher
+  -- and the text of one more edit goes between those of lower rank and those of higher
   put_is : (g : ℕ) → g ≤ length (visible_at first (head first)) → block_after last e g ≡ old g ++ blocks_of dones_after g
   put_is g within =
-      ap (λ xs. put_behind (left_in_block last.revisions e.base e.priority xs) (text_of g newest) xs) (block_is g within) ∙
+      ap (λ xs. put_behind (left_in_block last.revisions e.base (insertion_rank e) xs) (text_of g newest) xs) (block_is g within) ∙
       ap (λ k. put_behind k (text_of g newest) (old g ++ texts_in g))
-      (left_in_block-parts last.revisions e.base e.priority (old g) (texts_in g)
+      (left_in_block-parts last.revisions e.base (insertion_rank e) (old g) (texts_in g)
       (AllByRecursion-weaker (IsOld first) (λ x. nat_lt e.base x.inserted ≡ false)
       (λ x is. le-ltb e.base x.inserted (omega (arith, is.tagged.inserted, at_base))) (old g) (each_old first sound g)) (late_in g) ∙
       ap (λ k. length (old g) + k)
-      (left_in_run-parts last.revisions e.priority (blocks_of cut.front g) (blocks_of cut.back g) (front_stays g) (back_goes g))) ∙
+      (left_in_run-parts last.revisions (insertion_rank e) (blocks_of cut.front g) (blocks_of cut.back g) (front_stays g) (back_goes g))) ∙
       ap₂ (λ xs ys. xs ++ (text_of g newest ++ ys))
       (take-append-add (old g) (texts_in g) (length (blocks_of cut.front g)) ∙ ap (λ xs. old g ++ xs) (take-append_seam (blocks_of cut.front g) (blocks_of cut.back g)))
       (drop-append-add (old g) (texts_in g) (length (blocks_of cut.front g)) ∙
@@ -168,7 +171,7 @@ module _ (first : History) (sound : IsSound first)
   IsDone-after d is = record {
     after = is.after;
     within = omega (arith, is.within, one_more);
-    priority = priority_of-append last.revisions (edit e.base e.group e.priority e.author ∷ []) d.rev is.within ∙ is.priority;
+    rank = rank_of-append last.revisions (edit e.base e.group e.priority e.author ∷ []) d.rev is.within ∙ is.rank;
     seen = λ c.
         is_visible-at_head last e (inserted_by d.rev c) (record { inserted = is.within; deleted = tt }) ∙ is.seen c;
   }
@@ -177,7 +180,7 @@ module _ (first : History) (sound : IsSound first)
   IsDone-newest = record {
     after = omega (arith, state.later);
     within = omega (arith, one_more);
-    priority = ap edit_priority (revision_at-push last.revisions (edit e.base e.group e.priority e.author));
+    rank = ap edit_rank (revision_at-push last.revisions (edit e.base e.group e.priority e.author));
     seen = λ c.
         ap (λ now. is_visible (edited last e).revisions now (inserted_by (head last + 1) c)) one_more ∙ is_visible-inserted_at last e live_now c;
   }

@@ -6,13 +6,13 @@ use Rattle.plain_edits.specs.Delta.{Fits}
 use Rattle.plain_edits.specs.History.{History, head, text_at, inserted_count}
 use Rattle.plain_edits.specs.Edits.{is_edit_of, merged}
 use Rattle.plain_edits.specs.Delta.{inserted_len}
-use Rattle.rev_engine.specs.Given.{AskedEdit, meant, after_all, AreTaken}
+use Rattle.rev_engine.specs.Given.{AskedEdit, asked_rank, meant, after_all, AreTaken}
 use Rattle.rev_engine.specs.Asked.{IsGiven}
 
--- no two of the edits have one priority
-abbrev pub DifferInPriority : List AskedEdit → Type 0
-DifferInPriority [] = ⊤
-DifferInPriority (asked ∷ edits) = AllByRecursion (λ other. other.priority ≢ asked.priority) edits × DifferInPriority edits
+-- no two of the edits have one rank
+abbrev pub DifferInRank : List AskedEdit → Type 0
+DifferInRank [] = ⊤
+DifferInRank (asked ∷ edits) = AllByRecursion (λ other. asked_rank other ≢ asked_rank asked) edits × DifferInRank edits
 
 -- the edit is against the head and fits its text, in a group that has no edit yet
 pub record IsForHead (history : History) (asked : AskedEdit) : Type 0 where
@@ -21,10 +21,10 @@ pub record IsForHead (history : History) (asked : AskedEdit) : Type 0 where
   pub group_counts : 1 ≤ asked.group
   pub group_fresh : list_any (is_edit_of asked.group) history.revisions ≡ false
 
--- the edits are all for the head, of distinct priorities, and there is room for them under the limit and among the numbers
+-- the edits are all for the head, of distinct ranks, and there is room for them under the limit and among the numbers
 pub record AreForHead (limit : ℕ) (history : History) (edits : List AskedEdit) : Type 0 where
   pub each : AllByRecursion (IsForHead history) edits
-  pub distinct : DifferInPriority edits
+  pub distinct : DifferInRank edits
   pub room : inserted_count history + sum_by (λ asked. inserted_len asked.delta.els) edits ≤ limit
   pub numbers : head history + length edits ≤ 2 ^ 63 - 1
 

@@ -2,6 +2,7 @@
 use Rattle.std.specs.Prelude.{◌≡◌, ℕ, ◌-◌, ◌^◌, ◌<◌, ◌≤◌, false, List, [], ◌∷◌, None, ⊤}
 use Rattle.std.specs.List.{fold}
 use Rattle.plain_edits.specs.declared.delta.Delta.{Delta}
+use Rattle.plain_edits.specs.declared.rank.Rank.{Rank}
 use Rattle.plain_text.specs.Numbers.{has}
 use Rattle.plain_edits.specs.History.{History, head}
 use Rattle.plain_edits.specs.Edits.{PlainEdit, edited, plain_edit, edit_refusal}
@@ -13,6 +14,10 @@ pub record AskedEdit : Type 0 where
   pub group : ℕ
   pub priority : ℕ
   pub author : ℕ
+
+-- the rank of what it inserts
+abbrev pub asked_rank : AskedEdit → Rank
+asked_rank asked = record { priority = asked.priority; author = asked.author }
 
 -- what it means in a history
 abbrev pub meant : History → AskedEdit → PlainEdit

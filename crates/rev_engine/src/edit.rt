@@ -6,7 +6,8 @@ pub struct Edit {
     /// The revision whose text the delta is against.
     pub rev: u64,
     pub delta: Delta,
-    /// Of two insertions at one gap that of the higher priority stands right; of equal ones the later.
+    /// Of two insertions at one gap that of the higher priority stands right; of equal priorities that of the higher author, and of one
+    /// author the later.
     pub priority: u32,
     /// Whether carets at the gap of an insertion stay left of it. The engine has no carets and passes it over.
     pub after_cursor: bool,

@@ -50,7 +50,7 @@ pub(crate) fn put_in(
     requires fits { byte_len union.now + byte_len (added_text edit.now.units) < 2 ^ 64 }
     ensures { IfOk result (λ made. IsPutIn union.now revs.now rev edit.now made.union made.revs) }
 {
-    let made = rebase(alloc, revs, rev, &edit.units, edit.priority)?;
+    let made = rebase(alloc, revs, rev, &edit.units, edit.priority, edit.author)?;
     let Rebased {
         inserted,
         deleted,

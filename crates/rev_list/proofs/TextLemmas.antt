@@ -8,7 +8,7 @@ use Rattle.subset_runs.proofs.ForCallers.{count-append}
 use Rattle.plain_text.specs.Woven.{woven}
 use Rattle.plain_edits.specs.History.{Tagged, History, head}
 use Rattle.plain_edits.specs.Place.{insertion_place}
-use Rattle.plain_edits.specs.Edits.{PlainEdit, gap_count, inserted_at, is_deleted_by, with_deletion, edited}
+use Rattle.plain_edits.specs.Edits.{PlainEdit, gap_count, inserted_at, is_deleted_by, with_deletion, edited, insertion_rank}
 use Rattle.rev_list.specs.Edit.{new_by, with_new, with_deleted, after_edit}
 use Rattle.rev_list.specs.Hidden.{is_hidden, hidden_at}
 use Rattle.rev_list.specs.WithoutText.{without_character, without_text, insertion_flags, deletion_flags, in_positions}
@@ -44,7 +44,7 @@ AreNew-flat_map rev f each (gap ∷ gaps) = AreNew-append rev (f gap) (flat_map 
 
 AreNew-inserted_at : (h : History) (e : PlainEdit) (index : ℕ) → AreNew (head h + 1) (inserted_at h e index)
 AreNew-inserted_at h e index =
-    AreNew-flat_map (head h + 1) _ (λ gap. AreNew-if (head h + 1) (insertion_place h e.base e.priority gap == index) _ (AreNew-text (head h + 1) (e.added gap))) (range_with_len 0 (gap_count h e.base))
+    AreNew-flat_map (head h + 1) _ (λ gap. AreNew-if (head h + 1) (insertion_place h e.base (insertion_rank e) gap == index) _ (AreNew-text (head h + 1) (e.added gap))) (range_with_len 0 (gap_count h e.base))
 
 -- ---- new characters at the front
 

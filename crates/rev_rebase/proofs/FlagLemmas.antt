@@ -8,11 +8,12 @@ use Rattle.std.proofs.lemmas.List.Elements.{recursion_from_All, filter_passes}
 use Rattle.subset_runs.specs.Subset.{expand}
 use Rattle.subset_runs.proofs.ForCallers.{length-expand_as}
 use Rattle.plain_text.specs.Woven.{woven, nth_index}
+use Rattle.plain_edits.specs.declared.rank.Rank.{Rank}
 use Rattle.plain_edits.specs.declared.delta.UnitDelta.{UnitDelta}
 use Rattle.plain_edits.specs.UnitDelta.{unit_keeps}
 use Rattle.plain_edits.specs.History.{Tagged, inserted_by, Revision, History, head, is_visible, visible_at}
 use Rattle.plain_edits.specs.Place.{is_by, goes_right, index_right_of, insertion_place}
-use Rattle.plain_edits.specs.Edits.{PlainEdit, inserted_at, is_deleted_by}
+use Rattle.plain_edits.specs.Edits.{PlainEdit, inserted_at, is_deleted_by, insertion_rank}
 use Rattle.plain_edits.specs.Change.{block}
 use Rattle.plain_edits.specs.Blocks.{block_at, left_in_block}
 use Rattle.plain_text.proofs.callers.ListLemmas.{AllByRecursion-take, AllByRecursion-weaker, woven_same, filter_none, filter_all}
@@ -34,16 +35,16 @@ use Rattle.rev_rebase.proofs.UntilLemmas.{seen_then, union_at-before, union_at-t
 -- ---- an edit's positions, by blocks
 
 -- the characters of a block that stay left of the edit's, and those that go right of them
-abbrev pub left_part : List Revision → ℕ → ℕ → List Tagged → List Tagged
-left_part revisions base priority characters = take (left_in_block revisions base priority characters) characters
+abbrev pub left_part : List Revision → ℕ → Rank → List Tagged → List Tagged
+left_part revisions base rank characters = take (left_in_block revisions base rank characters) characters
 
-abbrev pub right_part : List Revision → ℕ → ℕ → List Tagged → List Tagged
-right_part revisions base priority characters = drop (left_in_block revisions base priority characters) characters
+abbrev pub right_part : List Revision → ℕ → Rank → List Tagged → List Tagged
+right_part revisions base rank characters = drop (left_in_block revisions base rank characters) characters
 
 -- so many insertions in the block
-abbrev pub put_in_block : List Revision → ℕ → ℕ → ℕ → List Tagged → List Bool
-put_in_block revisions base priority many characters =
-    put_between many (left_part revisions base priority characters) (right_part revisions base priority characters)
+abbrev pub put_in_block : List Revision → ℕ → Rank → ℕ → List Tagged → List Bool
+put_in_block revisions base rank many characters =
+    put_between many (left_part revisions base rank characters) (right_part revisions base rank characters)
 
 same_either : {Y : Type 0} (b : Bool) (y : Y) → (if b then y else y) ≡ y
 same_either true y = refl
@@ -58,16 +59,16 @@ module _ (h : History) (e : PlainEdit) where
   blk g = block_at h e.base g
 
   abbrev lefts : ℕ → List Tagged
-  lefts g = left_part h.revisions e.base e.priority (blk g)
+  lefts g = left_part h.revisions e.base (insertion_rank e) (blk g)
 
   abbrev rights : ℕ → List Tagged
-  rights g = right_part h.revisions e.base e.priority (blk g)
+  rights g = right_part h.revisions e.base (insertion_rank e) (blk g)
 
   abbrev news : ℕ → List Tagged
   news g = map (inserted_by (head h + 1)) (e.added g)
 
   pub insertion_flags-blocks : insertion_flags h e ≡
-      weave (λ g. put_in_block h.revisions e.base e.priority (length (e.added g)) (block_at h e.base g)) (λ _. false) 0 (visible_at h e.base)
+      weave (λ g. put_in_block h.revisions e.base (insertion_rank e) (length (e.added g)) (block_at h e.base g)) (λ _. false) 0 (visible_at h e.base)
   insertion_flags-blocks =
       ap (λ (at : ℕ → Tagged → List Bool). woven (λ i. map (λ _. true) (inserted_at h e i)) at 0 h.characters)
       (λ i index tagged. sym (ap (λ b. b ∷ []) (same_either (is_deleted_by h e index tagged) false)) i) ∙
@@ -78,7 +79,7 @@ module _ (h : History) (e : PlainEdit) where
       (λ i g tagged. ap (λ b. b ∷ []) (same_either (e.kept g) false) i)
 
   pub deletion_flags-blocks : deletion_flags h e ≡
-      weave (λ g. falses (put_in_block h.revisions e.base e.priority (length (e.added g)) (block_at h e.base g))) (λ g. not (e.kept g)) 0 (visible_at h e.base)
+      weave (λ g. falses (put_in_block h.revisions e.base (insertion_rank e) (length (e.added g)) (block_at h e.base g))) (λ g. not (e.kept g)) 0 (visible_at h e.base)
   deletion_flags-blocks =
       ap (λ (at : ℕ → Tagged → List Bool). woven (λ i. map (λ _. false) (inserted_at h e i)) at 0 h.characters)
       (λ i index tagged. ap (λ b. b ∷ []) (itself (is_deleted_by h e index tagged)) i) ∙
@@ -95,11 +96,11 @@ module _ (h : History) (e : PlainEdit) where
       turned false = refl
 
       all_false : (g : ℕ) → falses (lefts g) ++ (falses (news g) ++ falses (rights g)) ≡
-          falses (put_in_block h.revisions e.base e.priority (length (e.added g)) (blk g))
+          falses (put_in_block h.revisions e.base (insertion_rank e) (length (e.added g)) (blk g))
       all_false g =
           ap (λ bs. falses (lefts g) ++ bs) (sym (map-append (λ _. false) (news g) (rights g))) ∙
           sym (map-append (λ _. false) (lefts g) (news g ++ rights g)) ∙
-          falses-len (lefts g ++ (news g ++ rights g)) (put_in_block h.revisions e.base e.priority (length (e.added g)) (blk g))
+          falses-len (lefts g ++ (news g ++ rights g)) (put_in_block h.revisions e.base (insertion_rank e) (length (e.added g)) (blk g))
           (omega (
             arith,
             length-append (lefts g) (news g ++ rights g),
@@ -157,35 +158,35 @@ module _ (h : History) (base : ℕ) where
       (block_fails seen g (union_at h base)))
 
   -- of characters that are there at the next revision
-  step_then : (priority m : ℕ) → base ≤ m → (characters : List Tagged) → AllByRecursion (λ t. t.inserted ≤ m + 1) characters →
-      Over (is_by (m + 1)) (goes_right (take (m + 1) h.revisions) priority (m + 1)) characters
-      (left_in_block (take m h.revisions) base priority (filter (λ t. not (is_by (m + 1) t)) characters))
-      (left_in_block (take (m + 1) h.revisions) base priority characters)
-  step_then priority m low characters each =
-      left_in_block-step (take (m + 1) h.revisions) (take m h.revisions) priority (m + 1)
-      (λ r below. goes_right-take h.revisions m priority r (omega arith) ∙ sym (goes_right-take h.revisions (m + 1) priority r (omega arith)))
+  step_then : (rank : Rank) (m : ℕ) → base ≤ m → (characters : List Tagged) → AllByRecursion (λ t. t.inserted ≤ m + 1) characters →
+      Over (is_by (m + 1)) (goes_right (take (m + 1) h.revisions) rank (m + 1)) characters
+      (left_in_block (take m h.revisions) base rank (filter (λ t. not (is_by (m + 1) t)) characters))
+      (left_in_block (take (m + 1) h.revisions) base rank characters)
+  step_then rank m low characters each =
+      left_in_block-step (take (m + 1) h.revisions) (take m h.revisions) rank (m + 1)
+      (λ r below. goes_right-take h.revisions m rank r (omega arith) ∙ sym (goes_right-take h.revisions (m + 1) rank r (omega arith)))
       base characters (omega (arith, low)) each
 
 module _ (h : History) (e : PlainEdit) where
   abbrev put_then : ℕ → ℕ → List Bool
-  put_then m g = put_in_block (take m h.revisions) e.base e.priority (length (e.added g)) (block_then h e.base m g)
+  put_then m g = put_in_block (take m h.revisions) e.base (insertion_rank e) (length (e.added g)) (block_then h e.base m g)
 
   insertion_flags-until : (m : ℕ) → e.base ≤ m → insertion_flags (until h m) e ≡ weave (put_then m) (λ _. false) 0 (visible_at h e.base)
   insertion_flags-until m low =
       insertion_flags-blocks (until h m) e ∙
-      ap (λ sight. weave (λ g. put_in_block (take m h.revisions) e.base e.priority (length (e.added g)) (block sight g (union_at h m))) (λ _. false) 0
+      ap (λ sight. weave (λ g. put_in_block (take m h.revisions) e.base (insertion_rank e) (length (e.added g)) (block sight g (union_at h m))) (λ _. false) 0
       (filter sight (union_at h m))) (seen_then h e.base m low) ∙
       ap (weave (put_then m) (λ _. false) 0) (visible_then h e.base m low)
 
   -- over what is new in a union, where each cut of a block goes over it
   module _ (m : ℕ) (low : e.base ≤ m) (new : Tagged → Bool) (unseen : (t : Tagged) → is_visible h.revisions e.base t ≡ true → new t ≡ false) (right : Bool)
       (was : ℕ → ℕ)
-      (over : (g : ℕ) → IsOver new right (block_then h e.base m g) (was g) (left_in_block (take m h.revisions) e.base e.priority (block_then h e.base m g))) where
+      (over : (g : ℕ) → IsOver new right (block_then h e.base m g) (was g) (left_in_block (take m h.revisions) e.base (insertion_rank e) (block_then h e.base m g))) where
     abbrev lefts_then : ℕ → List Tagged
-    lefts_then g = left_part (take m h.revisions) e.base e.priority (block_then h e.base m g)
+    lefts_then g = left_part (take m h.revisions) e.base (insertion_rank e) (block_then h e.base m g)
 
     abbrev rights_then : ℕ → List Tagged
-    rights_then g = right_part (take m h.revisions) e.base e.priority (block_then h e.base m g)
+    rights_then g = right_part (take m h.revisions) e.base (insertion_rank e) (block_then h e.base m g)
 
     abbrev olds : ℕ → List Tagged
     olds g = filter (λ t. not (new t)) (block_then h e.base m g)
@@ -198,23 +199,23 @@ module _ (h : History) (e : PlainEdit) where
         (λ i g. ap₂ (put_between (length (e.added g))) (sym (over g).left) (sym (over g).rest) i))
         (flags_then h e.base new unseen m low ∙
         ap (λ blocks. weave blocks (λ _. false) 0 (visible_at h e.base))
-        (λ i g. (ap (map new) (sym (take-append-drop (left_in_block (take m h.revisions) e.base e.priority (block_then h e.base m g)) (block_then h e.base m g))) ∙
+        (λ i g. (ap (map new) (sym (take-append-drop (left_in_block (take m h.revisions) e.base (insertion_rank e) (block_then h e.base m g)) (block_then h e.base m g))) ∙
         map-append new (lefts_then g) (rights_then g)) i)) ∙
         carried-blocks new right (λ g. length (e.added g)) lefts_then rights_then (λ g. (over g).beside) 0 (visible_at h e.base) ∙
         sym (insertion_flags-until m low)
 
   -- over the insertions of the next revision
   pub insertion_flags-step : (m : ℕ) → e.base ≤ m →
-      carried (goes_right h.revisions e.priority (m + 1)) (insertion_flags (until h m) e) (insertions_of h (m + 1)) ≡ insertion_flags (until h (m + 1)) e
+      carried (goes_right h.revisions (insertion_rank e) (m + 1)) (insertion_flags (until h m) e) (insertions_of h (m + 1)) ≡ insertion_flags (until h (m + 1)) e
   insertion_flags-step m low =
-      ap₂ (λ right flags. carried right flags (insertions_of h (m + 1))) (sym (goes_right-take h.revisions (m + 1) e.priority (m + 1) (omega arith)))
+      ap₂ (λ right flags. carried right flags (insertions_of h (m + 1))) (sym (goes_right-take h.revisions (m + 1) (insertion_rank e) (m + 1) (omega arith)))
       (insertion_flags-until m low ∙
       ap (λ blocks. weave blocks (λ _. false) 0 (visible_at h e.base))
-      (λ i g. ap (put_in_block (take m h.revisions) e.base e.priority (length (e.added g))) (block_then-before h e.base m low g) i)) ∙
-      carried_then (m + 1) (omega (arith, low)) (is_by (m + 1)) (later_unseen h e.base m low) (goes_right (take (m + 1) h.revisions) e.priority (m + 1))
-      (λ g. left_in_block (take m h.revisions) e.base e.priority (filter (λ t. not (is_by (m + 1) t)) (block_then h e.base (m + 1) g)))
-      (λ g. IsOver-over (is_by (m + 1)) (goes_right (take (m + 1) h.revisions) e.priority (m + 1)) (block_then h e.base (m + 1) g) _ _
-      (step_then h e.base e.priority m low (block_then h e.base (m + 1) g)
+      (λ i g. ap (put_in_block (take m h.revisions) e.base (insertion_rank e) (length (e.added g))) (block_then-before h e.base m low g) i)) ∙
+      carried_then (m + 1) (omega (arith, low)) (is_by (m + 1)) (later_unseen h e.base m low) (goes_right (take (m + 1) h.revisions) (insertion_rank e) (m + 1))
+      (λ g. left_in_block (take m h.revisions) e.base (insertion_rank e) (filter (λ t. not (is_by (m + 1) t)) (block_then h e.base (m + 1) g)))
+      (λ g. IsOver-over (is_by (m + 1)) (goes_right (take (m + 1) h.revisions) (insertion_rank e) (m + 1)) (block_then h e.base (m + 1) g) _ _
+      (step_then h e.base (insertion_rank e) m low (block_then h e.base (m + 1) g)
       (AllByRecursion-block (λ t. t.inserted ≤ m + 1) (is_visible h.revisions e.base) g (union_at h (m + 1)) (union_at-there h (m + 1)))))
 
   -- over what is dead at the base
@@ -225,7 +226,7 @@ module _ (h : History) (e : PlainEdit) where
       (weave-len (λ g. replicate (length (e.added g)) true) (λ _. false) 0 zs (visible_at h e.base) as_many ∙
       ap (λ blocks. weave blocks (λ _. false) 0 (visible_at h e.base)) (λ i g. alone g i)) ∙
       carried_then e.base (omega arith) (is_hidden h e.base) (λ t is. ap not is) true (λ g. 0)
-      (λ g. subst (IsOver (is_hidden h e.base) true (dead g) 0) (sym (left_in_block-early (take e.base h.revisions) e.base e.priority (dead g)
+      (λ g. subst (IsOver (is_hidden h e.base) true (dead g) 0) (sym (left_in_block-early (take e.base h.revisions) e.base (insertion_rank e) (dead g)
       (AllByRecursion-block (λ t. nat_lt e.base t.inserted ≡ false) (is_visible h.revisions e.base) g (union_at h e.base) (all_early h e.base))))
       (IsOver-over (is_hidden h e.base) true (dead g) 0 (length (dead g)) (Over-new (is_hidden h e.base) true (dead g) 0 (length (dead g))
       (AllByRecursion-weaker (λ t. is_visible h.revisions e.base t ≡ false) (λ t. is_hidden h e.base t ≡ true) (λ t is. ap not is) (dead g)
@@ -242,29 +243,29 @@ module _ (h : History) (e : PlainEdit) where
 
 -- ---- one insertion place
 
-pub insertion_place-base : (h : History) (base priority gap : ℕ) →
-    insertion_place (until h base) base priority gap ≡ index_right_of (until h base) base gap
-insertion_place-base h base priority gap =
-    insertion_place-left (until h base) base priority gap ∙
-    left_in_block-early (until h base).revisions base priority (take (index_right_of (until h base) base gap) (union_at h base))
+pub insertion_place-base : (h : History) (base : ℕ) (rank : Rank) (gap : ℕ) →
+    insertion_place (until h base) base rank gap ≡ index_right_of (until h base) base gap
+insertion_place-base h base rank gap =
+    insertion_place-left (until h base) base rank gap ∙
+    left_in_block-early (until h base).revisions base rank (take (index_right_of (until h base) base gap) (union_at h base))
     (AllByRecursion-take (λ t. nat_lt base t.inserted ≡ false) (index_right_of (until h base) base gap) (union_at h base) (all_early h base)) ∙
     length-left (until h base) base gap
 
-module _ (h : History) (base priority gap : ℕ) where
+module _ (h : History) (base : ℕ) (rank : Rank) (gap : ℕ) where
   -- what stands left of the gap, in the union after a revision
   abbrev index_then : ℕ → ℕ
   index_then m = nth_index (is_visible h.revisions base) gap (union_at h m)
 
   place_then : (m : ℕ) → base ≤ m →
-      insertion_place (until h m) base priority gap ≡ left_in_block (take m h.revisions) base priority (take (index_then m) (union_at h m))
+      insertion_place (until h m) base rank gap ≡ left_in_block (take m h.revisions) base rank (take (index_then m) (union_at h m))
   place_then m low =
-      insertion_place-left (until h m) base priority gap ∙
-      ap (λ sight. left_in_block (take m h.revisions) base priority (take (nth_index sight gap (union_at h m)) (union_at h m))) (seen_then h base m low)
+      insertion_place-left (until h m) base rank gap ∙
+      ap (λ sight. left_in_block (take m h.revisions) base rank (take (nth_index sight gap (union_at h m)) (union_at h m))) (seen_then h base m low)
 
   -- ONE REVISION MORE: the place goes over what the revision inserted
   pub insertion_place-next : (m : ℕ) → base ≤ m →
-      IsOver (is_by (m + 1)) (goes_right h.revisions priority (m + 1)) (union_at h (m + 1))
-      (insertion_place (until h m) base priority gap) (insertion_place (until h (m + 1)) base priority gap)
+      IsOver (is_by (m + 1)) (goes_right h.revisions rank (m + 1)) (union_at h (m + 1))
+      (insertion_place (until h m) base rank gap) (insertion_place (until h (m + 1)) base rank gap)
   insertion_place-next m low =
       rw (
         place_then (m + 1) (omega (arith, low)),
@@ -272,12 +273,12 @@ module _ (h : History) (base priority gap : ℕ) where
         sym (union_at-before h m),
         take-nth_index-filter (is_visible h.revisions base)
             (λ t. not (is_by (m + 1) t)) (λ t is. not_from_false (is_by (m + 1) t) (later_unseen h base m low t is)) gap all,
-        sym (goes_right-take h.revisions (m + 1) priority (m + 1) (omega arith)),
+        sym (goes_right-take h.revisions (m + 1) rank (m + 1) (omega arith)),
       )
       (IsOver-over (is_by (m + 1)) right all was is
       (subst (λ xs. Over (is_by (m + 1)) right xs was is) (take-append-drop (index_then (m + 1)) all)
       (Over-before (is_by (m + 1)) right left (drop (index_then (m + 1)) all) was is (starts_at (is_by (m + 1)) (is_visible h.revisions base) (later_unseen h base m low) gap all)
-      (step_then h base priority m low left (AllByRecursion-take (λ t. t.inserted ≤ m + 1) (index_then (m + 1)) all (union_at-there h (m + 1)))))))
+      (step_then h base rank m low left (AllByRecursion-take (λ t. t.inserted ≤ m + 1) (index_then (m + 1)) all (union_at-there h (m + 1)))))))
     where
       all : List Tagged
       all = union_at h (m + 1)
@@ -286,13 +287,13 @@ module _ (h : History) (base priority gap : ℕ) where
       left = take (index_then (m + 1)) (union_at h (m + 1))
 
       right : Bool
-      right = goes_right (take (m + 1) h.revisions) priority (m + 1)
+      right = goes_right (take (m + 1) h.revisions) rank (m + 1)
 
       was : ℕ
-      was = left_in_block (take m h.revisions) base priority (filter (λ t. not (is_by (m + 1) t)) left)
+      was = left_in_block (take m h.revisions) base rank (filter (λ t. not (is_by (m + 1) t)) left)
 
       is : ℕ
-      is = left_in_block (take (m + 1) h.revisions) base priority left
+      is = left_in_block (take (m + 1) h.revisions) base rank left
 
 -- ---- what a unit delta inserts and drops
 
@@ -350,7 +351,7 @@ pub deletion_flags-until : (h : History) (e : PlainEdit) (m : ℕ) → e.base �
     deletion_flags (until h m) e ≡ expand (dropped_then h e.base e.kept m) (insertion_flags (until h m) e)
 deletion_flags-until h e m low =
     deletion_flags-blocks (until h m) e ∙
-    ap (λ sight. weave (λ g. falses (put_in_block (take m h.revisions) e.base e.priority (length (e.added g)) (block sight g (union_at h m))))
+    ap (λ sight. weave (λ g. falses (put_in_block (take m h.revisions) e.base (insertion_rank e) (length (e.added g)) (block sight g (union_at h m))))
     (λ g. not (e.kept g)) 0 (filter sight (union_at h m))) (seen_then h e.base m low) ∙
     ap (weave (λ g. falses (put_then h e m g)) (λ g. not (e.kept g)) 0) (visible_then h e.base m low) ∙
     sym (ap (expand (dropped_then h e.base e.kept m)) (insertion_flags-until h e m low) ∙
@@ -364,10 +365,10 @@ deletion_flags-until h e m low =
     all_false [] bs = omega arith
     all_false (x ∷ xs) bs = omega (arith, all_false xs bs)
 
-    outside : (many : ℕ) (xs : List Tagged) → length xs ≡ length (filter not (put_in_block (take m h.revisions) e.base e.priority many xs))
+    outside : (many : ℕ) (xs : List Tagged) → length xs ≡ length (filter not (put_in_block (take m h.revisions) e.base (insertion_rank e) many xs))
     outside many xs =
-        let left = left_part (take m h.revisions) e.base e.priority xs in
-        let right = right_part (take m h.revisions) e.base e.priority xs in
+        let left = left_part (take m h.revisions) e.base (insertion_rank e) xs in
+        let right = right_part (take m h.revisions) e.base (insertion_rank e) xs in
         omega (
           arith,
           all_false left (replicate many true ++ falses right),
@@ -375,22 +376,22 @@ deletion_flags-until h e m low =
           all_false right [],
           ap (λ bs. length (filter not bs)) (append-nil (falses right)),
           length-append left right,
-          ap length (take-append-drop (left_in_block (take m h.revisions) e.base e.priority xs) xs),
+          ap length (take-append-drop (left_in_block (take m h.revisions) e.base (insertion_rank e) xs) xs),
         )
 
 -- ---- the same history without its text
 
-put_in_block-textless : (revisions : List Revision) (base priority many : ℕ) (xs : List Tagged) →
-    put_in_block revisions base priority many (map without_character xs) ≡ put_in_block revisions base priority many xs
-put_in_block-textless revisions base priority many xs =
+put_in_block-textless : (revisions : List Revision) (base : ℕ) (rank : Rank) (many : ℕ) (xs : List Tagged) →
+    put_in_block revisions base rank many (map without_character xs) ≡ put_in_block revisions base rank many xs
+put_in_block-textless revisions base rank many xs =
     ap (λ n. put_between many (take n (map without_character xs)) (drop n (map without_character xs)))
-    (left_in_block-renamed revisions priority (λ _. 0) base xs) ∙
+    (left_in_block-renamed revisions rank (λ _. 0) base xs) ∙
     ap₂ (λ left right. left ++ (replicate many true ++ right))
     (falses-len (take k (map without_character xs)) (take k xs) (ap length (take-map without_character k xs) ∙ length-map (take k xs) without_character))
     (falses-len (drop k (map without_character xs)) (drop k xs) (ap length (drop-map without_character k xs) ∙ length-map (drop k xs) without_character))
   where
     k : ℕ
-    k = left_in_block revisions base priority xs
+    k = left_in_block revisions base rank xs
 
 pub visible_at-textless : (h : History) (base : ℕ) → length (visible_at (without_text h) base) ≡ length (visible_at h base)
 visible_at-textless h base = each h.characters
@@ -405,11 +406,11 @@ visible_at-textless h base = each h.characters
         ]
 
 module _ (h : History) (e : PlainEdit) where
-  put_textless : (g : ℕ) → put_in_block h.revisions e.base e.priority (length (e.added g)) (block_at (without_text h) e.base g) ≡
-      put_in_block h.revisions e.base e.priority (length (e.added g)) (block_at h e.base g)
+  put_textless : (g : ℕ) → put_in_block h.revisions e.base (insertion_rank e) (length (e.added g)) (block_at (without_text h) e.base g) ≡
+      put_in_block h.revisions e.base (insertion_rank e) (length (e.added g)) (block_at h e.base g)
   put_textless g =
-      ap (put_in_block h.revisions e.base e.priority (length (e.added g))) (block-map (is_visible h.revisions e.base) without_character g h.characters) ∙
-      put_in_block-textless h.revisions e.base e.priority (length (e.added g)) (block_at h e.base g)
+      ap (put_in_block h.revisions e.base (insertion_rank e) (length (e.added g))) (block-map (is_visible h.revisions e.base) without_character g h.characters) ∙
+      put_in_block-textless h.revisions e.base (insertion_rank e) (length (e.added g)) (block_at h e.base g)
 
   pub insertion_flags-textless : insertion_flags (without_text h) e ≡ insertion_flags h e
   insertion_flags-textless =

@@ -1,11 +1,13 @@
 -- A stale edit over the revisions after its base.
-use Rattle.std.proofs.Common.{◌≡◌, ℕ, suc, ◌+◌, ◌^◌, ◌<◌, ◌≤◌, Bool, true, false, not, cond, nat_le, if◌then◌else◌, inr, List, [], ◌∷◌, length, map, filter, refl, ap, ap₂, sym, ◌∙◌, arith}
+use Rattle.std.proofs.Common.{◌≡◌, ℕ, suc, ◌+◌, ◌^◌, ◌<◌, ◌≤◌, Bool, true, false, not, cond, if◌then◌else◌, inr, List, [], ◌∷◌, length, map, filter, refl, ap, ap₂, sym, ◌∙◌, arith}
 use Rattle.std.specs.List.{fold}
 use Rattle.std.proofs.lemmas.List.{length-map}
 use Rattle.subset_runs.specs.Subset.{count, expand}
-use Rattle.plain_edits.specs.History.{History, head, edit_priority}
+use Rattle.plain_edits.specs.declared.rank.Rank.{Rank}
+use Rattle.plain_edits.specs.Rank.{is_lower}
+use Rattle.plain_edits.specs.History.{History, head, edit_rank}
 use Rattle.plain_edits.specs.Place.{is_by, goes_right}
-use Rattle.plain_edits.specs.Edits.{PlainEdit}
+use Rattle.plain_edits.specs.Edits.{PlainEdit, insertion_rank}
 use Rattle.subset_runs.proofs.ForCallers.{count_le_length, length-expand_as}
 use Rattle.delta_core.specs.Carry.{carried}
 use Rattle.delta_core.proofs.ForCallers.{IsCarried-carried, base_step, own_steps}
@@ -16,7 +18,7 @@ use Rattle.rev_list.specs.declared.step.RevStep.TheVariants.{Edit, Undo}
 use Rattle.rev_list.specs.Hidden.{union_at, insertions_of, IsEditAt, IsUndoAt, IsRevisionAt, AreRevisionsAfter}
 use Rattle.rev_list.specs.WithoutText.{insertion_flags}
 use Rattle.rev_rebase.specs.Until.{until}
-use Rattle.rev_rebase.specs.Inner.{insertions_after, deletions_after, Grow}
+use Rattle.rev_rebase.specs.Inner.{step_rank, insertions_after, deletions_after, Grow}
 use Rattle.rev_rebase.proofs.FlagLemmas.{insertion_flags-step, dropped_then, dropped_then-step, length-dropped_then}
 use Rattle.rev_rebase.proofs.UntilLemmas.{length-union_at, union_at-before}
 
@@ -35,8 +37,9 @@ other_revisions h m r revisions after = record {
       rw here at (after.each (suc k) f at);
 }
 
-goes_right-edit : (h : History) (m : ℕ) (e : RevEdit) (priority : ℕ) → IsEditAt h m e → nat_le e.priority priority ≡ goes_right h.revisions priority m
-goes_right-edit h m e priority is = sym (ap (λ found. nat_le (edit_priority found) priority) is.said)
+goes_right-edit : (h : History) (m : ℕ) (e : RevEdit) (rank : Rank) → IsEditAt h m e →
+    not (is_lower rank (step_rank e)) ≡ goes_right h.revisions rank m
+goes_right-edit h m e rank is = sym (ap (λ found. not (is_lower rank (edit_rank found))) is.said)
 
 pub count-others : {X : Type 0} (p : X → Bool) (xs : List X) → length (filter (λ x. not (p x)) xs) + count (map p xs) ≡ length xs
 count-others p [] = refl
@@ -81,21 +84,21 @@ expand-none (flag ∷ flags) (false ∷ by) same none = ap (λ rest. flag ∷ re
 -- ---- over all of them
 
 pub insertions_fold : (h : History) (e : PlainEdit) (m : ℕ) (revisions : List RevStep) → e.base ≤ m → AreRevisionsAfter h m revisions →
-    fold (insertions_after e.priority) (insertion_flags (until h m) e) revisions ≡ insertion_flags (until h (head h)) e
+    fold (insertions_after (insertion_rank e)) (insertion_flags (until h m) e) revisions ≡ insertion_flags (until h (head h)) e
 insertions_fold h e m [] low after = ap (λ n. insertion_flags (until h n) e) (omega (arith, after.len))
 insertions_fold h e m (Edit f ∷ revisions) low after =
     let is : IsEditAt h (m + 1) f = first_revision h m (Edit f) revisions after in
-    ap₂ (λ right later. fold (insertions_after e.priority) (carried right (insertion_flags (until h m) e) later) revisions)
-    (goes_right-edit h (m + 1) f e.priority is) is.inserted ∙
-    ap (λ ins. fold (insertions_after e.priority) ins revisions) (insertion_flags-step h e m low) ∙
+    ap₂ (λ right later. fold (insertions_after (insertion_rank e)) (carried right (insertion_flags (until h m) e) later) revisions)
+    (goes_right-edit h (m + 1) f (insertion_rank e) is) is.inserted ∙
+    ap (λ ins. fold (insertions_after (insertion_rank e)) ins revisions) (insertion_flags-step h e m low) ∙
     insertions_fold h e (m + 1) revisions (omega (arith, low)) (other_revisions h m (Edit f) revisions after)
 insertions_fold h e m (Undo groups ∷ revisions) low after =
     let is : IsUndoAt h (m + 1) groups = first_revision h m (Undo groups) revisions after in
     let own : List Bool = insertion_flags (until h m) e in
     let same : length own ≡ length (insertions_of h (m + 1)) + count own =
     omega (arith, grown_flags (until h m) e, union_grown h m, length-insertions_of h (m + 1), is.inserts_none) in
-    ap (λ ins. fold (insertions_after e.priority) ins revisions)
-    (sym (carried-none (goes_right h.revisions e.priority (m + 1)) own (insertions_of h (m + 1)) same is.inserts_none) ∙ insertion_flags-step h e m low) ∙
+    ap (λ ins. fold (insertions_after (insertion_rank e)) ins revisions)
+    (sym (carried-none (goes_right h.revisions (insertion_rank e) (m + 1)) own (insertions_of h (m + 1)) same is.inserts_none) ∙ insertion_flags-step h e m low) ∙
     insertions_fold h e (m + 1) revisions (omega (arith, low)) (other_revisions h m (Undo groups) revisions after)
 
 pub deletions_fold : (h : History) (base : ℕ) (kept : ℕ → Bool) (m : ℕ) (revisions : List RevStep) → base ≤ m → AreRevisionsAfter h m revisions →
@@ -117,11 +120,11 @@ deletions_fold h base kept m (Undo groups ∷ revisions) low after =
 -- ---- lengths
 
 -- what is left to carry over after one revision
-pub insertions_next : (priority : ℕ) (ins : List Bool) (r : RevStep) (revisions : List RevStep) → Grow (count ins) (length ins) (r ∷ revisions) →
-    Grow (count (insertions_after priority ins r)) (length (insertions_after priority ins r)) revisions
-insertions_next priority ins (Undo groups) revisions grow = grow
-insertions_next priority ins (Edit e) revisions grow =
-    let is = IsCarried-carried (nat_le e.priority priority) ins e.inserted grow.0 in
+pub insertions_next : (rank : Rank) (ins : List Bool) (r : RevStep) (revisions : List RevStep) → Grow (count ins) (length ins) (r ∷ revisions) →
+    Grow (count (insertions_after rank ins r)) (length (insertions_after rank ins r)) revisions
+insertions_next rank ins (Undo groups) revisions grow = grow
+insertions_next rank ins (Edit e) revisions grow =
+    let is = IsCarried-carried (not (is_lower rank (step_rank e))) ins e.inserted grow.0 in
     rw (is.len, is.members) grow.2
 
 pub deletions_next : (del : List Bool) (r : RevStep) (revisions : List RevStep) → Grow 0 (length del) (r ∷ revisions) → Grow 0 (length (deletions_after del r)) revisions

@@ -5,6 +5,7 @@ use Rattle.std.proofs.Math.Seq.{take-append_seam, drop-append-add}
 use Rattle.std.proofs.lemmas.Bool.{cases_lt, both_ways, ltb-false, not-true, not-false, eq-eqb, ne_eqb, not_from_true, not_from_false}
 use Rattle.std.proofs.lemmas.List.Elements.{filter-append}
 use Rattle.plain_text.specs.Woven.{nth_index}
+use Rattle.plain_edits.specs.declared.rank.Rank.{Rank}
 use Rattle.plain_edits.specs.History.{Tagged, Revision}
 use Rattle.plain_edits.specs.Place.{is_by, goes_right, left_in_run}
 use Rattle.plain_edits.specs.Blocks.{left_in_block}
@@ -122,17 +123,17 @@ module _ {X : Type 0} (new : X → Bool) where
 -- ---- a run, and its block
 
 -- the counts may take the revisions from lists that agree below the newest one
-module _ (revisions others : List Revision) (priority rev : ℕ) (same : (r : ℕ) → r < rev → goes_right others priority r ≡ goes_right revisions priority r) where
+module _ (revisions others : List Revision) (rank : Rank) (rev : ℕ) (same : (r : ℕ) → r < rev → goes_right others rank r ≡ goes_right revisions rank r) where
   abbrev older : Tagged → Bool
   older tagged = not (is_by rev tagged)
 
   abbrev right : Bool
-  right = goes_right revisions priority rev
+  right = goes_right revisions rank rev
 
   abbrev Steps : List Tagged → ℕ → Type 0
   Steps run is =
       AllByRecursion (λ tagged. tagged.inserted ≤ rev) run → (fewer : ℕ) → length (filter older run) ≤ fewer →
-      Over (is_by rev) right run (left_in_run others priority fewer (filter older run)) is
+      Over (is_by rev) right run (left_in_run others rank fewer (filter older run)) is
 
   -- where the eldest edit is the newest revision, all is new
   all_new : (eldest : ℕ) (xs : List Tagged) → rev ≤ eldest → AllByRecursion (λ tagged. eldest ≤ tagged.inserted) xs →
@@ -146,10 +147,10 @@ module _ (revisions others : List Revision) (priority rev : ℕ) (same : (r : �
   none_new e (x ∷ xs) is all none = absurd (both_ways (is_by rev x) (subst (λ n. is_by n x ≡ false) is none.0) all.0)
 
   none_older : (run : List Tagged) (fewer : ℕ) → AllByRecursion (λ tagged. is_by rev tagged ≡ true) run →
-      left_in_run others priority fewer (filter older run) ≡ 0
+      left_in_run others rank fewer (filter older run) ≡ 0
   none_older run fewer all =
-      ap (left_in_run others priority fewer) (filter_none older run (AllByRecursion-weaker (λ t. is_by rev t ≡ true) (λ t. older t ≡ false) (λ t by. not_from_true (is_by rev t) by) run all)) ∙
-      left_in_run-nil others priority fewer
+      ap (left_in_run others rank fewer) (filter_none older run (AllByRecursion-weaker (λ t. is_by rev t ≡ true) (λ t. older t ≡ false) (λ t by. not_from_true (is_by rev t) by) run all)) ∙
+      left_in_run-nil others rank fewer
 
   -- without the newest revision's characters the run is cut at the same character
   module _ (front : List Tagged) (x : Tagged) (back : List Tagged) (least : AllByRecursion (λ tagged. x.inserted ≤ tagged.inserted) (front ++ x ∷ back))
@@ -166,11 +167,11 @@ module _ (revisions others : List Revision) (priority rev : ℕ) (same : (r : �
     fewer_back : length (filter older back) ≤ fewer - 1
     fewer_back = omega (arith, small, ap length cut, length-append (filter older front) (x ∷ filter older back))
 
-    was : left_in_run others priority fewer (filter older (front ++ x ∷ back)) ≡
-        left_in_run others priority (suc (fewer - 1)) (filter older front ++ x ∷ filter older back)
+    was : left_in_run others rank fewer (filter older (front ++ x ∷ back)) ≡
+        left_in_run others rank (suc (fewer - 1)) (filter older front ++ x ∷ filter older back)
     was =
         let some : fewer ≡ suc (fewer - 1) = omega (arith, small, ap length cut, length-append (filter older front) (x ∷ filter older back)) in
-        ap₂ (left_in_run others priority) some cut
+        ap₂ (left_in_run others rank) some cut
 
     least' : AllByRecursion (λ tagged. x.inserted ≤ tagged.inserted) (filter older front ++ x ∷ filter older back)
     least' =
@@ -178,7 +179,7 @@ module _ (revisions others : List Revision) (priority rev : ℕ) (same : (r : �
         (AllByRecursion-filter (λ tagged. x.inserted ≤ tagged.inserted) older (front ++ x ∷ back) least)
 
   right_step : (front : List Tagged) (x : Tagged) (back : List Tagged) (k : ℕ) → AllByRecursion (λ tagged. x.inserted ≤ tagged.inserted) (front ++ x ∷ back) →
-      AllByRecursion (λ tagged. is_by x.inserted tagged ≡ false) back → goes_right revisions priority x.inserted ≡ true →
+      AllByRecursion (λ tagged. is_by x.inserted tagged ≡ false) back → goes_right revisions rank x.inserted ≡ true →
       Steps back k → Steps (front ++ x ∷ back) (length front + 1 + k)
   right_step front x back k least none goes rest each fewer small =
       let parts = AllByRecursion-parts (λ tagged. tagged.inserted ≤ rev) front (x ∷ back) each in
@@ -186,7 +187,7 @@ module _ (revisions others : List Revision) (priority rev : ℕ) (same : (r : �
         | inl below ↦
             subst (λ n. Over (is_by rev) right (front ++ x ∷ back) n (length front + 1 + k))
             (sym (was front x back least below fewer small ∙
-            left_in_run-right others priority (fewer - 1) (filter older front) x (filter older back) (least' front x back least below fewer small)
+            left_in_run-right others rank (fewer - 1) (filter older front) x (filter older back) (least' front x back least below fewer small)
             (AllByRecursion-filter (λ t. is_by x.inserted t ≡ false) older back none) (same x.inserted below ∙ goes)))
             (Over-behind (is_by rev) right front x back _ k (kept front x back least below fewer small)
             (rest parts.1.1 (fewer - 1) (fewer_back front x back least below fewer small)))
@@ -197,11 +198,11 @@ module _ (revisions others : List Revision) (priority rev : ℕ) (same : (r : �
             let over = rest parts.1.1 (length back) (omega (arith, ap (λ ys. length (filter older ys)) nothing)) in
             Over-new (is_by rev) right (front ++ x ∷ back) _ _ all (none_older (front ++ x ∷ back) fewer all)
             (λ _. omega (arith, over.is_at, ap length over.whole, length-append over.left over.rest, ap length nothing, length-append front (x ∷ back)))
-            (λ left. absurd (both_ways right left (subst (λ n. goes_right revisions priority n ≡ true) is goes)))
+            (λ left. absurd (both_ways right left (subst (λ n. goes_right revisions rank n ≡ true) is goes)))
       ]
 
   left_step : (front : List Tagged) (x : Tagged) (back : List Tagged) (k : ℕ) → AllByRecursion (λ tagged. x.inserted ≤ tagged.inserted) (front ++ x ∷ back) →
-      AllByRecursion (λ tagged. is_by x.inserted tagged ≡ false) front → goes_right revisions priority x.inserted ≡ false →
+      AllByRecursion (λ tagged. is_by x.inserted tagged ≡ false) front → goes_right revisions rank x.inserted ≡ false →
       Steps front k → Steps (front ++ x ∷ back) k
   left_step front x back k least none goes rest each fewer small =
       let parts = AllByRecursion-parts (λ tagged. tagged.inserted ≤ rev) front (x ∷ back) each in
@@ -209,7 +210,7 @@ module _ (revisions others : List Revision) (priority rev : ℕ) (same : (r : �
         | inl below ↦
             subst (λ n. Over (is_by rev) right (front ++ x ∷ back) n k)
             (sym (was front x back least below fewer small ∙
-            left_in_run-left others priority (fewer - 1) (filter older front) x (filter older back) (least' front x back least below fewer small)
+            left_in_run-left others rank (fewer - 1) (filter older front) x (filter older back) (least' front x back least below fewer small)
             (AllByRecursion-filter (λ t. is_by x.inserted t ≡ false) older front none) (same x.inserted below ∙ goes)))
             (Over-before (is_by rev) right front (x ∷ back) _ k (kept front x back least below fewer small)
             (rest parts.0 (fewer - 1) (fewer_front front x back least below fewer small)))
@@ -219,31 +220,31 @@ module _ (revisions others : List Revision) (priority rev : ℕ) (same : (r : �
             let nothing = none_new x.inserted front is (AllByRecursion-parts (λ t. is_by rev t ≡ true) front (x ∷ back) all).0 none in
             let over = rest parts.0 (length front) (omega (arith, ap (λ ys. length (filter older ys)) nothing)) in
             Over-new (is_by rev) right (front ++ x ∷ back) _ _ all (none_older (front ++ x ∷ back) fewer all)
-            (λ goes_not. absurd (both_ways right (subst (λ n. goes_right revisions priority n ≡ false) is goes) goes_not))
+            (λ goes_not. absurd (both_ways right (subst (λ n. goes_right revisions rank n ≡ false) is goes) goes_not))
             (λ _. omega (arith, over.is_at, ap length over.whole, length-append over.left over.rest, ap length nothing))
       ]
 
   left_in_run-step : (run : List Tagged) → AllByRecursion (λ tagged. tagged.inserted ≤ rev) run →
-      Over (is_by rev) right run (left_in_run others priority (length (filter older run)) (filter older run)) (left_in_run revisions priority (length run) run)
+      Over (is_by rev) right run (left_in_run others rank (length (filter older run)) (filter older run)) (left_in_run revisions rank (length run) run)
   left_in_run-step run each =
-      left_in_run-by_cuts revisions priority Steps
-      (λ _ fewer small. Over-new (is_by rev) right [] _ 0 tt (left_in_run-nil others priority fewer) (λ _. refl) (λ _. refl))
+      left_in_run-by_cuts revisions rank Steps
+      (λ _ fewer small. Over-new (is_by rev) right [] _ 0 tt (left_in_run-nil others rank fewer) (λ _. refl) (λ _. refl))
       right_step left_step (length run) run (omega arith) each (length (filter older run)) (omega arith)
 
   -- ONE REVISION MORE: of a block the same older characters stay left, and of the newest revision's at the insertion all, or none
   pub left_in_block-step : (base : ℕ) (characters : List Tagged) → base < rev → AllByRecursion (λ tagged. tagged.inserted ≤ rev) characters →
-      Over (is_by rev) right characters (left_in_block others base priority (filter older characters)) (left_in_block revisions base priority characters)
+      Over (is_by rev) right characters (left_in_block others base rank (filter older characters)) (left_in_block revisions base rank characters)
   left_in_block-step base characters after each =
       elim (last_cut (λ tagged. not (nat_lt base tagged.inserted)) characters) [
         | inl cut ↦
-            subst (λ ys. Over (is_by rev) right ys (left_in_block others base priority (filter older ys)) (left_in_block revisions base priority ys))
+            subst (λ ys. Over (is_by rev) right ys (left_in_block others base rank (filter older ys)) (left_in_block revisions base rank ys))
             (sym cut.whole)
             (behind cut.front cut.item cut.back (not-true (nat_lt base cut.item.inserted) cut.passes) (late cut.back cut.none)
             (subst (AllByRecursion (λ tagged. tagged.inserted ≤ rev)) cut.whole each))
         | inr none ↦
-            subst (λ n. Over (is_by rev) right characters n (left_in_block revisions base priority characters))
-            (sym (left_in_block-late others base priority (filter older characters) (AllByRecursion-filter (λ t. nat_lt base t.inserted ≡ true) older characters (late characters none))))
-            (subst (Over (is_by rev) right characters _) (sym (left_in_block-late revisions base priority characters (late characters none)))
+            subst (λ n. Over (is_by rev) right characters n (left_in_block revisions base rank characters))
+            (sym (left_in_block-late others base rank (filter older characters) (AllByRecursion-filter (λ t. nat_lt base t.inserted ≡ true) older characters (late characters none))))
+            (subst (Over (is_by rev) right characters _) (sym (left_in_block-late revisions base rank characters (late characters none)))
             (left_in_run-step characters each))
       ]
     where
@@ -255,14 +256,14 @@ module _ (revisions others : List Revision) (priority rev : ℕ) (same : (r : �
 
       behind : (front : List Tagged) (x : Tagged) (back : List Tagged) → nat_lt base x.inserted ≡ false →
           AllByRecursion (λ tagged. nat_lt base tagged.inserted ≡ true) back → AllByRecursion (λ tagged. tagged.inserted ≤ rev) (front ++ x ∷ back) →
-          Over (is_by rev) right (front ++ x ∷ back) (left_in_block others base priority (filter older (front ++ x ∷ back)))
-          (left_in_block revisions base priority (front ++ x ∷ back))
+          Over (is_by rev) right (front ++ x ∷ back) (left_in_block others base rank (filter older (front ++ x ∷ back)))
+          (left_in_block revisions base rank (front ++ x ∷ back))
       behind front x back early all within =
           let kept : is_by rev x ≡ false = ne_eqb x.inserted rev (let low = ltb-false base x.inserted early in omega arith) in
-          subst (λ n. Over (is_by rev) right (front ++ x ∷ back) n (left_in_block revisions base priority (front ++ x ∷ back)))
-          (sym (ap (left_in_block others base priority) (filter-cut older front x back (not_from_false (is_by rev x) kept)) ∙
-          left_in_block-cut others base priority (filter older front) x (filter older back) early
+          subst (λ n. Over (is_by rev) right (front ++ x ∷ back) n (left_in_block revisions base rank (front ++ x ∷ back)))
+          (sym (ap (left_in_block others base rank) (filter-cut older front x back (not_from_false (is_by rev x) kept)) ∙
+          left_in_block-cut others base rank (filter older front) x (filter older back) early
           (AllByRecursion-filter (λ t. nat_lt base t.inserted ≡ true) older back all)))
-          (subst (Over (is_by rev) right (front ++ x ∷ back) _) (sym (left_in_block-cut revisions base priority front x back early all))
+          (subst (Over (is_by rev) right (front ++ x ∷ back) _) (sym (left_in_block-cut revisions base rank front x back early all))
           (Over-behind (is_by rev) right front x back _ _ kept
           (left_in_run-step back (AllByRecursion-parts (λ tagged. tagged.inserted ≤ rev) front (x ∷ back) within).1.1)))

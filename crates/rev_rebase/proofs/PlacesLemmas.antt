@@ -4,10 +4,11 @@ use Rattle.std.specs.List.{fold, range_with_len}
 use Rattle.std.proofs.lemmas.List.{length-map}
 use Rattle.std.proofs.lemmas.List.FromFn.{length-range_with_len}
 use Rattle.subset_runs.specs.Subset.{count, expand}
+use Rattle.plain_edits.specs.declared.rank.Rank.{Rank}
 use Rattle.plain_edits.specs.declared.delta.UnitDelta.{UnitDelta}
 use Rattle.plain_edits.specs.UnitDelta.{unit_keeps, unit_adds}
 use Rattle.plain_edits.specs.History.{History, head, visible_at, IsSound}
-use Rattle.plain_edits.specs.Edits.{PlainEdit, edited}
+use Rattle.plain_edits.specs.Edits.{PlainEdit, edited, insertion_rank}
 use Rattle.plain_edits.specs.Blocks.{block_at}
 use Rattle.subset_runs.proofs.ForCallers.{count-replicate_true}
 use Rattle.delta_core.proofs.ForCallers.{IsCarried-carried}
@@ -30,8 +31,8 @@ use Rattle.rev_rebase.proofs.LaterLemmas.{insertions_fold, deletions_fold, count
 pub count-insertion_flags : (h : History) (e : PlainEdit) → count (insertion_flags h e) ≡ length (text_of_edit h e)
 count-insertion_flags h e =
     ap count (insertion_flags-blocks h e) ∙
-    count-blocks (λ g. put_in_block h.revisions e.base e.priority (length (e.added g)) (block_at h e.base g)) e.added
-    (λ g. count-put_between (length (e.added g)) (left_part h.revisions e.base e.priority (block_at h e.base g)) (right_part h.revisions e.base e.priority (block_at h e.base g)))
+    count-blocks (λ g. put_in_block h.revisions e.base (insertion_rank e) (length (e.added g)) (block_at h e.base g)) e.added
+    (λ g. count-put_between (length (e.added g)) (left_part h.revisions e.base (insertion_rank e) (block_at h e.base g)) (right_part h.revisions e.base (insertion_rank e) (block_at h e.base g)))
     0 (visible_at h e.base) ∙
     ap (λ n. length (flat_map e.added (range_with_len 0 n))) (sym (add-one (length (visible_at h e.base))))
 
@@ -66,16 +67,16 @@ inserted_flags-bound h base units alive bound =
     )
 
 -- carried over the edits after its base they come to its places
-pub record ArePlacesOver (h : History) (base : ℕ) (units : UnitDelta) (priority : ℕ) (edits : List RevStep) : Type 0 where
-  pub together : GoTogether (inserted_flags units) (dropped_flags units) (hidden_then h base) edits priority
-  pub insertions : insertions_over_all (inserted_flags units) (hidden_then h base) edits priority ≡ insertion_flags h (unit_edit base units priority)
+pub record ArePlacesOver (h : History) (base : ℕ) (units : UnitDelta) (rank : Rank) (edits : List RevStep) : Type 0 where
+  pub together : GoTogether (inserted_flags units) (dropped_flags units) (hidden_then h base) edits rank
+  pub insertions : insertions_over_all (inserted_flags units) (hidden_then h base) edits rank ≡ insertion_flags h (unit_edit base units rank.priority rank.author)
   pub deletions : expand (deletions_over_all (dropped_flags units) (hidden_then h base) edits)
-      (insertions_over_all (inserted_flags units) (hidden_then h base) edits priority) ≡ deletion_flags h (unit_edit base units priority)
+      (insertions_over_all (inserted_flags units) (hidden_then h base) edits rank) ≡ deletion_flags h (unit_edit base units rank.priority rank.author)
 
-pub places_over : (h : History) (base : ℕ) (units : UnitDelta) (priority : ℕ) (edits : List RevStep) → base ≤ head h → IsSound h →
+pub places_over : (h : History) (base : ℕ) (units : UnitDelta) (rank : Rank) (edits : List RevStep) → base ≤ head h → IsSound h →
     units.base ≡ length (visible_at h base) → length h.characters + length (added_text units) < 2 ^ 64 → AreRevisionsAfter h base edits →
-    ArePlacesOver h base units priority edits
-places_over h base units priority edits known sound alive bound after = record {
+    ArePlacesOver h base units rank edits
+places_over h base units rank edits known sound alive bound after = record {
   together = record {
     beside = beside;
     beside_bound = omega (arith, own, all, dead, within, alive, bound);
@@ -103,7 +104,7 @@ places_over h base units priority edits known sound alive bound after = record {
 }
   where
     e : PlainEdit
-    e = unit_edit base units priority
+    e = unit_edit base units rank.priority rank.author
 
     own : count (inserted_flags units) ≡ length (added_text units)
     own = count-inserted_flags units
@@ -126,8 +127,8 @@ places_over h base units priority edits known sound alive bound after = record {
     first_is : carried true (inserted_flags units) (hidden_then h base) ≡ insertion_flags (until h base) e
     first_is = insertion_flags-base h e (range_with_len 0 units.base) (length-range_with_len 0 units.base ∙ alive)
 
-    insertions_is : insertions_over_all (inserted_flags units) (hidden_then h base) edits priority ≡ insertion_flags (until h (head h)) e
-    insertions_is = ap (λ ins. fold (insertions_after priority) ins edits) first_is ∙ insertions_fold h e base edits (omega arith) after
+    insertions_is : insertions_over_all (inserted_flags units) (hidden_then h base) edits rank ≡ insertion_flags (until h (head h)) e
+    insertions_is = ap (λ ins. fold (insertions_after rank) ins edits) first_is ∙ insertions_fold h e base edits (omega arith) after
 
     deletions_is : deletions_over_all (dropped_flags units) (hidden_then h base) edits ≡ dropped_then h base (unit_keeps units) (head h)
     deletions_is =
@@ -136,20 +137,20 @@ places_over h base units priority edits known sound alive bound after = record {
     whole : until h (head h) ≡ h
     whole = until-head h sound
 
-pub step-text : (h : History) (base : ℕ) (units : UnitDelta) (priority : ℕ) (inserted : List Bool) (text : List ℕ) →
-    units.base ≡ length (visible_at h base) → inserted ≡ insertion_flags h (unit_edit base units priority) → text ≡ added_text units →
+pub step-text : (h : History) (base : ℕ) (units : UnitDelta) (priority author : ℕ) (inserted : List Bool) (text : List ℕ) →
+    units.base ≡ length (visible_at h base) → inserted ≡ insertion_flags h (unit_edit base units priority author) → text ≡ added_text units →
     (history : History) → without_text history ≡ h →
-    characters_of (edited history (unit_edit base units priority)) ≡ put_in inserted text (characters_of history)
-step-text h base units priority inserted text alive inserted_is text_is history same =
-    edited-put_in history (unit_edit base units priority) ∙
+    characters_of (edited history (unit_edit base units priority author)) ≡ put_in inserted text (characters_of history)
+step-text h base units priority author inserted text alive inserted_is text_is history same =
+    edited-put_in history (unit_edit base units priority author) ∙
     ap₂ (λ at more. put_in at more (characters_of history)) flags texts
   where
-    flags : insertion_flags history (unit_edit base units priority) ≡ inserted
+    flags : insertion_flags history (unit_edit base units priority author) ≡ inserted
     flags =
-        sym (insertion_flags-textless history (unit_edit base units priority)) ∙
-        (ap (λ g. insertion_flags g (unit_edit base units priority)) same ∙ sym inserted_is)
+        sym (insertion_flags-textless history (unit_edit base units priority author)) ∙
+        (ap (λ g. insertion_flags g (unit_edit base units priority author)) same ∙ sym inserted_is)
 
-    texts : text_of_edit history (unit_edit base units priority) ≡ text
+    texts : text_of_edit history (unit_edit base units priority author) ≡ text
     texts =
         ap (λ n. flat_map (unit_adds units) (range_with_len 0 (n + 1)))
         (sym (visible_at-textless history base) ∙ (ap (λ g. length (visible_at g base)) same ∙ sym alive)) ∙

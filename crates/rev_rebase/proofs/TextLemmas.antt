@@ -4,7 +4,7 @@ use Rattle.std.specs.List.{range_with_len}
 use Rattle.std.proofs.lemmas.List.{map-append}
 use Rattle.plain_text.specs.Woven.{woven}
 use Rattle.plain_edits.specs.History.{Tagged, inserted_by, History, head, is_visible, visible_at}
-use Rattle.plain_edits.specs.Edits.{PlainEdit, inserted_at, is_deleted_by, with_deletion, edited}
+use Rattle.plain_edits.specs.Edits.{PlainEdit, inserted_at, is_deleted_by, with_deletion, edited, insertion_rank}
 use Rattle.plain_edits.specs.Blocks.{block_at, left_in_block}
 use Rattle.plain_text.proofs.callers.ListLemmas.{at-woven}
 use Rattle.plain_edits.proofs.callers.HistoryLemmas.{becomes}
@@ -34,10 +34,10 @@ edited-put_in h e =
     character tagged = tagged.character
 
     left : ℕ → List Tagged
-    left g = left_part h.revisions e.base e.priority (block_at h e.base g)
+    left g = left_part h.revisions e.base (insertion_rank e) (block_at h e.base g)
 
     right : ℕ → List Tagged
-    right g = right_part h.revisions e.base e.priority (block_at h e.base g)
+    right g = right_part h.revisions e.base (insertion_rank e) (block_at h e.base g)
 
     same : (b : Bool) (tagged : Tagged) → (if b then with_deletion (head h + 1) tagged else tagged).character ≡ (if b then character tagged else character tagged)
     same true tagged = refl
@@ -53,5 +53,5 @@ edited-put_in h e =
 
     parts : (g : ℕ) → map character (block_at h e.base g) ≡ map character (left g) ++ map character (right g)
     parts g =
-        ap (map character) (sym (take-append-drop (left_in_block h.revisions e.base e.priority (block_at h e.base g)) (block_at h e.base g))) ∙
+        ap (map character) (sym (take-append-drop (left_in_block h.revisions e.base (insertion_rank e) (block_at h e.base g)) (block_at h e.base g))) ∙
         map-append character (left g) (right g)

@@ -6,15 +6,15 @@ use Rattle.plain_edits.specs.UnitDelta.{unit_keeps, unit_adds}
 use Rattle.plain_edits.specs.History.{History, head, visible_at}
 use Rattle.plain_edits.specs.Edits.{PlainEdit, gap_count}
 
--- a unit delta against a revision; the group and the author of an edit decide nothing about its places
-abbrev pub unit_edit : ℕ → UnitDelta → ℕ → PlainEdit
-unit_edit base units priority = record {
+-- a unit delta against a revision; the group of an edit decides nothing about its places
+abbrev pub unit_edit : ℕ → UnitDelta → ℕ → ℕ → PlainEdit
+unit_edit base units priority author = record {
   base = base;
   kept = unit_keeps units;
   added = unit_adds units;
   group = 1;
   priority = priority;
-  author = 0;
+  author = author;
 }
 
 -- the texts that a unit delta adds, joined in the order of their gaps

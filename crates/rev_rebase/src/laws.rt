@@ -1,6 +1,7 @@
 //! The laws that tie the places of a stale edit to histories with text, and the places of one revision to those of the next. The
 //! functions do nothing: their clauses are the laws, and their proofs prove them.
 ghost use Rattle.std.specs.Prelude.{◌≡◌, ℕ, ◌+◌, ◌≤◌};
+ghost use Rattle.plain_edits.specs.declared.rank.Rank.{Rank};
 ghost use Rattle.plain_edits.specs.History.{History, IsSound, head};
 ghost use Rattle.plain_edits.specs.Place.{goes_right, index_right_of, insertion_place, is_by};
 ghost use Rattle.plain_edits.specs.Edits.{PlainEdit, edited};
@@ -24,13 +25,13 @@ pub fn places()
 /// After the next revision the same older characters are left and right of it, and of the revision's own characters beside it all
 /// are left of it, or all are right: the eldest edit of a run decides on its whole block without being looked for.
 pub fn places_step()
-    ensures base { (history : History) (base priority gap : ℕ)
-        → insertion_place (until history base) base priority gap
+    ensures base { (history : History) (base : ℕ) (rank : Rank) (gap : ℕ)
+        → insertion_place (until history base) base rank gap
         ≡ index_right_of (until history base) base gap }
-    ensures step { (history : History) (base priority gap rev : ℕ) → base ≤ rev
-        → IsOver (is_by (rev + 1)) (goes_right history.revisions priority (rev + 1))
+    ensures step { (history : History) (base : ℕ) (rank : Rank) (gap rev : ℕ) → base ≤ rev
+        → IsOver (is_by (rev + 1)) (goes_right history.revisions rank (rev + 1))
         (union_at history (rev + 1))
-        (insertion_place (until history rev) base priority gap)
-        (insertion_place (until history (rev + 1)) base priority gap) }
+        (insertion_place (until history rev) base rank gap)
+        (insertion_place (until history (rev + 1)) base rank gap) }
     ensures last { (history : History) → IsSound history → until history (head history) ≡ history }
 {}

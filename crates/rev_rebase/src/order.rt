@@ -1,9 +1,12 @@
-ghost use Rattle.std.specs.Prelude.{◌≡◌, nat_le};
+ghost use Rattle.std.specs.Prelude.{◌≡◌, not};
+ghost use Rattle.plain_edits.specs.Rank.{is_lower};
 
-// THE RULE OF ORDER: whether an insertion goes right of those of an earlier revision, whose priority is `earlier`. Of equal
-// priorities the later edit goes right.
-pub(crate) fn goes_right(earlier: u32, priority: u32) -> bool
-    ensures { result ≡ nat_le earlier priority }
+use plain_edits::Rank;
+
+// THE RULE OF ORDER: whether an insertion goes right of those of an earlier revision, whose rank is `earlier`. Of equal ranks the
+// later edit goes right.
+pub(crate) fn goes_right(earlier: Rank, rank: Rank) -> bool
+    ensures { result ≡ not (is_lower rank earlier) }
 {
-    earlier <= priority
+    !rank.is_lower(earlier)
 }

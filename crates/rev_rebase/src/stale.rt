@@ -10,7 +10,7 @@ ghost use Rattle.rev_rebase.specs.Inner.{GoTogether, deletions_over_all, inserti
 
 use crate::later::over_revisions;
 use delta_core::{carry_ins, factor};
-use plain_edits::UnitDelta;
+use plain_edits::{Rank, UnitDelta};
 use plain_text::{NoMemory, Text};
 use rev_list::{RevList, RevisionsAfter};
 use std::alloc::Global;
@@ -24,11 +24,11 @@ pub struct Rebased {
     pub text: Text,
 }
 
-/// Where an edit goes that was made for the text of revision `rev`, with this priority: its insertions stand after the dead
-/// characters at their gap, and beside those of later edits by the rule of order, and its deletions drop nothing that came later. A
-/// later undo moves nothing.
+/// Where an edit goes that was made for the text of revision `rev`, with this priority and by this caller: its insertions stand after
+/// the dead characters at their gap, and beside those of later edits by the rule of order, and its deletions drop nothing that came
+/// later. A later undo moves nothing.
 /// Pushed with these subsets, the edit is the edit step of the history. `priority` has no unit: of two edits at one gap that of the
-/// higher one stands right, and of equal ones the later.
+/// higher one stands right, of equal priorities that of the higher `author`, and of one author the later.
 ///
 /// This costs the runs of what is dead at the head and at the base, those of the edits after the base, and the elements of `units`
 /// with the bytes that they add; for each edit after the base the runs of the answer so far besides. Against the head it costs what
@@ -39,6 +39,7 @@ pub fn rebase(
     rev: u64,
     units: &UnitDelta,
     priority: u32,
+    author: u32,
 ) -> Result<Rebased, NoMemory>
     requires base_kept { revs.now.floor ≤ rev }
     requires base_known { rev ≤ head revs.now }
@@ -46,18 +47,19 @@ pub fn rebase(
     requires alive { units.now.base ≡ length (visible_at revs.now rev) }
     requires bound { length revs.now.characters + length (added_text units.now) < 2 ^ 64 }
     ensures inserted { IfOk result (λ made. made.inserted
-        ≡ insertion_flags revs.now (unit_edit rev units.now priority)) }
+        ≡ insertion_flags revs.now (unit_edit rev units.now priority author)) }
     ensures deleted { IfOk result (λ made. made.deleted
-        ≡ deletion_flags revs.now (unit_edit rev units.now priority)) }
+        ≡ deletion_flags revs.now (unit_edit rev units.now priority author)) }
     ensures text { IfOk result (λ made. made.text ≡ added_text units.now) }
     ensures step { IfOk result (λ made. (history : History) → without_text history ≡ revs.now
-        → characters_of (edited history (unit_edit rev units.now priority))
+        → characters_of (edited history (unit_edit rev units.now priority author))
         ≡ put_in made.inserted made.text (characters_of history)) }
 {
     let (dropped, own) = factor(alloc, units)?;
     let dead = dead_then(alloc, revs, rev)?;
     let later = revs.revisions_after(rev);
-    let (inserted, deleted) = carried_over(alloc, &own, &dropped, &dead, later, priority)?;
+    let rank = Rank { priority, author };
+    let (inserted, deleted) = carried_over(alloc, &own, &dropped, &dead, later, rank)?;
     let text = joined(alloc, units)?;
     Ok(Rebased {
         inserted,
@@ -73,18 +75,18 @@ fn carried_over(
     dropped: &Subset,
     dead: &Subset,
     later: RevisionsAfter<'_>,
-    priority: u32,
+    rank: Rank,
 ) -> Result<(Subset, Subset), NoMemory>
-    requires { GoTogether own.now dropped.now dead.now later priority }
+    requires { GoTogether own.now dropped.now dead.now later rank }
     ensures inserted { IfOk result (λ sets. sets.0
-        ≡ insertions_over_all own.now dead.now later.entry priority) }
+        ≡ insertions_over_all own.now dead.now later.entry rank) }
     ensures deleted { IfOk result (λ sets. sets.1
         ≡ expand (deletions_over_all dropped.now dead.now later.entry)
-        (insertions_over_all own.now dead.now later.entry priority)) }
+        (insertions_over_all own.now dead.now later.entry rank)) }
 {
     let first = carry_ins(alloc, own, dead, true)?;
     let gone = dropped.expand(alloc, dead)?;
-    let (inserted, gone) = over_revisions(alloc, first, gone, later, priority)?;
+    let (inserted, gone) = over_revisions(alloc, first, gone, later, rank)?;
     let deleted = gone.expand(alloc, &inserted)?;
     Ok((inserted, deleted))
 }

@@ -1,12 +1,13 @@
 -- What is collected after an entry may be collected.
-use Rattle.std.proofs.Common.{◌≡◌, ◌≤◌, ℕ, Bool, true, false, if◌then◌else◌, ◌==◌, List, [], ◌∷◌, Option, Some, None, refl, ap, sym, ◌∙◌, arith}
+use Rattle.std.proofs.Common.{◌≡◌, ◌≤◌, ℕ, true, ◌==◌, List, [], ◌∷◌, Option, Some, None, refl, ap, sym, ◌∙◌, arith}
 use Rattle.std.specs.Prelude.{IfSome}
 use Rattle.std.specs.BTreeSet.{BTreeSet}
-use Rattle.std.specs.List.{AllByRecursion}
-use Rattle.std.proofs.lemmas.Bool.{eqb-true, eq-eqb, or_left, or_right}
+use Rattle.std.specs.List.{AllByRecursion, list_all}
+use Rattle.std.proofs.lemmas.Bool.{eq-eqb, or_left, or_right}
+use Rattle.std.proofs.Math.Seq.{drop-length}
 use Rattle.plain_text.specs.Numbers.{has}
 use Rattle.plain_edits.specs.History.{History, head}
-use Rattle.plain_edits.specs.Collection.{Collection, IsAtRest, clean_floor, collection_at, collection_of, is_where_to_collect, resting_groups}
+use Rattle.plain_edits.specs.Collection.{Collection, IsAtRest, clean_floor, collection_at, collection_of, is_based_from, is_clean, resting_groups}
 use Rattle.plain_edits.proofs.callers.CollectionLemmas.{greatest_clean_floor}
 use Rattle.plain_edits.proofs.callers.WellFormedLemmas.{resting_groups_iff}
 use Rattle.rev_collect.specs.Choice.{collection_said}
@@ -16,38 +17,29 @@ all_of : (P : ℕ → Type 0) (xs : List ℕ) → ((n : ℕ) → has xs n ≡ tr
 all_of P [] each = tt
 all_of P (x ∷ xs) each = (each x (or_left (x == x) (has xs x) (eq-eqb x x refl)), all_of P xs (λ n there. each n (or_right (x == n) (has xs n) there)))
 
-record IsChosen (history : History) (at : ℕ) (resting : List ℕ) (floor : ℕ) (groups : List ℕ) : Type 0 where
+record IsChosen (at : ℕ) (resting : List ℕ) (floor : ℕ) (groups : List ℕ) : Type 0 where
   floor_is : at ≡ floor
   groups_are : resting ≡ groups
-  here : is_where_to_collect history at ≡ true
 
 same_some : (x y : Collection) → Some x ≡ Some y → x ≡ y
 same_some x y e = cc
 
-abbrev taken_if : Bool → ℕ → List ℕ → Option Collection
-taken_if here at groups = if here then Some (record { floor = at; groups = groups }) else None
-
-chosen : (history : History) (at : ℕ) (resting : List ℕ) (floor : ℕ) (groups : List ℕ) →
-    collection_at history at resting ≡ Some (record { floor = floor; groups = groups }) → IsChosen history at resting floor groups
-chosen history at [] floor groups is = absurd (cc)
-chosen history at (group ∷ resting) floor groups is = by (is_where_to_collect history at) refl is
-  where
-    by : (b : Bool) → is_where_to_collect history at ≡ b →
-        taken_if b at (group ∷ resting) ≡ Some (record { floor = floor; groups = groups }) →
-        IsChosen history at (group ∷ resting) floor groups
-    by true here is =
-        let same = same_some (record { floor = at; groups = group ∷ resting }) (record { floor = floor; groups = groups }) is in
-        record { floor_is = ap (λ (c : Collection). c.floor) same; groups_are = ap (λ (c : Collection). c.groups) same; here = here }
-    by false here is = absurd (cc)
+chosen : (at : ℕ) (resting : List ℕ) (floor : ℕ) (groups : List ℕ) →
+    collection_at at resting ≡ Some (record { floor = floor; groups = groups }) → IsChosen at resting floor groups
+chosen at [] floor groups is = absurd (cc)
+chosen at (group ∷ resting) floor groups is =
+    let same = same_some (record { floor = at; groups = group ∷ resting }) (record { floor = floor; groups = groups }) is in
+    record { floor_is = ap (λ (c : Collection). c.floor) same; groups_are = ap (λ (c : Collection). c.groups) same }
 
 pub taken_at_head : (history : History) (retired : List ℕ) (floor : ℕ) (groups : List ℕ) → history.floor ≤ head history →
     Some (record { floor = floor; groups = groups }) ≡ collection_of history retired (head history) → IsTakenAtHead history floor groups
 taken_at_head history retired floor groups low is =
     let at = clean_floor history.revisions (head history) in
-    let choice = chosen history at (resting_groups history retired at) floor groups (sym is) in
+    let choice = chosen at (resting_groups history retired at) floor groups (sym is) in
     let greatest = greatest_clean_floor history.revisions (head history) in
-    let here : at ≡ head history = eqb-true at (head history) choice.here in
-    let floor_here : floor ≡ head history = sym choice.floor_is ∙ here in
+    let clean : is_clean history.revisions (head history) ≡ true = ap (list_all (is_based_from (head history))) (drop-length history.revisions) in
+    let least : head history ≤ at = greatest.greatest (head history) (omega arith) clean in
+    let floor_here : floor ≡ head history = omega (arith, least, greatest.is_within, choice.floor_is) in
     record {
       may = record {
         rises = omega (arith, low, floor_here);

@@ -62,13 +62,13 @@ fn collects_of(
         return false;
     }
     match collectable(alloc, revs, acknowledged, retired) {
-        Ok(Some((floor, found))) => floor == revs.head() && is_set(&found, groups),
+        Ok(Some((floor, found))) => floor == acknowledged && is_set(&found, groups),
         Ok(None) => groups.is_empty(),
         Err(_) => false,
     }
 }
 
-// Whether just these groups are collected, at the head, where the sessions have acknowledged a revision and those are retired.
+// Whether just these groups are collected, at the revision that the sessions have acknowledged, where those are retired.
 fn collects(
     alloc: Global,
     revs: &RevList,
@@ -130,7 +130,9 @@ fn the_first_is_collected(alloc: Global, revs: &mut RevList) -> bool {
         && collects(alloc, revs, 21, &[1], &[1])
         && collects(alloc, revs, 21, &[3, 1, 2], &[1, 2, 3])
         && collects(alloc, revs, 21, &[], &[])
-        && collects(alloc, revs, 20, &[1], &[])
+        && collects(alloc, revs, 20, &[1], &[1])
+        && collects(alloc, revs, 1, &[2, 1], &[1])
+        && collects(alloc, revs, 0, &[1], &[])
         && holds(alloc, left(alloc, revs, &[1]), has_forgotten_the_first)
 }
 

@@ -12,6 +12,7 @@ use Rattle.view_update.specs.Reading.{read_params, line_update}
 use Rattle.view_update.specs.Written.{update_data}
 use Rattle.view_update.proofs.ForCallers.{updates_are_read, updates_read_back}
 use Rattle.doc_text.specs.Collecting.{AreEnded}
+use Rattle.doc_text.proofs.ForCallers.{none-retired}
 use Rattle.core_session.specs.Shows.{updates_in, screen_with, rebuilt_from}
 use Rattle.session_laws.specs.Laws.{NothingWaits, UnreadShowsNothing, OtherViewIsPassedOver, OtherViewShowsNothing, only_rebuilt_from}
 use Rattle.core_session.proofs.ForCallers.{updates_of-some, updates_in-lines}
@@ -54,4 +55,5 @@ nothing_waits (Some doc) (view ∷ next ∷ views) stands = absurd stands
 nothing_waits (Some doc) (view ∷ []) stands =
     let serves = stands.serves in
     let is = serves.stands in
-    (is.text.none_left (ended_all view.document.text.sessions (ap length (sym is.text.parts.sessions) ∙ serves.no_sessions)), tt)
+    let ended = ended_all view.document.text.sessions (ap length (sym is.text.parts.sessions) ∙ serves.no_sessions) in
+    ((is.text.none_left, none-retired _ view.document.text is.text ended), tt)

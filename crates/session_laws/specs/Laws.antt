@@ -22,10 +22,11 @@ use Rattle.core_session.specs.Shows.{updates_in, rebuilt, IsShown, last_requeste
 abbrev pub RevisionsAreFew : Type 0
 RevisionsAreFew = (journal : List Entry) → HaveRevisions (length journal) (views_of journal)
 
--- NOTHING WAITS in a session, in whose documents no plugin has a session: what no undo reaches any more is collected at once
+-- NOTHING WAITS in a session that may be collected; as no plugin has a session in its documents, what no undo reaches any more is collected
+-- at once
 abbrev pub NothingWaits : Type 0
 NothingWaits = (document : Option Doc) (views : List OpenView) → Stands document views →
-    AllByRecursion (λ view. view.document.text.groups.retired ≡ []) views
+    AllByRecursion (λ view. HasNoneLeft view.document.text × (view.document.text.groups.retired ≡ [])) views
 
 -- bytes with a note `update` that can't be read show no screen of any view, whatever stands in it
 abbrev pub UnreadShowsNothing : Type 0

@@ -11,7 +11,7 @@ use Rattle.plain_text.specs.Woven.{woven, nth_index}
 use Rattle.plain_text.proofs.callers.ListLemmas.{AllByRecursion-map, woven_same, woven_nothing, filter-yes, filter-no, nth_index-here, nth_index-yes, nth_index-no, nth_index-lt, flat_map_one, flat_map_none, count_by-take-nth_index}
 use Rattle.plain_edits.specs.History.{Tagged, inserted_by, History, head, is_visible, visible_at}
 use Rattle.plain_edits.specs.Place.{index_right_of, later_run, left_in_run, insertion_place}
-use Rattle.plain_edits.specs.Edits.{PlainEdit, gap_count, inserted_at, is_deleted_by, with_deletion, edited}
+use Rattle.plain_edits.specs.Edits.{PlainEdit, gap_count, inserted_at, is_deleted_by, with_deletion, edited, insertion_rank}
 use Rattle.plain_edits.specs.Change.{block}
 use Rattle.plain_edits.specs.Blocks.{block_at, older_len, left_in_block, put_behind, block_after, edited_by_blocks}
 use Rattle.plain_edits.proofs.callers.HistoryLemmas.{becomes}
@@ -312,13 +312,13 @@ module _ (history : History) (e : PlainEdit) where
   came_after tagged = nat_lt e.base tagged.inserted
 
   abbrev place : ℕ → ℕ
-  place gap = insertion_place history e.base e.priority gap
+  place gap = insertion_place history e.base (insertion_rank e) gap
 
   abbrev blk : ℕ → List Tagged
   blk gap = block_at history e.base gap
 
   abbrev left : ℕ → ℕ
-  left gap = left_in_block history.revisions e.base e.priority (blk gap)
+  left gap = left_in_block history.revisions e.base (insertion_rank e) (blk gap)
 
   came_after-stops : (tagged : Tagged) → shown tagged ≡ true → came_after tagged ≡ false
   came_after-stops tagged seen = le-ltb e.base tagged.inserted (is_visible-inserted history.revisions e.base tagged seen)
@@ -345,7 +345,7 @@ module _ (history : History) (e : PlainEdit) where
   pub insertion_place-block : (gap : ℕ) → gap ≤ length (visible_at history e.base) →
       place gap ≡ length (front shown gap history.characters) + left gap
   insertion_place-block gap within =
-      ap (λ run. index_right_of history e.base gap - length run + left_in_run history.revisions e.priority (length run) run) (later_run-block gap within) ∙
+      ap (λ run. index_right_of history e.base gap - length run + left_in_run history.revisions (insertion_rank e) (length run) run) (later_run-block gap within) ∙
       omega (
         arith,
         nth_index-front shown gap history.characters,
@@ -358,7 +358,7 @@ module _ (history : History) (e : PlainEdit) where
       let run = drop (older_len e.base (blk gap)) (blk gap) in
       omega (
         arith,
-        left_in_run-le history.revisions e.priority (length run) run,
+        left_in_run-le history.revisions (insertion_rank e) (length run) run,
         length-drop (older_len e.base (blk gap)) (blk gap),
         suffix_len-le-length came_after (blk gap),
       )
@@ -386,8 +386,8 @@ module _ (history : History) (e : PlainEdit) where
       only n high same =
           elim (cases_order n gap) [
             | inl is ↦ is
-            | inr (inl below) ↦ absurd (omega (arith, same, insertion_place-lt history e.base e.priority n gap below within))
-            | inr (inr above) ↦ absurd (omega (arith, same, insertion_place-lt history e.base e.priority gap n above high))
+            | inr (inl below) ↦ absurd (omega (arith, same, insertion_place-lt history e.base (insertion_rank e) n gap below within))
+            | inr (inr above) ↦ absurd (omega (arith, same, insertion_place-lt history e.base (insertion_rank e) gap n above high))
           ]
 
       never : (n : ℕ) → n ≤ length (visible_at history e.base) → (d ≡ left gap → ⊥) →
@@ -396,7 +396,7 @@ module _ (history : History) (e : PlainEdit) where
           elim (cases_order n gap) [
             | inl is ↦ other (omega (arith, hit, ap place is, insertion_place-block gap within))
             | inr (inl below) ↦
-                omega (arith, hit, insertion_place-le history e.base e.priority n, front_past shown n gap history.characters below within)
+                omega (arith, hit, insertion_place-le history e.base (insertion_rank e) n, front_past shown n gap history.characters below within)
             | inr (inr above) ↦
                 omega (
                   arith,

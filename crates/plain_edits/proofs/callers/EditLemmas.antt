@@ -9,7 +9,7 @@ use Rattle.plain_text.specs.Woven.{woven, nth_index}
 use Rattle.plain_edits.specs.Delta.{applied}
 use Rattle.plain_edits.specs.History.{Tagged, Revision, edit, History, head, edit_group, undone, is_undone, is_visible, text_at, IsTaggedBy, IsSound}
 use Rattle.plain_edits.specs.Place.{insertion_place}
-use Rattle.plain_edits.specs.Edits.{PlainEdit, gap_count, inserted_at, is_deleted_by, with_deletion, edited}
+use Rattle.plain_edits.specs.Edits.{PlainEdit, gap_count, inserted_at, is_deleted_by, with_deletion, edited, insertion_rank}
 use Rattle.plain_text.proofs.callers.ListLemmas.{IsWovenAlike, at-woven, woven_same, woven-filter, filter_all, flat_map_none, flat_map_one, flat_map_same, map-flat_map, nth_index_only}
 use Rattle.plain_edits.proofs.callers.HistoryLemmas.{becomes, shown, shown-append, shown-edited, AllByRecursion-inserted_at, group_of-append, revision_at-push, undone-edit, is_visible_same}
 use Rattle.plain_edits.proofs.callers.PlaceLemmas.{insertion_place-head}
@@ -17,7 +17,7 @@ use Rattle.plain_edits.proofs.callers.PlaceLemmas.{insertion_place-head}
 -- the text that an edit inserts at an index
 abbrev pub inserted_text_at : History → PlainEdit → ℕ → List ℕ
 inserted_text_at history e index =
-    flat_map (λ gap. if insertion_place history e.base e.priority gap == index then e.added gap else [])
+    flat_map (λ gap. if insertion_place history e.base (insertion_rank e) gap == index then e.added gap else [])
     (range_with_len 0 (gap_count history e.base))
 
 pub text-inserted_at : (history : History) (e : PlainEdit) (index : ℕ) →
@@ -25,14 +25,14 @@ pub text-inserted_at : (history : History) (e : PlainEdit) (index : ℕ) →
 text-inserted_at history e index =
     map-flat_map (λ (tagged : Tagged). tagged.character) at_gap (range_with_len 0 (gap_count history e.base)) ∙
     flat_map_same (λ gap. map (λ tagged. tagged.character) (at_gap gap))
-    (λ gap. if insertion_place history e.base e.priority gap == index then e.added gap else [])
-    (λ gap. chosen gap (insertion_place history e.base e.priority gap == index)) (range_with_len 0 (gap_count history e.base))
+    (λ gap. if insertion_place history e.base (insertion_rank e) gap == index then e.added gap else [])
+    (λ gap. chosen gap (insertion_place history e.base (insertion_rank e) gap == index)) (range_with_len 0 (gap_count history e.base))
   where
     new : ℕ → Tagged
     new c = record { character = c; inserted = head history + 1; deleted = [] }
 
     at_gap : ℕ → List Tagged
-    at_gap gap = if insertion_place history e.base e.priority gap == index then map new (e.added gap) else []
+    at_gap gap = if insertion_place history e.base (insertion_rank e) gap == index then map new (e.added gap) else []
 
     same : (text : List ℕ) → map (λ tagged. tagged.character) (map new text) ≡ text
     same [] = refl
@@ -145,19 +145,19 @@ text_at-edited_at_head history e sound at_head live =
     all [] = tt
     all (x ∷ xs) = (tt, all xs)
 
-    place : (gap : ℕ) → insertion_place history e.base e.priority gap ≡ nth_index seen gap history.characters
-    place gap = insertion_place-head history e.base e.priority gap sound (omega arith)
+    place : (gap : ℕ) → insertion_place history e.base (insertion_rank e) gap ≡ nth_index seen gap history.characters
+    place gap = insertion_place-head history e.base (insertion_rank e) gap sound (omega arith)
 
     alike : IsWovenAlike seen (inserted_text_at history e) e.added keeps e.kept 0 0 history.characters
     alike = record {
       gaps = λ n i m within at_index at_number.
           let number : n ≡ m = omega arith in
-          flat_map_one (λ gap. insertion_place history e.base e.priority gap) e.added i 0 (gap_count history e.base) n (omega arith) (omega arith)
+          flat_map_one (λ gap. insertion_place history e.base (insertion_rank e) gap) e.added i 0 (gap_count history e.base) n (omega arith) (omega arith)
           (omega (arith, place n))
           (λ k low high hit. nth_index_only seen k n history.characters (omega arith) within (omega (arith, place k))) ∙
           ap e.added number;
       others = λ i from none.
-          flat_map_none (λ gap. insertion_place history e.base e.priority gap) e.added i 0 (gap_count history e.base)
+          flat_map_none (λ gap. insertion_place history e.base (insertion_rank e) gap) e.added i 0 (gap_count history e.base)
           (λ n low high hit. none n (omega arith) (omega (arith, place n)));
       items = λ n i m within at_index at_number.
           let here : i ≡ n = omega arith in

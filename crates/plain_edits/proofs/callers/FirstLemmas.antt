@@ -4,7 +4,9 @@ use Rattle.std.specs.List.{list_all}
 use Rattle.std.proofs.lemmas.Bool.{leb-true, ltb-false}
 use Rattle.std.proofs.lemmas.List.{take-take}
 use Rattle.plain_text.specs.Numbers.{has}
-use Rattle.plain_edits.specs.History.{Tagged, Revision, revision_at, edit_group, edit_priority, undone_after, is_undone, is_visible}
+use Rattle.plain_edits.specs.declared.rank.Rank.{Rank}
+use Rattle.plain_edits.specs.History.{Tagged, Revision, revision_at, edit_group, edit_rank, undone_after, is_undone, is_visible}
+use Rattle.plain_edits.specs.Rank.{is_lower}
 use Rattle.plain_edits.specs.Place.{goes_right}
 
 slice_get-take : {X : Type 0} (n k : ℕ) (xs : List X) → n < k → slice_get (take k xs) n ≡ slice_get xs n
@@ -17,10 +19,10 @@ revision_at-take : (revisions : List Revision) (count rev : ℕ) → rev ≤ cou
 revision_at-take revisions count zero within = refl
 revision_at-take revisions count (suc rev) within = slice_get-take rev count revisions within
 
-pub goes_right-take : (revisions : List Revision) (count priority rev : ℕ) → rev ≤ count →
-    goes_right (take count revisions) priority rev ≡ goes_right revisions priority rev
-goes_right-take revisions count priority rev within =
-    ap (λ found. nat_le (edit_priority found) priority) (revision_at-take revisions count rev within)
+pub goes_right-take : (revisions : List Revision) (count : ℕ) (rank : Rank) (rev : ℕ) → rev ≤ count →
+    goes_right (take count revisions) rank rev ≡ goes_right revisions rank rev
+goes_right-take revisions count rank rev within =
+    ap (λ found. not (is_lower rank (edit_rank found))) (revision_at-take revisions count rev within)
 
 is_undone-take : (revisions : List Revision) (count at rev : ℕ) → at ≤ count → rev ≤ count →
     is_undone (take count revisions) at rev ≡ is_undone revisions at rev

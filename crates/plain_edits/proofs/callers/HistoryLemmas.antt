@@ -6,8 +6,8 @@ use Rattle.std.proofs.lemmas.Bool.Decides.{nat_tests}
 use Rattle.std.proofs.lemmas.List.{take-append-le, map-append, length_push}
 use Rattle.std.proofs.lemmas.List.Elements.{filter-append}
 use Rattle.plain_text.specs.Numbers.{has}
-use Rattle.plain_edits.specs.History.{Tagged, Revision, edit, undo, History, loaded, head, revision_at, edit_group, edit_priority, group_of, priority_of, undone_after, undone, is_undone, is_visible, text_at, IsTaggedBy, IsSound}
-use Rattle.plain_edits.specs.Edits.{PlainEdit, inserted_at, is_deleted_by, with_deletion, edited, undid}
+use Rattle.plain_edits.specs.History.{Tagged, Revision, edit, undo, History, loaded, head, revision_at, edit_group, edit_rank, group_of, rank_of, undone_after, undone, is_undone, is_visible, text_at, IsTaggedBy, IsSound}
+use Rattle.plain_edits.specs.Edits.{PlainEdit, inserted_at, is_deleted_by, with_deletion, edited, undid, insertion_rank}
 use Rattle.plain_edits.specs.Place.{insertion_place}
 use Rattle.plain_text.proofs.callers.ListLemmas.{AllByRecursion-append, AllByRecursion-weaker, AllByRecursion-map, AllByRecursion-flat_map, AllByRecursion-woven, at-woven, woven_same, woven_nothing, filter_same, list_all_same, filter_none}
 use Rattle.std.proofs.lemmas.List.Folds.{list_all-append}
@@ -37,7 +37,7 @@ pub AllByRecursion-inserted_at : (P : Tagged → Type 0) (history : History) (e 
     ((c : ℕ) → P (record { character = c; inserted = head history + 1; deleted = [] })) →
     (index : ℕ) → AllByRecursion P (inserted_at history e index)
 AllByRecursion-inserted_at P history e holds index =
-    AllByRecursion-flat_map P _ (λ gap. at_gap gap (insertion_place history e.base e.priority gap == index)) _
+    AllByRecursion-flat_map P _ (λ gap. at_gap gap (insertion_place history e.base (insertion_rank e) gap == index)) _
   where
     at_gap : (gap : ℕ) (here : Bool) → AllByRecursion P (if here
         then map (λ c. record { character = c; inserted = head history + 1; deleted = [] }) (e.added gap) else [])
@@ -93,9 +93,9 @@ pub group_of-append : (revisions more : List Revision) (rev : ℕ) → rev ≤ l
     group_of (revisions ++ more) rev ≡ group_of revisions rev
 group_of-append revisions more rev within = ap edit_group (revision_at-append revisions more rev within)
 
-pub priority_of-append : (revisions more : List Revision) (rev : ℕ) → rev ≤ length revisions →
-    priority_of (revisions ++ more) rev ≡ priority_of revisions rev
-priority_of-append revisions more rev within = ap edit_priority (revision_at-append revisions more rev within)
+pub rank_of-append : (revisions more : List Revision) (rev : ℕ) → rev ≤ length revisions →
+    rank_of (revisions ++ more) rev ≡ rank_of revisions rev
+rank_of-append revisions more rev within = ap edit_rank (revision_at-append revisions more rev within)
 
 pub undone-append : (revisions more : List Revision) (at : ℕ) → at ≤ length revisions → undone (revisions ++ more) at ≡ undone revisions at
 undone-append revisions more at within = ap (undone_after []) (take-append-le at revisions more within)

@@ -5,6 +5,7 @@ use Rattle.std.proofs.lemmas.Bool.{and_parts, both_ways, leb-true, le-ltb, ltb-t
 use Rattle.std.proofs.lemmas.List.{get_or-reverse, get_or-drop, nil_from_length}
 use Rattle.std.proofs.lemmas.List.Elements.{recursion_from_All, All-from_recursion}
 use Rattle.std.proofs.lemmas.List.Sums.{prefix_len_passes, suffix_len-le-length}
+use Rattle.plain_edits.specs.declared.rank.Rank.{Rank}
 use Rattle.plain_edits.specs.History.{Tagged, Revision, History, head, is_visible, visible_at, IsTaggedBy, IsSound}
 use Rattle.plain_edits.specs.Place.{index_right_of, later_run, eldest, is_by, goes_right, left_in_run, insertion_place}
 use Rattle.plain_edits.proofs.callers.HistoryLemmas.{is_visible-later}
@@ -34,21 +35,21 @@ module _ {X : Type 0} (p : X → Bool) where
       omega (arith, suffix_len_stops (x ∷ xs) (length xs) x (omega arith) last)
 
 -- the characters that stay left are some of the run
-pub left_in_run-le : (revisions : List Revision) (priority bound : ℕ) (run : List Tagged) → left_in_run revisions priority bound run ≤ length run
-left_in_run-le revisions priority zero run = omega arith
-left_in_run-le revisions priority (suc bound) [] = omega arith
-left_in_run-le revisions priority (suc bound) (tagged ∷ more) =
-    elim (goes_right revisions priority (eldest run)) as (λ b. (if b
-    then length run - length (after_last decides run) + left_in_run revisions priority bound (after_last decides run)
-    else left_in_run revisions priority bound (before_first decides run)) ≤ length run) [
+pub left_in_run-le : (revisions : List Revision) (rank : Rank) (bound : ℕ) (run : List Tagged) → left_in_run revisions rank bound run ≤ length run
+left_in_run-le revisions rank zero run = omega arith
+left_in_run-le revisions rank (suc bound) [] = omega arith
+left_in_run-le revisions rank (suc bound) (tagged ∷ more) =
+    elim (goes_right revisions rank (eldest run)) as (λ b. (if b
+    then length run - length (after_last decides run) + left_in_run revisions rank bound (after_last decides run)
+    else left_in_run revisions rank bound (before_first decides run)) ≤ length run) [
       | true ↦
           omega (
             arith,
-            left_in_run-le revisions priority bound (after_last decides run),
+            left_in_run-le revisions rank bound (after_last decides run),
             length-drop (length run - suffix_len (λ x. not (decides x)) run) run,
           )
       | false ↦
-          omega (arith, left_in_run-le revisions priority bound (before_first decides run), length-take (position_or_len decides run) run)
+          omega (arith, left_in_run-le revisions rank bound (before_first decides run), length-take (position_or_len decides run) run)
     ]
   where
     run : List Tagged
@@ -109,17 +110,17 @@ later_run_unseen history base gap =
     (λ tagged later. is_visible-later history.revisions base tagged later) (later_run history base gap) (later_run_is_later history base gap)
 
 -- an insertion place stands in its run
-pub insertion_place-le : (history : History) (base priority gap : ℕ) → insertion_place history base priority gap ≤ index_right_of history base gap
-insertion_place-le history base priority gap =
+pub insertion_place-le : (history : History) (base : ℕ) (rank : Rank) (gap : ℕ) → insertion_place history base rank gap ≤ index_right_of history base gap
+insertion_place-le history base rank gap =
     omega (
       arith,
       later_run-le history base gap,
-      left_in_run-le history.revisions priority (length (later_run history base gap)) (later_run history base gap),
+      left_in_run-le history.revisions rank (length (later_run history base gap)) (later_run history base gap),
     )
 
-pub le-insertion_place : (history : History) (base priority gap : ℕ) →
-    index_right_of history base gap ≤ insertion_place history base priority gap + length (later_run history base gap)
-le-insertion_place history base priority gap = omega (arith, later_run-le history base gap)
+pub le-insertion_place : (history : History) (base : ℕ) (rank : Rank) (gap : ℕ) →
+    index_right_of history base gap ≤ insertion_place history base rank gap + length (later_run history base gap)
+le-insertion_place history base rank gap = omega (arith, later_run-le history base gap)
 
 -- the run of a later gap begins behind the visible character right of an earlier gap
 pub later_run_after : (history : History) (base gap later : ℕ) → gap < later → later ≤ length (visible_at history base) →
@@ -148,14 +149,14 @@ later_run_after history base gap later before within =
     none = record { character = 0; inserted = 0; deleted = [] }
 
 -- the places of two gaps
-pub insertion_place-lt : (history : History) (base priority gap later : ℕ) → gap < later → later ≤ length (visible_at history base) →
-    insertion_place history base priority gap < insertion_place history base priority later
-insertion_place-lt history base priority gap later before within =
+pub insertion_place-lt : (history : History) (base : ℕ) (rank : Rank) (gap later : ℕ) → gap < later → later ≤ length (visible_at history base) →
+    insertion_place history base rank gap < insertion_place history base rank later
+insertion_place-lt history base rank gap later before within =
     omega (
       arith,
-      insertion_place-le history base priority gap,
+      insertion_place-le history base rank gap,
       later_run_after history base gap later before within,
-      le-insertion_place history base priority later,
+      le-insertion_place history base rank later,
     )
 
 -- at the head nothing is later, and the place is the index of the character right of the gap
@@ -167,8 +168,8 @@ later_run_none history base gap sound last =
     (AllByRecursion-weaker (IsTaggedBy (head history)) (λ tagged. nat_lt base tagged.inserted ≡ false)
     (λ tagged is. le-ltb base tagged.inserted (omega (arith, is.inserted))) history.characters sound)))
 
-pub insertion_place-head : (history : History) (base priority gap : ℕ) → IsSound history → head history ≤ base →
-    insertion_place history base priority gap ≡ index_right_of history base gap
-insertion_place-head history base priority gap sound last =
-    ap (λ run. index_right_of history base gap - length run + left_in_run history.revisions priority (length run) run)
+pub insertion_place-head : (history : History) (base : ℕ) (rank : Rank) (gap : ℕ) → IsSound history → head history ≤ base →
+    insertion_place history base rank gap ≡ index_right_of history base gap
+insertion_place-head history base rank gap sound last =
+    ap (λ run. index_right_of history base gap - length run + left_in_run history.revisions rank (length run) run)
     (later_run_none history base gap sound last) ∙ omega arith

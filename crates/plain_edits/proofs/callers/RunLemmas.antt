@@ -8,6 +8,7 @@ use Rattle.std.proofs.lemmas.List.Folds.{prefix_len-append}
 use Rattle.std.proofs.lemmas.List.Elements.{filter-append, All-filter, All-from_recursion, recursion_from_All}
 use Rattle.std.proofs.lemmas.List.Sums.{suffix_len_is, suffix_len-le-length}
 use Rattle.plain_text.proofs.callers.ListLemmas.{AllByRecursion-weaker, filter-yes}
+use Rattle.plain_edits.specs.declared.rank.Rank.{Rank}
 use Rattle.plain_edits.specs.History.{Tagged, Revision, History}
 use Rattle.plain_edits.specs.Place.{eldest, is_by, goes_right, index_right_of, left_in_run, insertion_place}
 use Rattle.plain_edits.specs.Blocks.{older_len, left_in_block}
@@ -176,80 +177,80 @@ eldest-there (tagged ∷ more ∷ run) e some is none =
 
 -- ---- how many characters of a run stay left
 
-module _ (revisions : List Revision) (priority : ℕ) where
-  pub left_in_run-nil : (bound : ℕ) → left_in_run revisions priority bound [] ≡ 0
+module _ (revisions : List Revision) (rank : Rank) where
+  pub left_in_run-nil : (bound : ℕ) → left_in_run revisions rank bound [] ≡ 0
   left_in_run-nil zero = refl
   left_in_run-nil (suc bound) = refl
 
   left_in_run-suc : (bound e : ℕ) (run : List Tagged) → eldest run ≡ e → 0 < length run →
-      left_in_run revisions priority (suc bound) run ≡
-      (if goes_right revisions priority e
-      then length run - length (after_last (is_by e) run) + left_in_run revisions priority bound (after_last (is_by e) run)
-      else left_in_run revisions priority bound (before_first (is_by e) run))
+      left_in_run revisions rank (suc bound) run ≡
+      (if goes_right revisions rank e
+      then length run - length (after_last (is_by e) run) + left_in_run revisions rank bound (after_last (is_by e) run)
+      else left_in_run revisions rank bound (before_first (is_by e) run))
   left_in_run-suc bound e [] is some = absurd (omega arith)
   left_in_run-suc bound e (tagged ∷ more) is some =
       let run = tagged ∷ more in
-      ap (λ d. if goes_right revisions priority d
-      then length run - length (after_last (is_by d) run) + left_in_run revisions priority bound (after_last (is_by d) run)
-      else left_in_run revisions priority bound (before_first (is_by d) run)) is
+      ap (λ d. if goes_right revisions rank d
+      then length run - length (after_last (is_by d) run) + left_in_run revisions rank bound (after_last (is_by d) run)
+      else left_in_run revisions rank bound (before_first (is_by d) run)) is
 
   module _ (bound : ℕ) (front : List Tagged) (x : Tagged) (back : List Tagged)
       (least : AllByRecursion (λ tagged. x.inserted ≤ tagged.inserted) (front ++ x ∷ back)) where
     abbrev decides : Tagged → Bool
     decides = is_by x.inserted
 
-    by_order : (right : Bool) → goes_right revisions priority x.inserted ≡ right →
-        left_in_run revisions priority (suc bound) (front ++ x ∷ back) ≡
+    by_order : (right : Bool) → goes_right revisions rank x.inserted ≡ right →
+        left_in_run revisions rank (suc bound) (front ++ x ∷ back) ≡
         (if right
         then length (front ++ x ∷ back) - length (after_last decides (front ++ x ∷ back)) +
-        left_in_run revisions priority bound (after_last decides (front ++ x ∷ back))
-        else left_in_run revisions priority bound (before_first decides (front ++ x ∷ back)))
+        left_in_run revisions rank bound (after_last decides (front ++ x ∷ back))
+        else left_in_run revisions rank bound (before_first decides (front ++ x ∷ back)))
     by_order right goes =
         left_in_run-suc bound x.inserted (front ++ x ∷ back) (eldest-cut front x back least) (omega (arith, length-append front (x ∷ back))) ∙
         ap (λ b. if b
         then length (front ++ x ∷ back) - length (after_last decides (front ++ x ∷ back)) +
-        left_in_run revisions priority bound (after_last decides (front ++ x ∷ back))
-        else left_in_run revisions priority bound (before_first decides (front ++ x ∷ back))) goes
+        left_in_run revisions rank bound (after_last decides (front ++ x ∷ back))
+        else left_in_run revisions rank bound (before_first decides (front ++ x ∷ back))) goes
 
     -- up to the last character of the eldest edit all stay left, or from its first one on none does
-    pub left_in_run-right : AllByRecursion (λ tagged. decides tagged ≡ false) back → goes_right revisions priority x.inserted ≡ true →
-        left_in_run revisions priority (suc bound) (front ++ x ∷ back) ≡ length front + 1 + left_in_run revisions priority bound back
+    pub left_in_run-right : AllByRecursion (λ tagged. decides tagged ≡ false) back → goes_right revisions rank x.inserted ≡ true →
+        left_in_run revisions rank (suc bound) (front ++ x ∷ back) ≡ length front + 1 + left_in_run revisions rank bound back
     left_in_run-right none right =
         by_order true right ∙
-        ap (λ ys. length (front ++ x ∷ back) - length ys + left_in_run revisions priority bound ys)
+        ap (λ ys. length (front ++ x ∷ back) - length ys + left_in_run revisions rank bound ys)
         (after_last-cut decides front x back (eq-eqb x.inserted x.inserted refl) none) ∙
         omega (arith, length-append front (x ∷ back))
 
-    pub left_in_run-left : AllByRecursion (λ tagged. decides tagged ≡ false) front → goes_right revisions priority x.inserted ≡ false →
-        left_in_run revisions priority (suc bound) (front ++ x ∷ back) ≡ left_in_run revisions priority bound front
+    pub left_in_run-left : AllByRecursion (λ tagged. decides tagged ≡ false) front → goes_right revisions rank x.inserted ≡ false →
+        left_in_run revisions rank (suc bound) (front ++ x ∷ back) ≡ left_in_run revisions rank bound front
     left_in_run-left none left =
         by_order false left ∙
-        ap (left_in_run revisions priority bound) (before_first-cut decides front x back (eq-eqb x.inserted x.inserted refl) none)
+        ap (left_in_run revisions rank bound) (before_first-cut decides front x back (eq-eqb x.inserted x.inserted refl) none)
 
   -- what goes over the cuts is true of each run
   module _ (P : List Tagged → ℕ → Type 0) (nil : P [] 0)
       (right : (front : List Tagged) (x : Tagged) (back : List Tagged) (k : ℕ) → AllByRecursion (λ tagged. x.inserted ≤ tagged.inserted) (front ++ x ∷ back) →
-      AllByRecursion (λ tagged. is_by x.inserted tagged ≡ false) back → goes_right revisions priority x.inserted ≡ true →
+      AllByRecursion (λ tagged. is_by x.inserted tagged ≡ false) back → goes_right revisions rank x.inserted ≡ true →
       P back k → P (front ++ x ∷ back) (length front + 1 + k))
       (left : (front : List Tagged) (x : Tagged) (back : List Tagged) (k : ℕ) → AllByRecursion (λ tagged. x.inserted ≤ tagged.inserted) (front ++ x ∷ back) →
-      AllByRecursion (λ tagged. is_by x.inserted tagged ≡ false) front → goes_right revisions priority x.inserted ≡ false →
+      AllByRecursion (λ tagged. is_by x.inserted tagged ≡ false) front → goes_right revisions rank x.inserted ≡ false →
       P front k → P (front ++ x ∷ back) k) where
     abbrev Comes : ℕ → List Tagged → Type 0
-    Comes bound run = P run (left_in_run revisions priority bound run)
+    Comes bound run = P run (left_in_run revisions rank bound run)
 
-    pub left_in_run-by_cuts : (bound : ℕ) (run : List Tagged) → length run ≤ bound → P run (left_in_run revisions priority bound run)
+    pub left_in_run-by_cuts : (bound : ℕ) (run : List Tagged) → length run ≤ bound → P run (left_in_run revisions rank bound run)
     left_in_run-by_cuts zero [] within = nil
     left_in_run-by_cuts zero (tagged ∷ more) within = absurd (omega arith)
     left_in_run-by_cuts (suc bound) [] within = nil
     left_in_run-by_cuts (suc bound) (tagged ∷ more) within =
-        elim (goes_right revisions priority (eldest run)) as (λ b. goes_right revisions priority (eldest run) ≡ b → Comes (suc bound) run) [
+        elim (goes_right revisions rank (eldest run)) as (λ b. goes_right revisions rank (eldest run) ≡ b → Comes (suc bound) run) [
           | true ↦ λ goes.
               elim (last_cut (is_by (eldest run)) run) [
                 | inl cut ↦
                     let by : eldest run ≡ cut.item.inserted = sym (eqb-true cut.item.inserted (eldest run) cut.passes) in
                     let least = least_at cut.front cut.item cut.back cut.whole by in
                     let none = subst (λ e. AllByRecursion (λ t. is_by e t ≡ false) cut.back) by cut.none in
-                    let goes_by = subst (λ e. goes_right revisions priority e ≡ true) by goes in
+                    let goes_by = subst (λ e. goes_right revisions rank e ≡ true) by goes in
                     subst (Comes (suc bound)) (sym cut.whole)
                     (subst (P (cut.front ++ cut.item ∷ cut.back)) (sym (left_in_run-right bound cut.front cut.item cut.back least none goes_by))
                     (right cut.front cut.item cut.back _ least none goes_by
@@ -262,7 +263,7 @@ module _ (revisions : List Revision) (priority : ℕ) where
                     let by : eldest run ≡ cut.item.inserted = sym (eqb-true cut.item.inserted (eldest run) cut.passes) in
                     let least = least_at cut.front cut.item cut.back cut.whole by in
                     let none = subst (λ e. AllByRecursion (λ t. is_by e t ≡ false) cut.front) by cut.none in
-                    let goes_by = subst (λ e. goes_right revisions priority e ≡ false) by goes in
+                    let goes_by = subst (λ e. goes_right revisions rank e ≡ false) by goes in
                     subst (Comes (suc bound)) (sym cut.whole)
                     (subst (P (cut.front ++ cut.item ∷ cut.back)) (sym (left_in_run-left bound cut.front cut.item cut.back least none goes_by))
                     (left cut.front cut.item cut.back _ least none goes_by
@@ -281,32 +282,32 @@ module _ (revisions : List Revision) (priority : ℕ) where
 
 -- ---- how many characters of a block stay left
 
-module _ (revisions : List Revision) (base priority : ℕ) where
+module _ (revisions : List Revision) (base : ℕ) (rank : Rank) where
   -- where so many of them are older
   left_in_block-older : (older : ℕ) (characters : List Tagged) → older_len base characters ≡ older →
-      left_in_block revisions base priority characters ≡
-      older + left_in_run revisions priority (length (drop older characters)) (drop older characters)
+      left_in_block revisions base rank characters ≡
+      older + left_in_run revisions rank (length (drop older characters)) (drop older characters)
   left_in_block-older older characters is =
-      ap (λ n. n + left_in_run revisions priority (length (drop n characters)) (drop n characters)) is
+      ap (λ n. n + left_in_run revisions rank (length (drop n characters)) (drop n characters)) is
 
-  pub left_in_block-le : (characters : List Tagged) → left_in_block revisions base priority characters ≤ length characters
+  pub left_in_block-le : (characters : List Tagged) → left_in_block revisions base rank characters ≤ length characters
   left_in_block-le characters =
       let run = drop (older_len base characters) characters in
-      omega (arith, left_in_run-le revisions priority (length run) run, length-drop (older_len base characters) characters)
+      omega (arith, left_in_run-le revisions rank (length run) run, length-drop (older_len base characters) characters)
 
   -- up to the last one that did not come after the base
   pub left_in_block-cut : (front : List Tagged) (x : Tagged) (back : List Tagged) → nat_lt base x.inserted ≡ false →
       AllByRecursion (λ tagged. nat_lt base tagged.inserted ≡ true) back →
-      left_in_block revisions base priority (front ++ x ∷ back) ≡ length front + 1 + left_in_run revisions priority (length back) back
+      left_in_block revisions base rank (front ++ x ∷ back) ≡ length front + 1 + left_in_run revisions rank (length back) back
   left_in_block-cut front x back early late =
       left_in_block-older (length front + 1) (front ++ x ∷ back)
       (omega (arith, suffix_len-cut (λ tagged. nat_lt base tagged.inserted) front x back early late, length-append front (x ∷ back))) ∙
-      ap (λ run. length front + 1 + left_in_run revisions priority (length run) run) (drop-append-add front (x ∷ back) 1)
+      ap (λ run. length front + 1 + left_in_run revisions rank (length run) run) (drop-append-add front (x ∷ back) 1)
 
   -- where those that did not stand before those that did
   pub left_in_block-parts : (old late : List Tagged) → AllByRecursion (λ tagged. nat_lt base tagged.inserted ≡ false) old →
       AllByRecursion (λ tagged. nat_lt base tagged.inserted ≡ true) late →
-      left_in_block revisions base priority (old ++ late) ≡ length old + left_in_run revisions priority (length late) late
+      left_in_block revisions base rank (old ++ late) ≡ length old + left_in_run revisions rank (length late) late
   left_in_block-parts old late early each =
       left_in_block-older (length old) (old ++ late)
       (omega (
@@ -314,16 +315,16 @@ module _ (revisions : List Revision) (base priority : ℕ) where
         suffix_len-parts (λ tagged. nat_lt base tagged.inserted) old late (suffix_len_none (λ tagged. nat_lt base tagged.inserted) old early) each,
         length-append old late,
       )) ∙
-      (let none : length old ≡ length old + 0 = omega arith in ap (λ n. length old + left_in_run revisions priority (length (drop n (old ++ late))) (drop n (old ++ late))) none) ∙
-      ap (λ run. length old + left_in_run revisions priority (length run) run) (drop-append-add old late 0)
+      (let none : length old ≡ length old + 0 = omega arith in ap (λ n. length old + left_in_run revisions rank (length (drop n (old ++ late))) (drop n (old ++ late))) none) ∙
+      ap (λ run. length old + left_in_run revisions rank (length run) run) (drop-append-add old late 0)
 
   -- where all came after it, and where none did
   pub left_in_block-late : (characters : List Tagged) → AllByRecursion (λ tagged. nat_lt base tagged.inserted ≡ true) characters →
-      left_in_block revisions base priority characters ≡ left_in_run revisions priority (length characters) characters
+      left_in_block revisions base rank characters ≡ left_in_run revisions rank (length characters) characters
   left_in_block-late characters late = left_in_block-parts [] characters tt late ∙ omega arith
 
   pub left_in_block-early : (characters : List Tagged) → AllByRecursion (λ tagged. nat_lt base tagged.inserted ≡ false) characters →
-      left_in_block revisions base priority characters ≡ length characters
+      left_in_block revisions base rank characters ≡ length characters
   left_in_block-early characters early =
       omega (
         arith,
@@ -332,10 +333,10 @@ module _ (revisions : List Revision) (base priority : ℕ) where
       )
 
 -- AN INSERTION PLACE is how many stay left of all that stands left of the gap
-pub insertion_place-left : (history : History) (base priority gap : ℕ) →
-    insertion_place history base priority gap ≡
-    left_in_block history.revisions base priority (take (index_right_of history base gap) history.characters)
-insertion_place-left history base priority gap =
+pub insertion_place-left : (history : History) (base : ℕ) (rank : Rank) (gap : ℕ) →
+    insertion_place history base rank gap ≡
+    left_in_block history.revisions base rank (take (index_right_of history base gap) history.characters)
+insertion_place-left history base rank gap =
     let left = take (index_right_of history base gap) history.characters in
     omega (
       arith,
@@ -346,16 +347,16 @@ insertion_place-left history base priority gap =
 
 -- ---- whatever the characters are
 
-module _ (revisions : List Revision) (priority : ℕ) (character : Tagged → ℕ) where
+module _ (revisions : List Revision) (rank : Rank) (character : Tagged → ℕ) where
   abbrev renamed : Tagged → Tagged
   renamed tagged = record tagged { character = character tagged }
 
   abbrev IsLeft : List Tagged → ℕ → Type 0
-  IsLeft run k = (bound : ℕ) → length run ≤ bound → left_in_run revisions priority bound (map renamed run) ≡ k
+  IsLeft run k = (bound : ℕ) → length run ≤ bound → left_in_run revisions rank bound (map renamed run) ≡ k
 
-  left_in_run-renamed : (run : List Tagged) → left_in_run revisions priority (length (map renamed run)) (map renamed run) ≡ left_in_run revisions priority (length run) run
+  left_in_run-renamed : (run : List Tagged) → left_in_run revisions rank (length (map renamed run)) (map renamed run) ≡ left_in_run revisions rank (length run) run
   left_in_run-renamed run =
-      left_in_run-by_cuts revisions priority IsLeft (λ bound within. left_in_run-nil revisions priority bound) right left (length run) run (omega arith)
+      left_in_run-by_cuts revisions rank IsLeft (λ bound within. left_in_run-nil revisions rank bound) right left (length run) run (omega arith)
       (length (map renamed run)) (omega (arith, length-map run renamed))
     where
       least_there : (front : List Tagged) (x : Tagged) (back : List Tagged) → AllByRecursion (λ t. x.inserted ≤ t.inserted) (front ++ x ∷ back) →
@@ -365,35 +366,35 @@ module _ (revisions : List Revision) (priority : ℕ) (character : Tagged → �
           (AllByRecursion-to_map (λ t. x.inserted ≤ t.inserted) renamed (front ++ x ∷ back) least)
 
       right : (front : List Tagged) (x : Tagged) (back : List Tagged) (k : ℕ) → AllByRecursion (λ t. x.inserted ≤ t.inserted) (front ++ x ∷ back) →
-          AllByRecursion (λ t. is_by x.inserted t ≡ false) back → goes_right revisions priority x.inserted ≡ true →
+          AllByRecursion (λ t. is_by x.inserted t ≡ false) back → goes_right revisions rank x.inserted ≡ true →
           IsLeft back k → IsLeft (front ++ x ∷ back) (length front + 1 + k)
       right front x back k least none goes rest zero within = absurd (omega (arith, within, length-append front (x ∷ back)))
       right front x back k least none goes rest (suc bound) within =
-          ap (left_in_run revisions priority (suc bound)) (map-append renamed front (x ∷ back)) ∙
-          left_in_run-right revisions priority bound (map renamed front) (renamed x) (map renamed back) (least_there front x back least)
+          ap (left_in_run revisions rank (suc bound)) (map-append renamed front (x ∷ back)) ∙
+          left_in_run-right revisions rank bound (map renamed front) (renamed x) (map renamed back) (least_there front x back least)
           (AllByRecursion-to_map (λ t. is_by x.inserted t ≡ false) renamed back none) goes ∙
           omega (arith, length-map front renamed, rest bound (omega (arith, within, length-append front (x ∷ back))))
 
       left : (front : List Tagged) (x : Tagged) (back : List Tagged) (k : ℕ) → AllByRecursion (λ t. x.inserted ≤ t.inserted) (front ++ x ∷ back) →
-          AllByRecursion (λ t. is_by x.inserted t ≡ false) front → goes_right revisions priority x.inserted ≡ false →
+          AllByRecursion (λ t. is_by x.inserted t ≡ false) front → goes_right revisions rank x.inserted ≡ false →
           IsLeft front k → IsLeft (front ++ x ∷ back) k
       left front x back k least none goes rest zero within = absurd (omega (arith, within, length-append front (x ∷ back)))
       left front x back k least none goes rest (suc bound) within =
-          ap (left_in_run revisions priority (suc bound)) (map-append renamed front (x ∷ back)) ∙
-          left_in_run-left revisions priority bound (map renamed front) (renamed x) (map renamed back) (least_there front x back least)
+          ap (left_in_run revisions rank (suc bound)) (map-append renamed front (x ∷ back)) ∙
+          left_in_run-left revisions rank bound (map renamed front) (renamed x) (map renamed back) (least_there front x back least)
           (AllByRecursion-to_map (λ t. is_by x.inserted t ≡ false) renamed front none) goes ∙
           rest bound (omega (arith, within, length-append front (x ∷ back)))
 
   pub left_in_block-renamed : (base : ℕ) (xs : List Tagged) →
-      left_in_block revisions base priority (map (λ (tagged : Tagged). record tagged { character = character tagged }) xs) ≡ left_in_block revisions base priority xs
+      left_in_block revisions base rank (map (λ (tagged : Tagged). record tagged { character = character tagged }) xs) ≡ left_in_block revisions base rank xs
   left_in_block-renamed base xs =
       elim (last_cut (λ t. not (nat_lt base t.inserted)) xs) [
         | inl cut ↦
-            subst (λ ys. left_in_block revisions base priority (map renamed ys) ≡ left_in_block revisions base priority ys) (sym cut.whole)
+            subst (λ ys. left_in_block revisions base rank (map renamed ys) ≡ left_in_block revisions base rank ys) (sym cut.whole)
             (behind cut.front cut.item cut.back (not-true (nat_lt base cut.item.inserted) cut.passes) (late cut.back cut.none))
         | inr none ↦
-            left_in_block-late revisions base priority (map renamed xs) (AllByRecursion-to_map (λ t. nat_lt base t.inserted ≡ true) renamed xs (late xs none)) ∙
-            left_in_run-renamed xs ∙ sym (left_in_block-late revisions base priority xs (late xs none))
+            left_in_block-late revisions base rank (map renamed xs) (AllByRecursion-to_map (λ t. nat_lt base t.inserted ≡ true) renamed xs (late xs none)) ∙
+            left_in_run-renamed xs ∙ sym (left_in_block-late revisions base rank xs (late xs none))
       ]
     where
       late : (ys : List Tagged) → AllByRecursion (λ t. not (nat_lt base t.inserted) ≡ false) ys → AllByRecursion (λ t. nat_lt base t.inserted ≡ true) ys
@@ -403,10 +404,10 @@ module _ (revisions : List Revision) (priority : ℕ) (character : Tagged → �
 
       behind : (front : List Tagged) (x : Tagged) (back : List Tagged) → nat_lt base x.inserted ≡ false →
           AllByRecursion (λ t. nat_lt base t.inserted ≡ true) back →
-          left_in_block revisions base priority (map renamed (front ++ x ∷ back)) ≡ left_in_block revisions base priority (front ++ x ∷ back)
+          left_in_block revisions base rank (map renamed (front ++ x ∷ back)) ≡ left_in_block revisions base rank (front ++ x ∷ back)
       behind front x back early all =
-          ap (left_in_block revisions base priority) (map-append renamed front (x ∷ back)) ∙
-          left_in_block-cut revisions base priority (map renamed front) (renamed x) (map renamed back) early
+          ap (left_in_block revisions base rank) (map-append renamed front (x ∷ back)) ∙
+          left_in_block-cut revisions base rank (map renamed front) (renamed x) (map renamed back) early
           (AllByRecursion-to_map (λ t. nat_lt base t.inserted ≡ true) renamed back all) ∙
           omega (arith, length-map front renamed, left_in_run-renamed back) ∙
-          sym (left_in_block-cut revisions base priority front x back early all)
+          sym (left_in_block-cut revisions base rank front x back early all)

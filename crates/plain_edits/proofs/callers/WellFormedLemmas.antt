@@ -4,14 +4,14 @@ use Rattle.std.specs.Prelude.{IfSome}
 use Rattle.std.specs.List.{AllByRecursion, list_all, list_any}
 use Rattle.std.proofs.lemmas.Bool.{cases_eq, and_from, both_ways, and_parts, or_cases, or_left, or_right, cases_lt, not-true, le-leb, le-ltb, ne_eqb, eq-eqb, and_left, and_right}
 use Rattle.std.proofs.Math.Bool.{and-true}
-use Rattle.std.proofs.lemmas.List.{length_push}
+use Rattle.std.proofs.lemmas.List.{length-append, length_push}
 use Rattle.std.proofs.lemmas.List.Folds.{list_any-append, list_all-append}
 use Rattle.plain_text.specs.Numbers.{has, IsRising, with_number}
 use Rattle.plain_text.proofs.callers.NumberLemmas.{has-with_numbers, IsRising-with_numbers}
 use Rattle.plain_text.proofs.callers.ListLemmas.{AllByRecursion-append, AllByRecursion-weaker, AllByRecursion-map, AllByRecursion-woven}
 use Rattle.plain_edits.specs.History.{Tagged, Revision, edit, undo, History, loaded, head, revision_at, edit_group, group_of, undone, is_visible, IsTaggedBy}
 use Rattle.plain_edits.specs.Edits.{PlainEdit, edited, undid, inserted_at, is_deleted_by, with_deletion, is_edit_of}
-use Rattle.plain_edits.specs.Collection.{is_based_from, clean_floor, IsAtRest, is_at_rest, collected_at, MayCollect, Qualifies, Collection, is_where_to_collect, resting_groups, collection_at, collection_of, is_collected, is_dropped}
+use Rattle.plain_edits.specs.Collection.{is_based_from, is_clean, clean_floor, IsAtRest, is_at_rest, collected_at, MayCollect, Qualifies, resting_groups, collection_at, collection_of, is_collected, is_dropped}
 use Rattle.plain_edits.specs.HistorySteps.{Step, edits, undoes, collects, after_step, MayCome, MayEdit, MayUndoSet, is_edit, IsByEdits, AreBased, HasRisingSet, IsWellFormed}
 use Rattle.plain_edits.proofs.callers.HistoryLemmas.{AllByRecursion-inserted_at, becomes, IsSound-loaded, IsSound-edited, IsSound-undid, revision_at-append, revision_at-push, undone-append, undone-edit, undone-undo}
 use Rattle.plain_edits.proofs.callers.CollectionLemmas.{all_has, is_at_rest_iff, greatest_clean_floor}
@@ -346,14 +346,9 @@ resting_groups_iff history retired floor group = (from_rest, to_rest)
         ((is_at_rest_iff history floor group).1 both.0.at_rest))
 
 may_collect_at : (history : History) (floor : ℕ) (groups : List ℕ) → MayCollect history floor groups →
-    IfSome (collection_at history floor groups) (λ collection. MayCollect history collection.floor collection.groups)
+    IfSome (collection_at floor groups) (λ collection. MayCollect history collection.floor collection.groups)
 may_collect_at history floor [] may = tt
-may_collect_at history floor (group ∷ groups) may = by (is_where_to_collect history floor)
-  where
-    by : (b : Bool) → IfSome (if b then Some (record { floor = floor; groups = group ∷ groups }) else None)
-        (λ (collection : Collection). MayCollect history collection.floor collection.groups)
-    by true = may
-    by false = tt
+may_collect_at history floor (group ∷ groups) may = may
 
 pub may_collect-collection_of : (history : History) (retired : List ℕ) (most : ℕ) → IsWellFormed history → history.floor ≤ most → most ≤ head history →
     IfSome (collection_of history retired most) (λ collection. MayCollect history collection.floor collection.groups)
@@ -366,3 +361,70 @@ may_collect-collection_of history retired most formed low high =
       clean = greatest.clean;
       at_rest = resting history retired floor;
     })
+
+-- ---- later revisions give nothing new to collect
+
+module _ (history next : History) (more : List Revision) (revisions_are : next.revisions ≡ history.revisions ++ more)
+    (collected_are : next.collected ≡ history.collected) where
+  further : head next ≡ head history + length more
+  further = ap length revisions_are ∙ length-append history.revisions more
+
+  undone_then : (rev : ℕ) → rev ≤ head history → undone next.revisions rev ≡ undone history.revisions rev
+  undone_then rev within = ap (λ revisions. undone revisions rev) revisions_are ∙ undone-append history.revisions more rev within
+
+  dropped_then : (floor : ℕ) → floor ≤ head history → drop floor next.revisions ≡ drop floor history.revisions ++ more
+  dropped_then floor within = ap (drop floor) revisions_are ∙ drop-append floor history.revisions more within
+
+  -- a floor that is clean later is clean now, and a group that is at rest there later is at rest now, there and at each later floor
+  is_clean-before : (floor : ℕ) → floor ≤ head history → is_clean next.revisions floor ≡ true → is_clean history.revisions floor ≡ true
+  is_clean-before floor within clean =
+      (and_parts (list_all (is_based_from floor) (drop floor history.revisions)) (list_all (is_based_from floor) more)
+      (sym (ap (list_all (is_based_from floor)) (dropped_then floor within) ∙ list_all-append (is_based_from floor) (drop floor history.revisions) more) ∙ clean)).0
+
+  IsAtRest-before : (low floor group : ℕ) → low ≤ floor → floor ≤ head history → IsAtRest next low group → IsAtRest history floor group
+  IsAtRest-before low floor group up within rest = record {
+    is_over = list_any-drop (is_edit_of group) low floor history.revisions up
+        (neither (list_any (is_edit_of group) (drop low history.revisions)) (list_any (is_edit_of group) more)
+        (sym (ap (list_any (is_edit_of group)) (dropped_then low (omega (arith, up, within))) ∙ list_any-append (is_edit_of group) (drop low history.revisions) more) ∙
+        rest.is_over));
+    is_settled = λ rev from to.
+        let has_then : (at : ℕ) → low ≤ at → at ≤ head history → has (undone history.revisions at) group ≡ has (undone next.revisions (head next)) group =
+        λ at above below. ap (λ groups. has groups group) (sym (undone_then at below)) ∙ rest.is_settled at above (omega (arith, below, further)) in
+        has_then rev (omega (arith, up, from)) to ∙ sym (has_then (head history) (omega (arith, up, within)) (omega arith));
+  }
+    where
+      neither : (a b : Bool) → (a || b) ≡ false → a ≡ false
+      neither true b none = none
+      neither false b none = refl
+
+  -- the test of a retired group
+  abbrev rests : History → ℕ → ℕ → Bool
+  rests h floor group = not (has h.collected group) && is_at_rest h floor group
+
+  rests-before : (low floor group : ℕ) → low ≤ floor → floor ≤ head history → rests next low group ≡ true → rests history floor group ≡ true
+  rests-before low floor group up within is =
+      let parts = and_parts (not (has next.collected group)) (is_at_rest next low group) is in
+      and_from (not (has history.collected group)) (is_at_rest history floor group)
+      (ap (λ groups. not (has groups group)) (sym collected_are) ∙ parts.0)
+      ((is_at_rest_iff history floor group).1 (IsAtRest-before low floor group up within ((is_at_rest_iff next low group).0 parts.1)))
+
+  -- where none is at rest, none is later
+  pub resting_groups-later : (retired : List ℕ) (low floor : ℕ) → low ≤ floor → floor ≤ head history →
+      resting_groups history retired floor ≡ [] → resting_groups next retired low ≡ []
+  resting_groups-later [] low floor up within none = refl
+  resting_groups-later (group ∷ retired) low floor up within none = by (rests history floor group) (rests next low group) refl refl (resting_groups-later retired low floor up within) none
+    where
+      by : (now after : Bool) → rests history floor group ≡ now → rests next low group ≡ after →
+          (resting_groups history retired floor ≡ [] → resting_groups next retired low ≡ []) →
+          cond now (group ∷ resting_groups history retired floor) (resting_groups history retired floor) ≡ [] →
+          cond after (group ∷ resting_groups next retired low) (resting_groups next retired low) ≡ []
+      by true after now_is later_is fewer some = absurd cc
+      by false true now_is later_is fewer rest = absurd (both_ways (rests history floor group) now_is (rests-before low floor group up within later_is))
+      by false false now_is later_is fewer rest = fewer rest
+
+  pub clean_floor-later : (most : ℕ) → most ≤ head history → clean_floor next.revisions most ≤ clean_floor history.revisions most
+  clean_floor-later most within =
+      let later = greatest_clean_floor next.revisions most in
+      let now = greatest_clean_floor history.revisions most in
+      now.greatest (clean_floor next.revisions most) later.is_within
+      (is_clean-before (clean_floor next.revisions most) (omega (arith, later.is_within, within)) later.clean)

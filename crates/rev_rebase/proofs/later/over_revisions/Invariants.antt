@@ -10,6 +10,6 @@ invariant-loop-revision l = record {
   is_finite : (goal.iterator-loop-revision).is_finite l.revision-iterator;
   insertions_grow : Grow (count l.inserted) (length l.inserted) l.revision-iterator;
   deletions_grow : Grow 0 (length l.deleted) l.revision-iterator;
-  insertions : fold (insertions_after l.priority) l.inserted l.revision-iterator ≡ fold (insertions_after l.priority) l.initial.inserted l.fn.revisions;
+  insertions : fold (insertions_after l.rank) l.inserted l.revision-iterator ≡ fold (insertions_after l.rank) l.initial.inserted l.fn.revisions;
   deletions : fold deletions_after l.deleted l.revision-iterator ≡ fold deletions_after l.initial.deleted l.fn.revisions;
 }

@@ -36,7 +36,7 @@ returns c =
               saved = refl;
               saved_before = omega arith;
             };
-            none_left = λ ended. refl;
+            none_left = refl;
           });
       shown = ap head_shown engine_is ∙ head_shown-stands engine (loaded c.args.text) stands ∙ head_text-loaded c.args.text;
     }

@@ -1,5 +1,5 @@
 -- What is collected is collected once: right after a collection there is nothing to collect.
-use Rattle.std.proofs.Common.{◌≡◌, ◌⊎◌, ℕ, Bool, true, false, not, ◌&&◌, ◌||◌, if◌then◌else◌, ◌==◌, cond, List, [], ◌∷◌, Option, Some, None, refl, ap, sym, ◌∙◌, inl, inr}
+use Rattle.std.proofs.Common.{◌≡◌, ◌⊎◌, ℕ, Bool, true, false, not, ◌&&◌, ◌||◌, ◌==◌, cond, List, [], ◌∷◌, Option, Some, None, refl, ap, sym, ◌∙◌, inl, inr}
 use Rattle.std.specs.List.{fold, filter, AllByRecursion}
 use Rattle.std.specs.Ordering.{nat_cmp}
 use Rattle.std.specs.BTreeMap.{is_at}
@@ -10,18 +10,19 @@ use Rattle.plain_text.proofs.callers.NumberLemmas.{has-with_numbers}
 use Rattle.plain_edits.specs.Collection.{Collection, clean_floor, collected_at, collection_at, is_at_rest, resting_groups}
 use Rattle.plain_edits.specs.History.{History, head}
 use Rattle.undo_groups.specs.Groups.{Groups, forgotten}
-use Rattle.doc_text.specs.Collecting.{collected_text, collection_after, least_acknowledged, with_collection}
+use Rattle.doc_text.specs.Collecting.{HasNoneLeft, collected_text, collection_after, least_acknowledged, with_collection}
 use Rattle.doc_text.specs.Writing.{Writing}
 
 -- a collection is of these groups
-collection_is : (history : History) (floor : ℕ) (groups : List ℕ) (collection : Collection) → collection_at history floor groups ≡ Some collection →
-    collection.groups ≡ groups
-collection_is history floor [] collection is = absurd cc
-collection_is history floor (group ∷ groups) collection is = by (floor == head history) is
-  where
-    by : (b : Bool) → (if b then Some (record { floor = floor; groups = group ∷ groups }) else None) ≡ Some collection → collection.groups ≡ group ∷ groups
-    by true found = let same : record { floor = floor; groups = group ∷ groups } ≡ collection = cc in ap (λ (c : Collection). c.groups) (sym same)
-    by false found = absurd cc
+collection_is : (floor : ℕ) (groups : List ℕ) (collection : Collection) → collection_at floor groups ≡ Some collection → collection.groups ≡ groups
+collection_is floor [] collection is = absurd cc
+collection_is floor (group ∷ groups) collection is =
+    let same : record { floor = floor; groups = group ∷ groups } ≡ collection = cc in ap (λ (c : Collection). c.groups) (sym same)
+
+-- and where there is none, there are no groups
+none_at : (floor : ℕ) (groups : List ℕ) → collection_at floor groups ≡ None → groups ≡ []
+none_at floor [] none = refl
+none_at floor (group ∷ groups) none = absurd cc
 
 -- ---- what a list and a stack of groups leave
 
@@ -67,8 +68,13 @@ spent_test false true r is = refl
 spent_test false false r (inl is) = is
 spent_test false false r (inr is) = absurd cc
 
-pub collected_once : (d : Writing) → collection_after (collected_text d) ≡ None
-collected_once d = by (collection_after d) refl
+-- where nothing waits, nothing is collected
+pub nothing_after : (d : Writing) → HasNoneLeft d → collection_after d ≡ None
+nothing_after d none =
+    ap (collection_at (clean_floor d.history.revisions (least_acknowledged (head d.history) d.sessions))) none
+
+pub HasNoneLeft-collected : (d : Writing) → HasNoneLeft (collected_text d)
+HasNoneLeft-collected d = by (collection_after d) refl
   where
     h : History
     h = d.history
@@ -93,8 +99,10 @@ collected_once d = by (collection_after d) refl
         (λ group. (not (has (fold with_number h.collected groups) group) && is_at_rest h floor group) ≡ false) fails d.groups.retired
         (parted_by test d.groups.retired)))
 
-    by : (found : Option Collection) → collection_after d ≡ found → collection_after (with_collection d found) ≡ None
-    by None is = is
+    by : (found : Option Collection) → collection_after d ≡ found → HasNoneLeft (with_collection d found)
+    by None is = none_at floor (resting_groups h d.groups.retired floor) is
     by (Some collection) is =
-        let are = collection_is h floor (resting_groups h d.groups.retired floor) collection is in
-        ap (collection_at (collected_at h collection.floor collection.groups) floor) (none_left collection.groups are)
+        none_left collection.groups (collection_is floor (resting_groups h d.groups.retired floor) collection is)
+
+pub collected_once : (d : Writing) → collection_after (collected_text d) ≡ None
+collected_once d = nothing_after (collected_text d) (HasNoneLeft-collected d)
