@@ -33,11 +33,12 @@ pub record IsOpen (entry : Entry) : Type 0 where
   pub shelf : entry.shelf ≡ NoCall
   pub sent : entry.sent ≡ true
 
--- THE JOURNALS that a session can have while no file is opened or saved: their entries may stand so where there are no plugins, and the
--- shelf is asked for none of them
+-- the shelf was asked for none of the entries
 abbrev pub IsUnasked : List Entry → Type 0
 IsUnasked journal = AllByRecursion (λ entry. entry.shelf ≡ NoCall) journal
 
+-- THE JOURNALS that a session can have while no file is opened or saved: their entries may stand so where there are no plugins, and the
+-- shelf is asked for none of them
 abbrev pub IsLegalUnasked : List Entry → Type 0
 IsLegalUnasked journal = IsOrdered 0 journal × IsUnasked journal
 
