@@ -1,0 +1,5 @@
+pub mod Spots
+pub mod Pattern
+pub mod Replaced
+pub mod Inner
+pub mod SpotLaws
