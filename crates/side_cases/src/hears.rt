@@ -13,33 +13,21 @@ fn text(alloc: Global, characters: &str) -> Result<Text, NoMemory> {
 }
 
 /// Whether this is heard in the line, with its LF and without it.
-fn hears(alloc: Global, line: &str, wanted: Result<Heard, NoMemory>) -> Result<bool, NoMemory> {
+fn hears(alloc: Global, line: &str, wanted: &Heard) -> Result<bool, NoMemory> {
     let mut line = text(alloc, line)?;
-    let wanted = wanted?;
     let alone = hear(alloc, &line)?;
     line.push('\n')?;
     let ended = hear(alloc, &line)?;
-    Ok(alone == wanted && ended == wanted)
+    Ok(alone == *wanted && ended == *wanted)
 }
 
 /// Whether this is heard in a line that was written.
 fn hears_written(
     alloc: Global,
     line: Result<Text, NoMemory>,
-    wanted: Result<Heard, NoMemory>,
+    wanted: Heard,
 ) -> Result<bool, NoMemory> {
-    let wanted = wanted?;
     Ok(hear(alloc, &line?)? == wanted)
-}
-
-fn opened(alloc: Global, len: u64) -> Result<Heard, NoMemory> {
-    let view = text(alloc, "v")?;
-    Ok(Heard::Told(Told::Opened { view, len }))
-}
-
-fn closed(alloc: Global) -> Result<Heard, NoMemory> {
-    let view = text(alloc, "v")?;
-    Ok(Heard::Told(Told::Closed { view }))
 }
 
 fn notice(alloc: Global, author: u32) -> Result<Notice, NoMemory> {
@@ -60,261 +48,252 @@ fn notice(alloc: Global, author: u32) -> Result<Notice, NoMemory> {
     })
 }
 
-fn changed(alloc: Global, author: u32) -> Result<Heard, NoMemory> {
-    Ok(Heard::Told(Told::Changed(notice(alloc, author)?)))
+fn hears_start(alloc: Global) -> Result<bool, NoMemory> {
+    let wanted = Heard::Told(Told::Started { caller: 1 });
+    hears_written(alloc, start_line(alloc, 1), wanted)
 }
 
-fn changed_line(alloc: Global, author: u32) -> Result<Text, NoMemory> {
-    notice_line(alloc, &notice(alloc, author)?)
+fn hears_opening(alloc: Global) -> Result<bool, NoMemory> {
+    let view = text(alloc, "v")?;
+    let line = buffer_line(alloc, &view, 0);
+    hears_written(alloc, line, Heard::Told(Told::Opened { view, len: 0 }))
 }
 
-fn of_view(alloc: Global, write: Result<Text, NoMemory>, wanted: Result<Heard, NoMemory>) -> bool {
-    matches!(hears_written(alloc, write, wanted), Ok(true))
+fn hears_change(alloc: Global, author: u32) -> Result<bool, NoMemory> {
+    let notice = notice(alloc, author)?;
+    let line = notice_line(alloc, &notice);
+    hears_written(alloc, line, Heard::Told(Told::Changed(notice)))
 }
 
-fn buffer(alloc: Global, len: u64) -> Result<Text, NoMemory> {
-    buffer_line(alloc, &text(alloc, "v")?, len)
+fn hears_closing(alloc: Global) -> Result<bool, NoMemory> {
+    let view = text(alloc, "v")?;
+    let line = close_line(alloc, &view);
+    hears_written(alloc, line, Heard::Told(Told::Closed { view }))
 }
 
-fn close(alloc: Global) -> Result<Text, NoMemory> {
-    close_line(alloc, &text(alloc, "v")?)
+fn hears_stop(alloc: Global) -> Result<bool, NoMemory> {
+    hears_written(alloc, stop_line(alloc), Heard::Told(Told::Stopped))
 }
 
 #[test]
 fn each_notice_is_heard(rt: HostRuntime) {
     let alloc = rt.alloc();
-    let started = Heard::Told(Told::Started { caller: 1 });
-    assert!(rt; of_view(alloc, start_line(alloc, 1), Ok(started)));
-    assert!(rt; of_view(alloc, buffer(alloc, 0), opened(alloc, 0)));
-    assert!(rt; of_view(alloc, changed_line(alloc, 0), changed(alloc, 0)));
-    assert!(rt;
-        of_view(
-            alloc,
-            changed_line(alloc, 4294967295),
-            changed(alloc, 4294967295)
-        )
-    );
-    assert!(rt; of_view(alloc, close(alloc), closed(alloc)));
-    assert!(rt; of_view(alloc, stop_line(alloc), Ok(Heard::Told(Told::Stopped))));
+    assert!(rt; matches!(hears_start(alloc), Ok(true)));
+    assert!(rt; matches!(hears_opening(alloc), Ok(true)));
+    assert!(rt; matches!(hears_change(alloc, 0), Ok(true)));
+    assert!(rt; matches!(hears_change(alloc, 4294967295), Ok(true)));
+    assert!(rt; matches!(hears_closing(alloc), Ok(true)));
+    assert!(rt; matches!(hears_stop(alloc), Ok(true)));
 }
 
-fn answer(id: Id, answer: Answered) -> Result<Heard, NoMemory> {
-    Ok(Heard::Answer { id, answer })
+// What is heard in a line, as it stands in a row.
+#[derive(Clone, Copy)]
+enum Row {
+    // The answer to the ask 5.
+    Chunk(&'static str, u64),
+    Edited(u64, u64),
+    Lines(u64),
+    Null,
+    Other,
+    // An error with the message `m`, to this ask or to none.
+    Failed(Option<i128>, i64),
+    // A view `v` of so many bytes.
+    Opened(u64),
+    Nothing,
 }
 
-/// Whether this answer to the ask 5 is heard in the line.
-fn answers(alloc: Global, line: &str, wanted: Answered) -> bool {
-    matches!(hears(alloc, line, answer(Id::Num(5), wanted)), Ok(true))
-}
+use Row::{Chunk, Edited, Failed, Lines, Nothing, Null, Opened, Other};
 
-fn chunk(alloc: Global, characters: &str, offset: u64) -> Result<Answered, NoMemory> {
-    let text = text(alloc, characters)?;
-    Ok(Answered::Chunk { text, offset })
-}
-
-fn answers_chunk(alloc: Global, line: &str, characters: &str, offset: u64) -> bool {
-    match chunk(alloc, characters, offset) {
-        Ok(chunk) => answers(alloc, line, chunk),
-        Err(_) => false,
+fn five(answer: Answered) -> Heard {
+    Heard::Answer {
+        id: Id::Num(5),
+        answer,
     }
 }
 
+fn failed(alloc: Global, id: Option<i128>, code: i64) -> Result<Heard, NoMemory> {
+    let message = text(alloc, "m")?;
+    let id = match id {
+        Some(id) => Id::Num(id),
+        None => Id::NoId,
+    };
+    Ok(Heard::Answer {
+        id,
+        answer: Answered::Failed { code, message },
+    })
+}
+
+fn heard(alloc: Global, row: Row) -> Result<Heard, NoMemory> {
+    match row {
+        Chunk(characters, offset) => {
+            let text = text(alloc, characters)?;
+            Ok(five(Answered::Chunk { text, offset }))
+        }
+        Edited(rev, group) => Ok(five(Answered::Edited { rev, group })),
+        Lines(lines) => Ok(five(Answered::Lines(lines))),
+        Null => Ok(five(Answered::Null)),
+        Other => Ok(five(Answered::Other)),
+        Failed(id, code) => failed(alloc, id, code),
+        Opened(len) => {
+            let view = text(alloc, "v")?;
+            Ok(Heard::Told(Told::Opened { view, len }))
+        }
+        Nothing => Ok(Heard::Nothing),
+    }
+}
+
+fn is_heard(alloc: Global, line: &str, row: Row) -> Result<bool, NoMemory> {
+    let wanted = heard(alloc, row)?;
+    hears(alloc, line, &wanted)
+}
+
+/// Whether in each line what stands beside it is heard.
+fn are_heard(alloc: Global, rows: &[(&str, Row)]) -> bool {
+    for (line, row) in rows {
+        if !matches!(is_heard(alloc, line, *row), Ok(true)) {
+            return false;
+        }
+    }
+    true
+}
+
+const RESULTS: &[(&str, Row)] = &[
+    (
+        r#"{"id":5,"result":{"chunk":"é","offset":3}}"#,
+        Chunk("é", 3),
+    ),
+    (
+        r#"{"result":{"rev":1,"offset":0,"undo_group":2,"chunk":""},"id":5,"more":[]}"#,
+        Chunk("", 0),
+    ),
+    (
+        r#"{"id":5,"result":{"undo_group":2,"rev":18446744073709551615}}"#,
+        Edited(18446744073709551615, 2),
+    ),
+    (r#"{"id":5,"result":0}"#, Lines(0)),
+    (r#"{"id":5,"result":null}"#, Null),
+];
+
+const OTHER_RESULTS: &[(&str, Row)] = &[
+    (r#"{"id":5,"result":{"chunk":1,"offset":0}}"#, Other),
+    (r#"{"id":5,"result":{"chunk":"a"}}"#, Other),
+    (r#"{"id":5,"result":{"rev":1}}"#, Other),
+    (
+        r#"{"id":5,"result":{"rev":18446744073709551616,"undo_group":1}}"#,
+        Other,
+    ),
+    (r#"{"id":5,"result":-1}"#, Other),
+    (r#"{"id":5,"result":{}}"#, Other),
+    (r#"{"id":5,"result":[]}"#, Other),
+    (r#"{"id":5,"result":"a"}"#, Other),
+    (r#"{"id":5,"result":true}"#, Other),
+];
+
+const ERRORS: &[(&str, Row)] = &[
+    (
+        r#"{"error":{"code":-32700,"message":"m"},"id":null}"#,
+        Failed(None, -32700),
+    ),
+    (
+        r#"{"error":{"code":9223372036854775807,"message":"m"},"id":5}"#,
+        Failed(Some(5), 9223372036854775807),
+    ),
+    (
+        r#"{"error":{"code":4,"message":"m"},"id":-9223372036854775808,"result":null}"#,
+        Failed(Some(-9223372036854775808), 4),
+    ),
+    (
+        r#"{"error":{"code":9223372036854775808,"message":"m"},"id":5}"#,
+        Nothing,
+    ),
+    (r#"{"error":null,"id":5,"result":1}"#, Nothing),
+];
+
+const OTHER_LINES: &[(&str, Row)] = &[
+    ("", Nothing),
+    ("[]", Nothing),
+    ("{nope", Nothing),
+    (r#"{"result":null}"#, Nothing),
+    (r#"{"id":1.5,"result":null}"#, Nothing),
+    (r#"{"id":18446744073709551616,"result":null}"#, Nothing),
+    (r#"{"id":5}"#, Nothing),
+    (r#"{"id":5,"method":"shutdown","params":{}}"#, Nothing),
+    (r#"{"id":null,"method":"shutdown","params":{}}"#, Nothing),
+    (
+        r#"{"method":"ack","params":{"rev":1,"view_id":"v"}}"#,
+        Nothing,
+    ),
+];
+
+const RANGES: &[(&str, Row)] = &[
+    (
+        r#"{"params":{"view_id":"v","more":1,"rev":0,"len":18446744073709551615},"method":"new_buffer"}"#,
+        Opened(18446744073709551615),
+    ),
+    (
+        r#"{"method":"new_buffer","params":{"len":1,"rev":1,"view_id":"v"}}"#,
+        Nothing,
+    ),
+    (
+        r#"{"method":"new_buffer","params":{"rev":0,"view_id":"v"}}"#,
+        Nothing,
+    ),
+    (
+        r#"{"method":"initialize","params":{"plugin_id":4294967296}}"#,
+        Nothing,
+    ),
+    (
+        r#"{"method":"update","params":{"author":4294967296,"delta":{"base_len":0,"els":[]},"new_len":0,"rev":1,"view_id":"v"}}"#,
+        Nothing,
+    ),
+    (
+        r#"{"method":"update","params":{"author":1,"delta":{"base_len":0,"els":[{"copy":[0]}]},"new_len":0,"rev":1,"view_id":"v"}}"#,
+        Nothing,
+    ),
+    (r#"{"method":"did_close","params":{"view_id":1}}"#, Nothing),
+];
+
 #[test]
 fn each_result_is_heard(rt: HostRuntime) {
-    let alloc = rt.alloc();
-    assert!(rt;
-        answers_chunk(
-            alloc,
-            r#"{"id":5,"result":{"chunk":"é","offset":3}}"#,
-            "é",
-            3
-        )
-    );
-    assert!(rt;
-        answers_chunk(
-            alloc,
-            r#"{"result":{"rev":1,"offset":0,"undo_group":2,"chunk":""},"id":5,"more":[]}"#,
-            "",
-            0
-        )
-    );
-    assert!(rt;
-        answers(
-            alloc,
-            r#"{"id":5,"result":{"undo_group":2,"rev":18446744073709551615}}"#,
-            Answered::Edited {
-                rev: 18446744073709551615,
-                group: 2
-            }
-        )
-    );
-    assert!(rt; answers(alloc, r#"{"id":5,"result":0}"#, Answered::Lines(0)));
-    assert!(rt; answers(alloc, r#"{"id":5,"result":null}"#, Answered::Null));
+    assert!(rt; are_heard(rt.alloc(), RESULTS));
 }
 
 #[test]
 fn another_result_is_heard_as_such(rt: HostRuntime) {
-    let alloc = rt.alloc();
-    assert!(rt;
-        answers(
-            alloc,
-            r#"{"id":5,"result":{"chunk":1,"offset":0}}"#,
-            Answered::Other
-        )
-    );
-    assert!(rt; answers(alloc, r#"{"id":5,"result":{"chunk":"a"}}"#, Answered::Other));
-    assert!(rt; answers(alloc, r#"{"id":5,"result":{"rev":1}}"#, Answered::Other));
-    assert!(rt;
-        answers(
-            alloc,
-            r#"{"id":5,"result":{"rev":18446744073709551616,"undo_group":1}}"#,
-            Answered::Other
-        )
-    );
-    assert!(rt; answers(alloc, r#"{"id":5,"result":-1}"#, Answered::Other));
-    assert!(rt; answers(alloc, r#"{"id":5,"result":{}}"#, Answered::Other));
-    assert!(rt; answers(alloc, r#"{"id":5,"result":[]}"#, Answered::Other));
-    assert!(rt; answers(alloc, r#"{"id":5,"result":"a"}"#, Answered::Other));
-    assert!(rt; answers(alloc, r#"{"id":5,"result":true}"#, Answered::Other));
-}
-
-fn failed(alloc: Global, id: Id, code: i64) -> Result<Heard, NoMemory> {
-    let message = text(alloc, "m")?;
-    answer(id, Answered::Failed { code, message })
-}
-
-/// Whether an error of this code is heard in the line, which answers this id.
-fn fails(alloc: Global, line: &str, id: Id, code: i64) -> bool {
-    matches!(hears(alloc, line, failed(alloc, id, code)), Ok(true))
+    assert!(rt; are_heard(rt.alloc(), OTHER_RESULTS));
 }
 
 #[test]
 fn an_error_is_heard(rt: HostRuntime) {
-    let alloc = rt.alloc();
-    assert!(rt;
-        fails(
-            alloc,
-            r#"{"error":{"code":-32700,"message":"m"},"id":null}"#,
-            Id::NoId,
-            -32700
-        )
-    );
-    assert!(rt;
-        fails(
-            alloc,
-            r#"{"error":{"code":9223372036854775807,"message":"m"},"id":5}"#,
-            Id::Num(5),
-            9223372036854775807
-        )
-    );
-    assert!(rt;
-        fails(
-            alloc,
-            r#"{"error":{"code":4,"message":"m"},"id":-9223372036854775808,"result":null}"#,
-            Id::Num(-9223372036854775808),
-            4
-        )
-    );
-    assert!(rt;
-        hears_nothing(
-            alloc,
-            r#"{"error":{"code":9223372036854775808,"message":"m"},"id":5}"#
-        )
-    );
-    assert!(rt; hears_nothing(alloc, r#"{"error":null,"id":5,"result":1}"#));
+    assert!(rt; are_heard(rt.alloc(), ERRORS));
 }
 
-fn reply(alloc: Global) -> Result<Text, NoMemory> {
-    write_reply(alloc, &Id::Word(text(alloc, "é")?), Value::from(7u64))
+#[test]
+fn nothing_is_heard_in_other_lines(rt: HostRuntime) {
+    assert!(rt; are_heard(rt.alloc(), OTHER_LINES));
 }
 
-fn by_word(alloc: Global) -> Result<Heard, NoMemory> {
-    answer(Id::Word(text(alloc, "é")?), Answered::Lines(7))
+#[test]
+fn a_notice_has_its_members_in_range(rt: HostRuntime) {
+    assert!(rt; are_heard(rt.alloc(), RANGES));
 }
 
-fn error(alloc: Global) -> Result<Text, NoMemory> {
-    write_error(alloc, &Id::NoId, -9223372036854775808, &text(alloc, "m")?)
+fn hears_reply(alloc: Global) -> Result<bool, NoMemory> {
+    let id = Id::Word(text(alloc, "é")?);
+    let line = write_reply(alloc, &id, Value::from(7u64));
+    let answer = Answered::Lines(7);
+    hears_written(alloc, line, Heard::Answer { id, answer })
+}
+
+fn hears_error(alloc: Global) -> Result<bool, NoMemory> {
+    let code = -9223372036854775808;
+    let line = write_error(alloc, &Id::NoId, code, &text(alloc, "m")?);
+    hears_written(alloc, line, failed(alloc, None, code)?)
 }
 
 #[test]
 fn written_answers_are_heard(rt: HostRuntime) {
     let alloc = rt.alloc();
-    assert!(rt; of_view(alloc, reply(alloc), by_word(alloc)));
-    assert!(rt;
-        of_view(
-            alloc,
-            error(alloc),
-            failed(alloc, Id::NoId, -9223372036854775808)
-        )
-    );
-}
-
-fn hears_nothing(alloc: Global, line: &str) -> bool {
-    matches!(hears(alloc, line, Ok(Heard::Nothing)), Ok(true))
-}
-
-#[test]
-fn nothing_is_heard_in_other_lines(rt: HostRuntime) {
-    let alloc = rt.alloc();
-    assert!(rt; hears_nothing(alloc, ""));
-    assert!(rt; hears_nothing(alloc, "[]"));
-    assert!(rt; hears_nothing(alloc, "{nope"));
-    assert!(rt; hears_nothing(alloc, r#"{"result":null}"#));
-    assert!(rt; hears_nothing(alloc, r#"{"id":1.5,"result":null}"#));
-    assert!(rt; hears_nothing(alloc, r#"{"id":18446744073709551616,"result":null}"#));
-    assert!(rt; hears_nothing(alloc, r#"{"id":5}"#));
-    assert!(rt; hears_nothing(alloc, r#"{"id":5,"method":"shutdown","params":{}}"#));
-    assert!(rt; hears_nothing(alloc, r#"{"id":null,"method":"shutdown","params":{}}"#));
-    assert!(rt;
-        hears_nothing(
-            alloc,
-            r#"{"method":"ack","params":{"rev":1,"view_id":"v"}}"#
-        )
-    );
-}
-
-#[test]
-fn a_notice_has_its_members_in_range(rt: HostRuntime) {
-    let alloc = rt.alloc();
-    assert!(rt;
-        matches!(
-            hears(
-                alloc,
-                r#"{"params":{"view_id":"v","more":1,"rev":0,"len":18446744073709551615},"method":"new_buffer"}"#,
-                opened(alloc, 18446744073709551615)
-            ),
-            Ok(true)
-        )
-    );
-    assert!(rt;
-        hears_nothing(
-            alloc,
-            r#"{"method":"new_buffer","params":{"len":1,"rev":1,"view_id":"v"}}"#
-        )
-    );
-    assert!(rt;
-        hears_nothing(
-            alloc,
-            r#"{"method":"new_buffer","params":{"rev":0,"view_id":"v"}}"#
-        )
-    );
-    assert!(rt;
-        hears_nothing(
-            alloc,
-            r#"{"method":"initialize","params":{"plugin_id":4294967296}}"#
-        )
-    );
-    assert!(rt;
-        hears_nothing(
-            alloc,
-            r#"{"method":"update","params":{"author":4294967296,"delta":{"base_len":0,"els":[]},"new_len":0,"rev":1,"view_id":"v"}}"#
-        )
-    );
-    assert!(rt;
-        hears_nothing(
-            alloc,
-            r#"{"method":"update","params":{"author":1,"delta":{"base_len":0,"els":[{"copy":[0]}]},"new_len":0,"rev":1,"view_id":"v"}}"#
-        )
-    );
-    assert!(rt; hears_nothing(alloc, r#"{"method":"did_close","params":{"view_id":1}}"#));
+    assert!(rt; matches!(hears_reply(alloc), Ok(true)));
+    assert!(rt; matches!(hears_error(alloc), Ok(true)));
 }
