@@ -10,11 +10,11 @@ use xi_plain::{Bytes, Entry};
 
 // What a run came to: what its lines came to, by letters; its journal; and its plugins.
 #[derive(Drop)]
-struct Outcome {
-    tooks: Text,
-    journal: Text,
-    players: Vec<Player>,
-    served: bool,
+pub(crate) struct Outcome {
+    pub(crate) tooks: Text,
+    pub(crate) journal: Text,
+    pub(crate) players: Vec<Player>,
+    pub(crate) served: bool,
 }
 
 fn line_of(alloc: Global, text: &str) -> Result<Bytes, NoMemory> {
@@ -33,9 +33,14 @@ fn letter_of(took: Took) -> char {
 }
 
 // The taker takes these lines. What they came to.
-fn say_all<T: LineTaker>(alloc: Global, taker: &mut T, lines: &[&str]) -> Result<Text, NoMemory>
+pub(crate) fn say_all<T: LineTaker>(
+    alloc: Global,
+    taker: &mut T,
+    lines: &[&str],
+) -> Result<Text, NoMemory>
     requires { T.ready taker.old }
-    ensures { T.ready taker.new }
+    ensures ready { T.ready taker.new }
+    ensures later { T.later taker.old taker.new }
 {
     let mut tooks = Text::new(alloc);
     for line in lines {
@@ -46,7 +51,7 @@ fn say_all<T: LineTaker>(alloc: Global, taker: &mut T, lines: &[&str]) -> Result
 }
 
 // The entries, each as it is told, with a mark where it was not sent.
-fn drawn(alloc: Global, entries: &[Entry]) -> Option<Text> {
+pub(crate) fn drawn(alloc: Global, entries: &[Entry]) -> Option<Text> {
     let mut journal = Text::new(alloc);
     for entry in entries {
         journal.push_str(said_by(alloc, entry)?.as_str()).ok()?;
@@ -58,7 +63,7 @@ fn drawn(alloc: Global, entries: &[Entry]) -> Option<Text> {
     Some(journal)
 }
 
-fn players_of(alloc: Global, parts: &[Part]) -> Result<Vec<Player>, NoMemory> {
+pub(crate) fn players_of(alloc: Global, parts: &[Part]) -> Result<Vec<Player>, NoMemory> {
     let mut players = Vec::new(alloc);
     for part in parts {
         players.push(Player::new(alloc, *part)?)?;
@@ -88,7 +93,12 @@ fn play(alloc: Global, parts: &[Part], lines: &[&str]) -> Option<Outcome> {
 }
 
 // Whether the run came to this, and its plugins were given that.
-fn comes_to(outcome: Option<Outcome>, tooks: &str, journal: &str, given: &[&str]) -> bool {
+pub(crate) fn comes_to(
+    outcome: Option<Outcome>,
+    tooks: &str,
+    journal: &str,
+    given: &[&str],
+) -> bool {
     let Some(outcome) = outcome else {
         return false;
     };
@@ -100,7 +110,7 @@ fn comes_to(outcome: Option<Outcome>, tooks: &str, journal: &str, given: &[&str]
 }
 
 // A plugin that gives this line in each turn.
-const fn says(line: &'static str) -> Part {
+pub(crate) const fn says(line: &'static str) -> Part {
     Part {
         turns: "",
         line,
@@ -109,7 +119,7 @@ const fn says(line: &'static str) -> Part {
 }
 
 // A plugin that has these turns, and gives nothing after them.
-const fn has(turns: &'static str) -> Part {
+pub(crate) const fn has(turns: &'static str) -> Part {
     Part {
         turns,
         line: "",
