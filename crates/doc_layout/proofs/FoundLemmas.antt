@@ -1,14 +1,18 @@
 -- What a search found, as spans: results that touch are one run, and these runs are all that is found.
-use Rattle.std.proofs.Common.{◌≡◌, ℕ, zero, suc, Bool, true, false, ◌+◌, ◌-◌, ◌<◌, ◌≤◌, List, [], ◌∷◌, length, get_or, Option, Some, None, refl, ap, sym, ◌∙◌, arith}
+use Rattle.std.proofs.Common.{◌≡◌, ℕ, zero, suc, Bool, true, false, ◌+◌, ◌-◌, ◌<◌, ◌≤◌, List, [], ◌∷◌, length, get_or, Option, Some, None, refl, ap, sym, subst, ◌∙◌, arith}
 use Rattle.std.specs.Prelude.{◌&&◌, ◌||◌, ◌==◌, if◌then◌else◌}
 use Rattle.std.specs.List.Sorted.{IsNonDecreasingBy}
 use Rattle.plain_text.specs.declared.run.Run.{Run}
+use Rattle.plain_text.specs.declared.selection.Region.{Region}
 use Rattle.plain_edits.specs.declared.style.Span.{Span}
+use Rattle.plain_edits.specs.Styles.{Layer}
+use Rattle.plain_screen.specs.declared.piece.Piece.{Piece}
 use Rattle.plain_screen.specs.Plan.{is_within}
 use Rattle.line_render.specs.Inner.{onto_run, styled_span}
 use Rattle.line_render.proofs.ForCallers.{runs_by, runs_by-same, runs_by-none, runs_by-all}
-use Rattle.doc_layout.specs.Found.{is_found, found_spans, RiseApart}
-use Rattle.doc_layout.specs.Inner.{joined_spans}
+use Rattle.doc_layout.specs.Found.{is_found, found_spans, MayShow, RiseApart}
+use Rattle.doc_layout.specs.Layout.{layout}
+use Rattle.doc_layout.specs.Inner.{MayDraw, drawn_lines, joined_spans}
 use Rattle.doc_layout.proofs.AskedLemmas.{in-run, before-run, past-run}
 
 -- ---- the runs of what is found
@@ -105,3 +109,19 @@ joined-starts len results rise = starts_rise 0 (joined_spans results) (AreApart-
 
 pub joined-ends : (len : ℕ) (results : List Run) → RiseApart len 0 results → IsNonDecreasingBy (λ span. span.end) (joined_spans results)
 joined-ends len results rise = ends_rise 0 (joined_spans results) (AreApart-joined len 0 results rise)
+
+-- so the joined results may be drawn
+pub MayDraw-joined : (text : List ℕ) (regions : List Region) (results : List Run) (found : List Span) → MayShow text regions results →
+    found ≡ joined_spans results → MayDraw regions found
+MayDraw-joined text regions results found may is = record {
+  selection = may.selection;
+  starts = subst (IsNonDecreasingBy (λ (span : Span). span.start)) (sym is) (joined-starts (length text) results may.rise);
+  ends = subst (IsNonDecreasingBy (λ (span : Span). span.end)) (sym is) (joined-ends (length text) results may.rise);
+}
+
+-- and their lines are those of the layout
+pub drawn-layout : (text : List ℕ) (pieces : List Piece) (regions : List Region) (results : List Run) (layers : List Layer) (found : List Span) →
+    MayShow text regions results → found ≡ joined_spans results →
+    drawn_lines text regions found layers pieces ≡ layout text pieces regions results layers
+drawn-layout text pieces regions results layers found may is =
+    ap (λ (spans : List Span). drawn_lines text regions spans layers pieces) (is ∙ joined-found (length text) results may.rise)

@@ -1,6 +1,7 @@
 -- Lines of a layout, piece by piece, and what a layout tells.
-use Rattle.std.proofs.Common.{◌≡◌, ℕ, zero, suc, ◌+◌, ◌<◌, ◌≤◌, List, [], ◌∷◌, ◌++◌, length, map, take, Some, None, ap, ◌∙◌, arith}
-use Rattle.std.specs.Prelude.{◌==◌, option_map, slice_get, unwrap_or}
+use Rattle.std.proofs.Common.{◌≡◌, ℕ, zero, suc, ◌+◌, ◌-◌, ◌<◌, ◌≤◌, List, [], ◌∷◌, ◌++◌, length, map, take, drop, Some, None, refl, ap, sym, ◌∙◌, arith, length-drop, length-take}
+use Rattle.std.specs.Prelude.{◌==◌, option_map, slice_get, slice_range, unwrap_or}
+use Rattle.std.proofs.lemmas.Option.{slice_get-map}
 use Rattle.std.proofs.lemmas.Str.{len_utf8_bounds}
 use Rattle.plain_text.specs.Text.{byte_len}
 use Rattle.plain_screen.specs.declared.piece.Piece.{Piece}
@@ -12,18 +13,39 @@ pub length-byte_len : (text : List ℕ) → length text ≤ byte_len text
 length-byte_len [] = omega arith
 length-byte_len (c ∷ text) = omega (arith, length-byte_len text, len_utf8_bounds c)
 
--- one piece more of those that were mapped
-taken-more : {X Y : Type 0} (f : X → Y) (y : Y) (index : ℕ) (xs : List X) → Some y ≡ option_map f (slice_get xs index) →
-    map f (take index xs) ++ y ∷ [] ≡ map f (take (suc index) xs)
-taken-more f y index [] is = absurd cc
-taken-more f y zero (x ∷ xs) is = ap (λ z. z ∷ []) (ap (λ o. unwrap_or o y) is)
-taken-more f y (suc index) (x ∷ xs) is = ap (λ ys. f x ∷ ys) (taken-more f y index xs is)
+-- an item more of those from an index on
+taken-on : {X : Type 0} (y : X) (k : ℕ) (xs : List X) → Some y ≡ slice_get xs k → take k xs ++ y ∷ [] ≡ take (suc k) xs
+taken-on y k [] is = absurd cc
+taken-on y zero (x ∷ xs) is = ap (λ o. unwrap_or o y ∷ []) is
+taken-on y (suc k) (x ∷ xs) is = ap (λ ys. x ∷ ys) (taken-on y k xs is)
 
-pub lines-more : {X Y : Type 0} (f : X → Y) (y : Y) (index : ℕ) (xs : List X) (ys : List Y) → ys ≡ map f (take index xs) →
-    Some y ≡ option_map f (slice_get xs index) → ys ++ y ∷ [] ≡ map f (take (index + 1) xs)
-lines-more f y index xs ys so_far is =
-    let next : suc index ≡ index + 1 = omega arith in
-    ap (λ zs. zs ++ y ∷ []) so_far ∙ taken-more f y index xs is ∙ ap (λ n. map f (take n xs)) next
+slice-drop : {X : Type 0} (n k : ℕ) (xs : List X) → slice_get (drop n xs) k ≡ slice_get xs (n + k)
+slice-drop zero k xs = let same : k ≡ 0 + k = omega arith in ap (slice_get xs) same
+slice-drop (suc n) k [] = refl
+slice-drop (suc n) k (x ∷ xs) = slice-drop n k xs ∙ ap (slice_get (x ∷ xs)) (let on : suc (n + k) ≡ suc n + k = omega arith in on)
+
+-- no items, where they end at the index where they start
+pub slice_range-none : {X : Type 0} (xs : List X) (at : ℕ) → slice_range xs at at ≡ []
+slice_range-none xs at = ap (λ n. take n (drop at xs)) (let none : at - at ≡ 0 = omega arith in none)
+
+pub length-slice_range : {X : Type 0} (xs : List X) (from to : ℕ) → from ≤ to → to ≤ length xs → length (slice_range xs from to) ≡ to - from
+length-slice_range xs from to ordered inside = omega (arith, length-take (to - from) (drop from xs), length-drop from xs, ordered, inside)
+
+-- one piece more of those that were mapped
+pub mapped-more : {X Y : Type 0} (f : X → Y) (y : Y) (from at : ℕ) (xs : List X) (ys : List Y) → from ≤ at → ys ≡ slice_range (map f xs) from at →
+    Some y ≡ option_map f (slice_get xs at) → ys ++ y ∷ [] ≡ slice_range (map f xs) from (at + 1)
+mapped-more f y from at xs ys low so_far is =
+    let on : from + (at - from) ≡ at = omega (arith, low) in
+    let next : suc (at - from) ≡ at + 1 - from = omega (arith, low) in
+    ap (λ zs. zs ++ y ∷ []) so_far ∙
+    taken-on y (at - from) (drop from (map f xs))
+    (is ∙ sym (slice_get-map f xs at) ∙ ap (slice_get (map f xs)) (sym on) ∙ sym (slice-drop from (at - from) (map f xs))) ∙
+    ap (λ n. take n (drop from (map f xs))) next
+
+-- the line of a piece that is looked up is the one of the layout
+pub mapped-got : {X Y : Type 0} (f : X → Y) (y : Y) (index : ℕ) (xs : List X) → Some y ≡ option_map f (slice_get xs index) →
+    slice_get (map f xs) index ≡ Some y
+mapped-got f y index xs is = slice_get-map f xs index ∙ sym is
 
 -- there is a piece with each index
 pub slice-there : {X : Type 0} (xs : List X) (index : ℕ) → index < length xs → slice_get xs index ≡ None → ⊥

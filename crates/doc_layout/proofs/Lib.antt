@@ -4,6 +4,6 @@ pub mod WireLemmas
 pub mod AskedLemmas
 pub mod PlanLemmas
 pub mod TellLemmas
+pub mod SameLemmas
 pub mod FoundLemmas
-pub mod WrapLemmas
 pub mod ForCallers

@@ -1,7 +1,8 @@
 -- The update plan of lines without partners, by stretches of lines that are asked for, or are not.
-use Rattle.std.proofs.Common.{◌≡◌, ℕ, zero, suc, ◌+◌, ◌-◌, ◌<◌, ◌≤◌, Bool, true, false, List, [], ◌∷◌, length, take, drop, refl, ap, ap₂, sym, ◌∙◌, arith, length-drop}
+use Rattle.std.proofs.Common.{◌≡◌, ℕ, zero, suc, ◌+◌, ◌-◌, ◌<◌, ◌≤◌, Bool, true, false, List, [], ◌∷◌, ◌++◌, length, take, drop, refl, ap, ap₂, sym, ◌∙◌, arith, append-nil, length-drop}
 use Rattle.std.specs.Prelude.{if◌then◌else◌, not}
-use Rattle.std.proofs.lemmas.List.{drop-drop}
+use Rattle.std.proofs.lemmas.List.{drop-drop, nil_from_length}
+use Rattle.plain_text.specs.declared.run.Run.{Run}
 use Rattle.plain_screen.specs.declared.screen.Line.{Line}
 use Rattle.plain_screen.specs.declared.screen.Op.{Op}
 use Rattle.plain_screen.specs.declared.screen.Op.TheVariants.{Copy, Skip, Invalidate, Ins, Update}
@@ -88,3 +89,9 @@ module _ (asked : Asked) where
           (λ more. ap (is_asked asked) to ∙ is.ends (omega (arith, more, left, to))) ∙
           ap₂ (λ n rest. stretch_op (is_asked asked start) (take (suc k) (drop start lines)) ∷ plan_at n rest) to
           (drop-drop (suc k) start lines ∙ ap (λ n. drop n lines) to)
+
+-- behind the last line there is nothing more to tell
+pub plan_from-end : (window request : Run) (lines : List Line) (at : ℕ) (ops all : List Op) → length lines ≤ at →
+    ops ++ plan_from window request at 0 (drop at lines) ≡ all → ops ≡ all
+plan_from-end window request lines at ops all past is =
+    sym (append-nil ops) ∙ ap (λ ls. ops ++ plan_from window request at 0 ls) (sym (nil_from_length (drop at lines) (omega (arith, length-drop at lines, past)))) ∙ is

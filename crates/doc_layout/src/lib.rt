@@ -10,14 +10,14 @@ pub mod laws;
 mod layout;
 mod plan;
 pub mod rows;
+mod same;
 mod texts;
 mod wire;
 mod wire_builder;
-mod wrapping;
 
 pub use asked::Asked;
-pub use layout::layout_of;
+pub use layout::Shown;
 pub use plan::{scroll_of, update_of};
+pub use same::is_same_layout;
 pub use texts::whole_text;
 pub use wire::to_wire;
-pub use wrapping::wrapped;

@@ -1,64 +1,82 @@
-ghost use Rattle.std.specs.Prelude.{◌≡◌, [], ◌++◌, IfOk, option_map};
+ghost use Rattle.std.specs.Prelude.{◌≡◌, ◌≤◌, [], length, IfOk, option_map, slice_range};
 ghost use Rattle.plain_screen.specs.Plan.{update_plan};
+ghost use Rattle.doc_layout.specs.Found.{MayShow};
+ghost use Rattle.doc_layout.specs.Layout.{layout};
 ghost use Rattle.doc_layout.specs.Told.{is_asked, planned, scroll_between};
 ghost use Rattle.doc_layout.specs.PositionView.{position_view};
-ghost use Rattle.doc_layout.specs.Inner.{stretch_op};
+ghost use Rattle.doc_layout.specs.Inner.{MayDraw, drawn_lines, stretch_op};
 
 use crate::asked::Asked;
-use plain_screen::{Line, Lines, Op, Ops, Update};
-use plain_text::{NoMemory, TryClone};
+use crate::found::joined;
+use crate::layout::{Shown, lines_of};
+use plain_edits::Span;
+use plain_screen::{Op, Ops, TextView, Update};
+use plain_text::NoMemory;
 use std::alloc::Global;
 
-/// The update that sends the lines that are asked for, which it copies, and leaves the others invalid, in one operation for each run of
-/// them.
-pub fn update_of(
+/// The update that sends the lines that are asked for, and leaves the others invalid, in one operation for each run of them. It renders the
+/// lines that it sends, each from its own characters, and no others; it costs these, and the number of the results.
+pub fn update_of<T: TextView>(
     alloc: Global,
-    lines: &Lines,
+    shown: &Shown<'_, T>,
     asked: Asked,
     pristine: bool,
 ) -> Result<Update, NoMemory>
-    ensures { IfOk result (λ made. made ≡ planned asked lines.now pristine) }
+    requires { MayShow (T.text_of shown.now.view.now) shown.now.sel.now.regions shown.now.results.now }
+    ensures { IfOk result (λ made. made ≡ planned asked
+        (layout (T.text_of shown.now.view.now) (T.pieces_of shown.now.view.now) shown.now.sel.now.regions shown.now.results.now
+        shown.now.layers.now) pristine) }
 {
-    let ops = ops_of(alloc, lines.as_slice(), asked)?;
+    let found = joined(alloc, shown.results)?;
+    let ops = ops_of(alloc, shown, found.as_slice(), asked)?;
     Ok(Update { ops, pristine })
 }
 
-fn ops_of(alloc: Global, lines: &[Line], asked: Asked) -> Result<Ops, NoMemory>
-    ensures { IfOk result (λ ops. ops ≡ update_plan asked.window asked.request lines.now []) }
+// The operations of all lines, with these spans of the whole text.
+fn ops_of<T: TextView>(
+    alloc: Global,
+    shown: &Shown<'_, T>,
+    found: &[Span],
+    asked: Asked,
+) -> Result<Ops, NoMemory>
+    requires { MayDraw shown.now.sel.now.regions found.now }
+    ensures { IfOk result (λ ops. ops ≡ update_plan asked.window asked.request
+        (drawn_lines (T.text_of shown.now.view.now) shown.now.sel.now.regions found.now shown.now.layers.now
+        (T.pieces_of shown.now.view.now)) []) }
 {
-    let len = lines.len() as u64;
+    let len = shown.view.lines();
     let mut ops = Ops::new(alloc);
     let mut at: u64 = 0;
     while at < len {
         let end = asked.stretch_end(at, len);
-        ops.push(op_of(alloc, &lines[at as usize..end as usize], asked, at)?)?;
+        ops.push(op_of(alloc, shown, found, asked, at, end)?)?;
         at = end;
     }
     Ok(ops)
 }
 
-// What tells of these lines, which are all asked for as the line with this index is, or all not.
-fn op_of(alloc: Global, lines: &[Line], asked: Asked, at: u64) -> Result<Op, NoMemory>
-    ensures { IfOk result (λ op. op ≡ stretch_op (is_asked asked at) lines.now) }
+// What tells of the lines from one index up to another, which are all asked for as the first is, or all not.
+fn op_of<T: TextView>(
+    alloc: Global,
+    shown: &Shown<'_, T>,
+    found: &[Span],
+    asked: Asked,
+    from: u64,
+    to: u64,
+) -> Result<Op, NoMemory>
+    requires drawn { MayDraw shown.now.sel.now.regions found.now }
+    requires ordered { from ≤ to }
+    requires inside { to ≤ length (T.pieces_of shown.now.view.now) }
+    ensures { IfOk result (λ op. op ≡ stretch_op (is_asked asked from) (slice_range
+        (drawn_lines (T.text_of shown.now.view.now) shown.now.sel.now.regions found.now shown.now.layers.now
+        (T.pieces_of shown.now.view.now)) from to)) }
 {
-    if asked.has(at) {
+    if asked.has(from) {
         return Ok(Op::Ins {
-            lines: copies(alloc, lines)?,
+            lines: lines_of(alloc, shown, found, from, to)?,
         });
     }
-    Ok(Op::Invalidate {
-        n: lines.len() as u64,
-    })
-}
-
-fn copies(alloc: Global, lines: &[Line]) -> Result<Lines, NoMemory>
-    ensures { IfOk result (λ made. made ≡ lines.now) }
-{
-    let mut made = Lines::new(alloc);
-    for line in lines {
-        made.push(line.copy(alloc)?)?;
-    }
-    Ok(made)
+    Ok(Op::Invalidate { n: to - from })
 }
 
 /// The place of the caret, where it is another than before.

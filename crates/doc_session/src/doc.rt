@@ -5,7 +5,8 @@ ghost use Rattle.delta_core.specs.Units.{text_after};
 ghost use Rattle.edit_ops.specs.Commands.{IsDoneOnText, IsEffect};
 ghost use Rattle.selection_core.specs.Mapped.{AreWithin};
 ghost use Rattle.selection_core.specs.Selection.{IsSelection};
-ghost use Rattle.span_styles.specs.Layers.{AreOver};
+ghost use Rattle.span_styles.specs.Layers.{AreOver, mapped_layers};
+ghost use Rattle.doc_layout.specs.Changed.{IsChangeOf};
 ghost use Rattle.undo_groups.specs.Groups.{Groups, next_redo, next_undo, redone_one, undone_one};
 ghost use Rattle.doc_layout.specs.Told.{scroll_between};
 ghost use Rattle.doc_text.specs.Asking.{acknowledgement_refusal, asked_refusal, plugin_edit};
@@ -31,7 +32,7 @@ ghost use Rattle.doc_session.specs.Step.{AreEffectsOf, IsEventFor, act_step, ans
 use crate::event::{Body, Effects, Event};
 use crate::looking::{Viewing, copies, scrolls, viewing_of};
 use crate::said::{NO_REQUEST, Said, Scrolling};
-use doc_layout::{scroll_of, whole_text};
+use doc_layout::scroll_of;
 use doc_text::{DocFault, Revised, TextState};
 use doc_view::{Goals, Pristine, TextLeft, ViewState, does_nothing};
 use edit_groups::kind_of;
@@ -39,7 +40,6 @@ use plain_edits::UnitDelta;
 use plain_screen::Update;
 use plain_text::{NoMemory, Run, Sel, Steps, Text};
 use rev_engine::Edit;
-use span_styles::Layers;
 use stale_spans::AskedSpans;
 use std::alloc::Global;
 use std::marker::Model;
@@ -85,17 +85,17 @@ impl Doc {
         ensures stands { IfOk result (λ made. DocStandsFor made (loaded_document text plugins limit config)) }
     {
         let text = TextState::of_text(alloc, text, plugins, limit)?;
-        let shown = whole_text(alloc, text.head_rope())?;
-        let view = ViewState::of_text(alloc, shown, plugins, FIRST_WINDOW, config)?;
+        let view = ViewState::of_text(alloc, text.head_rope(), plugins, FIRST_WINDOW, config)?;
         Ok(Doc { text, view })
     }
 
     /// The document after an event, beside this one, and what those outside are told of it. An edit costs its elements, each times the
-    /// height of the text, and the layout, which is made anew with the breaks of each logical line, as it is for another width or tab width;
-    /// one against an old revision costs the union and the runs of the later revisions besides; an undo or a redo what
-    /// `Engine::set_undone_by` does; and a command what `edit_ops::edit_of` does, and where a region moves one walk over the pieces. A search
-    /// costs what `find_core::matches` does, and such a walk. Where nothing of that moves an event costs the regions, and the lines that are
-    /// told; a reading what `TextState::chunk` does, and a count O(1). No step is counted yet.
+    /// height of the text, and the lines that it touches, whose breaks are made anew where lines are wrapped; one against an old revision costs
+    /// the union and the runs of the later revisions besides; an undo or a redo what `Engine::set_undone_by` does; and a command what
+    /// `edit_ops::edit_of` does. Another width or tab width costs the breaks of each logical line. A search costs what `find_core::matches` does,
+    /// and a copy of the text, and so does an edit while something is looked for. Beside that an event costs the regions, and the lines that are
+    /// told; and what `ViewState::settled` does to find whether the layout is another. A reading costs what `TextState::chunk` does, and a count
+    /// O(1). No step is counted yet.
     pub fn after<L: Ledger>(
         &self,
         alloc: Global,
@@ -393,13 +393,12 @@ impl Doc {
             (scroll_if (is_scrolling scrolling) plain (revised_document plain next sel.regions)))) }
         ensures sessions { IfOk result (λ made. made.0.text.sessions ≡ self.now.text.sessions) }
     {
-        let layers = self.moved_layers(alloc, &revised)?;
         let Revised {
             text,
-            units: _,
+            units,
             notice,
         } = revised;
-        let next = self.with_revision(alloc, text, sel, layers)?;
+        let next = self.with_revision(alloc, text, &units, sel)?;
         let said = Said {
             text: TextLeft::Edited,
             request: NO_REQUEST,
@@ -410,25 +409,29 @@ impl Doc {
         self.told(alloc, next, said)
     }
 
-    // The document with another text, and its view of that, with these regions and these layers of styles.
+    // The document with the text that a change leads to, and its view of that, with these regions.
     fn with_revision(
         &self,
         alloc: Global,
         text: TextState,
+        units: &UnitDelta,
         sel: Sel,
-        layers: Layers,
     ) -> Result<Doc, NoMemory>
+        requires changes { IsChangeOf (text_in self.now.text) (text_in text) units.now }
+        requires sessions { text.sessions ≡ self.now.text.sessions }
         requires sound { IsSelection sel.regions }
         requires inside { AreWithin (length (text_in text)) sel.regions }
-        requires over { AreOver (length (text_in text)) layers }
-        requires as_many { length layers ≡ length text.sessions }
-        ensures { IfOk result (λ made. made ≡ record {
+        ensures made { IfOk result (λ made. made ≡ record {
           text = text;
-          view = record self.now.view { text = text_in text; regions = sel.regions; layers = layers };
+          view = record self.now.view {
+            text = text_in text;
+            regions = sel.regions;
+            layers = mapped_layers units.now self.now.view.layers;
+          };
         }) }
+        ensures over { IfOk result (λ made. AreOver (length self.now.view.text) self.now.view.layers) }
     {
-        let shown = whole_text(alloc, text.head_rope())?;
-        let view = self.view.with_text(alloc, shown, sel, layers)?;
+        let view = self.view.edited(alloc, text.head_rope(), units, sel)?;
         Ok(Doc { text, view })
     }
 

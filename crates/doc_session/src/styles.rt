@@ -1,13 +1,8 @@
-// What plugins say of the styles of characters, in a document, and how these follow a revision.
-ghost use Rattle.std.specs.Prelude.{◌≡◌, ℕ, ◌≤◌, length, None, IfOk, IfErr, OnOk};
-ghost use Rattle.span_styles.specs.Layers.{AreOver};
-ghost use Rattle.stale_spans.specs.Asked.{moved_layers};
+// What plugins say of the styles of characters, in a document.
+ghost use Rattle.std.specs.Prelude.{◌≡◌, ◌≤◌, length, None, IfOk, IfErr, OnOk};
 ghost use Rattle.stale_spans.specs.Places.{StandIn};
 ghost use Rattle.doc_text.specs.Asking.{range_refusal};
 ghost use Rattle.doc_text.specs.Fault.{DocRefuses};
-ghost use Rattle.doc_text.specs.InMemory.{text_in};
-ghost use Rattle.doc_text.specs.Revised.{IsRevised, IsRevisionOf};
-ghost use Rattle.doc_text.specs.Writing.{Writing};
 ghost use Rattle.doc_session.specs.Document.{Document};
 ghost use Rattle.doc_session.specs.Inner.{IsStepOf};
 ghost use Rattle.doc_session.specs.Stands.{DocStandsFor};
@@ -16,10 +11,9 @@ ghost use Rattle.doc_session.specs.Step.{spans_step};
 use crate::doc::{Doc, document_of};
 use crate::event::{Body, Effects};
 use crate::said::{NO_REQUEST, Said, Scrolling};
-use doc_text::{DocFault, Revised};
+use doc_text::DocFault;
 use doc_view::TextLeft;
 use plain_text::NoMemory;
-use span_styles::Layers;
 use stale_spans::{AskedSpans, with_spans};
 use std::alloc::Global;
 
@@ -53,17 +47,5 @@ impl Doc {
             notice: None,
         };
         Ok(self.told(alloc, next, said)?)
-    }
-
-    /// The layers after a revision: what stays keeps its styles, and what appears has none.
-    pub(crate) fn moved_layers(&self, alloc: Global, revised: &Revised) -> Result<Layers, NoMemory>
-        requires { IsRevisionOf self.now.text revised.now }
-        ensures moved { (plain : Document) (next : Writing) (author : ℕ) → DocStandsFor self.now plain
-            → IsRevised plain.text next author revised.now
-            → IfOk result (λ made. made ≡ moved_layers plain.text.history next.history plain.view.layers) }
-        ensures over { IfOk result (AreOver (length (text_in revised.now.text))) }
-        ensures as_many { IfOk result (λ made. length made ≡ length revised.now.text.sessions) }
-    {
-        self.view.layers().map(alloc, &revised.units)
     }
 }

@@ -3,7 +3,7 @@ use Rattle.std.proofs.Common.{◌≡◌, ℕ, ◌+◌, ◌<◌, Bool, true, fals
 use Rattle.std.specs.Prelude.{if◌then◌else◌, not, nat_lt, nat_le, ◌==◌, ◌&&◌, ◌||◌}
 use Rattle.std.specs.Bool.{beq}
 use Rattle.std.specs.List.{range_with_len}
-use Rattle.std.specs.Str.{bytes_eq}
+use Rattle.std.specs.Str.{all_scalars, bytes_eq}
 use Rattle.std.proofs.lemmas.Bool.{and_parts, eqb-true}
 use Rattle.std.proofs.lemmas.Slice.Eq.{bytes_eq-Decides}
 use Rattle.plain_text.specs.declared.run.Run.{Run}
@@ -16,7 +16,7 @@ use Rattle.plain_screen.specs.SameLayout.{is_same_layout}
 use Rattle.plain_screen.proofs.callers.SameLemmas.{is_same_layout-Decides}
 use Rattle.xi_plain.specs.declared.config.Config.{Config}
 use Rattle.line_break.specs.Pieces.{wrapped_pieces}
-use Rattle.plain_view.specs.Viewed.{Viewed}
+use Rattle.line_index.specs.Index.{Index, pieces_in as indexed_pieces}
 use Rattle.find_core.specs.Matches.{matches_of}
 use Rattle.selection_core.specs.Mapped.{AreWithin}
 use Rattle.selection_core.specs.Selection.{IsSelection, greater_end, lesser_end}
@@ -24,10 +24,10 @@ use Rattle.span_runs.specs.Spans.{spans_from}
 use Rattle.span_runs.specs.Triples.{triples_of}
 use Rattle.line_render.specs.Rendered.{carets_of, cursor_of, cut_spans, is_last_piece, is_selected, own_gaps, rendered, selected_layer, text_of_piece}
 use Rattle.edit_ops.specs.Regions.{without_goal}
-use Rattle.doc_layout.specs.Found.{found_spans}
+use Rattle.doc_layout.specs.Found.{MayShow, found_spans}
 use Rattle.doc_layout.specs.Layout.{layout, styled_spans}
 use Rattle.doc_view.specs.declared.search.Search.{Search}
-use Rattle.doc_view.specs.Inner.{IsViewKept}
+use Rattle.doc_view.specs.Inner.{IsViewKept, index_at}
 use Rattle.doc_view.specs.Search.{is_for_nothing, results}
 use Rattle.doc_view.specs.Told.{are_same_ends, is_laid_out_alike, is_same_search}
 use Rattle.doc_view.specs.View.{View, layout_in, pieces_in}
@@ -132,47 +132,62 @@ is_same_layout-alike before after text layers alike =
     ap₂ (λ cut found. layout before.text cut after.regions found before.layers) pieces (results-same before.text before.query after.query rest.0) ∙
     ap₂ (λ t ls. layout t (wrapped_pieces after.config.width after.config.tab t) after.regions (results t after.query) ls) (sym text) (sym layers))
 
+-- ---- what a view shows, by its parts
+
+module _ (view : View) (index : Index) (regions : List Region) (found : List Run) (index_is : index ≡ index_at view.text view.config)
+    (regions_are : regions ≡ view.regions) (found_is : found ≡ results view.text view.query) where
+  pub MayShow-shown : MayShow view.text view.regions (results view.text view.query) → MayShow index.text regions found
+  MayShow-shown may =
+      subst (λ (i : Index). MayShow i.text regions found) (sym index_is)
+      (subst (λ (rs : List Region). MayShow view.text rs found) (sym regions_are)
+      (subst (λ (runs : List Run). MayShow view.text view.regions runs) (sym found_is) may))
+
+  pub layout-shown : (layers : List Layer) → layers ≡ view.layers → layout index.text (indexed_pieces index) regions found layers ≡ layout_in view
+  layout-shown layers layers_are =
+      ap (λ (i : Index). layout i.text (indexed_pieces i) regions found layers) index_is ∙
+      ap₂ (λ (rs : List Region) (runs : List Run). layout view.text (pieces_in view) rs runs layers) regions_are found_is ∙
+      ap (layout view.text (pieces_in view) view.regions (results view.text view.query)) layers_are
+
 -- ---- what a view keeps
 
-module _ (config : Config) (viewed : Viewed) (regions : List Region) (layers : List Layer) (query : Search) (found : List Run) (lines : List Line)
-    (is : IsViewKept config viewed regions layers query found lines) where
-  pub IsViewKept-same : (others : List Region) → IsSelection others → AreWithin (length viewed.text) others → are_same_ends regions others ≡ true →
-      IsViewKept config viewed others layers query found lines
-  IsViewKept-same others sound inside same = record {
-    text = is.text;
-    found_are = is.found_are;
-    sound = sound;
-    inside = inside;
-    lines_are = is.lines_are ∙ layout-same viewed.text viewed.pieces regions others found layers same;
-  }
+-- the pieces of its index are those of its text
+pub pieces-kept : (config : Config) (index : Index) → index ≡ index_at index.text config → indexed_pieces index ≡ wrapped_pieces config.width config.tab index.text
+pieces-kept config index is = ap indexed_pieces is
 
-  pub IsViewKept-plain : IsViewKept config viewed (map without_goal regions) layers query found lines
-  IsViewKept-plain = record {
-    text = is.text;
-    found_are = is.found_are;
-    sound = IsSelection-plain regions is.sound;
-    inside = AreWithin-plain (length viewed.text) regions is.inside;
-    lines_are = is.lines_are ∙ sym (layout-plain viewed.text viewed.pieces regions found layers);
-  }
+pub IsViewKept-made : (config : Config) (text : List ℕ) (index : Index) (regions : List Region) (query : Search) (found : List Run) →
+    all_scalars text ≡ true → 0 < config.tab → index ≡ index_at text config → IsSelection regions → AreWithin (length text) regions →
+    found ≡ results text query → IsViewKept config index regions query found
+IsViewKept-made config text index regions query found characters tab is sound inside found_is =
+    let same : text ≡ index.text = sym (ap (λ (i : Index). i.text) is) in
+    record {
+      text = record {
+        characters = subst (λ t. all_scalars t ≡ true) same characters;
+        tab = tab;
+        is = is ∙ ap (λ t. index_at t config) same;
+      };
+      found_are = found_is ∙ ap (λ t. results t query) same;
+      sound = sound;
+      inside = subst (λ t. AreWithin (length t) regions) same inside;
+    }
 
-  pub IsViewKept-search : (other : Search) → results viewed.text other ≡ results viewed.text query → IsViewKept config viewed regions layers other found lines
-  IsViewKept-search other same = record {
-    text = is.text;
-    found_are = is.found_are ∙ sym same;
-    sound = is.sound;
-    inside = is.inside;
-    lines_are = is.lines_are;
-  }
+module _ (config : Config) (index : Index) (regions : List Region) (query : Search) (found : List Run) (is : IsViewKept config index regions query found) where
+  pub IsViewKept-regions : (others : List Region) → IsSelection others → AreWithin (length index.text) others → IsViewKept config index others query found
+  IsViewKept-regions others sound inside = record { text = is.text; found_are = is.found_are; sound = sound; inside = inside }
 
-  pub IsViewKept-config : (other : Config) → other.tab ≡ config.tab → other.width ≡ config.width → IsViewKept other viewed regions layers query found lines
+  pub IsViewKept-plain : IsViewKept config index (map without_goal regions) query found
+  IsViewKept-plain = IsViewKept-regions (map without_goal regions) (IsSelection-plain regions is.sound) (AreWithin-plain (length index.text) regions is.inside)
+
+  pub IsViewKept-config : (other : Config) → other.tab ≡ config.tab → other.width ≡ config.width → IsViewKept other index regions query found
   IsViewKept-config other tab width = record {
     text = record {
       characters = is.text.characters;
       tab = subst (λ n. 0 < n) (sym tab) is.text.tab;
-      pieces = is.text.pieces ∙ ap₂ (λ w t. wrapped_pieces w t viewed.text) (sym width) (sym tab);
+      is = is.text.is ∙ ap₂ (λ w t. at w t) (sym width) (sym tab);
     };
     found_are = is.found_are;
     sound = is.sound;
     inside = is.inside;
-    lines_are = is.lines_are;
   }
+    where
+      at : ℕ → ℕ → Index
+      at w t = record { text = index.text; width = w; tab = t }

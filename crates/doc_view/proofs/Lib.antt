@@ -4,5 +4,5 @@ pub mod LaidLemmas
 pub mod WrappedLemmas
 pub mod IdleLemmas
 pub mod PointLemmas
-pub mod SameLemmas
+pub mod ApartLemmas
 pub mod ForCallers

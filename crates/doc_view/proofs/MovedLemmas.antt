@@ -1,7 +1,8 @@
 -- Regions that an edit moves: they lie in the text after it, and without their goals they are the same selection.
-use Rattle.std.proofs.Common.{◌≡◌, ◌≢◌, ℕ, zero, suc, ◌+◌, ◌≤◌, Bool, true, false, cond, List, [], ◌∷◌, length, map, Result, Ok, Err, refl, sym, subst, arith}
+use Rattle.std.proofs.Common.{◌≡◌, ◌≢◌, ℕ, zero, suc, ◌+◌, ◌≤◌, Bool, true, false, cond, List, [], ◌∷◌, length, map, Option, Some, None, Result, Ok, Err, refl, ap, ap₂, sym, subst, arith}
 use Rattle.std.specs.Prelude.{if◌then◌else◌, ◌||◌, min, max, IfOk}
 use Rattle.std.specs.List.{range_with_len, sum_by}
+use Rattle.std.specs.Option.{is_some}
 use Rattle.std.proofs.lemmas.List.Sums.{sum_by-cons}
 use Rattle.plain_text.specs.declared.selection.Region.{Region}
 use Rattle.plain_text.specs.declared.selection.Sel.{Sel}
@@ -10,6 +11,7 @@ use Rattle.plain_edits.specs.UnitDelta.{unit_adds, unit_keeps}
 use Rattle.edit_ops.specs.Regions.{without_goal}
 use Rattle.doc_view.specs.declared.moved.Goals.{Goals}
 use Rattle.doc_view.specs.Moved.{AreMoved, with_goals}
+use Rattle.doc_view.specs.Inner.{has_goal}
 use Rattle.selection_core.specs.Mapped.{AreWithin, length_after, mapped_region, mapped_regions, new_gap}
 use Rattle.selection_core.specs.Selection.{AreRightOf, IsSelection, greater_end, is_forward, joined, lesser_end, meets, merged_from, merged_regions, spanning}
 
@@ -26,6 +28,22 @@ IsSelection-plain (region ∷ regions) is = AreRightOf-plain region regions is
 pub AreWithin-plain : (len : ℕ) (regions : List Region) → AreWithin len regions → AreWithin len (map without_goal regions)
 AreWithin-plain len [] are = tt
 AreWithin-plain len (region ∷ regions) are = (are.0, AreWithin-plain len regions are.1)
+
+-- regions of which none has a goal stay
+neither : (a b : Bool) → (a || b) ≡ false → (a ≡ false) × (b ≡ false)
+neither false false is = (refl, refl)
+neither true b is = absurd cc
+neither false true is = absurd cc
+
+none-is : {X : Type 0} (o : Option X) → is_some o ≡ false → o ≡ None
+none-is None is = refl
+none-is (Some x) is = absurd cc
+
+pub plain-stays : (regions : List Region) → has_goal regions ≡ false → map without_goal regions ≡ regions
+plain-stays [] none = refl
+plain-stays (region ∷ regions) none =
+    let both = neither (is_some region.goal) (has_goal regions) none in
+    ap₂ (λ (r : Region) (rs : List Region). r ∷ rs) (ap (λ goal. record region { goal = goal }) (sym (none-is region.goal both.0))) (plain-stays regions both.1)
 
 -- ---- gaps after an edit
 

@@ -6,6 +6,7 @@
 #![tactic(auto)]
 
 mod idle;
+mod indexed;
 mod moved;
 mod same;
 mod search;

@@ -1,27 +1,12 @@
-// Whether two layouts are the same, line by line, up to the first that differs; and whether ends of regions, and searches, are.
+// Whether ends of regions, and searches, are the same, whether a gap is one of a caret, and whether a region has a goal.
 ghost use Rattle.std.specs.Prelude.{◌≡◌};
-ghost use Rattle.std.specs.Str.{bytes_eq};
-ghost use Rattle.std.specs.Cmp.Lexicographic.{pointwise};
-ghost use Rattle.plain_screen.specs.SameLayout.{is_same_layout, is_same_line, is_same_number, is_same_triple};
+ghost use Rattle.plain_text.specs.Numbers.{has};
+ghost use Rattle.line_render.specs.Rendered.{carets_of};
+ghost use Rattle.doc_view.specs.Inner.{has_goal};
 ghost use Rattle.doc_view.specs.Told.{are_same_ends, has_same_ends, is_same_search};
 
 use crate::search::Search;
-use plain_screen::{Line, Triple};
-use plain_text::{Region, Text};
-
-pub(crate) fn is_same_layout(lines: &[Line], others: &[Line]) -> bool
-    ensures { result ≡ is_same_layout lines.now others.now }
-{
-    if lines.len() != others.len() {
-        return false;
-    }
-    for index in 0..lines.len() {
-        if !is_same_line(&lines[index], &others[index]) {
-            return false;
-        }
-    }
-    true
-}
+use plain_text::Region;
 
 pub(crate) fn are_same_ends(regions: &[Region], others: &[Region]) -> bool
     ensures { result ≡ are_same_ends regions.now others.now }
@@ -43,46 +28,33 @@ fn has_same_ends(region: &Region, other: &Region) -> bool
     region.anchor == other.anchor && region.caret == other.caret
 }
 
+/// Whether one of the regions has its caret at this gap.
+pub(crate) fn has_caret(regions: &[Region], gap: u64) -> bool
+    ensures { result ≡ has (carets_of regions.now) gap }
+{
+    for region in regions {
+        if region.caret == gap {
+            return true;
+        }
+    }
+    false
+}
+
+/// Whether one of the regions has a goal.
+pub(crate) fn has_goal(regions: &[Region]) -> bool
+    ensures { result ≡ has_goal regions.now }
+{
+    for region in regions {
+        if region.goal.is_some() {
+            return true;
+        }
+    }
+    false
+}
+
 pub(crate) fn is_same_search(query: &Search, other: &Search) -> bool
     ensures { result ≡ is_same_search query.now other.now }
 {
-    is_same_text(&query.chars, &other.chars)
+    query.chars.as_str() == other.chars.as_str()
         && (query.is_for_nothing() || query.case_counts == other.case_counts)
-}
-
-fn is_same_line(line: &Line, other: &Line) -> bool
-    ensures { result ≡ is_same_line line.now other.now }
-{
-    is_same_text(&line.text, &other.text)
-        && is_same_number(line.ln, other.ln)
-        && are_same_places(line.cursor.as_slice(), other.cursor.as_slice())
-        && are_same_styles(line.styles.as_slice(), other.styles.as_slice())
-}
-
-fn is_same_text(text: &Text, other: &Text) -> bool
-    ensures { result ≡ bytes_eq text.now other.now }
-{
-    text.as_str() == other.as_str()
-}
-
-fn is_same_number(number: Option<u64>, other: Option<u64>) -> bool
-    ensures { result ≡ is_same_number number other }
-{
-    match (number, other) {
-        (None, None) => true,
-        (Some(number), Some(other)) => number == other,
-        _ => false,
-    }
-}
-
-fn are_same_places(places: &[u64], others: &[u64]) -> bool
-    ensures { result ≡ bytes_eq places.now others.now }
-{
-    places == others
-}
-
-fn are_same_styles(styles: &[Triple], others: &[Triple]) -> bool
-    ensures { result ≡ pointwise is_same_triple styles.now others.now }
-{
-    styles == others
 }

@@ -5,8 +5,10 @@ ghost use Rattle.plain_text.specs.declared.run.Run.{Run as RunValue};
 ghost use Rattle.plain_text.specs.declared.selection.Region.{Region as RegionValue};
 ghost use Rattle.doc_view.specs.Search.{end_of_regions, if_wraps, is_for_nothing, next_match, no_search, previous_match, results, search_for, start_of_regions, with_match};
 
+use doc_layout::whole_text;
 use find_core::matches;
 use plain_text::{NoMemory, Region, Regions, Run, Runs, Sel, Text};
+use rope_tree::Rope;
 use std::alloc::Global;
 
 /// What a view looks for: characters, and whether case counts. No characters are found nowhere.
@@ -44,11 +46,16 @@ impl Search {
         self.chars.is_empty()
     }
 
-    /// All matches in a text. This walks the text, and copies it where case does not count.
-    pub(crate) fn results(&self, alloc: Global, text: &Text) -> Result<Runs, NoMemory>
+    /// All matches in a text. This copies the text and walks it, and copies it once more where case does not count; it does not read it where
+    /// it looks for nothing.
+    pub(crate) fn results(&self, alloc: Global, text: &Rope) -> Result<Runs, NoMemory>
         ensures { IfOk result (λ runs. runs ≡ results text.now self.now) }
     {
-        matches(alloc, text, &self.chars, !self.case_counts)
+        if self.is_for_nothing() {
+            return Ok(Runs::new(alloc));
+        }
+        let text = whole_text(alloc, text)?;
+        matches(alloc, &text, &self.chars, !self.case_counts)
     }
 }
 

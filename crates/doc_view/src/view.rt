@@ -1,30 +1,35 @@
 ghost use Rattle.std.specs.Prelude.{◌≡◌, ◌≤◌, ◌<◌, ◌^◌, true, [], ◌∷◌, length, map, None, Some, IfOk, IfSome};
 ghost use Rattle.std.specs.Arc.{arc_value};
+ghost use Rattle.std.specs.Str.{all_scalars};
 ghost use Rattle.plain_edits.specs.UnitDelta.{IsUnitDelta};
 ghost use Rattle.edit_ops.specs.Commands.{IsDoneOnText, IsEffect, copied_text, effect_of};
 ghost use Rattle.edit_ops.specs.Regions.{without_goal};
 ghost use Rattle.selection_core.specs.Mapped.{AreWithin, length_after};
 ghost use Rattle.selection_core.specs.Selection.{IsSelection, caret_of, last_caret};
-ghost use Rattle.span_styles.specs.Layers.{new_layers};
+ghost use Rattle.span_styles.specs.Layers.{AreOver, mapped_layers, new_layers};
 ghost use Rattle.plain_screen.specs.SameLayout.{is_same_layout};
+ghost use Rattle.doc_layout.specs.Changed.{IsChangeOf};
+ghost use Rattle.doc_layout.specs.Found.{MayShow};
 ghost use Rattle.doc_layout.specs.PositionView.{position_view};
-ghost use Rattle.doc_view.specs.Inner.{IsTextKept};
+ghost use Rattle.doc_layout.specs.Told.{planned};
 ghost use Rattle.doc_view.specs.Moved.{AreMoved};
 ghost use Rattle.doc_view.specs.Search.{next_found, no_search, previous_found, results, search_for, with_match};
+ghost use Rattle.doc_view.specs.Inner.{has_last_caret, index_at, is_told_apart};
 ghost use Rattle.doc_view.specs.Told.{IsTextLeft, are_same_ends, has_asked, is_laid_out_alike, is_lacking, settled_view, told};
 ghost use Rattle.doc_view.specs.View.{asked_in, layout_in, pieces_in, point_in};
 
+use crate::indexed::{edited_index, index_of};
 use crate::moved::Goals;
-use crate::same::{are_same_ends, is_same_layout, is_same_search};
+use crate::same::{are_same_ends, has_caret, has_goal, is_same_search};
 use crate::search::{Search, next_match, previous_match, selecting};
 use crate::told::{Pristine, TextLeft};
-use doc_layout::{Asked, layout_of, update_of, wrapped};
+use doc_layout::{Asked, Shown, is_same_layout, update_of};
 use edit_ops::{copied, edit_of};
-use movement_core::text_end;
+use line_index::LineIndex;
 use plain_edits::UnitDelta;
-use plain_screen::{Lines, TextView, Update};
+use plain_screen::{TextView, Update};
 use plain_text::{NoMemory, Region, Regions, Run, Runs, Sel, Text};
-use plain_view::PlainView;
+use rope_tree::Rope;
 use selection_core::Selection;
 use span_styles::Layers;
 use std::alloc::Global;
@@ -32,22 +37,21 @@ use std::marker::Model;
 use std::sync::Arc;
 use xi_plain::{Config, EditAct};
 
-/// What a document keeps for a view on its head text. Copies share text, regions, styles, results, layout and search.
+/// What a document keeps for a view on its head text: no line of its layout, and no text but the rope. Copies share the lines' index, regions,
+/// styles, results and search.
 #[derive(Drop)]
 pub struct ViewState {
     /// How the text is cut into pieces, and edited.
     config: Config,
-    /// The text in its pieces.
-    text: Arc<PlainView, Global>,
+    /// The text, and where its pieces stand.
+    index: Arc<LineIndex, Global>,
     sel: Arc<Sel, Global>,
     /// The styles that each plugin gave the characters of the text.
     layers: Arc<Layers, Global>,
     query: Arc<Search, Global>,
     /// All that the search finds in the text.
     found: Arc<Runs, Global>,
-    /// The layout of the text, with the regions, what was found and the styles.
-    lines: Arc<Lines, Global>,
-    /// The lines of it that are shown.
+    /// The lines of the layout that are shown.
     window: Run,
     /// The lines that were asked for at the last update, if there was one. These its front end has.
     shown: Option<Asked>,
@@ -61,7 +65,7 @@ impl Model for ViewState {
     ghost Value = { View };
 
     ghost view = { λ v. record {
-      text = (arc_value v.text).text;
+      text = (arc_value v.index).text;
       config = v.config;
       regions = (arc_value v.sel).regions;
       layers = arc_value v.layers;
@@ -71,105 +75,105 @@ impl Model for ViewState {
     } };
 
     ghost invariant = { λ v.
-        IsViewKept v.config (arc_value v.text) (arc_value v.sel).regions (arc_value v.layers) (arc_value v.query) (arc_value v.found)
-        (arc_value v.lines) };
+        IsViewKept v.config (arc_value v.index) (arc_value v.sel).regions (arc_value v.query) (arc_value v.found) };
 }
 
 impl ViewState {
     /// The view of a text that its front end was told nothing of: one caret, at the start, no style from any of so many plugins, and no
-    /// search. This walks the text, and lays it out.
+    /// search. It costs O(1) where no line is wrapped, and else the breaks of each.
     pub fn of_text(
         alloc: Global,
-        text: Text,
+        text: &Rope,
         plugins: u32,
         window: Run,
         config: Config,
     ) -> Result<ViewState, NoMemory>
         requires tab { 0 < config.tab }
         ensures { IfOk result (λ made. made ≡ record {
-          text = text;
+          text = text.now;
           config = config;
           regions = caret_of 0 ∷ [];
-          layers = new_layers plugins (length text);
+          layers = new_layers plugins (length text.now);
           window = window;
           query = no_search;
           shown = None;
         }) }
     {
-        let layers = Layers::new(alloc, plugins, text.char_count())?;
-        let kept = kept_text(alloc, text, config)?;
-        let sel = Sel::caret_at(alloc, 0)?;
-        let found = Runs::new(alloc);
-        let lines = layout_of(alloc, &*kept, &sel, found.as_slice(), &layers)?;
+        let characters = text.len();
+        let unstyled = Layers::new(alloc, plugins, characters)?;
+        let caret = Sel::caret_at(alloc, 0)?;
+        let search = Search::none(alloc);
+        let nothing = Runs::new(alloc);
+        let index = index_of(alloc, text, config)?;
+        let sel = Arc::new(alloc, caret)?;
+        let layers = Arc::new(alloc, unstyled)?;
+        let query = Arc::new(alloc, search)?;
+        let found = Arc::new(alloc, nothing)?;
         Ok(ViewState {
             config,
-            text: kept,
-            sel: Arc::new(alloc, sel)?,
-            layers: Arc::new(alloc, layers)?,
-            query: Arc::new(alloc, Search::none(alloc))?,
-            found: Arc::new(alloc, found)?,
-            lines: Arc::new(alloc, lines)?,
+            index,
+            sel,
+            layers,
+            query,
+            found,
             window,
             shown: None,
         })
     }
 
-    /// The view of another text with other regions and styles. This walks the text for its pieces and for what is looked for, and lays it
-    /// out.
-    pub fn with_text(
+    /// The view of the text after an edit, of which the rope is that text, with other regions: what is kept keeps its styles, and what is
+    /// added has none. It costs the lines that the edit touches and the height of the text, the runs of styles, and where something is looked
+    /// for a copy of the text and a walk over it.
+    pub fn edited(
         &self,
         alloc: Global,
-        text: Text,
+        text: &Rope,
+        units: &UnitDelta,
         sel: Sel,
-        layers: Layers,
     ) -> Result<ViewState, NoMemory>
+        requires changes { IsChangeOf self.now.text text.now units.now }
+        requires over { AreOver (length self.now.text) self.now.layers }
         requires sound { IsSelection sel.regions }
-        requires inside { AreWithin (length text) sel.regions }
-        ensures { IfOk result (λ made. made ≡ record self.now { text = text; regions = sel.regions; layers = layers }) }
+        requires inside { AreWithin (length text.now) sel.regions }
+        ensures { IfOk result (λ made. made ≡ record self.now {
+          text = text.now;
+          regions = sel.regions;
+          layers = mapped_layers units.now self.now.layers;
+        }) }
     {
-        let found = self.query.results(alloc, &text)?;
-        let text = kept_text(alloc, text, self.config)?;
-        let query = Arc::try_clone(&self.query)?;
-        let found = Arc::new(alloc, found)?;
+        let _characters = text.len();
+        let mapped = self.layers().map(alloc, units)?;
+        let results = self.sought().results(alloc, text)?;
+        let index = edited_index(alloc, self.line_index(), text, units)?;
         let sel = Arc::new(alloc, sel)?;
-        let layers = Arc::new(alloc, layers)?;
-        self.laid_out(alloc, self.config, text, query, found, sel, layers)
+        let layers = Arc::new(alloc, mapped)?;
+        let query = Arc::try_clone(&self.query)?;
+        let found = Arc::new(alloc, results)?;
+        Ok(ViewState {
+            config: self.config,
+            index,
+            sel,
+            layers,
+            query,
+            found,
+            window: self.window,
+            shown: self.shown,
+        })
     }
 
-    /// The view of the same text with other styles. This lays the text out.
+    /// The view of the same text with other styles, in O(1).
     pub fn with_layers(&self, alloc: Global, layers: Layers) -> Result<ViewState, NoMemory>
         ensures { IfOk result (λ made. made ≡ record self.now { layers = layers }) }
     {
-        let text = Arc::try_clone(&self.text)?;
-        let query = Arc::try_clone(&self.query)?;
-        let found = Arc::try_clone(&self.found)?;
-        let sel = Arc::try_clone(&self.sel)?;
-        let styled = Arc::new(alloc, layers)?;
-        self.laid_out(alloc, self.config, text, query, found, sel, styled)
+        let mut view = self.copy()?;
+        view.layers = Arc::new(alloc, layers)?;
+        Ok(view)
     }
 
-    /// The view of the same text with other regions. This lays the text out, but where no end of a region moves: then it costs the regions.
+    /// The view of the same text with other regions, in O(1).
     pub fn with_regions(&self, alloc: Global, sel: Sel) -> Result<ViewState, NoMemory>
         requires sound { IsSelection sel.regions }
         requires inside { AreWithin (length self.now.text) sel.regions }
-        ensures { IfOk result (λ made. made ≡ record self.now { regions = sel.regions }) }
-    {
-        if self.has_ends(&sel) {
-            return self.with_ends(alloc, sel);
-        }
-        let text = Arc::try_clone(&self.text)?;
-        let query = Arc::try_clone(&self.query)?;
-        let found = Arc::try_clone(&self.found)?;
-        let sel = Arc::new(alloc, sel)?;
-        let layers = Arc::try_clone(&self.layers)?;
-        self.laid_out(alloc, self.config, text, query, found, sel, layers)
-    }
-
-    // The same, where no end of a region moves: the layout is shared.
-    fn with_ends(&self, alloc: Global, sel: Sel) -> Result<ViewState, NoMemory>
-        requires sound { IsSelection sel.regions }
-        requires inside { AreWithin (length self.now.text) sel.regions }
-        requires ends { are_same_ends self.now.regions sel.regions ≡ true }
         ensures { IfOk result (λ made. made ≡ record self.now { regions = sel.regions }) }
     {
         let mut view = self.copy()?;
@@ -177,8 +181,8 @@ impl ViewState {
         Ok(view)
     }
 
-    /// The view for another configuration, with its regions, their goals too. Where width or tab width is another this walks the text and
-    /// lays it out, and else it takes O(1).
+    /// The view for another configuration, with its regions, their goals too. Where width or tab width is another this costs the breaks of
+    /// each line that is wrapped, and else it takes O(1).
     pub fn with_config(&self, alloc: Global, config: Config) -> Result<ViewState, NoMemory>
         requires tab { 0 < config.tab }
         ensures { IfOk result (λ made. made ≡ record self.now { config = config }) }
@@ -186,12 +190,21 @@ impl ViewState {
         if config.tab == self.config.tab && config.width == self.config.width {
             return Ok(self.copy()?.edited_by(config));
         }
-        let text = kept_text(alloc, self.whole_text(alloc)?, config)?;
-        let query = Arc::try_clone(&self.query)?;
-        let found = Arc::try_clone(&self.found)?;
+        let index = index_of(alloc, self.rope(), config)?;
         let sel = Arc::try_clone(&self.sel)?;
         let layers = Arc::try_clone(&self.layers)?;
-        self.laid_out(alloc, config, text, query, found, sel, layers)
+        let query = Arc::try_clone(&self.query)?;
+        let found = Arc::try_clone(&self.found)?;
+        Ok(ViewState {
+            config,
+            index,
+            sel,
+            layers,
+            query,
+            found,
+            window: self.window,
+            shown: self.shown,
+        })
     }
 
     // The same view for a configuration that lays it out alike.
@@ -205,20 +218,16 @@ impl ViewState {
         view
     }
 
-    // A copy of the text.
-    fn whole_text(&self, alloc: Global) -> Result<Text, NoMemory>
-        ensures { IfOk result (λ text. text ≡ self.now.text) }
-    {
-        let end = text_end(&*self.text);
-        self.text.text(alloc, 0, end)
-    }
-
-    /// The view without the goals of its regions, in the time of the regions.
+    /// The view without the goals of its regions, which it shares where none has one; in the time of the regions.
     pub fn without_goals(&self, alloc: Global) -> Result<ViewState, NoMemory>
         ensures { IfOk result (λ made. made ≡ record self.now { regions = map without_goal self.now.regions }) }
     {
+        let sel = self.selection();
+        if !has_goal(sel.regions.as_slice()) {
+            return self.copy();
+        }
         let mut view = self.copy()?;
-        view.sel = Arc::new(alloc, without_goals(alloc, &self.sel)?)?;
+        view.sel = Arc::new(alloc, without_goals(alloc, sel)?)?;
         Ok(view)
     }
 
@@ -231,8 +240,7 @@ impl ViewState {
     }
 
     /// The view that looks for other characters, where case counts as before if nothing is said of it, without the goals of its regions.
-    /// This copies the text, walks it, and lays it out. Where nothing is found, as no characters are, and nothing was, it shares the layout,
-    /// and for no characters it does not read the text.
+    /// This copies the text and walks it; for no characters it does not read it.
     pub fn seeking(
         &self,
         alloc: Global,
@@ -244,37 +252,24 @@ impl ViewState {
           query = search_for self.now.query chars case_counts;
         }) }
     {
-        let query = self.query.for_chars(chars, case_counts);
-        let found = self.results(alloc, &query)?;
-        let query = Arc::new(alloc, query)?;
-        if found.is_empty() && self.found.is_empty() {
-            return Ok(self.without_goals(alloc)?.with_search(query));
-        }
-        let text = Arc::try_clone(&self.text)?;
-        let found = Arc::new(alloc, found)?;
-        let sel = Arc::new(alloc, without_goals(alloc, &self.sel)?)?;
+        let search = self.sought().for_chars(chars, case_counts);
+        let results = search.results(alloc, self.rope())?;
+        let plain = without_goals(alloc, self.selection())?;
+        let index = Arc::try_clone(&self.index)?;
+        let sel = Arc::new(alloc, plain)?;
         let layers = Arc::try_clone(&self.layers)?;
-        self.laid_out(alloc, self.config, text, query, found, sel, layers)
-    }
-
-    // All that a search finds in the text, which is not read where it looks for nothing.
-    fn results(&self, alloc: Global, query: &Search) -> Result<Runs, NoMemory>
-        ensures { IfOk result (λ runs. runs ≡ results self.now.text query.now) }
-    {
-        if query.is_for_nothing() {
-            return Ok(Runs::new(alloc));
-        }
-        query.results(alloc, &self.whole_text(alloc)?)
-    }
-
-    // The same view with a search that finds the same in its text.
-    fn with_search(self, query: Arc<Search, Global>) -> ViewState
-        requires { results self.text (arc_value query) ≡ results self.text self.query }
-        ensures { result ≡ record self { query = arc_value query } }
-    {
-        let mut view = self;
-        view.query = query;
-        view
+        let query = Arc::new(alloc, search)?;
+        let found = Arc::new(alloc, results)?;
+        Ok(ViewState {
+            config: self.config,
+            index,
+            sel,
+            layers,
+            query,
+            found,
+            window: self.window,
+            shown: self.shown,
+        })
     }
 
     /// The view with the next match of its search selected, if there is one. This goes over the matches, and lays the text out.
@@ -333,22 +328,54 @@ impl ViewState {
     {
         Ok(ViewState {
             config: self.config,
-            text: Arc::try_clone(&self.text)?,
+            index: Arc::try_clone(&self.index)?,
             sel: Arc::try_clone(&self.sel)?,
             layers: Arc::try_clone(&self.layers)?,
             query: Arc::try_clone(&self.query)?,
             found: Arc::try_clone(&self.found)?,
-            lines: Arc::try_clone(&self.lines)?,
             window: self.window,
             shown: self.shown,
         })
     }
 
-    /// How many lines the layout has.
+    /// How many lines the layout has, in O(1).
     pub fn lines(&self) -> u64
         ensures { result ≡ length (layout_in self.now) }
     {
-        self.lines.len() as u64
+        self.line_index().lines()
+    }
+
+    // The index of the text's lines.
+    fn line_index(&self) -> &LineIndex
+        ensures is { result.now ≡ index_at self.now.text self.now.config }
+        ensures characters { all_scalars self.now.text ≡ true }
+        ensures tab { 0 < self.now.config.tab }
+    {
+        &self.index
+    }
+
+    // The text.
+    fn rope(&self) -> &Rope
+        ensures is { result.now ≡ self.now.text }
+        ensures characters { all_scalars self.now.text ≡ true }
+    {
+        self.line_index().rope()
+    }
+
+    // The regions.
+    fn selection(&self) -> &Sel
+        ensures regions { result.now.regions ≡ self.now.regions }
+        ensures sound { IsSelection self.now.regions }
+        ensures inside { AreWithin (length self.now.text) self.now.regions }
+    {
+        &self.sel
+    }
+
+    // What is looked for.
+    fn sought(&self) -> &Search
+        ensures { result.now ≡ self.now.query }
+    {
+        &self.query
     }
 
     /// The styles that each plugin gave the characters of the text.
@@ -358,13 +385,17 @@ impl ViewState {
         &self.layers
     }
 
-    /// The place of the last region's caret: a line, from 0, and an offset in it in bytes.
+    /// The place of the last region's caret: a line, from 0, and an offset in it in bytes. It costs the height of the text.
     pub fn point(&self) -> (u64, u64)
         ensures { position_view result ≡ point_in self.now }
     {
-        let gap = last_caret(&self.sel.regions);
-        let point = self.text.point_of(gap);
-        (point.line, point.column)
+        match self
+            .line_index()
+            .locate(last_caret(&self.selection().regions))
+        {
+            Some(point) => point,
+            None => unreachable!(),
+        }
     }
 
     /// What a command does: its edit in characters, and the regions after it.
@@ -373,14 +404,20 @@ impl ViewState {
         ensures { IfOk result (λ made. IsEffect self.now.text
             (effect_of self.now.config self.now.text (pieces_in self.now) self.now.regions act.now) made.0 made.1.regions) }
     {
-        edit_of(alloc, &*self.text, &self.sel, act, &self.config)
+        edit_of(
+            alloc,
+            self.line_index(),
+            self.selection(),
+            act,
+            &self.config,
+        )
     }
 
     /// The texts of the regions that are no carets, with an LF between each two.
     pub fn copied(&self, alloc: Global) -> Result<Text, NoMemory>
         ensures { IfOk result (λ text. text ≡ copied_text self.now.text self.now.regions) }
     {
-        copied(alloc, &*self.text, &self.sel)
+        copied(alloc, self.line_index(), self.selection())
     }
 
     /// The regions after an edit that no command made, with their goals or without. Each end stays left of the character right of it;
@@ -398,14 +435,15 @@ impl ViewState {
         ensures { IfOk result (λ sel. AreMoved units.now after goals self.now.regions sel.regions) }
     {
         match goals {
-            Goals::Kept => self.sel.map(alloc, units, after),
-            Goals::Cleared => without_goals(alloc, &self.sel)?.map(alloc, units, after),
+            Goals::Kept => self.selection().map(alloc, units, after),
+            Goals::Cleared => without_goals(alloc, self.selection())?.map(alloc, units, after),
         }
     }
 
     /// What the front end is told where the document has the view `next` after an event that requests these lines; and that view, settled.
-    /// This copies the lines that are told; and it compares the two layouts, but where text and styles are the same and no end of a region,
-    /// search, width or tab width is another: then it costs the regions and the characters that are looked for.
+    /// This renders the lines that are told. Whether the layout is another it tells without a line where the length of the text is another, where
+    /// the last caret is no caret of the other view, and where text and styles are the same and no end of a region, search, width or tab width is
+    /// another; else it renders lines of both, up to the first that differs.
     pub fn settled(
         &self,
         alloc: Global,
@@ -418,45 +456,83 @@ impl ViewState {
         ensures view { IfOk result (λ made. made.0 ≡ settled_view self.now next request pristine) }
         ensures update { IfOk result (λ made. made.1 ≡ told self.now next request pristine) }
     {
-        if !self.lacks(&next, text, request, pristine) {
+        if !self.lacks(alloc, &next, text, request, pristine)? {
             return Ok((next, None));
         }
         let asked = next.asked(request);
-        let update = update_of(alloc, &next.lines, asked, pristine.after)?;
+        let update = next.update(alloc, asked, pristine.after)?;
         Ok((next.with_shown(asked), Some(update)))
     }
 
-    // Whether the front end has to be told.
-    fn lacks(&self, next: &ViewState, text: TextLeft, request: Run, pristine: Pristine) -> bool
-        requires text { IsTextLeft text self.now next.now }
-        ensures { result ≡ is_lacking self.now next.now request pristine }
+    // The update that sends the lines that are asked for.
+    fn update(&self, alloc: Global, asked: Asked, pristine: bool) -> Result<Update, NoMemory>
+        ensures { IfOk result (λ made. made ≡ planned asked (layout_in self.now) pristine) }
     {
-        !next.has_asked(request)
-            || pristine.before != pristine.after
-            || !self.has_layout_of(next, text)
+        update_of(alloc, &self.shown_text(), asked, pristine)
+    }
+
+    // The text in its pieces, and what is shown on it.
+    fn shown_text(&self) -> Shown<'_, LineIndex>
+        ensures view { result.view.now ≡ index_at self.now.text self.now.config }
+        ensures regions { result.sel.now.regions ≡ self.now.regions }
+        ensures results { result.results.now ≡ results self.now.text self.now.query }
+        ensures layers { result.layers.now ≡ self.now.layers }
+        ensures may { MayShow self.now.text self.now.regions (results self.now.text self.now.query) }
+        ensures characters { all_scalars self.now.text ≡ true }
+        ensures inside { AreWithin (length self.now.text) self.now.regions }
+    {
+        Shown {
+            view: self.line_index(),
+            sel: self.selection(),
+            results: self.matches(),
+            layers: self.layers(),
+        }
+    }
+
+    // Whether the front end has to be told.
+    fn lacks(
+        &self,
+        alloc: Global,
+        next: &ViewState,
+        text: TextLeft,
+        request: Run,
+        pristine: Pristine,
+    ) -> Result<bool, NoMemory>
+        requires text { IsTextLeft text self.now next.now }
+        ensures { IfOk result (λ lacks. lacks ≡ is_lacking self.now next.now request pristine) }
+    {
+        if !next.has_asked(request) || pristine.before != pristine.after {
+            return Ok(true);
+        }
+        Ok(!self.has_layout_of(alloc, next, text)?)
     }
 
     // Whether the layouts are the same.
-    fn has_layout_of(&self, next: &ViewState, text: TextLeft) -> bool
+    fn has_layout_of(
+        &self,
+        alloc: Global,
+        next: &ViewState,
+        text: TextLeft,
+    ) -> Result<bool, NoMemory>
         requires text { IsTextLeft text self.now next.now }
-        ensures { result ≡ is_same_layout (layout_in self.now) (layout_in next.now) }
+        ensures { IfOk result (λ same. same ≡ is_same_layout (layout_in self.now) (layout_in next.now)) }
     {
         match text {
-            TextLeft::Same => self.has_layout_on_text(next),
-            TextLeft::Edited => self.has_lines_of(next),
+            TextLeft::Same => self.has_layout_on_text(alloc, next),
+            TextLeft::Edited => self.has_lines_of(alloc, next),
         }
     }
 
     // The same, of one text with its styles: no line is read where it is laid out alike.
-    fn has_layout_on_text(&self, next: &ViewState) -> bool
+    fn has_layout_on_text(&self, alloc: Global, next: &ViewState) -> Result<bool, NoMemory>
         requires text { next.now.text ≡ self.now.text }
         requires layers { next.now.layers ≡ self.now.layers }
-        ensures { result ≡ is_same_layout (layout_in self.now) (layout_in next.now) }
+        ensures { IfOk result (λ same. same ≡ is_same_layout (layout_in self.now) (layout_in next.now)) }
     {
         if self.is_laid_out_as(next) {
-            return true;
+            return Ok(true);
         }
-        self.has_lines_of(next)
+        self.has_lines_of(alloc, next)
     }
 
     // Whether one text is laid out alike in both, without a look at it.
@@ -476,11 +552,40 @@ impl ViewState {
         are_same_ends(self.sel.regions.as_slice(), sel.regions.as_slice())
     }
 
-    // Whether the layouts are the same, line by line.
-    fn has_lines_of(&self, next: &ViewState) -> bool
-        ensures { result ≡ is_same_layout (layout_in self.now) (layout_in next.now) }
+    // Whether the layouts are the same, line by line where their texts and carets do not tell them apart.
+    fn has_lines_of(&self, alloc: Global, next: &ViewState) -> Result<bool, NoMemory>
+        ensures { IfOk result (λ same. same ≡ is_same_layout (layout_in self.now) (layout_in next.now)) }
     {
-        is_same_layout(self.lines.as_slice(), next.lines.as_slice())
+        let shown = self.shown_text();
+        let other = next.shown_text();
+        if self.is_told_apart(next) {
+            return Ok(false);
+        }
+        is_same_layout(alloc, &shown, &other)
+    }
+
+    // Whether the length of the text is another, or the last caret of one is no caret of the other.
+    fn is_told_apart(&self, next: &ViewState) -> bool
+        ensures { result ≡ is_told_apart self.now next.now }
+    {
+        self.len() != next.len() || !self.has_caret_of(next) || !next.has_caret_of(self)
+    }
+
+    // How many characters the text has.
+    fn len(&self) -> u64
+        ensures { result ≡ length self.now.text }
+    {
+        self.rope().len()
+    }
+
+    // Whether the last caret of the other view, if it has one, is a caret of this.
+    fn has_caret_of(&self, other: &ViewState) -> bool
+        ensures { result ≡ has_last_caret self.now.regions other.now.regions }
+    {
+        match other.selection().regions.as_slice().last() {
+            Some(region) => has_caret(self.selection().regions.as_slice(), region.caret),
+            None => true,
+        }
     }
 
     // Whether the front end has the lines that are asked for.
@@ -511,54 +616,6 @@ impl ViewState {
         view.shown = Some(asked);
         view
     }
-
-    // The same view of a text in its pieces for a configuration, with a search, all that it finds there, regions, and layers of styles.
-    fn laid_out(
-        &self,
-        alloc: Global,
-        config: Config,
-        text: Arc<PlainView, Global>,
-        query: Arc<Search, Global>,
-        found: Arc<Runs, Global>,
-        sel: Arc<Sel, Global>,
-        layers: Arc<Layers, Global>,
-    ) -> Result<ViewState, NoMemory>
-        requires kept { IsTextKept config (arc_value text) }
-        requires found { arc_value found ≡ results (arc_value text).text (arc_value query) }
-        requires sound { IsSelection (arc_value sel).regions }
-        requires inside { AreWithin (length (arc_value text).text) (arc_value sel).regions }
-        ensures { IfOk result (λ made. made ≡ record self.now {
-          text = (arc_value text).text;
-          config = config;
-          regions = (arc_value sel).regions;
-          layers = arc_value layers;
-          query = arc_value query;
-        }) }
-    {
-        let lines = layout_of(alloc, &*text, &sel, found.as_slice(), &layers)?;
-        Ok(ViewState {
-            config,
-            text,
-            sel,
-            layers,
-            query,
-            found,
-            lines: Arc::new(alloc, lines)?,
-            window: self.window,
-            shown: self.shown,
-        })
-    }
-}
-
-// A text, in its pieces for a configuration.
-fn kept_text(alloc: Global, text: Text, config: Config) -> Result<Arc<PlainView, Global>, NoMemory>
-    requires tab { 0 < config.tab }
-    ensures kept { IfOk result (λ made. IsTextKept config (arc_value made)) }
-    ensures text { IfOk result (λ made. (arc_value made).text ≡ text) }
-{
-    let _characters = text.as_str();
-    let view = wrapped(alloc, text, config)?;
-    Ok(Arc::new(alloc, view)?)
 }
 
 // The caret of the last region; 0 where there is none.

@@ -67,7 +67,7 @@ fn line_alone(
     let text = Text::from_str(alloc, text)?;
     let sel = selected(alloc, ends)?;
     if piece.start <= piece.end && piece.end - piece.start == text.char_count() {
-        render_piece(alloc, &text, &piece, is_last, &sel, &[], spans)
+        render_piece(alloc, text, &piece, is_last, &sel, &[], spans)
     } else {
         Err(NoMemory)
     }
@@ -84,7 +84,7 @@ fn line_with_match(
     let text = Text::from_str(alloc, text)?;
     let sel = selected(alloc, &[])?;
     if piece.start <= piece.end && piece.end - piece.start == text.char_count() {
-        render_piece(alloc, &text, &piece, false, &sel, &[found], spans)
+        render_piece(alloc, text, &piece, false, &sel, &[found], spans)
     } else {
         Err(NoMemory)
     }

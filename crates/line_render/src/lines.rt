@@ -10,7 +10,7 @@ use crate::selected::selected_in;
 use crate::touching::{regions_touching, spans_touching};
 use plain_edits::Span;
 use plain_screen::{Line, Piece};
-use plain_text::{NoMemory, Sel, Text, TryClone};
+use plain_text::{NoMemory, Sel, Text};
 use span_runs::triples;
 use std::alloc::Global;
 
@@ -30,34 +30,14 @@ pub fn render(
 {
     let line = text.slice(alloc, piece.start, piece.end)?;
     let is_last = is_last(text, piece, &line);
-    line_with(alloc, line, piece, is_last, sel, &[], spans)
+    render_piece(alloc, line, piece, is_last, sel, &[], spans)
 }
 
-/// The line of a piece from the piece's own characters, and whether it is the last of its text; regions and spans are those of the
-/// whole text. What the search found, of which neither starts nor ends go back, is searched, as the regions are; the other spans, which
+/// The line of a piece from the piece's own characters, which it keeps, and whether it is the last of its text; regions and spans are those
+/// of the whole text. What the search found, of which neither starts nor ends go back, is searched, as the regions are; the other spans, which
 /// may come in any order, are walked, so hand in those that touch the piece. This costs the characters of the piece, the regions and
 /// spans that touch it, and the sort of these spans.
 pub fn render_piece(
-    alloc: Global,
-    line: &Text,
-    piece: &Piece,
-    is_last: bool,
-    sel: &Sel,
-    found: &[Span],
-    spans: &[Span],
-) -> Result<Line, NoMemory>
-    requires characters { piece.now.start + length line.now ≡ piece.now.end }
-    requires selection { IsSelection sel.now.regions }
-    requires starts { IsNonDecreasingBy (λ span. span.start) found.now }
-    requires ends { IsNonDecreasingBy (λ span. span.end) found.now }
-    ensures { IfOk result (λ made. made ≡ rendered_piece line.now piece.now is_last sel.now.regions (found.now ++ spans.now)) }
-{
-    let line = line.copy(alloc)?;
-    line_with(alloc, line, piece, is_last, sel, found, spans)
-}
-
-// The line with these characters.
-fn line_with(
     alloc: Global,
     line: Text,
     piece: &Piece,

@@ -2,7 +2,7 @@ use Rattle.std.proofs.Common.{ap, sym, ◌∙◌}
 use Rattle.std.specs.Prelude.{◌&&◌}
 use Rattle.doc_view.specs.Inner.{is_whole_run}
 use Rattle.doc_view.proofs.IdleLemmas.{does_nothing-is}
-use Rattle.doc_view.proofs.SameLemmas.{empty-is}
+use Rattle.doc_layout.proofs.ForCallers.{empty-is}
 use Rattle.doc_view.proofs.idle.does_nothing.Goals as goal
 
 pub returns-then-is_empty : goal.returns-then-is_empty

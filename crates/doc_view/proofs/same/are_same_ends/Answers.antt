@@ -1,7 +1,7 @@
 use Rattle.std.proofs.Common.{◌≡◌, ◌+◌, suc, take, ap, sym, ◌∙◌, arith}
 use Rattle.std.specs.Cmp.Lexicographic.{pointwise}
 use Rattle.doc_view.specs.Told.{has_same_ends}
-use Rattle.doc_view.proofs.SameLemmas.{one-differs-at, one-more-at}
+use Rattle.doc_layout.proofs.ForCallers.{one-differs-at, one-more-at}
 use Rattle.doc_view.proofs.same.are_same_ends.Goals as goal
 
 pub returns-then-not-has_same_ends : goal.returns-then-not-has_same_ends

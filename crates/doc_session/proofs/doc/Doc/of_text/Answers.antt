@@ -9,7 +9,7 @@ use Rattle.doc_session.proofs.doc.Doc.of_text.Goals as goal
 
 pub returns : goal.returns
 returns c =
-    let shown_is = c.in_ok-shown.ensures ∙ c.head_rope.ensures.shown ∙ c.in_ok-text.ensures.shown in
+    let shown_is = c.head_rope.ensures.shown ∙ c.in_ok-text.ensures.shown in
     record {
       stands = record {
         text = c.in_ok-text.ensures.stands;
@@ -22,7 +22,7 @@ returns c =
 
 pub invariant_of-result : goal.invariant_of-result
 invariant_of-result c =
-    let shown = c.in_ok-shown.ensures ∙ c.head_rope.ensures.shown in
+    let shown = c.head_rope.ensures.shown in
     let text_is = ap (λ (v : View). v.text) c.in_ok-view.ensures ∙ shown in
     let layers_are =
     ap (λ (v : View). v.layers) c.in_ok-view.ensures ∙ ap (λ (t : List ℕ). new_layers c.args.plugins (length t)) (shown ∙ c.in_ok-text.ensures.shown) in

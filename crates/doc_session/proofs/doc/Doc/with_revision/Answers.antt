@@ -1,28 +1,51 @@
-use Rattle.std.proofs.Common.{ℕ, List, length, ap, ap₂, sym, ◌∙◌, subst}
+use Rattle.std.proofs.Common.{ℕ, List, length, refl, ap, ap₂, sym, ◌∙◌, subst}
 use Rattle.selection_core.specs.Mapped.{AreWithin}
-use Rattle.span_styles.specs.Layers.{AreOver}
+use Rattle.span_styles.specs.Layers.{AreOver, mapped_layers}
+use Rattle.doc_layout.specs.Changed.{IsChangeOf}
+use Rattle.doc_text.specs.InMemory.{text_in}
 use Rattle.doc_view.specs.View.{View}
 use Rattle.doc_session.specs.InMemory.{Doc}
+use Rattle.doc_session.proofs.LayerLemmas.{as_many-changed, over-changed, over-kept}
 use Rattle.doc_session.proofs.doc.Doc.with_revision.Goals as goal
 
-pub with_text-requires-clause-inside : goal.with_text-requires-clause-inside
-with_text-requires-clause-inside c =
-    subst (λ (t : List ℕ). AreWithin (length t) c.args.sel.regions) (sym (c.in_ok-shown.ensures ∙ c.head_rope.ensures.shown)) c.requires.inside
+pub edited-requires-clause-changes : goal.edited-requires-clause-changes
+edited-requires-clause-changes c =
+    let shown_is = c.self.invariant.shown_is ∙ ap (λ (d : Doc). text_in d.text) c.self.view_is in
+    subst (λ (t : List ℕ). IsChangeOf t c.head_rope.result.now c.args.units.now) (sym shown_is)
+    (subst (λ (t : List ℕ). IsChangeOf (text_in c.args.self.now.text) t c.args.units.now) (sym c.head_rope.ensures.shown) c.requires.changes)
+
+pub edited-requires-clause-over : goal.edited-requires-clause-over
+edited-requires-clause-over c = c.self.invariant.over
+
+pub edited-requires-clause-inside : goal.edited-requires-clause-inside
+edited-requires-clause-inside c = subst (λ (t : List ℕ). AreWithin (length t) c.args.sel.regions) (sym c.head_rope.ensures.shown) c.requires.inside
 
 pub invariant_of-result : goal.invariant_of-result
 invariant_of-result c =
-    let text_is = ap (λ (v : View). v.text) c.in_ok-view.ensures ∙ c.in_ok-shown.ensures ∙ c.head_rope.ensures.shown in
+    let doc = c.self.inside in
+    let units = c.args.units.now in
+    let text_is = ap (λ (v : View). v.text) c.in_ok-view.ensures in
     let layers_are = ap (λ (v : View). v.layers) c.in_ok-view.ensures in
+    let before_is = c.self.invariant.shown_is ∙ ap (λ (d : Doc). text_in d.text) c.self.view_is in
+    let changes : IsChangeOf doc.view.text c.head_rope.result.now units =
+    subst (λ (t : List ℕ). IsChangeOf t c.head_rope.result.now units) (sym before_is)
+    (subst (λ (t : List ℕ). IsChangeOf (text_in c.args.self.now.text) t units) (sym c.head_rope.ensures.shown) c.requires.changes) in
+    let over = over-changed doc.view.text c.head_rope.result.now units doc.view.layers c.in_ok-view.view.layers changes c.self.invariant.over layers_are in
     record {
-      shown_is = text_is;
-      over = subst (AreOver (length c.in_ok-view.view.text)) (sym layers_are) (subst (λ (t : List ℕ). AreOver (length t) c.args.layers) (sym text_is) c.requires.over);
-      as_many = ap length layers_are ∙ c.requires.as_many;
+      shown_is = text_is ∙ c.head_rope.ensures.shown;
+      over = subst (λ t. AreOver (length t) c.in_ok-view.view.layers) (sym text_is) over;
+      as_many =
+          as_many-changed units doc.view.layers c.in_ok-view.view.layers layers_are ∙ c.self.invariant.as_many ∙
+          ap (λ (d : Doc). length d.text.sessions) c.self.view_is ∙ ap length (sym c.requires.sessions);
     }
 
-pub returns : goal.returns
-returns c =
-    let shown_is = c.in_ok-shown.ensures ∙ c.head_rope.ensures.shown in
+pub returns-clause-made : goal.returns-clause-made
+returns-clause-made c =
     let view_is =
     c.in_ok-view.ensures ∙
-    ap₂ (λ (d : Doc) (t : List ℕ). record d.view { text = t; regions = c.args.sel.regions; layers = c.args.layers }) c.self.view_is shown_is in
+    ap₂ (λ (d : Doc) (t : List ℕ). record d.view { text = t; regions = c.args.sel.regions; layers = mapped_layers c.args.units.now d.view.layers })
+    c.self.view_is c.head_rope.ensures.shown in
     ap (λ (v : View). record { text = c.args.text; view = v }) view_is
+
+pub returns-clause-over : goal.returns-clause-over
+returns-clause-over c = over-kept _ c.args.self.now c.args.self.now.view.layers c.self.invariant c.self.view_is refl

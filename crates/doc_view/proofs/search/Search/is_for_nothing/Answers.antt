@@ -1,4 +1,4 @@
-use Rattle.doc_view.proofs.SameLemmas.{empty-is}
+use Rattle.doc_layout.proofs.ForCallers.{empty-is}
 use Rattle.doc_view.proofs.search.Search.is_for_nothing.Goals as goal
 
 pub returns : goal.returns

@@ -1,0 +1,101 @@
+// Whether two texts are shown alike, line by line, up to the first line that differs.
+ghost use Rattle.std.specs.Prelude.{◌≡◌, IfOk};
+ghost use Rattle.std.specs.Str.{bytes_eq};
+ghost use Rattle.std.specs.Cmp.Lexicographic.{pointwise};
+ghost use Rattle.plain_screen.specs.SameLayout.{is_same_layout, is_same_line, is_same_number, is_same_triple};
+ghost use Rattle.doc_layout.specs.Found.{MayShow};
+ghost use Rattle.doc_layout.specs.Layout.{layout};
+ghost use Rattle.doc_layout.specs.Inner.{MayDraw, drawn_lines};
+
+use crate::found::joined;
+use crate::layout::{Shown, line_at};
+use plain_edits::Span;
+use plain_screen::{Line, TextView, Triple};
+use plain_text::{NoMemory, Text};
+use std::alloc::Global;
+
+/// Whether two layouts are the same. This renders the lines of both up to the first that differs, where there are as many.
+pub fn is_same_layout<T: TextView>(
+    alloc: Global,
+    shown: &Shown<'_, T>,
+    other: &Shown<'_, T>,
+) -> Result<bool, NoMemory>
+    requires one { MayShow (T.text_of shown.now.view.now) shown.now.sel.now.regions shown.now.results.now }
+    requires another { MayShow (T.text_of other.now.view.now) other.now.sel.now.regions other.now.results.now }
+    ensures { IfOk result (λ same. same ≡ is_same_layout
+        (layout (T.text_of shown.now.view.now) (T.pieces_of shown.now.view.now) shown.now.sel.now.regions shown.now.results.now
+        shown.now.layers.now)
+        (layout (T.text_of other.now.view.now) (T.pieces_of other.now.view.now) other.now.sel.now.regions other.now.results.now
+        other.now.layers.now)) }
+{
+    let found = joined(alloc, shown.results)?;
+    let founds = joined(alloc, other.results)?;
+    are_same_lines(alloc, shown, found.as_slice(), other, founds.as_slice())
+}
+
+// The same, with these spans of the whole text in the one and those in the other.
+fn are_same_lines<T: TextView>(
+    alloc: Global,
+    shown: &Shown<'_, T>,
+    found: &[Span],
+    other: &Shown<'_, T>,
+    founds: &[Span],
+) -> Result<bool, NoMemory>
+    requires one { MayDraw shown.now.sel.now.regions found.now }
+    requires another { MayDraw other.now.sel.now.regions founds.now }
+    ensures { IfOk result (λ same. same ≡ is_same_layout
+        (drawn_lines (T.text_of shown.now.view.now) shown.now.sel.now.regions found.now shown.now.layers.now
+        (T.pieces_of shown.now.view.now))
+        (drawn_lines (T.text_of other.now.view.now) other.now.sel.now.regions founds.now other.now.layers.now
+        (T.pieces_of other.now.view.now))) }
+{
+    let len = shown.view.lines();
+    if len != other.view.lines() {
+        return Ok(false);
+    }
+    for index in 0..len {
+        let line = line_at(alloc, shown, found, index)?;
+        let counterpart = line_at(alloc, other, founds, index)?;
+        if !is_same_line(&line, &counterpart) {
+            return Ok(false);
+        }
+    }
+    Ok(true)
+}
+
+fn is_same_line(line: &Line, other: &Line) -> bool
+    ensures { result ≡ is_same_line line.now other.now }
+{
+    is_same_text(&line.text, &other.text)
+        && is_same_number(line.ln, other.ln)
+        && are_same_places(line.cursor.as_slice(), other.cursor.as_slice())
+        && are_same_styles(line.styles.as_slice(), other.styles.as_slice())
+}
+
+fn is_same_text(text: &Text, other: &Text) -> bool
+    ensures { result ≡ bytes_eq text.now other.now }
+{
+    text.as_str() == other.as_str()
+}
+
+fn is_same_number(number: Option<u64>, other: Option<u64>) -> bool
+    ensures { result ≡ is_same_number number other }
+{
+    match (number, other) {
+        (None, None) => true,
+        (Some(number), Some(other)) => number == other,
+        _ => false,
+    }
+}
+
+fn are_same_places(places: &[u64], others: &[u64]) -> bool
+    ensures { result ≡ bytes_eq places.now others.now }
+{
+    places == others
+}
+
+fn are_same_styles(styles: &[Triple], others: &[Triple]) -> bool
+    ensures { result ≡ pointwise is_same_triple styles.now others.now }
+{
+    styles == others
+}

@@ -1,0 +1,51 @@
+use Rattle.std.proofs.Common.{◌≡◌, ℕ, List, length, ap, sym, subst, ◌∙◌, arith}
+use Rattle.std.specs.Arc.{arc_value}
+use Rattle.plain_text.specs.declared.selection.Sel.{Sel}
+use Rattle.line_index.specs.Index.{Index}
+use Rattle.selection_core.specs.Mapped.{AreWithin}
+use Rattle.selection_core.specs.Selection.{IsSelection}
+use Rattle.span_styles.specs.Layers.{AreOver}
+use Rattle.span_styles.proofs.ForCallers.{length_after-text}
+use Rattle.doc_layout.specs.Changed.{IsChangeOf}
+use Rattle.doc_view.specs.Inner.{index_at}
+use Rattle.doc_view.specs.Search.{results}
+use Rattle.doc_view.specs.View.{View}
+use Rattle.doc_view.proofs.LaidLemmas.{IsViewKept-made}
+use Rattle.doc_view.proofs.view.ViewState.edited.Goals as goal
+
+pub map-requires-clause-well_formed : goal.map-requires-clause-well_formed
+map-requires-clause-well_formed c = c.requires.changes.well_formed
+
+pub map-requires-clause-over : goal.map-requires-clause-over
+map-requires-clause-over c =
+    subst (λ n. AreOver n c.layers.result.now) (sym c.requires.changes.base)
+    (subst (AreOver (length c.args.self.now.text)) (sym c.layers.ensures) c.requires.over)
+
+pub map-requires-clause-bound : goal.map-requires-clause-bound
+map-requires-clause-bound c =
+    omega (
+      arith,
+      length_after-text c.args.units.now c.args.self.now.text (sym c.requires.changes.base),
+      ap length c.requires.changes.leads,
+      c.len-characters.ensures.count,
+      c.len-characters.type_inv,
+    )
+
+pub edited_index-requires : goal.edited_index-requires
+edited_index-requires c =
+    subst (λ (t : List ℕ). IsChangeOf t c.args.text.now c.args.units.now) (sym (ap (λ (i : Index). i.text) c.line_index.ensures.is)) c.requires.changes
+
+pub invariant_of-result : goal.invariant_of-result
+invariant_of-result c =
+    let text = c.args.text.now in
+    let config = c.self.inside.config in
+    let index_is : arc_value c.in_ok-index.index ≡ index_at text config =
+    c.in_ok-index.ensures ∙ ap (λ (i : Index). record i { text = text }) c.line_index.ensures.is ∙
+    ap (λ (v : View). index_at text v.config) (sym c.self.view_is) in
+    let sel_is = c.in_ok-sel.ensures.ok in
+    let query_is = c.sought.ensures ∙ ap (λ (v : View). v.query) (sym c.self.view_is) ∙ sym c.in_ok-query.ensures in
+    IsViewKept-made config text (arc_value c.in_ok-index.index) (arc_value c.in_ok-sel.sel).regions (arc_value c.in_ok-query.query)
+    (arc_value c.in_ok-found.found) c.len-characters.ensures.characters c.self.invariant.text.tab index_is
+    (subst (λ (s : Sel). IsSelection s.regions) (sym sel_is) c.requires.sound)
+    (subst (λ (s : Sel). AreWithin (length text) s.regions) (sym sel_is) c.requires.inside)
+    (c.in_ok-found.ensures.ok ∙ c.in_ok-results.ensures ∙ ap (results text) query_is)
