@@ -1,5 +1,7 @@
-ghost use Rattle.std.specs.Prelude.{OnOk};
-ghost use Rattle.core_session.specs.Core.{IsServing};
+ghost use Rattle.std.specs.Prelude.{◌≡◌, IfOk, OnOk};
+ghost use Rattle.std.specs.Str.Lines.{lines};
+ghost use Rattle.core_session.specs.Core.{IsServing, sink_of};
+ghost use Rattle.session_load.specs.Table.{IsTable, IsTableOf, tallies_of, written_between};
 
 use crate::count_sink::CountSink;
 use crate::kind::kind_of;
@@ -13,7 +15,9 @@ use std::alloc::Global;
 const OPENING: &[u8] = b"{\"id\":0,\"method\":\"new_view\",\"params\":{}}";
 
 /// Enters the lines of a script into a session with a text of this size, and counts what they write.
-pub fn run_script(alloc: Global, size: Size, script: &str) -> anyhow::Result<Table> {
+pub fn run_script(alloc: Global, size: Size, script: &str) -> anyhow::Result<Table>
+    ensures { IfOk result (λ table. IsTable script.now (tallies_of table)) }
+{
     let Ok(mut core) = Core::make(alloc, CountSink::new()) else {
         bail!("no memory");
     };
@@ -25,6 +29,7 @@ pub fn run_script(alloc: Global, size: Size, script: &str) -> anyhow::Result<Tab
 
 fn enter_lines(alloc: Global, core: &mut Core<CountSink>, script: &str) -> anyhow::Result<Table>
     requires { IsServing core.old }
+    ensures { IfOk result (λ table. IsTableOf (lines script.now) (sink_of core.old).counts (sink_of core.new).counts (tallies_of table)) }
 {
     let mut table = Table::new(alloc)?;
     for line in script.lines() {
@@ -37,7 +42,8 @@ fn enter_lines(alloc: Global, core: &mut Core<CountSink>, script: &str) -> anyho
 /// Enters a line, and says what it made the core write.
 fn enter(alloc: Global, core: &mut Core<CountSink>, line: &[u8]) -> anyhow::Result<Written>
     requires { IsServing core.old }
-    ensures { OnOk result (IsServing core.new) }
+    ensures serving { OnOk result (IsServing core.new) }
+    ensures written { IfOk result (λ written. written ≡ written_between (sink_of core.old).counts (sink_of core.new).counts) }
 {
     let before = core.sink().count();
     match core.enter(alloc, line) {
