@@ -1,5 +1,9 @@
 //! Where patterns and characters stand in texts, and the texts with these places replaced.
 
+ghost use Rattle.std.specs.Prelude.{◌≡◌, length};
+ghost use Rattle.plain_edits.specs.UnitDelta.{IsUnitDelta};
+ghost use Rattle.regex_find.specs.Spots.{AreSpots};
+
 use delta_core::apply;
 use plain_edits::{Added, Adds, UnitDelta};
 use plain_text::{NoMemory, Run, Runs, Text};
@@ -59,29 +63,51 @@ fn edit_of(alloc: Global, row: &Row, base: u64) -> Result<UnitDelta, NoMemory> {
     })
 }
 
-// Whether these are the spots of the row's text, and replacing them is its edit and gives its text.
-fn is_replaced<S: Spot>(alloc: Global, spot: &mut S, row: &Row) -> Result<bool, NoMemory> {
+// Whether this is the row's edit, and gives the row's text.
+fn is_edit(alloc: Global, text: &Text, units: &UnitDelta, row: &Row) -> Result<bool, NoMemory>
+    requires well_formed { IsUnitDelta units.now }
+    requires base { units.now.base ≡ length text.now }
+{
+    let wanted = edit_of(alloc, row, units.base)?;
+    let after = apply(alloc, text, units)?;
+    Ok(*units == wanted && after.as_str() == row.after)
+}
+
+// Whether replacing these runs is the row's edit.
+fn is_replaced(alloc: Global, text: &Text, runs: &Runs, row: &Row) -> Result<bool, NoMemory>
+    requires { AreSpots (length text.now) 0 runs.now }
+{
+    let with = Text::from_str(alloc, row.with)?;
+    let units = replace_units(alloc, text, runs, &with)?;
+    is_edit(alloc, text, &units, row)
+}
+
+fn are_runs(alloc: Global, runs: &Runs, row: &Row) -> bool {
+    match runs_of(alloc, row.runs) {
+        Ok(wanted) => *runs == wanted,
+        Err(_) => false,
+    }
+}
+
+// Whether these are the spots of the row's text, and replacing them is its edit.
+fn is_found<S: Spot>(alloc: Global, spot: &mut S, row: &Row) -> Result<bool, NoMemory> {
     let text = Text::from_str(alloc, row.text)?;
     let runs = spot.spots(&text)?;
-    let with = Text::from_str(alloc, row.with)?;
-    let units = replace_units(alloc, &text, &runs, &with)?;
-    let after = apply(alloc, &text, &units)?;
-    Ok(
-        runs == runs_of(alloc, row.runs)?
-            && units == edit_of(alloc, row, text.char_count())?
-            && after.as_str() == row.after,
-    )
+    if !are_runs(alloc, &runs, row) {
+        return Ok(false);
+    }
+    is_replaced(alloc, &text, &runs, row)
 }
 
 fn is_so(alloc: Global, row: &Row) -> Result<bool, NoMemory> {
     match row.wanted {
         Pattern(source) => match Regex::new(alloc, source) {
-            Ok(regex) => is_replaced(alloc, &mut RegexSpot::of(alloc, regex), row),
+            Ok(regex) => is_found(alloc, &mut RegexSpot::of(alloc, regex), row),
             Err(_) => Ok(false),
         },
         Chars(chars) => {
             let chars = Text::from_str(alloc, chars)?;
-            is_replaced(alloc, &mut LiteralSpot::of(alloc, chars), row)
+            is_found(alloc, &mut LiteralSpot::of(alloc, chars), row)
         }
     }
 }
