@@ -7,6 +7,8 @@ mod deltas;
 #[cfg(test)]
 mod finds;
 #[cfg(test)]
+mod indexes;
+#[cfg(test)]
 mod streams;
 #[cfg(test)]
 mod subsets;

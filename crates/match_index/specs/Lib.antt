@@ -1,0 +1,4 @@
+pub mod Found
+pub mod Strides
+pub mod Inner
+pub mod Laws
