@@ -1,5 +1,6 @@
 -- What a session wrote by its closing entry, and before its first one.
-use Rattle.std.proofs.Common.{◌≡◌, List, [], ◌∷◌, ◌++◌, refl, sym, ◌∙◌, append-nil}
+use Rattle.std.proofs.Common.{◌≡◌, ◌<◌, arith, length, List, [], ◌∷◌, ◌++◌, refl, sym, ◌∙◌, append-nil}
+use Rattle.std.specs.Prelude.{◌^◌}
 use Rattle.xi_plain.specs.declared.entry.Entry.{Entry}
 use Rattle.core_session.specs.declared.session.Core.{Core}
 use Rattle.xi_plain.specs.Journal.{closing_entry}
@@ -13,7 +14,8 @@ use Rattle.core_session.proofs.SessionLemmas.{written-push}
 pub shows_closed : {K : Type 0} (core : Core K) → IsServing core → Shows (journal_of core ++ closing_entry ∷ []) (written first_session (journal_of core))
 shows_closed core serving =
     let journal = journal_of core in
-    let shows = (shows_push journal closing_entry serving.showing no_lines tt).shows in
+    let few : length journal < 2 ^ 63 = omega (arith, core.journal.ok.0, core.journal.ok.1, core.journal.small, serving.room) in
+    let shows = (shows_push journal closing_entry few serving.showing no_lines tt).shows in
     record {
       pieces = sym (written-push journal closing_entry ∙ append-nil (written first_session journal));
       screens = shows.screens;

@@ -1,8 +1,6 @@
 -- What other crates may cite of the proofs of `core_session`.
 pub use Rattle.core_session.proofs.SessionLemmas.{views_of-push, written-push, IsOfLine-command_of}
-unfoldable pub use Rattle.core_session.proofs.ViewLemmas.{AtMostFirst, Stays}
-unfoldable pub use Rattle.core_session.proofs.StepLemmas.{FirstStays}
-pub use Rattle.core_session.proofs.StepLemmas.{first_stays}
+pub use Rattle.core_session.proofs.StepLemmas.{all_without}
 pub use Rattle.core_session.proofs.RevisionLemmas.{revisions_few}
 pub use Rattle.core_session.proofs.ShowsLemmas.{updates_in-push, updates_in-lines, updates_of-some}
 pub use Rattle.core_session.proofs.ClosedLemmas.{shows_closed, shows_none}

@@ -1,6 +1,6 @@
 -- What an event and a line come to in memory, by what the calls below them say.
 use Rattle.std.proofs.Common.{◌≡◌, ℕ, ◌<◌, List, [], length, Option, None, Result, Ok, Err, IfOk, IfErr, ◌∙◌, subst}
-use Rattle.std.specs.Prelude.{OnOk, option_map}
+use Rattle.std.specs.Prelude.{OnOk}
 use Rattle.std.specs.Str.{encode_utf8_all}
 use Rattle.xi_plain.specs.declared.command.Command.{Command}
 use Rattle.xi_plain.specs.declared.config.Config.{Config}
@@ -12,13 +12,13 @@ use Rattle.doc_session.specs.declared.event.Event.{Event}
 use Rattle.doc_text.specs.declared.fault.DocFault.{DocFault}
 use Rattle.doc_session.specs.Document.{Document}
 use Rattle.doc_text.specs.Fault.{DocRefuses}
-use Rattle.doc_session.specs.PositionView.{position_view}
 use Rattle.doc_session.specs.Stands.{DocStandsFor}
 use Rattle.doc_session.specs.Step.{AreEffectsOf, event_step, refusal_at}
 use Rattle.core_session.specs.declared.act.ActEffects.{ActEffects}
 use Rattle.entry_lines.specs.Answer.{Reply, reply_of}
 use Rattle.entry_lines.specs.Piece.{AreLinesOf, UpdatesReadBack, entry_messages}
-use Rattle.core_session.specs.Session.{Session, config_after, view_id, outcome, updates_for, scroll_for}
+use Rattle.core_session.specs.declared.opened.Opened.{Opened}
+use Rattle.core_session.specs.Session.{Session, config_after, opened_after, outcome}
 use Rattle.core_session.specs.InnerSession.{IsDone, IsMade, IsOutcome, IsPrepared}
 
 -- an event of a document in which no plugin has a session
@@ -38,31 +38,28 @@ IsMade-after old event (Ok made) none stands effects accepted refused kept = rec
 }
 
 -- a command, by what its act came to and by the lines of that
-pub IsDone-by : (before : Option Doc) (session : Session) (command : Command) (effects : ActEffects) (piece : List ℕ) →
-    IsOutcome before (outcome session command.act) effects → UpdatesReadBack (updates_for view_id effects.update) →
-    AreLinesOf (entry_messages command.id (reply_of effects.reply) [] (updates_for view_id effects.update)
-    (scroll_for view_id (option_map position_view effects.scroll))) (encode_utf8_all piece) →
-    IsDone before session command piece effects.next
-IsDone-by before session command effects piece is reads lines =
+pub IsDone-by : (session : Session) (command : Command) (effects : ActEffects) (piece : List ℕ) →
+    IsOutcome (outcome session command.act) effects → UpdatesReadBack effects.updates →
+    AreLinesOf (entry_messages command.id (reply_of effects.reply) [] effects.updates effects.scroll) (encode_utf8_all piece) →
+    IsDone session command piece effects.held
+IsDone-by session command effects piece is reads lines =
     let At : Reply → List ViewUpdate → Option Scroll → Type 0 =
     λ reply updates scroll. AreLinesOf (entry_messages command.id reply [] updates scroll) (encode_utf8_all piece) in
     let done = outcome session command.act in
-    let by_reply : At done.reply (updates_for view_id effects.update) (scroll_for view_id (option_map position_view effects.scroll)) =
-    subst (λ reply. At reply (updates_for view_id effects.update) (scroll_for view_id (option_map position_view effects.scroll))) is.reply lines in
-    let by_updates : At done.reply done.updates (scroll_for view_id (option_map position_view effects.scroll)) =
-    subst (λ updates. At done.reply updates (scroll_for view_id (option_map position_view effects.scroll))) is.updates by_reply in
+    let by_reply : At done.reply effects.updates effects.scroll = subst (λ reply. At reply effects.updates effects.scroll) is.reply lines in
+    let by_updates : At done.reply done.updates effects.scroll = subst (λ updates. At done.reply updates effects.scroll) is.updates by_reply in
     record {
       lines = subst (λ scroll. At done.reply done.updates scroll) is.scroll by_updates;
       reads_back = subst UpdatesReadBack is.updates reads;
       stands = is.stands;
     }
 
--- the same with the configuration after it
-pub IsPrepared-by : (before : Option Doc) (session : Session) (command : Command) (piece : List ℕ) (next : Option Doc) (config : Config) →
-    IsDone before session command piece next → config ≡ config_after session.config command.act → 0 < config.tab →
-    IsPrepared before session (record { command = command; piece = piece; next = next; config = config })
-IsPrepared-by before session command piece next config done is tab = record {
+-- the same with how many were opened and the configuration after it
+pub IsPrepared-by : (session : Session) (command : Command) (piece : List ℕ) (held : List Opened) (opened : ℕ) (config : Config) →
+    IsDone session command piece held → opened ≡ opened_after session.opened command.act → config ≡ config_after session.config command.act →
+    0 < config.tab → IsPrepared session (record { command = command; piece = piece; held = held; opened = opened; config = config })
+IsPrepared-by session command piece held opened config done many is tab = record {
   lines = done.lines;
   reads_back = done.reads_back;
-  stands = record { views = done.stands; config = is; tab = tab };
+  stands = record { views = done.stands; opened = many; config = is; tab = tab };
 }

@@ -1,5 +1,5 @@
 -- One more entry is shown, where those before it are.
-use Rattle.std.proofs.Common.{◌≡◌, ℕ, ◌-◌, ◌<◌, length, arith, Bool, true, false, List, [], ◌∷◌, ◌++◌, map, Option, Some, None, refl, ap, sym, ◌∙◌, subst, append-nil, ◌⊎◌, inl, inr}
+use Rattle.std.proofs.Common.{◌≡◌, ℕ, ◌+◌, ◌-◌, ◌<◌, ◌≤◌, length, arith, Bool, true, false, List, [], ◌∷◌, ◌++◌, map, Option, Some, None, refl, ap, sym, ◌∙◌, subst, append-nil, ◌⊎◌, inl, inr}
 use Rattle.std.specs.Prelude.{if◌then◌else◌, ◌^◌}
 use Rattle.std.specs.Str.{bytes_eq}
 use Rattle.std.specs.List.{filter_map, cons_option, AllByRecursion}
@@ -15,23 +15,21 @@ use Rattle.plain_text.specs.declared.run.Run.{Run}
 use Rattle.plain_screen.specs.declared.screen.Update.{Update}
 use Rattle.plain_screen.specs.Screen.{Screen, screen_after}
 use Rattle.view_update.specs.declared.note.ViewUpdate.{ViewUpdate}
-use Rattle.view_update.specs.declared.note.Scroll.{Scroll}
 use Rattle.view_update.specs.Reading.{line_update}
-use Rattle.doc_session.specs.InMemory.{Doc}
-use Rattle.doc_session.specs.Document.{Document}
 use Rattle.doc_session.specs.ScreenOf.{IsUpToDate}
 use Rattle.doc_session.specs.Step.{EventStep}
-use Rattle.entry_lines.specs.Answer.{Reply}
 use Rattle.entry_lines.specs.Piece.{AreLinesOf, UpdatesReadBack, lines_written}
-use Rattle.entry_lines.proofs.ForCallers.{pieces_say_their_updates}
-use Rattle.core_session.specs.Session.{OpenView, HaveRevisions, Session, first_session, session_of, view_of, view_id, views_of, first_view, Outcome, outcome, opening_outcome, taking, leaving, other_step, outcome_messages, stepped, updates_for, messages, step, written, piece_of}
-use Rattle.core_session.specs.Shows.{updates_in, screen_with, rebuilt_from, rebuilt, IsShown, AreShown, SendsTo, NotesSendTo, requested, last_requested, Shows}
+use Rattle.entry_lines.proofs.ForCallers.{all_append, pieces_say_their_updates}
+use Rattle.core_session.specs.declared.opened.Opened.{Opened}
+use Rattle.core_session.specs.Session.{OpenView, HaveRevisions, Session, first_session, session_of, view_of, views_of, Outcome, opened_after, outcome, leaving, outcome_messages, stepped, told, updates_for, messages, step, written, piece_of}
+use Rattle.core_session.specs.Shows.{updates_in, screen_with, rebuilt_from, rebuilt, IsShown, AreShown, SendsTo, NoteSendsTo, NotesSendTo, requested, last_requested, Shows}
 use Rattle.doc_text.proofs.ForCallers.{head-text}
-use Rattle.core_session.specs.Core.{IsOfLine, IsOpen, Stands, StandsForSession, screen_of, IsShowing, front_entry}
-use Rattle.core_session.specs.InnerSession.{MayBeAsked}
+use Rattle.entry_lines.specs.ViewId.{view_id_of}
+use Rattle.core_session.specs.Core.{AreRebuilt, IsNotGiven, IsOfLine, IsOpen, Stands, StandsForSession, IsShowing, front_entry}
+use Rattle.core_session.specs.InnerSession.{HasApart, MayBeAsked}
 use Rattle.core_session.proofs.RevisionLemmas.{revisions_few}
-use Rattle.core_session.proofs.ViewLemmas.{other_way, only_view, AtMostFirst}
-use Rattle.core_session.proofs.StepLemmas.{AreLastTold, MakesScreen, UpdateWithin, KeepsStep, KeepEach, NoneRequested, by_outcome, first_of, last_of}
+use Rattle.core_session.proofs.ViewLemmas.{same_id, other_way, AreNumbered, apart-numbered, next_not_given, not_given-before, not_given-others}
+use Rattle.core_session.proofs.StepLemmas.{AreLastTold, IsBase, MakesScreen, UpdateWithin, KeepsStep, KeepEach, NoneRequested, all_base, apart_of, by_outcome, last_base, last_of, numbered_base, numbered_of, opened_few, opened_more, opened_of}
 use Rattle.core_session.proofs.ScreenLemmas.{IsUpToDate-over}
 use Rattle.core_session.proofs.SessionLemmas.{session_of-push, views_of-push, messages_of, messages_of-push, written-messages, IsOpen-push}
 
@@ -126,59 +124,90 @@ splits_push {X} (j ∷ journal) (x ∷ front) back entry is =
 
 -- ---- the screens after an entry
 
--- after the updates of an outcome each view has the screen of its document
-pub Settles : List OpenView → Outcome → Type 0
-Settles views done = (id : List ℕ) → rebuilt_from id (Some (screen_of (view_of views id))) (note_list done.updates) ≡ Some (screen_of (view_of done.views id))
+-- the screen of this id stays as it is by these notes
+pub Passes : List ℕ → List (Option ViewUpdate) → Type 0
+Passes id notes = (screen : Screen) → rebuilt_from id (Some screen) notes ≡ Some screen
 
--- by the update of a step, where the id is that of the view or not
-settles_by : (b : Bool) (id : List ℕ) (view : OpenView) (after : Document) (update : Option Update) → bytes_eq view.id id ≡ b →
-    MakesScreen update view.document.screen after.screen →
-    rebuilt_from id (Some (screen_of (if b then Some view else None))) (note_list (updates_for view.id update ++ [])) ≡
-    Some (screen_of (if b then Some (record view { document = after }) else None))
+passes_update : (id own : List ℕ) (update : Option Update) → bytes_eq own id ≡ false → Passes id (note_list (updates_for own update))
+unfolding Passes note_list
+passes_update id own None other = λ screen. refl
+passes_update id own (Some update) other = λ screen. ap (λ here. if here then screen_after screen update.ops else Some screen) other
+
+note_list-append : (front back : List ViewUpdate) → note_list (front ++ back) ≡ note_list front ++ note_list back
+unfolding note_list
+note_list-append [] back = refl
+note_list-append (update ∷ front) back = ap (λ notes. Some update ∷ notes) (note_list-append front back)
+
+passes-append : (id : List ℕ) (front back : List (Option ViewUpdate)) → Passes id front → Passes id back → Passes id (front ++ back)
+unfolding Passes
+passes-append id front back first second = λ screen.
+    rebuilt_from-append id (Some screen) front back ∙ ap (λ s. rebuilt_from id s back) (first screen) ∙ second screen
+
+-- the updates of the steps of views that have other ids
+passes_told : (id : List ℕ) (steps : OpenView → EventStep) (views : List OpenView) →
+    AllByRecursion (λ (view : OpenView). bytes_eq view.id id ≡ false) views → Passes id (note_list (told steps views))
+unfolding Passes note_list
+passes_told id steps [] others = λ screen. refl
+passes_told id steps (view ∷ views) others =
+    let first = updates_for view.id (steps view).update in
+    let At : List (Option ViewUpdate) → Type 0 = λ notes. Passes id notes in
+    subst At (sym (note_list-append first (told steps views)))
+    (passes-append id (note_list first) (note_list (told steps views)) (passes_update id view.id (steps view).update others.0)
+    (passes_told id steps views others.1))
+
+-- by notes the screens of views become those of their steps
+pub Settle : List (Option ViewUpdate) → (OpenView → EventStep) → List OpenView → Type 0
+Settle notes steps views =
+    AllByRecursion (λ (view : OpenView). rebuilt_from view.id (Some view.document.screen) notes ≡ Some (steps view).document.screen) views
+
+-- by the update of its own step
+settles_own : (view : OpenView) (step : EventStep) → MakesScreen step.update view.document.screen step.document.screen →
+    rebuilt_from view.id (Some view.document.screen) (note_list (updates_for view.id step.update)) ≡ Some step.document.screen
 unfolding note_list MakesScreen
-settles_by true id view after None is makes = ap Some (sym makes)
-settles_by false id view after None is makes = refl
-settles_by true id view after (Some update) is makes =
-    ap (λ b. if b then screen_after view.document.screen update.ops else Some view.document.screen) is ∙ makes
-settles_by false id view after (Some update) is makes = ap (λ b. if b then screen_after [] update.ops else Some []) is
+settles_own view step makes = by step.update makes
+  where
+    by : (update : Option Update) → MakesScreen update view.document.screen step.document.screen →
+        rebuilt_from view.id (Some view.document.screen) (note_list (updates_for view.id update)) ≡ Some step.document.screen
+    by None is = ap Some (sym is)
+    by (Some update) is =
+        ap (λ here. if here then screen_after view.document.screen update.ops else Some view.document.screen) (same_id view.id) ∙ is
 
-settles_one : (id : List ℕ) (view : OpenView) (after : Document) (update : Option Update) → MakesScreen update view.document.screen after.screen →
-    rebuilt_from id (Some (screen_of (view_of (view ∷ []) id))) (note_list (updates_for view.id update ++ [])) ≡
-    Some (screen_of (view_of (record view { document = after } ∷ []) id))
-settles_one id view after update makes =
-    let same : bytes_eq id view.id ≡ bytes_eq view.id id = other_way id view.id in
-    let notes = note_list (updates_for view.id update ++ []) in
-    ap (λ b. rebuilt_from id (Some (screen_of (if b then Some view else None))) notes) same ∙
-    settles_by (bytes_eq view.id id) id view after update refl makes ∙
-    sym (ap (λ b. Some (screen_of (if b then Some (record view { document = after }) else None))) same)
+-- notes that pass over them may stand before
+settle_after : (front back : List (Option ViewUpdate)) (steps : OpenView → EventStep) (views : List OpenView) →
+    AllByRecursion (λ (view : OpenView). Passes view.id front) views → Settle back steps views → Settle (front ++ back) steps views
+unfolding Settle Passes
+settle_after front back steps [] passes settle = tt
+settle_after front back steps (view ∷ views) passes settle = (
+  rebuilt_from-append view.id (Some view.document.screen) front back ∙ ap (λ s. rebuilt_from view.id s back) (passes.0 view.document.screen) ∙ settle.0,
+  settle_after front back steps views passes.1 settle.1,
+)
 
-settles_steps : (requests : List ℕ → Run) (views : List OpenView) (reply : Reply) (scroll : Option Scroll) (steps : OpenView → EventStep) →
-    AtMostFirst views → KeepEach requests steps views → Settles views (taking reply scroll steps views)
-unfolding Settles note_list AtMostFirst KeepEach KeepsStep
-settles_steps requests [] reply scroll steps first keep = λ id. refl
-settles_steps requests (view ∷ next ∷ views) reply scroll steps first keep = absurd first
-settles_steps requests (view ∷ []) reply scroll steps first keep = λ id. settles_one id view (steps view).document (steps view).update keep.0.screen
+-- an update passes over the views that have other ids
+pass_over : (own : List ℕ) (update : Option Update) (views : List OpenView) → AllByRecursion (λ (view : OpenView). bytes_eq own view.id ≡ false) views →
+    AllByRecursion (λ (view : OpenView). Passes view.id (note_list (updates_for own update))) views
+pass_over own update [] others = tt
+pass_over own update (view ∷ views) others = (passes_update view.id own update others.0, pass_over own update views others.1)
 
-no_screen : (config : Config) (b : Bool) → screen_of (if b then Some (first_view config) else None) ≡ []
-no_screen config true = refl
-no_screen config false = refl
+turned : (own : List ℕ) (views : List OpenView) → AllByRecursion (λ (view : OpenView). bytes_eq own view.id ≡ false) views →
+    AllByRecursion (λ (view : OpenView). bytes_eq view.id own ≡ false) views
+turned own [] others = tt
+turned own (view ∷ views) others = (other_way view.id own ∙ others.0, turned own views others.1)
 
-settles_opening : (config : Config) (requests : List ℕ → Run) → KeepEach requests other_step (first_view config ∷ []) →
-    Settles [] (opening_outcome config)
-unfolding Settles KeepEach KeepsStep
-settles_opening config requests keep = λ id.
-    let step = other_step (first_view config) in
-    let notes = note_list (updates_for view_id step.update ++ []) in
-    ap (λ screen. rebuilt_from id (Some screen) notes) (sym (no_screen config (bytes_eq id view_id))) ∙
-    settles_one id (first_view config) step.document step.update keep.0.screen
-
-settles_leaving : (views : List OpenView) → Settles views (leaving views)
-unfolding Settles note_list
-settles_leaving views = λ id. refl
-
-pub settles : (session : Session) (act : Act) → AtMostFirst session.views → Settles session.views (outcome session act)
-settles session act first =
-    by_outcome (λ requests. Settles) settles_steps settles_opening (λ requests views none. settles_leaving views) session act first
+pub settles : (requests : List ℕ → Run) (steps : OpenView → EventStep) (views : List OpenView) → HasApart views → KeepEach requests steps views →
+    Settle (note_list (told steps views)) steps views
+unfolding Settle KeepEach KeepsStep Passes
+settles requests steps [] apart keep = tt
+settles requests steps (view ∷ views) apart keep =
+    let first = updates_for view.id (steps view).update in
+    let later = note_list (told steps views) in
+    let At : List (Option ViewUpdate) → Type 0 = λ notes. Settle notes steps (view ∷ views) in
+    subst At (sym (note_list-append first (told steps views))) (
+      rebuilt_from-append view.id (Some view.document.screen) (note_list first) later ∙
+          ap (λ s. rebuilt_from view.id s later) (settles_own view (steps view) keep.0.screen) ∙
+          passes_told view.id steps views (turned view.id views apart.1) (steps view).document.screen,
+      settle_after (note_list first) later steps views (pass_over view.id (steps view).update views apart.1)
+          (settles requests steps views apart.2 keep.1),
+    )
 
 -- ---- the lines that an entry sends
 
@@ -186,38 +215,75 @@ settles session act first =
 pub Sends : (List ℕ → Run) → Outcome → Type 0
 Sends requests done = NotesSendTo requests done.views (note_list done.updates)
 
-sends_one : (requests : List ℕ → Run) (view : OpenView) (after : Document) (update : Option Update) →
-    UpdateWithin update after.view.window (requests view.id) →
-    NotesSendTo requests (record view { document = after } ∷ []) (note_list (updates_for view.id update ++ []))
+-- a view is found by its id behind others
+found_behind : (view : OpenView) (views : List OpenView) (id : List ℕ) (found : Option OpenView) → bytes_eq id view.id ≡ false → view_of views id ≡ found →
+    view_of (view ∷ views) id ≡ found
+found_behind view views id found other is = ap (λ here. if here then Some view else view_of views id) other ∙ is
+
+-- so notes to some of the views are notes to all of them
+behind_one : (requests : List ℕ → Run) (view : OpenView) (views : List OpenView) (updates : List ViewUpdate) →
+    AllByRecursion (λ (update : ViewUpdate). bytes_eq update.view view.id ≡ false) updates → NotesSendTo requests views (note_list updates) →
+    NotesSendTo requests (view ∷ views) (note_list updates)
+unfolding note_list
+behind_one requests view views [] others sends = tt
+behind_one requests view views (update ∷ updates) others sends =
+    let At : Option OpenView → Type 0 = λ found. SendsTo (requests update.view) found update.update.ops in (
+      subst At (sym (found_behind view views update.view (view_of views update.view) others.0 refl)) sends.0,
+      behind_one requests view views updates others.1 sends.1,
+    )
+
+-- the updates of steps have the ids of their views
+others_for : (own id : List ℕ) (update : Option Update) → bytes_eq id own ≡ false →
+    AllByRecursion (λ (u : ViewUpdate). bytes_eq u.view own ≡ false) (updates_for id update)
+others_for own id None other = tt
+others_for own id (Some update) other = (other, tt)
+
+others_told : (own : List ℕ) (steps : OpenView → EventStep) (views : List OpenView) →
+    AllByRecursion (λ (view : OpenView). bytes_eq view.id own ≡ false) views →
+    AllByRecursion (λ (u : ViewUpdate). bytes_eq u.view own ≡ false) (told steps views)
+others_told own steps [] others = tt
+others_told own steps (view ∷ views) others =
+    all_append (λ (u : ViewUpdate). bytes_eq u.view own ≡ false) (updates_for view.id (steps view).update) (told steps views)
+    (others_for own view.id (steps view).update others.0) (others_told own steps views others.1)
+
+sends_one : (requests : List ℕ → Run) (next : OpenView) (views : List OpenView) (update : Option Update) →
+    UpdateWithin update next.document.view.window (requests next.id) → NotesSendTo requests (next ∷ views) (note_list (updates_for next.id update))
 unfolding note_list UpdateWithin
-sends_one requests view after None within = tt
-sends_one requests view after (Some update) within =
-    let next : OpenView = record view { document = after } in
-    let At : Option OpenView → Type 0 = λ v. SendsTo (requests view.id) v update.ops in
-    (subst At (sym (only_view next)) within, tt)
+sends_one requests next views None within = tt
+sends_one requests next views (Some update) within =
+    let At : Option OpenView → Type 0 = λ found. SendsTo (requests next.id) found update.ops in
+    (subst At (sym (ap (λ here. if here then Some next else view_of views next.id) (same_id next.id))) within, tt)
 
-sends_steps : (requests : List ℕ → Run) (views : List OpenView) (reply : Reply) (scroll : Option Scroll) (steps : OpenView → EventStep) →
-    AtMostFirst views → KeepEach requests steps views → Sends requests (taking reply scroll steps views)
-unfolding Sends note_list AtMostFirst KeepEach KeepsStep
-sends_steps requests [] reply scroll steps first keep = tt
-sends_steps requests (view ∷ next ∷ views) reply scroll steps first keep = absurd first
-sends_steps requests (view ∷ []) reply scroll steps first keep = sends_one requests view (steps view).document (steps view).update keep.0.sends
+sends_steps : (requests : List ℕ → Run) (steps : OpenView → EventStep) (views : List OpenView) → HasApart views → KeepEach requests steps views →
+    NotesSendTo requests (stepped steps views) (note_list (told steps views))
+unfolding KeepEach KeepsStep note_list
+sends_steps requests steps [] apart keep = tt
+sends_steps requests steps (view ∷ views) apart keep =
+    let next : OpenView = record view { document = (steps view).document } in
+    let first = updates_for view.id (steps view).update in
+    let At : List (Option ViewUpdate) → Type 0 = λ notes. NotesSendTo requests (stepped steps (view ∷ views)) notes in
+    subst At (sym (note_list-append first (told steps views)))
+    (all_append (NoteSendsTo requests (stepped steps (view ∷ views))) (note_list first) (note_list (told steps views))
+    (sends_one requests next (stepped steps views) (steps view).update keep.0.sends)
+    (behind_one requests next (stepped steps views) (told steps views) (others_told view.id steps views (turned view.id views apart.1))
+    (sends_steps requests steps views apart.2 keep.1)))
 
-sends_opening : (config : Config) (requests : List ℕ → Run) → KeepEach requests other_step (first_view config ∷ []) →
-    Sends requests (opening_outcome config)
-unfolding Sends KeepEach KeepsStep
-sends_opening config requests keep =
-    let step = other_step (first_view config) in
-    sends_one requests (first_view config) step.document step.update keep.0.sends
+apart_base : (session : Session) (opened : ℕ) (base : List OpenView) → IsBase session opened base → opened < 2 ^ 64 →
+    AreNumbered 0 session.opened session.views → HasApart base
+apart_base session opened base is small are = apart-numbered 0 opened base small (numbered_base session opened base is are)
 
 sends_leaving : (requests : List ℕ → Run) (views : List OpenView) → Sends requests (leaving views)
 unfolding Sends note_list
 sends_leaving requests views = tt
 
-pub sends : (session : Session) (act : Act) → AtMostFirst session.views → Sends (requested act) (outcome session act)
-sends session act first =
-    by_outcome (λ requests _ done. Sends requests done) sends_steps sends_opening (λ requests views none. sends_leaving requests views) session act
-    first
+pub sends : (session : Session) (act : Act) → session.opened + 1 < 2 ^ 64 → AreNumbered 0 session.opened session.views →
+    Sends (requested act) (outcome session act)
+unfolding Sends
+sends session act small are =
+    by_outcome session (λ requests opened done. opened < 2 ^ 64 → Sends requests done)
+    (λ requests opened base reply scroll each is keep. λ few. sends_steps requests each base (apart_base session opened base is few are) keep)
+    (λ requests none. λ few. sends_leaving requests session.views) act
+    (apart-numbered 0 session.opened session.views (omega (arith, small)) are) (omega (arith, small, opened_few session.opened act))
 
 -- ---- the lines that are valid
 
@@ -225,40 +291,26 @@ sends session act first =
 AreUpToDate : (List ℕ → Run) → List OpenView → Type 0
 AreUpToDate requests views = AllByRecursion (λ view. IsUpToDate (requests view.id) view.document) views
 
--- so it is after an entry, where it was so before
-StaysUpToDate : (List ℕ → Run) → List OpenView → Outcome → Type 0
-StaysUpToDate requests before done =
-    AreLastTold before → (lasts : List ℕ → Run) → AreUpToDate lasts before → AreUpToDate requests done.views
-
 shown_each : (requests : List ℕ → Run) (steps : OpenView → EventStep) (views : List OpenView) → KeepEach requests steps views →
     AreLastTold views → AreUpToDate requests (stepped steps views)
 unfolding AreLastTold AreUpToDate KeepEach KeepsStep
 shown_each requests steps [] keep last = tt
 shown_each requests steps (view ∷ views) keep last = (keep.0.shown last.0, shown_each requests steps views keep.1 last.1)
 
-shown_steps : (requests : List ℕ → Run) (views : List OpenView) (reply : Reply) (scroll : Option Scroll) (steps : OpenView → EventStep) →
-    AtMostFirst views → KeepEach requests steps views → StaysUpToDate requests views (taking reply scroll steps views)
-unfolding StaysUpToDate
-shown_steps requests views reply scroll steps first keep = λ last lasts before. shown_each requests steps views keep last
-
-shown_opening : (config : Config) (requests : List ℕ → Run) → KeepEach requests other_step (first_view config ∷ []) →
-    StaysUpToDate requests [] (opening_outcome config)
-unfolding AreUpToDate StaysUpToDate KeepEach KeepsStep
-shown_opening config requests keep = λ last lasts before. (keep.0.shown refl, tt)
-
-rest_told : (view : OpenView) (views : List OpenView) → AreLastTold (view ∷ views) → AreLastTold views
-unfolding AreLastTold
-rest_told view views last = last.1
-
-shown_leaving : (requests : List ℕ → Run) (views : List OpenView) → NoneRequested requests views → StaysUpToDate requests views (leaving views)
-unfolding AreUpToDate StaysUpToDate NoneRequested
-shown_leaving requests [] none = λ last lasts before. tt
-shown_leaving requests (view ∷ views) none = λ last lasts before.
+shown_leaving : (requests lasts : List ℕ → Run) (views : List OpenView) → NoneRequested requests views → AreUpToDate lasts views →
+    AreUpToDate requests views
+unfolding AreUpToDate NoneRequested
+shown_leaving requests lasts [] none before = tt
+shown_leaving requests lasts (view ∷ views) none before =
     let At : Run → Type 0 = λ request. IsUpToDate request view.document in
-    (subst At (sym none.0) (IsUpToDate-over (lasts view.id) view.document before.0), (shown_leaving requests views none.1) (rest_told view views last) lasts before.1)
+    (subst At (sym none.0) (IsUpToDate-over (lasts view.id) view.document before.0), shown_leaving requests lasts views none.1 before.1)
 
-stays_up_to_date : (session : Session) (act : Act) → AtMostFirst session.views → StaysUpToDate (requested act) session.views (outcome session act)
-stays_up_to_date session act first = by_outcome StaysUpToDate shown_steps shown_opening shown_leaving session act first
+stays_up_to_date : (session : Session) (act : Act) → HasApart session.views → AreLastTold session.views → (lasts : List ℕ → Run) →
+    AreUpToDate lasts session.views → AreUpToDate (requested act) (outcome session act).views
+stays_up_to_date session act apart last lasts before =
+    by_outcome session (λ requests opened done. AreUpToDate requests done.views)
+    (λ requests opened base reply scroll each is keep. shown_each requests each base keep (last_base session opened base is last))
+    (λ requests none. shown_leaving requests lasts session.views none before) act apart
 
 -- ---- one more entry is shown
 
@@ -273,55 +325,109 @@ updates_in-push journal entry =
     ap (λ xs. xs ++ updates_of said) (sym (ap updates_in (written-messages journal) ∙ updates_in-lines (messages_of journal))) ∙
     ap (λ ys. updates_in (written first_session journal) ++ ys) (sym (updates_in-lines said))
 
--- the screens that are rebuilt by what was written, and those of the views
-ScreensAre : List Entry → Type 0
-ScreensAre journal = (id : List ℕ) → rebuilt id (written first_session journal) ≡ Some (screen_of (view_of (views_of journal) id))
+-- what was written shows each of the views, and an id that was not given an empty screen
+pub record ScreensAre (bytes : List ℕ) (opened : ℕ) (views : List OpenView) : Type 0 where
+  pub kept : AreRebuilt bytes views
+  pub fresh : (id : List ℕ) → IsNotGiven opened id → rebuilt id bytes ≡ Some []
 
-rebuilt_push : (journal : List Entry) (entry : Entry) → ScreensAre journal →
+screens_of : (journal : List Entry) → IsShowing journal → ScreensAre (written first_session journal) (session_of journal).opened (views_of journal)
+screens_of journal showing = record { kept = showing.screens; fresh = showing.fresh }
+
+-- the views whose steps an outcome is are rebuilt, the next one too
+rebuilt_base : (bytes : List ℕ) (session : Session) (opened : ℕ) (base : List OpenView) → session.opened + 1 < 2 ^ 64 → IsBase session opened base →
+    ScreensAre bytes session.opened session.views → AreRebuilt bytes base
+rebuilt_base bytes session opened base small is are =
+    all_base (λ (view : OpenView). rebuilt view.id bytes ≡ Some view.document.screen) session opened base is
+    (are.fresh (view_id_of (session.opened + 1)) (next_not_given session.opened small)) are.kept
+
+-- and by the notes of their steps they are rebuilt after these
+rebuilt_steps : (before after : List ℕ) (notes : List (Option ViewUpdate)) (steps : OpenView → EventStep) (views : List OpenView) →
+    updates_in after ≡ updates_in before ++ notes → AreRebuilt before views → Settle notes steps views → AreRebuilt after (stepped steps views)
+unfolding Settle
+rebuilt_steps before after notes steps [] is was settle = tt
+rebuilt_steps before after notes steps (view ∷ views) is was settle = (
+  ap (rebuilt_from view.id (Some [])) is ∙ rebuilt_from-append view.id (Some []) (updates_in before) notes ∙
+      ap (λ screen. rebuilt_from view.id screen notes) was.0 ∙ settle.0,
+  rebuilt_steps before after notes steps views is was.1 settle.1,
+)
+
+rebuilt_same : (id before after : List ℕ) (notes : List (Option ViewUpdate)) → updates_in after ≡ updates_in before ++ notes → Passes id notes →
+    rebuilt id before ≡ Some [] → rebuilt id after ≡ Some []
+unfolding Passes
+rebuilt_same id before after notes is passes was =
+    ap (rebuilt_from id (Some [])) is ∙ rebuilt_from-append id (Some []) (updates_in before) notes ∙
+    ap (λ screen. rebuilt_from id screen notes) was ∙ passes []
+
+unchanged : (before after : List ℕ) (views : List OpenView) → updates_in after ≡ updates_in before ++ [] → AreRebuilt before views → AreRebuilt after views
+unchanged before after [] is was = tt
+unchanged before after (view ∷ views) is was =
+    (ap (rebuilt_from view.id (Some [])) (is ∙ append-nil (updates_in before)) ∙ was.0, unchanged before after views is was.1)
+
+-- what is shown after an outcome, where its updates were written
+screens_after : (session : Session) (act : Act) (before after : List ℕ) → session.opened + 1 < 2 ^ 64 → AreNumbered 0 session.opened session.views →
+    updates_in after ≡ updates_in before ++ note_list (outcome session act).updates → ScreensAre before session.opened session.views →
+    ScreensAre after (opened_after session.opened act) (outcome session act).views
+unfolding note_list
+screens_after session act before after small are is was =
+    by_outcome session
+    (λ requests opened done.
+    session.opened ≤ opened → opened < 2 ^ 64 → updates_in after ≡ updates_in before ++ note_list done.updates → ScreensAre after opened done.views)
+    (λ requests opened base reply scroll each based keep. λ more few told_is.
+    let numbered = numbered_base session opened base based are in
+    let apart = apart-numbered 0 opened base few numbered in
+    record {
+      kept = rebuilt_steps before after (note_list (told each base)) each base told_is (rebuilt_base before session opened base small based was) (settles requests each base apart keep);
+      fresh = λ id free.
+          rebuilt_same id before after (note_list (told each base)) told_is (passes_told id each base (not_given-others id 0 opened base free numbered))
+          (was.fresh id (not_given-before session.opened opened id more free));
+    })
+    (λ requests none. λ more few told_is.
+    record {
+      kept = unchanged before after session.views told_is was.kept;
+      fresh = λ id free. ap (rebuilt_from id (Some [])) (told_is ∙ append-nil (updates_in before)) ∙ was.fresh id free;
+    })
+    act (apart-numbered 0 session.opened session.views (omega (arith, small)) are) (opened_more session.opened act)
+    (omega (arith, small, opened_few session.opened act)) is
+
+rebuilt_push : (journal : List Entry) (entry : Entry) → length journal < 2 ^ 63 → IsShowing journal →
     updates_in (piece_of (session_of journal) entry.command) ≡ note_list (outcome (session_of journal) entry.command.act).updates →
-    ScreensAre (journal ++ entry ∷ [])
-unfolding Settles ScreensAre
-rebuilt_push journal entry before said = λ id.
+    ScreensAre (written first_session (journal ++ entry ∷ [])) (session_of (journal ++ entry ∷ [])).opened (views_of (journal ++ entry ∷ []))
+rebuilt_push journal entry small showing said =
     let session = session_of journal in
-    ap (rebuilt_from id (Some [])) (updates_in-push journal entry) ∙
-    rebuilt_from-append id (Some []) (updates_in (written first_session journal)) (updates_in (piece_of session entry.command)) ∙
-    ap (λ screen. rebuilt_from id screen (updates_in (piece_of session entry.command))) (before id) ∙
-    ap (rebuilt_from id (Some (screen_of (view_of session.views id)))) said ∙ settles session entry.command.act (first_of journal) id ∙
-    ap (λ after. Some (screen_of (view_of after id))) (sym (views_of-push journal entry))
+    let At : Session → Type 0 = λ next. ScreensAre (written first_session (journal ++ entry ∷ [])) next.opened next.views in
+    subst At (sym (session_of-push journal entry))
+    (screens_after session entry.command.act (written first_session journal) (written first_session (journal ++ entry ∷ []))
+    (omega (arith, small, opened_of journal)) (numbered_of journal)
+    (updates_in-push journal entry ∙ ap (λ notes. updates_in (written first_session journal) ++ notes) said) (screens_of journal showing))
 
 -- views are shown where their documents' screens show them
-screen_is : (view : OpenView) (bytes : List ℕ) → ((id : List ℕ) → rebuilt id bytes ≡ Some (screen_of (view_of (view ∷ []) id))) →
-    rebuilt view.id bytes ≡ Some view.document.screen
-screen_is view bytes screens = screens view.id ∙ ap (λ v. Some (screen_of v)) (only_view view)
+AreShown-up_to_date : (requests : List ℕ → Run) (views : List OpenView) (bytes : List ℕ) → AreRebuilt bytes views → AreUpToDate requests views →
+    AreShown requests views bytes
+unfolding AreUpToDate
+AreShown-up_to_date requests [] bytes screens told = tt
+AreShown-up_to_date requests (view ∷ views) bytes screens told =
+    (subst (IsShown (requests view.id) view.document) (sym screens.0) told.0, AreShown-up_to_date requests views bytes screens.1 told.1)
 
-AreShown-up_to_date : (requests : List ℕ → Run) (views : List OpenView) (bytes : List ℕ) → AtMostFirst views →
-    ((id : List ℕ) → rebuilt id bytes ≡ Some (screen_of (view_of views id))) → AreUpToDate requests views → AreShown requests views bytes
-unfolding AtMostFirst AreUpToDate
-AreShown-up_to_date requests [] bytes first screens told = tt
-AreShown-up_to_date requests (view ∷ next ∷ views) bytes first screens told = absurd first
-AreShown-up_to_date requests (view ∷ []) bytes first screens told =
-    (subst (IsShown (requests view.id) view.document) (sym (screen_is view bytes screens)) told.0, tt)
+up_to_date-AreShown : (requests : List ℕ → Run) (views : List OpenView) (bytes : List ℕ) → AreRebuilt bytes views → AreShown requests views bytes →
+    AreUpToDate requests views
+unfolding AreUpToDate
+up_to_date-AreShown requests [] bytes screens shown = tt
+up_to_date-AreShown requests (view ∷ views) bytes screens shown =
+    (subst (IsShown (requests view.id) view.document) screens.0 shown.0, up_to_date-AreShown requests views bytes screens.1 shown.1)
 
-up_to_date-AreShown : (requests : List ℕ → Run) (views : List OpenView) (bytes : List ℕ) → AtMostFirst views →
-    ((id : List ℕ) → rebuilt id bytes ≡ Some (screen_of (view_of views id))) → AreShown requests views bytes → AreUpToDate requests views
-unfolding AtMostFirst AreUpToDate
-up_to_date-AreShown requests [] bytes first screens shown = tt
-up_to_date-AreShown requests (view ∷ next ∷ views) bytes first screens shown = absurd first
-up_to_date-AreShown requests (view ∷ []) bytes first screens shown =
-    (subst (IsShown (requests view.id) view.document) (screen_is view bytes screens) shown.0, tt)
-
--- a document that a session serves takes events, where it has fewer revisions than there are numbers
-MayBeAsked-few : (doc : Option Doc) (n : ℕ) (views : List OpenView) → Stands doc views → HaveRevisions n views → n < 2 ^ 63 - 1 → MayBeAsked doc
-MayBeAsked-few None n views stands few small = tt
-MayBeAsked-few (Some doc) n [] stands few small = absurd stands
-MayBeAsked-few (Some doc) n (view ∷ next ∷ views) stands few small = absurd stands
-MayBeAsked-few (Some doc) n (view ∷ []) stands few small =
+-- the documents that a session serves take events, where they have fewer revisions than there are numbers
+MayBeAsked-few : (held : List Opened) (n : ℕ) (views : List OpenView) → Stands held views → HaveRevisions n views → n < 2 ^ 63 - 1 → MayBeAsked held
+MayBeAsked-few [] n views stands few small = tt
+MayBeAsked-few (kept ∷ held) n [] stands few small = absurd stands
+MayBeAsked-few (kept ∷ held) n (view ∷ views) stands few small =
     let plain = view.document in
-    let serves = stands.serves in
-    ((serves.no_sessions, omega (arith, few.0, small, head-text doc.text plain.text serves.stands.text.parts)), ∣ (plain, serves.stands) ∣₁)
+    let serves = stands.0.serves in (
+      ((serves.no_sessions, omega (arith, few.0, small, head-text kept.doc.text plain.text serves.stands.text.parts)), ∣ (plain, serves.stands) ∣₁),
+      MayBeAsked-few held n views stands.1 few.1 small,
+    )
 
-pub MayBeAsked-stands : (doc : Option Doc) (journal : List Entry) → Stands doc (views_of journal) → length journal < 2 ^ 63 - 1 → MayBeAsked doc
-MayBeAsked-stands doc journal stands small = MayBeAsked-few doc (length journal) (views_of journal) stands (revisions_few journal) small
+pub MayBeAsked-stands : (held : List Opened) (journal : List Entry) → Stands held (views_of journal) → length journal < 2 ^ 63 - 1 → MayBeAsked held
+MayBeAsked-stands held journal stands small = MayBeAsked-few held (length journal) (views_of journal) stands (revisions_few journal) small
 
 -- the last of the entries is the one that was added
 last_requested-push : (journal : List Entry) (entry : Entry) (id : List ℕ) →
@@ -339,38 +445,39 @@ AreUpToDate-same requests others (view ∷ views) same told =
     (subst At (same view.id) told.0, AreUpToDate-same requests others views same told.1)
 
 -- what a journal shows after the entry that was added
-shown_push : (journal : List Entry) (entry : Entry) → IsShowing journal → ScreensAre (journal ++ entry ∷ []) →
+shown_push : (journal : List Entry) (entry : Entry) → length journal < 2 ^ 63 → IsShowing journal →
+    AreRebuilt (written first_session (journal ++ entry ∷ [])) (views_of (journal ++ entry ∷ [])) →
     AreShown (last_requested (journal ++ entry ∷ [])) (views_of (journal ++ entry ∷ [])) (written first_session (journal ++ entry ∷ []))
-unfolding ScreensAre StaysUpToDate
-shown_push journal entry showing screens =
+shown_push journal entry small showing screens =
     let session = session_of journal in
     let before : AreUpToDate (last_requested journal) session.views =
-    up_to_date-AreShown (last_requested journal) session.views (written first_session journal) (first_of journal) showing.screens
+    up_to_date-AreShown (last_requested journal) session.views (written first_session journal) showing.screens
     (showing.shows.screens journal [] (sym (append-nil journal))) in
     let after : AreUpToDate (requested entry.command.act) (outcome session entry.command.act).views =
-    stays_up_to_date session entry.command.act (first_of journal) (last_of journal) (last_requested journal) before in
+    stays_up_to_date session entry.command.act (apart_of journal small) (last_of journal small) (last_requested journal) before in
     let put = subst (AreUpToDate (requested entry.command.act)) (sym (views_of-push journal entry)) after in
     AreShown-up_to_date (last_requested (journal ++ entry ∷ [])) (views_of (journal ++ entry ∷ [])) (written first_session (journal ++ entry ∷ []))
-    (first_of (journal ++ entry ∷ [])) screens
+    screens
     (AreUpToDate-same (requested entry.command.act) (last_requested (journal ++ entry ∷ [])) (views_of (journal ++ entry ∷ []))
     (λ id. sym (last_requested-push journal entry id)) put)
 
-screens_push : (journal : List Entry) (entry : Entry) → IsShowing journal → ScreensAre (journal ++ entry ∷ []) →
+screens_push : (journal : List Entry) (entry : Entry) → length journal < 2 ^ 63 → IsShowing journal →
+    AreRebuilt (written first_session (journal ++ entry ∷ [])) (views_of (journal ++ entry ∷ [])) →
     (front back : List Entry) → SplitsPush journal entry front back → AreShown (last_requested front) (views_of front) (written first_session front)
 unfolding SplitsPush
-screens_push journal entry showing screens front back (inl (none, all)) =
+screens_push journal entry small showing screens front back (inl (none, all)) =
     let At : List Entry → Type 0 = λ entries. AreShown (last_requested entries) (views_of entries) (written first_session entries) in
-    subst At (sym all) (shown_push journal entry showing screens)
-screens_push journal entry showing screens front back (inr (rest, is, last)) = showing.shows.screens front rest is
+    subst At (sym all) (shown_push journal entry small showing screens)
+screens_push journal entry small showing screens front back (inr (rest, is, last)) = showing.shows.screens front rest is
 
 -- the entry at hand is the one that was added, or one before
-sends_push : (journal : List Entry) (entry : Entry) → Shows journal (written first_session journal) →
+sends_push : (journal : List Entry) (entry : Entry) → length journal < 2 ^ 63 → Shows journal (written first_session journal) →
     updates_in (piece_of (session_of journal) entry.command) ≡ note_list (outcome (session_of journal) entry.command.act).updates →
     (front : List Entry) (last : Entry) (back : List Entry) → SplitsPush journal entry front (last ∷ back) →
     NotesSendTo (requested last.command.act) (views_of (front ++ last ∷ [])) (updates_in (piece_of (session_of front) last.command))
 unfolding SplitsPush Sends
-sends_push journal entry each said front last back (inl (none, all)) = absurd cc
-sends_push journal entry each said front last back (inr ([], is, only)) =
+sends_push journal entry small each said front last back (inl (none, all)) = absurd cc
+sends_push journal entry small each said front last back (inr ([], is, only)) =
     let At : List Entry → Entry → Type 0 =
     λ entries e.
     NotesSendTo (requested e.command.act) (views_of (entries ++ e ∷ [])) (updates_in (piece_of (session_of entries) e.command)) in
@@ -381,46 +488,47 @@ sends_push journal entry each said front last back (inr ([], is, only)) =
     let Of : List OpenView → Type 0 = λ views. To views (updates_in (piece_of session entry.command)) in
     let Notes : List (Option ViewUpdate) → Type 0 = λ notes. To (outcome session entry.command.act).views notes in
     let here : At journal entry =
-    subst Of (sym (views_of-push journal entry)) (subst Notes (sym said) (sends session entry.command.act (first_of journal))) in
+    subst Of (sym (views_of-push journal entry)) (subst Notes (sym said) (sends session entry.command.act (omega (arith, small, opened_of journal)) (numbered_of journal))) in
     let Last : Entry → Type 0 = λ e. At front e in
     let Before : List Entry → Type 0 = λ entries. At entries entry in
     subst Last (sym added) (subst Before whole here)
-sends_push journal entry each said front last back (inr (r ∷ rest, is, only)) =
+sends_push journal entry small each said front last back (inr (r ∷ rest, is, only)) =
     let same : r ≡ last = cc in
     let At : Entry → Type 0 =
     λ e. NotesSendTo (requested e.command.act) (views_of (front ++ e ∷ [])) (updates_in (piece_of (session_of front) e.command)) in
     subst At same (each.sends front r rest is)
 
 -- what one more entry of a served session comes to
-pub shows_push : (journal : List Entry) (entry : Entry) → IsShowing journal →
+pub shows_push : (journal : List Entry) (entry : Entry) → length journal < 2 ^ 63 → IsShowing journal →
     AreLines (messages (session_of journal) entry.command) → UpdatesReadBack (outcome (session_of journal) entry.command.act).updates →
     IsShowing (journal ++ entry ∷ [])
-unfolding AreLines ScreensAre
-shows_push journal entry showing lines reads =
+unfolding AreLines
+shows_push journal entry small showing lines reads =
     let session = session_of journal in
     let said : updates_in (piece_of session entry.command) ≡ note_list (outcome session entry.command.act).updates =
     updates_in-lines (messages session entry.command) ∙ updates_of-outcome entry.command.id (outcome session entry.command.act) lines reads in
-    let screens = rebuilt_push journal entry showing.screens said in
+    let screens = rebuilt_push journal entry small showing said in
     record {
       shows = record {
         pieces = refl;
-        screens = λ front back split. screens_push journal entry showing screens front back (splits_push journal front back entry split);
+        screens = λ front back split. screens_push journal entry small showing screens.kept front back (splits_push journal front back entry split);
         sends = λ front last back split.
-            sends_push journal entry showing.shows said front last back (splits_push journal front (last ∷ back) entry split);
+            sends_push journal entry small showing.shows said front last back (splits_push journal front (last ∷ back) entry split);
       };
-      screens = screens;
+      screens = screens.kept;
+      fresh = screens.fresh;
     }
 
--- a command that was prepared is an entry that is served, with the document that it makes and the configuration after it
-pub serves_push : (journal : List Entry) (command : Command) (next : Option Doc) (config : Config) (piece : List ℕ) →
-    AllByRecursion IsOpen journal → IsShowing journal → IsOfLine command.act →
+-- a command that was prepared is an entry that is served, with the views that it leaves and the configuration after it
+pub serves_push : (journal : List Entry) (command : Command) (held : List Opened) (opened : ℕ) (config : Config) (piece : List ℕ) →
+    length journal < 2 ^ 63 → AllByRecursion IsOpen journal → IsShowing journal → IsOfLine command.act →
     AreLinesOf (messages (session_of journal) command) piece → UpdatesReadBack (outcome (session_of journal) command.act).updates →
-    StandsForSession next config (step (session_of journal) command) →
+    StandsForSession held opened config (step (session_of journal) command) →
     AllByRecursion IsOpen (journal ++ front_entry command true ∷ []) × IsShowing (journal ++ front_entry command true ∷ []) ×
-    StandsForSession next config (session_of (journal ++ front_entry command true ∷ []))
+    StandsForSession held opened config (session_of (journal ++ front_entry command true ∷ []))
 unfolding AreLines
-serves_push journal command next config piece sent showing asks lines reads stands = (
+serves_push journal command held opened config piece small sent showing asks lines reads stands = (
   IsOpen-push journal command sent asks,
-  shows_push journal (front_entry command true) showing lines.each reads,
-  subst (StandsForSession next config) (sym (session_of-push journal (front_entry command true))) stands,
+  shows_push journal (front_entry command true) small showing lines.each reads,
+  subst (StandsForSession held opened config) (sym (session_of-push journal (front_entry command true))) stands,
 )

@@ -1,6 +1,7 @@
--- What every step of an open view keeps, and what every outcome is: steps of the views, the first opening, or the closing.
-use Rattle.std.proofs.Common.{◌≡◌, ℕ, ◌+◌, ◌≤◌, arith, Bool, true, false, List, [], ◌∷◌, Option, Some, None, refl, ap, sym, ◌∙◌, subst}
-use Rattle.std.specs.Prelude.{if◌then◌else◌, IfSome, ⊤}
+-- What every step of an open view keeps, and what every outcome is: steps of the views that were open, of one more or of all but one, or
+-- the closing.
+use Rattle.std.proofs.Common.{◌≡◌, ℕ, ◌+◌, ◌≤◌, arith, Bool, true, false, List, [], ◌∷◌, Option, Some, None, not, refl, ap, sym, ◌∙◌, subst, inl, inr, ◌++◌}
+use Rattle.std.specs.Prelude.{if◌then◌else◌, IfSome, ◌^◌, ◌<◌, ◌⊎◌, length, ⊤}
 use Rattle.std.specs.List.{AllByRecursion}
 use Rattle.std.specs.Str.{encode_utf8_all, bytes_eq}
 use Rattle.xi_plain.specs.declared.command.EditAct.{EditAct}
@@ -30,10 +31,11 @@ use Rattle.doc_session.specs.Effects.{pristine_from, screen_told, settled, updat
 use Rattle.doc_session.specs.Step.{EventStep, event_step, act_step, collected_document, command_refusal, effect_on, refusal_at, request_of, viewed_document}
 use Rattle.doc_session.proofs.ForCallers.{by_front, IsLastTold-settled, IsUpToDate-settled, part-settled, request_of-refused, updates_show}
 use Rattle.entry_lines.specs.Answer.{Reply, spent}
-use Rattle.core_session.specs.Session.{OpenView, Session, first_session, view_of, named_view, views_of, Outcome, outcome, config_with, config_step, taking, leaving, keeping, open_outcome, opening_outcome, first_view, other_step, own_step, edit_came, edit_outcome, undone_outcome, spent_total, step, stepped, session_after}
+use Rattle.core_session.specs.InnerSession.{HasApart}
+use Rattle.core_session.specs.Session.{OpenView, HaveRevisions, Session, first_session, view_of, named_view, views_of, Outcome, outcome, config_with, config_step, taking, leaving, keeping, next_view, opened_after, other_step, own_step, close_outcome, edit_came, edit_outcome, undone_outcome, spent_total, step, stepped, session_after, session_of, without}
 use Rattle.core_session.specs.Shows.{SendsWithin, requested}
 use Rattle.core_session.proofs.PlanLemmas.{sends-plan_from}
-use Rattle.core_session.proofs.ViewLemmas.{same_id, found_id, found_only, no_found, AtMostFirst, Stays, stays_same, first_stepped}
+use Rattle.core_session.proofs.ViewLemmas.{id_is, view_of-found, OnlyOwn, only_own, AreNumbered, numbered_none, numbered_high, numbered_push, numbered_without, numbered_stepped, apart-numbered}
 
 -- the update, where there is one, makes this screen of that, and sends lines of this window, or requested, alone
 unfoldable pub MakesScreen : Option Update → Screen → Screen → Type 0
@@ -162,24 +164,15 @@ keep_others : (requests : List ℕ → Run) (views : List OpenView) → NoneRequ
 keep_others requests views none = keep_each requests other_step views (λ view. keeps_other view.document) none
 
 -- nor is it where the view that was named is not there
-none_found : (views : List OpenView) (name : List ℕ) (act : EditAct) → AtMostFirst views → named_view views name ≡ None →
-    NoneRequested (requested (Edit name act)) views
-unfolding AtMostFirst NoneRequested
-none_found [] name act first found = tt
-none_found (view ∷ next ∷ views) name act first found = absurd first
-none_found (view ∷ []) name act first found =
-    (ap (λ here. if here then request_of act else no_request) (no_found (bytes_eq (encode_utf8_all name) view.id) view found), tt)
-
--- and of the view that was named it is what the edit requests
-requested_own : (views : List OpenView) (name : List ℕ) (own : OpenView) (act : EditAct) → AtMostFirst views → named_view views name ≡ Some own →
-    requested (Edit name act) own.id ≡ request_of act
-unfolding AtMostFirst
-requested_own [] name own act first found = absurd cc
-requested_own (view ∷ next ∷ views) name own act first found = absurd first
-requested_own (view ∷ []) name own act first found =
-    let At : OpenView → Type 0 = λ v. requested (Edit name act) v.id ≡ request_of act in
-    let here = found_id (bytes_eq (encode_utf8_all name) view.id) view own found in
-    subst At (sym (found_only (bytes_eq (encode_utf8_all name) view.id) view own found)) (ap (λ b. if b then request_of act else no_request) here)
+none_found : (views : List OpenView) (name : List ℕ) (act : EditAct) → named_view views name ≡ None → NoneRequested (requested (Edit name act)) views
+unfolding NoneRequested
+none_found [] name act found = tt
+none_found (view ∷ views) name act found = by (bytes_eq (encode_utf8_all name) view.id) refl found (λ there. none_found views name act there)
+  where
+    by : (here : Bool) → bytes_eq (encode_utf8_all name) view.id ≡ here → (if here then Some view else named_view views name) ≡ None →
+        (named_view views name ≡ None → NoneRequested (requested (Edit name act)) views) → NoneRequested (requested (Edit name act)) (view ∷ views)
+    by true is there later = absurd cc
+    by false is there later = (ap (λ here. if here then request_of act else no_request) is, later there)
 
 -- nothing, where it is the same as nothing
 none_both : (act : EditAct) (name : List ℕ) → request_of act ≡ no_request → (id : List ℕ) → requested (Edit name act) id ≡ no_request
@@ -195,106 +188,268 @@ spent_none : (document : Document) (act : EditAct) (refusal : Option Refusal) (t
 spent_none document act (Some refusal) total is all = request_of-refused document act refusal is
 spent_none document act None total is all = absurd cc
 
-keeps_own : (b : Bool) (request : Run) (view : OpenView) (step : EventStep) → b ≡ true → KeepsStep request view.document step →
-    KeepsStep request view.document (if b then step else other_step view)
-keeps_own true request view step is keeps = keeps
-keeps_own false request view step is keeps = absurd cc
+-- the view that was named takes its own step, with what the edit requests, and each other one the other step, with no request
+keeps_own : (own here : Bool) (act : EditAct) (view : OpenView) (step : EventStep) → own ≡ here →
+    (here ≡ true → KeepsStep (request_of act) view.document step) →
+    KeepsStep (if here then request_of act else no_request) view.document (if own then step else other_step view)
+keeps_own true true act view step is keeps = keeps refl
+keeps_own false false act view step is keeps = keeps_other view.document
+keeps_own true false act view step is keeps = absurd cc
+keeps_own false true act view step is keeps = absurd cc
 
-keep_own : (requests : List ℕ → Run) (views : List OpenView) (id : List ℕ) (own : OpenView) (step : EventStep) → AtMostFirst views →
-    view_of views id ≡ Some own → KeepsStep (requests own.id) own.document step → KeepEach requests (own_step own step) views
-unfolding AtMostFirst KeepEach
-keep_own requests [] id own step first found keeps = tt
-keep_own requests (view ∷ next ∷ views) id own step first found keeps = absurd first
-keep_own requests (view ∷ []) id own step first found keeps =
-    let same : own ≡ view = found_only (bytes_eq id view.id) view own found in (
-      subst (λ (v : OpenView). KeepsStep (requests view.id) view.document (own_step v step view)) (sym same)
-          (keeps_own (bytes_eq view.id view.id) (requests view.id) view step (same_id view.id)
-          (subst (λ (v : OpenView). KeepsStep (requests v.id) v.document step) same keeps)),
-      tt,
+keep_each_own : (name : List ℕ) (act : EditAct) (own : OpenView) (step : EventStep) (views : List OpenView) → own.id ≡ encode_utf8_all name →
+    KeepsStep (request_of act) own.document step → OnlyOwn (encode_utf8_all name) own views → KeepEach (requested (Edit name act)) (own_step own step) views
+unfolding KeepEach OnlyOwn
+keep_each_own name act own step [] is keeps only = tt
+keep_each_own name act own step (view ∷ views) is keeps only =
+    let At : OpenView → Type 0 = λ v. KeepsStep (request_of act) v.document step in (
+      keeps_own (bytes_eq own.id view.id) (bytes_eq (encode_utf8_all name) view.id) act view step (ap (λ id. bytes_eq id view.id) is)
+          (λ here. subst At (only.0 here) keeps),
+      keep_each_own name act own step views is keeps only.1,
     )
 
--- what holds of each answered step of the views, of the first opening and of the closing holds of every outcome
-module _ (P : (List ℕ → Run) → List OpenView → Outcome → Type 0)
-    (steps : (requests : List ℕ → Run) (views : List OpenView) (reply : Reply) (scroll : Option Scroll) (each : OpenView → EventStep) →
-    AtMostFirst views → KeepEach requests each views → P requests views (taking reply scroll each views))
-    (opens : (config : Config) (requests : List ℕ → Run) → KeepEach requests other_step (first_view config ∷ []) → P requests [] (opening_outcome config))
-    (leaves : (requests : List ℕ → Run) (views : List OpenView) → NoneRequested requests views → P requests views (leaving views)) where
-  still : (requests : List ℕ → Run) (views : List OpenView) (reply : Reply) → AtMostFirst views → NoneRequested requests views →
-      P requests views (keeping views reply)
-  still requests views reply first none = steps requests views reply None other_step first (keep_others requests views none)
+keep_own : (views : List OpenView) (name : List ℕ) (own : OpenView) (act : EditAct) (step : EventStep) → HasApart views →
+    named_view views name ≡ Some own → KeepsStep (request_of act) own.document step → KeepEach (requested (Edit name act)) (own_step own step) views
+keep_own views name own act step apart found keeps =
+    let id = encode_utf8_all name in
+    keep_each_own name act own step views (sym (id_is id own.id (view_of-found views id own found))) keeps (only_own id own views apart found)
 
-  came : (views : List OpenView) (name : List ℕ) (own : OpenView) (total : Option ℕ) (act : EditAct) → AtMostFirst views →
-      named_view views name ≡ Some own → spent_total (refusal_at own.document (Front act)) ≡ total →
-      P (requested (Edit name act)) views (edit_came views own total (event_step own.document (Front act)))
-  came views name own (Some total) act first found is =
-      still (requested (Edit name act)) views spent first
-      (nothing_requested (requested (Edit name act)) views (none_both act name (spent_none own.document act (command_refusal own.document (effect_on own.document act)) total refl is)))
-  came views name own None act first found is =
-      let At : Run → Type 0 = λ request. KeepsStep request own.document (event_step own.document (Front act)) in
-      steps (requested (Edit name act)) views _ _ (own_step own (event_step own.document (Front act))) first
-      (keep_own (requested (Edit name act)) views (encode_utf8_all name) own (event_step own.document (Front act)) first found
-      (subst At (sym (requested_own views name own act first found)) (keeps_act own.document act)))
+-- ---- what every outcome is
 
-  edits : (views : List OpenView) (name : List ℕ) (found : Option OpenView) (act : EditAct) → AtMostFirst views → named_view views name ≡ found →
-      P (requested (Edit name act)) views (edit_outcome views found act)
-  edits views name None act first is = still (requested (Edit name act)) views _ first (none_found views name act first is)
-  edits views name (Some own) act first is = came views name own (spent_total (refusal_at own.document (Front act))) act first is refl
+-- the views whose steps it is: those that were open, the next one behind them, or all but one; and how many were opened by then
+unfoldable pub IsBase : Session → ℕ → List OpenView → Type 0
+IsBase session opened base =
+    ((opened ≡ session.opened) × (base ≡ session.views)) ⊎
+    (((opened ≡ session.opened + 1) × (base ≡ session.views ++ next_view session.config session.opened [] ∷ [])) ⊎
+    ((id : List ℕ) × (opened ≡ session.opened) × (base ≡ without id session.views)))
+
+base_same : (session : Session) → IsBase session session.opened session.views
+unfolding IsBase
+base_same session = inl (refl, refl)
+
+base_next : (session : Session) → IsBase session (session.opened + 1) (session.views ++ next_view session.config session.opened [] ∷ [])
+unfolding IsBase
+base_next session = inr (inl (refl, refl))
+
+base_without : (session : Session) (id : List ℕ) → IsBase session session.opened (without id session.views)
+unfolding IsBase
+base_without session id = inr (inr (id, refl, refl))
+
+-- what holds of each answered step of such views and of the closing holds of every outcome
+module _ (session : Session) (P : (List ℕ → Run) → ℕ → Outcome → Type 0)
+    (steps : (requests : List ℕ → Run) (opened : ℕ) (base : List OpenView) (reply : Reply) (scroll : Option Scroll) (each : OpenView → EventStep) →
+    IsBase session opened base → KeepEach requests each base → P requests opened (taking reply scroll each base))
+    (leaves : (requests : List ℕ → Run) → NoneRequested requests session.views → P requests session.opened (leaving session.views)) where
+  still : (requests : List ℕ → Run) (opened : ℕ) (base : List OpenView) (reply : Reply) → IsBase session opened base → NoneRequested requests base →
+      P requests opened (keeping base reply)
+  still requests opened base reply is none = steps requests opened base reply None other_step is (keep_others requests base none)
+
+  came : (name : List ℕ) (own : OpenView) (total : Option ℕ) (act : EditAct) → HasApart session.views → named_view session.views name ≡ Some own →
+      spent_total (refusal_at own.document (Front act)) ≡ total →
+      P (requested (Edit name act)) session.opened (edit_came session.views own total (event_step own.document (Front act)))
+  came name own (Some total) act apart found is =
+      still (requested (Edit name act)) session.opened session.views spent (base_same session)
+      (nothing_requested (requested (Edit name act)) session.views
+      (none_both act name (spent_none own.document act (command_refusal own.document (effect_on own.document act)) total refl is)))
+  came name own None act apart found is =
+      steps (requested (Edit name act)) session.opened session.views _ _ (own_step own (event_step own.document (Front act))) (base_same session)
+      (keep_own session.views name own act (event_step own.document (Front act)) apart found (keeps_act own.document act))
+
+  edits : (name : List ℕ) (found : Option OpenView) (act : EditAct) → HasApart session.views → named_view session.views name ≡ found →
+      P (requested (Edit name act)) session.opened (edit_outcome session.views found act)
+  edits name None act apart is = still (requested (Edit name act)) session.opened session.views _ (base_same session) (none_found session.views name act is)
+  edits name (Some own) act apart is = came name own (spent_total (refusal_at own.document (Front act))) act apart is refl
 
   -- an act that requests nothing
-  none : (act : Act) (views : List OpenView) → ((id : List ℕ) → requested act id ≡ no_request) → NoneRequested (requested act) views
-  none act views is = nothing_requested (requested act) views is
+  idle : (act : Act) (opened : ℕ) (base : List OpenView) (reply : Reply) → IsBase session opened base → ((id : List ℕ) → requested act id ≡ no_request) →
+      P (requested act) opened (keeping base reply)
+  idle act opened base reply is none = still (requested act) opened base reply is (nothing_requested (requested act) base none)
 
-  undoes : (act : Act) (views : List OpenView) (found : Option OpenView) → AtMostFirst views → ((id : List ℕ) → requested act id ≡ no_request) →
-      P (requested act) views (undone_outcome views found)
-  undoes act views None first is = still (requested act) views _ first (none act views is)
-  undoes act views (Some own) first is = still (requested act) views _ first (none act views is)
+  stays : (act : Act) (reply : Reply) → ((id : List ℕ) → requested act id ≡ no_request) → P (requested act) session.opened (keeping session.views reply)
+  stays act reply none = idle act session.opened session.views reply (base_same session) none
 
-  opened : (config : Config) (views : List OpenView) (path : Option (List ℕ)) → AtMostFirst views →
-      P (requested (NewView path)) views (open_outcome config views path)
-  opened config [] None first =
-      opens config (requested (NewView None)) (keep_others _ (first_view config ∷ []) (none (NewView None) (first_view config ∷ []) (λ id. refl)))
-  opened config [] (Some path) first = still (requested (NewView (Some path))) [] _ first (none (NewView (Some path)) [] (λ id. refl))
-  opened config (view ∷ views) path first = still (requested (NewView path)) (view ∷ views) _ first (none (NewView path) (view ∷ views) (λ id. refl))
+  undoes : (act : Act) (found : Option OpenView) → ((id : List ℕ) → requested act id ≡ no_request) →
+      P (requested act) session.opened (undone_outcome session.views found)
+  undoes act None none = stays act _ none
+  undoes act (Some own) none = stays act _ none
 
-  pub by_outcome : (session : Session) (act : Act) → AtMostFirst session.views → P (requested act) session.views (outcome session act)
-  by_outcome session (Edit name act) first = edits session.views name (named_view session.views name) act first refl
-  by_outcome session (CloseView name) first = undoes (CloseView name) session.views (named_view session.views name) first (λ id. refl)
-  by_outcome session (Save name path) first = undoes (Save name path) session.views (named_view session.views name) first (λ id. refl)
-  by_outcome session Closing first = leaves (requested Closing) session.views (none Closing session.views (λ id. refl))
-  by_outcome session (NewView path) first = opened session.config session.views path first
-  by_outcome session (Configure changes) first =
+  closes : (name : List ℕ) (found : Option OpenView) → P (requested (CloseView name)) session.opened (close_outcome session.views found)
+  closes name None = stays (CloseView name) _ (λ id. refl)
+  closes name (Some own) = idle (CloseView name) session.opened (without own.id session.views) _ (base_without session own.id) (λ id. refl)
+
+  pub by_outcome : (act : Act) → HasApart session.views → P (requested act) (opened_after session.opened act) (outcome session act)
+  by_outcome (Edit name act) apart = edits name (named_view session.views name) act apart refl
+  by_outcome (CloseView name) apart = closes name (named_view session.views name)
+  by_outcome (Save name path) apart = undoes (Save name path) (named_view session.views name) (λ id. refl)
+  by_outcome Closing apart = leaves (requested Closing) (nothing_requested (requested Closing) session.views (λ id. refl))
+  by_outcome (NewView None) apart = idle (NewView None) (session.opened + 1) _ _ (base_next session) (λ id. refl)
+  by_outcome (NewView (Some path)) apart = stays (NewView (Some path)) _ (λ id. refl)
+  by_outcome (Configure changes) apart =
       let next = config_with session.config changes in
-      steps (requested (Configure changes)) session.views _ _ (config_step next) first
+      steps (requested (Configure changes)) session.opened session.views _ _ (config_step next) (base_same session)
       (keep_each (requested (Configure changes)) (config_step next) session.views (λ view. keeps_config next view.document)
-      (none (Configure changes) session.views (λ id. refl)))
-  by_outcome session (Bad fault) first = still (requested (Bad fault)) session.views _ first (none (Bad fault) session.views (λ id. refl))
-  by_outcome session Nothing first = still (requested Nothing) session.views _ first (none Nothing session.views (λ id. refl))
-  by_outcome session act first = still (requested act) session.views _ first (none act session.views (λ id. refl))
+      (nothing_requested (requested (Configure changes)) session.views (λ id. refl)))
+  by_outcome (Bad fault) apart = stays (Bad fault) _ (λ id. refl)
+  by_outcome Nothing apart = stays Nothing _ (λ id. refl)
+  by_outcome act apart = stays act _ (λ id. refl)
 
--- at most the first view is open after a journal
-unfoldable pub FirstStays : List OpenView → Outcome → Type 0
-FirstStays views done = AtMostFirst done.views × Stays views done.views
+-- ---- the views of every outcome, whatever their ids
 
-pub first_stays : (session : Session) (act : Act) → AtMostFirst session.views → FirstStays session.views (outcome session act)
-unfolding AtMostFirst Stays FirstStays
-first_stays session act first =
-    by_outcome (λ requests before done. AtMostFirst before → FirstStays before done)
-    (λ requests views reply scroll steps at keep. λ _. first_stepped steps views at) (λ config requests keep. λ _. (refl, tt))
-    (λ requests views none. λ at. (at, stays_same views)) session act first first
+-- each step is one revision at most
+unfoldable pub IsSlow : Session → (OpenView → EventStep) → Type 0
+IsSlow session each = (most : ℕ) → HaveRevisions most session.views → (view : OpenView) → head view.document.text.history ≤ most →
+    head (each view).document.text.history ≤ most + 1
 
-first_after : (session : Session) (entries : List Entry) → AtMostFirst session.views → AtMostFirst (session_after session entries).views
-unfolding FirstStays
-first_after session [] first = first
-first_after session (entry ∷ entries) first = first_after (step session entry.command) entries (first_stays session entry.command.act first).0
+slow_other : (session : Session) → IsSlow session other_step
+unfolding IsSlow KeepsStep
+slow_other session most few view here = omega (arith, here, (keeps_other view.document).few)
 
-pub first_of : (journal : List Entry) → AtMostFirst (views_of journal)
-unfolding AtMostFirst
-first_of journal = first_after first_session journal tt
+slow_config : (session : Session) (config : Config) → IsSlow session (config_step config)
+unfolding IsSlow KeepsStep
+slow_config session config most few view here = omega (arith, here, (keeps_config config view.document).few)
+
+found_few : (most : ℕ) (views : List OpenView) (id : List ℕ) (own : OpenView) → view_of views id ≡ Some own → HaveRevisions most views →
+    head own.document.text.history ≤ most
+found_few most [] id own found few = absurd cc
+found_few most (view ∷ views) id own found few = by (bytes_eq id view.id) found (λ there. found_few most views id own there few.1)
+  where
+    by : (here : Bool) → (if here then Some view else view_of views id) ≡ Some own →
+        (view_of views id ≡ Some own → head own.document.text.history ≤ most) → head own.document.text.history ≤ most
+    by true is later =
+        let At : OpenView → Type 0 = λ v. head v.document.text.history ≤ most in
+        let same : view ≡ own = cc in
+        subst At same few.0
+    by false is later = later is
+
+slow_own : (session : Session) (id : List ℕ) (own : OpenView) (act : EditAct) → view_of session.views id ≡ Some own →
+    IsSlow session (own_step own (event_step own.document (Front act)))
+unfolding IsSlow KeepsStep
+slow_own session id own act found most few view here = by (bytes_eq own.id view.id)
+  where
+    by : (same : Bool) → head (if same then event_step own.document (Front act) else other_step view).document.text.history ≤ most + 1
+    by true = omega (arith, found_few most session.views id own found few, (keeps_act own.document act).few)
+    by false = omega (arith, here, (keeps_other view.document).few)
+
+module _ (session : Session) (P : ℕ → List OpenView → Type 0)
+    (steps : (opened : ℕ) (base : List OpenView) (each : OpenView → EventStep) → IsBase session opened base → IsSlow session each →
+    P opened (stepped each base))
+    (leaves : P session.opened session.views) where
+  views_still : (opened : ℕ) (base : List OpenView) → IsBase session opened base → P opened (stepped other_step base)
+  views_still opened base is = steps opened base other_step is (slow_other session)
+
+  views_same : P session.opened (stepped other_step session.views)
+  views_same = views_still session.opened session.views (base_same session)
+
+  views_edited : (name : List ℕ) (found : Option OpenView) (act : EditAct) → named_view session.views name ≡ found →
+      P session.opened (edit_outcome session.views found act).views
+  views_edited name None act is = views_same
+  views_edited name (Some own) act is = by (spent_total (refusal_at own.document (Front act)))
+    where
+      by : (total : Option ℕ) → P session.opened (edit_came session.views own total (event_step own.document (Front act))).views
+      by None =
+          steps session.opened session.views (own_step own (event_step own.document (Front act))) (base_same session)
+          (slow_own session (encode_utf8_all name) own act is)
+      by (Some total) = views_same
+
+  views_undone : (found : Option OpenView) → P session.opened (undone_outcome session.views found).views
+  views_undone None = views_same
+  views_undone (Some own) = views_same
+
+  views_closed : (found : Option OpenView) → P session.opened (close_outcome session.views found).views
+  views_closed None = views_same
+  views_closed (Some own) = views_still session.opened (without own.id session.views) (base_without session own.id)
+
+  pub by_views : (act : Act) → P (opened_after session.opened act) (outcome session act).views
+  by_views (Edit name act) = views_edited name (named_view session.views name) act refl
+  by_views (CloseView name) = views_closed (named_view session.views name)
+  by_views (Save name path) = views_undone (named_view session.views name)
+  by_views Closing = leaves
+  by_views (NewView None) = views_still (session.opened + 1) _ (base_next session)
+  by_views (NewView (Some path)) = views_same
+  by_views (Configure changes) =
+      let next = config_with session.config changes in
+      steps session.opened session.views (config_step next) (base_same session) (slow_config session next)
+  by_views (Bad fault) = views_same
+  by_views Nothing = views_same
+  by_views act = views_same
+
+-- ---- ids are those of rising numbers, up to how many were opened
+
+pub numbered_base : (session : Session) (opened : ℕ) (base : List OpenView) → IsBase session opened base →
+    AreNumbered 0 session.opened session.views → AreNumbered 0 opened base
+unfolding IsBase
+numbered_base session opened base (inl (many, is)) are = rw (many, is) are
+numbered_base session opened base (inr (inl (many, is))) are =
+    rw (many, is) (numbered_push 0 session.opened session.views (next_view session.config session.opened []) (omega arith) refl are)
+numbered_base session opened base (inr (inr (id, many, is))) are = rw (many, is) (numbered_without id 0 session.opened session.views are)
+
+pub numbered_step : (session : Session) (act : Act) → AreNumbered 0 session.opened session.views →
+    AreNumbered 0 (opened_after session.opened act) (outcome session act).views
+numbered_step session act are =
+    by_views session (AreNumbered 0) (λ opened base each is slow. numbered_stepped each 0 opened base (numbered_base session opened base is are)) are act
+
+numbered_after : (session : Session) (entries : List Entry) → AreNumbered 0 session.opened session.views →
+    AreNumbered 0 (session_after session entries).opened (session_after session entries).views
+numbered_after session [] are = are
+numbered_after session (entry ∷ entries) are = numbered_after (step session entry.command) entries (numbered_step session entry.command.act are)
+
+pub numbered_of : (journal : List Entry) → AreNumbered 0 (session_of journal).opened (views_of journal)
+numbered_of journal = numbered_after first_session journal (numbered_none 0 0)
+
+-- no more were opened than there are entries
+pub opened_few : (opened : ℕ) (act : Act) → opened_after opened act ≤ opened + 1
+opened_few opened (NewView None) = omega arith
+opened_few opened (NewView (Some path)) = omega arith
+opened_few opened act = omega arith
+
+pub opened_more : (opened : ℕ) (act : Act) → opened ≤ opened_after opened act
+opened_more opened (NewView None) = omega arith
+opened_more opened (NewView (Some path)) = omega arith
+opened_more opened act = omega arith
+
+opened_by : (session : Session) (entries : List Entry) → (session_after session entries).opened ≤ session.opened + length entries
+opened_by session [] = omega arith
+opened_by session (entry ∷ entries) =
+    omega (arith, opened_few session.opened entry.command.act, opened_by (step session entry.command) entries)
+
+pub opened_of : (journal : List Entry) → (session_of journal).opened ≤ length journal
+opened_of journal = omega (arith, opened_by first_session journal)
+
+-- so the ids tell the views of a journal apart that has no more entries than there are numbers
+pub apart_of : (journal : List Entry) → length journal < 2 ^ 63 → HasApart (views_of journal)
+apart_of journal small =
+    apart-numbered 0 (session_of journal).opened (views_of journal) (omega (arith, small, opened_of journal)) (numbered_of journal)
 
 -- ---- screens are as the last updates left them
 
 unfoldable pub AreLastTold : List OpenView → Type 0
 AreLastTold views = AllByRecursion (λ view. IsLastTold view.document) views
+
+-- what holds of each view that was open, and of the next one, holds of those whose steps an outcome is
+module _ (P : OpenView → Type 0) where
+  all_push : (views : List OpenView) (next : OpenView) → P next → AllByRecursion P views → AllByRecursion P (views ++ next ∷ [])
+  all_push [] next here all = (here, tt)
+  all_push (view ∷ views) next here all = (all.0, all_push views next here all.1)
+
+  pub all_without : (id : List ℕ) (views : List OpenView) → AllByRecursion P views → AllByRecursion P (without id views)
+  all_without id [] all = tt
+  all_without id (view ∷ views) all = by (bytes_eq id view.id) (all_without id views all.1)
+    where
+      by : (here : Bool) → AllByRecursion P (without id views) →
+          AllByRecursion P (if not here then view ∷ without id views else without id views)
+      by true rest = rest
+      by false rest = (all.0, rest)
+
+  pub all_base : (session : Session) (opened : ℕ) (base : List OpenView) → IsBase session opened base →
+      P (next_view session.config session.opened []) → AllByRecursion P session.views → AllByRecursion P base
+  unfolding IsBase
+  all_base session opened base (inl (many, is)) next all = rw (is) all
+  all_base session opened base (inr (inl (many, is))) next all = rw (is) (all_push session.views (next_view session.config session.opened []) next all)
+  all_base session opened base (inr (inr (id, many, is))) next all = rw (is) (all_without id session.views all)
+
+pub last_base : (session : Session) (opened : ℕ) (base : List OpenView) → IsBase session opened base → AreLastTold session.views → AreLastTold base
+unfolding AreLastTold
+last_base session opened base is last = all_base (λ view. IsLastTold view.document) session opened base is refl last
 
 last_each : (requests : List ℕ → Run) (steps : OpenView → EventStep) (views : List OpenView) → KeepEach requests steps views → AreLastTold views →
     AreLastTold (stepped steps views)
@@ -302,24 +457,21 @@ unfolding AreLastTold KeepEach KeepsStep
 last_each requests steps [] keep last = tt
 last_each requests steps (view ∷ views) keep last = (keep.0.last last.0, last_each requests steps views keep.1 last.1)
 
-last_opened : (config : Config) (requests : List ℕ → Run) → KeepEach requests other_step (first_view config ∷ []) → AreLastTold (opening_outcome config).views
-unfolding AreLastTold KeepEach KeepsStep
-last_opened config requests keep = (keep.0.last refl, tt)
+pub last_step : (session : Session) (act : Act) → HasApart session.views → AreLastTold session.views → AreLastTold (outcome session act).views
+last_step session act apart last =
+    by_outcome session (λ requests opened done. AreLastTold done.views)
+    (λ requests opened base reply scroll each is keep. last_each requests each base keep (last_base session opened base is last))
+    (λ requests none. last) act apart
 
-last_stays : (session : Session) (act : Act) → AtMostFirst session.views → AreLastTold session.views → AreLastTold (outcome session act).views
-last_stays session act first =
-    by_outcome (λ requests before done. AreLastTold before → AreLastTold done.views)
-    (λ requests views reply scroll steps at keep. λ last. last_each requests steps views keep last)
-    (λ config requests keep. λ none. last_opened config requests keep) (λ requests views none. λ last. last) session act first
-
-last_after : (session : Session) (entries : List Entry) → AtMostFirst session.views → AreLastTold session.views →
-    AreLastTold (session_after session entries).views
-unfolding FirstStays
-last_after session [] first last = last
-last_after session (entry ∷ entries) first last =
+last_after : (session : Session) (entries : List Entry) → session.opened + length entries < 2 ^ 63 → AreNumbered 0 session.opened session.views →
+    AreLastTold session.views → AreLastTold (session_after session entries).views
+last_after session [] small are last = last
+last_after session (entry ∷ entries) small are last =
     let act = entry.command.act in
-    last_after (step session entry.command) entries (first_stays session act first).0 (last_stays session act first last)
+    let apart = apart-numbered 0 session.opened session.views (omega (arith, small)) are in
+    last_after (step session entry.command) entries (omega (arith, small, opened_few session.opened act)) (numbered_step session act are)
+    (last_step session act apart last)
 
-pub last_of : (journal : List Entry) → AreLastTold (views_of journal)
-unfolding AtMostFirst AreLastTold
-last_of journal = last_after first_session journal tt tt
+pub last_of : (journal : List Entry) → length journal < 2 ^ 63 → AreLastTold (views_of journal)
+unfolding AreLastTold
+last_of journal small = last_after first_session journal (omega (arith, small)) (numbered_none 0 0) tt

@@ -1,20 +1,22 @@
 -- What a session in memory keeps, and what a call does to it.
-use Rattle.std.specs.Prelude.{◌≡◌, ℕ, ◌<◌, ◌≤◌, Bool, true, false, List, [], ◌∷◌, ◌++◌, length, take, Option, Some, None, vec_len, vec_capacity, ⊤}
+use Rattle.std.specs.Prelude.{◌≡◌, ℕ, ◌+◌, ◌<◌, ◌≤◌, Bool, true, false, List, [], ◌∷◌, ◌++◌, length, take, Some, vec_len, vec_capacity, ⊤}
 use Rattle.std.specs.List.{AllByRecursion}
+use Rattle.std.specs.Str.{bytes_eq}
 use Rattle.xi_plain.specs.declared.command.Act.{Act}
 use Rattle.xi_plain.specs.declared.command.Command.{Command}
 use Rattle.xi_plain.specs.declared.config.Config.{Config}
 use Rattle.xi_plain.specs.declared.entry.Entry.{Entry}
 use Rattle.xi_plain.specs.declared.entry.ShelfNote.TheVariants.{NoCall}
 use Rattle.xi_plain.specs.Journal.{closes, IsOrdered}
-use Rattle.plain_screen.specs.Screen.{Screen}
 use Rattle.outside.specs.Faults.{Rose, counted}
 use Rattle.outside.specs.Sink.{SinkState, Gains}
 use Rattle.doc_session.specs.InMemory.{Doc}
 use Rattle.doc_session.specs.Document.{Document}
 use Rattle.doc_session.specs.Stands.{DocStandsFor}
+use Rattle.entry_lines.specs.ViewId.{view_id_of}
+use Rattle.core_session.specs.declared.opened.Opened.{Opened}
 use Rattle.core_session.specs.declared.session.Core.{Core}
-use Rattle.core_session.specs.Session.{OpenView, Session, first_session, session_of, view_id, view_of, views_of, piece_of, written}
+use Rattle.core_session.specs.Session.{OpenView, Session, first_session, session_of, views_of, piece_of, written}
 use Rattle.core_session.specs.Shows.{Shows, rebuilt}
 
 -- the document in memory stands for the plain one, and no plugin has a session in it
@@ -42,24 +44,24 @@ IsUnasked journal = AllByRecursion (λ entry. entry.shelf ≡ NoCall) journal
 abbrev pub IsLegalUnasked : List Entry → Type 0
 IsLegalUnasked journal = IsOrdered 0 journal × IsUnasked journal
 
--- the document in memory is that of the first view
-pub record ServesView (doc : Doc) (view : OpenView) : Type 0 where
-  pub id : view.id ≡ view_id
-  pub serves : ServesDocument doc view.document
+-- what is held of a view is its id, and a document that stands for its own
+pub record ServesView (held : Opened) (view : OpenView) : Type 0 where
+  pub id : held.id ≡ view.id
+  pub serves : ServesDocument held.doc view.document
 
--- the document in memory, where there is one, is that of the only view that is open
-abbrev pub Stands : Option Doc → List OpenView → Type 0
-Stands None [] = ⊤
-Stands None (view ∷ views) = ⊥
-Stands (Some doc) [] = ⊥
-Stands (Some doc) (view ∷ []) = ServesView doc view
-Stands (Some doc) (view ∷ next ∷ views) = ⊥
+-- what is held is of the views that are open, in their order
+abbrev pub Stands : List Opened → List OpenView → Type 0
+Stands [] [] = ⊤
+Stands [] (view ∷ views) = ⊥
+Stands (kept ∷ held) [] = ⊥
+Stands (kept ∷ held) (view ∷ views) = ServesView kept view × Stands held views
 
--- the document and the configuration in memory are those of the session, and a tab has columns
-pub record StandsForSession (document : Option Doc) (held : Config) (session : Session) : Type 0 where
-  pub views : Stands document session.views
-  pub config : held ≡ session.config
-  pub tab : 0 < held.tab
+-- the views, their number and the configuration in memory are those of the session, and a tab has columns
+pub record StandsForSession (held : List Opened) (many : ℕ) (laid : Config) (session : Session) : Type 0 where
+  pub views : Stands held session.views
+  pub opened : many ≡ session.opened
+  pub config : laid ≡ session.config
+  pub tab : 0 < laid.tab
 
 -- THE JOURNAL of a session
 abbrev pub journal_of : {K : Type 0} → Core K → List Entry
@@ -73,27 +75,32 @@ sink_of core = core.sink
 abbrev pub HasRoom : {K : Type 0} → Core K → Type 0
 HasRoom core = vec_len core.journal < vec_capacity core.journal
 
--- the document and the configuration in memory are those of the session that these entries define
+-- the documents and the configuration in memory are those of the session that these entries define
 abbrev pub HasSessionAfter : {K : Type 0} → Core K → List Entry → Type 0
-HasSessionAfter core journal = StandsForSession core.document core.config (session_of journal)
+HasSessionAfter core journal = StandsForSession core.views core.opened core.config (session_of journal)
 
--- the screen that the front end has of a view; it is empty where none is open
-abbrev pub screen_of : Option OpenView → Screen
-screen_of None = []
-screen_of (Some view) = view.document.screen
+-- of each of the views the front end rebuilds the screen that the view's document says
+abbrev pub AreRebuilt : List ℕ → List OpenView → Type 0
+AreRebuilt bytes views = AllByRecursion (λ (view : OpenView). rebuilt view.id bytes ≡ Some view.document.screen) views
 
--- what the entries write shows them, and by its updates the front end has, of each view, the screen that the view's document says
+-- the id is of none of so many views that were opened
+abbrev pub IsNotGiven : ℕ → List ℕ → Type 0
+IsNotGiven opened id = (n : ℕ) → n < opened → bytes_eq (view_id_of (n + 1)) id ≡ false
+
+-- what the entries write shows them, and by its updates the front end has, of each view that is open, the screen that the view's document
+-- says, and an empty one of an id that was not given yet
 pub record IsShowing (journal : List Entry) : Type 0 where
   pub shows : Shows journal (written first_session journal)
-  pub screens : (id : List ℕ) → rebuilt id (written first_session journal) ≡ Some (screen_of (view_of (views_of journal) id))
+  pub screens : AreRebuilt (written first_session journal) (views_of journal)
+  pub fresh : (id : List ℕ) → IsNotGiven (session_of journal).opened id → rebuilt id (written first_session journal) ≡ Some []
 
--- THE SESSION TAKES LINES: all its entries were sent, what they wrote shows them, and its document and its configuration are those that
+-- THE SESSION TAKES LINES: all its entries were sent, what they wrote shows them, and its documents and its configuration are those that
 -- they define
 pub record IsServing {K : Type 0} (core : Core K) : Type 0 where
   pub room : HasRoom core
   pub sent : AllByRecursion IsOpen (journal_of core)
   pub showing : IsShowing (journal_of core)
-  pub stands : StandsForSession core.document core.config (session_of (journal_of core))
+  pub stands : StandsForSession core.views core.opened core.config (session_of (journal_of core))
 
 -- the entry of a command of the front end
 abbrev pub front_entry : Command → Bool → Entry

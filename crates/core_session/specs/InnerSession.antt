@@ -1,22 +1,25 @@
 -- What private functions say: what an act and a command come to in memory.
-use Rattle.std.specs.Prelude.{◌≡◌, ℕ, ◌^◌, ◌-◌, ◌<◌, List, length, Option, Some, None, Result, IfOk, IfErr, ⊤, option_map}
-use Rattle.std.specs.Option.{option_or}
-use Rattle.std.specs.Str.{encode_utf8_all}
+use Rattle.std.specs.Prelude.{◌≡◌, ℕ, ◌^◌, ◌-◌, ◌<◌, true, false, List, [], ◌∷◌, ◌++◌, length, Option, Some, None, Result, IfOk, IfErr, ⊤}
+use Rattle.std.specs.List.{AllByRecursion}
+use Rattle.std.specs.Str.{bytes_eq, encode_utf8_all}
 use Rattle.plain_edits.specs.History.{head}
 use Rattle.doc_session.specs.InMemory.{Doc}
 use Rattle.doc_session.specs.Document.{Document}
 use Rattle.doc_session.specs.Stands.{DocStandsFor}
+use Rattle.core_session.specs.declared.opened.Opened.{Opened}
 use Rattle.core_session.specs.declared.session.Prepared.{Prepared}
+use Rattle.core_session.specs.declared.stepped.Stepped.{Stepped}
+use Rattle.core_session.specs.declared.stepped.ToEach.{ToEach}
+use Rattle.core_session.specs.declared.stepped.ToEach.TheVariants as to
 use Rattle.xi_plain.specs.declared.command.Command.{Command}
-use Rattle.core_session.specs.Session.{Session, view_id, outcome, messages, step, updates_for, scroll_for, Outcome}
+use Rattle.core_session.specs.Session.{OpenView, Session, outcome, messages, step, stepped, told, Outcome}
 use Rattle.doc_text.specs.Fault.{DocRefuses}
 use Rattle.doc_session.specs.Step.{AreEffectsOf, EventStep, event_step, refusal_at}
 use Rattle.doc_session.specs.declared.event.Effects.{Effects}
 use Rattle.doc_session.specs.declared.event.Event.{Event}
+use Rattle.doc_session.specs.declared.event.Event.TheVariants.{Config as Configured, Other}
 use Rattle.doc_text.specs.declared.fault.DocFault.{DocFault}
 use Rattle.doc_text.specs.declared.fault.DocFault.TheVariants as Fault
-use Rattle.doc_session.specs.PositionView.{position_view}
-use Rattle.entry_lines.specs.declared.reply.FrontReply.{FrontReply}
 use Rattle.core_session.specs.declared.act.ActEffects.{ActEffects}
 use Rattle.entry_lines.specs.Answer.{reply_of}
 use Rattle.entry_lines.specs.Piece.{AreLinesOf, UpdatesReadBack}
@@ -26,14 +29,9 @@ use Rattle.core_session.specs.Core.{ServesDocument, Stands, StandsForSession}
 abbrev pub TakesEvents : Doc → Type 0
 TakesEvents doc = (length doc.text.sessions ≡ 0) × (head doc.text.engine.revisions < 2 ^ 63 - 1)
 
--- it takes events, and stands for a plain one, where there is a document
-abbrev pub MayBeAsked : Option Doc → Type 0
-MayBeAsked None = ⊤
-MayBeAsked (Some doc) = TakesEvents doc × ∥ ((plain : Document) × DocStandsFor doc plain) ∥₁
-
--- the document that is in place then: the next one, where there is one
-abbrev pub document_then : Option Doc → Option Doc → Option Doc
-document_then next before = option_or next before
+-- each document takes events, and stands for a plain one
+abbrev pub MayBeAsked : List Opened → Type 0
+MayBeAsked held = AllByRecursion (λ (kept : Opened). TakesEvents kept.doc × ∥ ((plain : Document) × DocStandsFor kept.doc plain) ∥₁) held
 
 -- what an event of the front end alone makes of a document: the one that its step gives and what is told of it, or the event is refused
 pub record IsMade (old : Doc) (event : Event) (result : Result (Doc × Effects) DocFault) : Type 0 where
@@ -42,36 +40,82 @@ pub record IsMade (old : Doc) (event : Event) (result : Result (Doc × Effects) 
   pub accepted : (plain : Document) → DocStandsFor old plain → IfOk result (λ _. refusal_at plain event ≡ None)
   pub refused : (plain : Document) → DocStandsFor old plain → IfErr result (DocRefuses (refusal_at plain event))
 
--- what a command comes to: the lines of its piece, whose updates read back, and the document of the views after it
-pub record IsDone (before : Option Doc) (session : Session) (command : Command) (piece : List ℕ) (next : Option Doc) : Type 0 where
+-- what each document is told, and the step that each view takes then
+abbrev pub each_event : ToEach → Event
+each_event to.Other = Other
+each_event (to.Config config) = Configured config
+
+abbrev pub each_step : ToEach → OpenView → EventStep
+each_step event view = event_step view.document (each_event event)
+
+-- a configuration that is told has a tab of some columns
+abbrev pub HasTab : ToEach → Type 0
+HasTab to.Other = ⊤
+HasTab (to.Config config) = 0 < config.tab
+
+-- behind those that took their step these do, and what they tell is told
+abbrev pub TakesSteps : ToEach → Stepped → List Opened → Stepped → Type 0
+TakesSteps event old held new = (front views : List OpenView) → Stands old.held front → Stands held views →
+    Stands new.held (front ++ stepped (each_step event) views) × (new.updates ≡ old.updates ++ told (each_step event) views)
+
+-- ids are of ASCII, and no two views have one
+abbrev pub HasApart : List OpenView → Type 0
+HasApart [] = ⊤
+HasApart (view ∷ views) =
+    (encode_utf8_all view.id ≡ view.id) × AllByRecursion (λ (later : OpenView). bytes_eq view.id later.id ≡ false) views × HasApart views
+
+-- what is held is of these views, whose ids tell them apart
+abbrev pub AreThere : List Opened → List OpenView → Type 0
+AreThere held views = Stands held views × HasApart views
+
+-- none of these has the name
+abbrev pub HaveOtherNames : List ℕ → List Opened → Type 0
+HaveOtherNames name held = AllByRecursion (λ (kept : Opened). bytes_eq (encode_utf8_all name) (encode_utf8_all kept.id) ≡ false) held
+
+-- the first that has the name stands there
+pub record IsFirstNamed (held : List Opened) (name : List ℕ) (at : ℕ) : Type 0 where
+  pub front : List Opened
+  pub kept : Opened
+  pub back : List Opened
+  pub cut : held ≡ front ++ kept ∷ back
+  pub place : length front ≡ at
+  pub others : HaveOtherNames name front
+  pub named : bytes_eq (encode_utf8_all name) (encode_utf8_all kept.id) ≡ true
+
+-- where the view with this name stands, if it is there
+abbrev pub IsPlaceOf : List Opened → List ℕ → Option ℕ → Type 0
+IsPlaceOf held name None = HaveOtherNames name held
+IsPlaceOf held name (Some at) = IsFirstNamed held name at
+
+-- the view stands there
+pub record IsFoundAt (views : List OpenView) (at : ℕ) (view : OpenView) : Type 0 where
+  pub front : List OpenView
+  pub back : List OpenView
+  pub cut : views ≡ front ++ view ∷ back
+  pub place : length front ≡ at
+
+-- what came of an edit is that of this step
+abbrev pub IsEdited : EventStep → Doc → Effects → Type 0
+IsEdited step next effects = ServesDocument next step.document × AreEffectsOf step effects
+
+-- what a command comes to: the lines of its piece, whose updates read back, and the views after it
+pub record IsDone (session : Session) (command : Command) (piece : List ℕ) (held : List Opened) : Type 0 where
   pub lines : AreLinesOf (messages session command) (encode_utf8_all piece)
   pub reads_back : UpdatesReadBack (outcome session command.act).updates
-  pub stands : Stands (document_then next before) (outcome session command.act).views
+  pub stands : Stands held (outcome session command.act).views
 
--- the same before it is an entry, and the configuration after it
-pub record IsPrepared (before : Option Doc) (session : Session) (made : Prepared) : Type 0 where
+-- the same before it is an entry, with how many were opened and the configuration after it
+pub record IsPrepared (session : Session) (made : Prepared) : Type 0 where
   pub lines : AreLinesOf (messages session made.command) (encode_utf8_all made.piece)
   pub reads_back : UpdatesReadBack (outcome session made.command.act).updates
-  pub stands : StandsForSession (document_then made.next before) made.config (step session made.command)
+  pub stands : StandsForSession made.held made.opened made.config (step session made.command)
 
--- what came of an act in memory, beside the document before, is the outcome
-pub record IsOutcome (before : Option Doc) (outcome : Outcome) (effects : ActEffects) : Type 0 where
+-- what came of an act in memory is the outcome
+pub record IsOutcome (outcome : Outcome) (effects : ActEffects) : Type 0 where
   pub reply : reply_of effects.reply ≡ outcome.reply
-  pub updates : updates_for view_id effects.update ≡ outcome.updates
-  pub scroll : scroll_for view_id (option_map position_view effects.scroll) ≡ outcome.scroll
-  pub stands : Stands (document_then effects.next before) outcome.views
-
--- there is a document in memory, it stands for this one, and no plugin has a session in it
-abbrev pub Serves : Option Doc → Document → Type 0
-Serves None plain = ⊥
-Serves (Some doc) plain = ServesDocument doc plain
-
--- what came of an event that was taken, with this answer: the document of its step, and what this tells the front end
-pub record IsTaken (step : EventStep) (answer : FrontReply) (effects : ActEffects) : Type 0 where
-  pub reply : effects.reply ≡ answer
-  pub next : Serves effects.next step.document
-  pub update : effects.update ≡ step.update
-  pub scroll : option_map position_view effects.scroll ≡ step.scroll
+  pub updates : effects.updates ≡ outcome.updates
+  pub scroll : effects.scroll ≡ outcome.scroll
+  pub stands : Stands effects.held outcome.views
 
 -- a fault of the front end's own edit: its characters are spent, or memory is wanting
 abbrev pub IsSpentOrLack : DocFault → Type 0

@@ -1,6 +1,6 @@
 -- THE PLAIN SESSION: what the entries of a journal do, one after the other, and what each writes.
-use Rattle.std.specs.Prelude.{ℕ, ◌^◌, ◌≤◌, false, if◌then◌else◌, List, [], ◌∷◌, ◌++◌, map, codes, Option, Some, None, unwrap_or}
-use Rattle.std.specs.List.{AllByRecursion}
+use Rattle.std.specs.Prelude.{ℕ, ◌+◌, ◌^◌, ◌≤◌, not, false, if◌then◌else◌, List, [], ◌∷◌, ◌++◌, map, codes, Option, Some, None, unwrap_or}
+use Rattle.std.specs.List.{AllByRecursion, filter}
 use Rattle.std.specs.Str.{encode_utf8_all, bytes_eq}
 use Rattle.serde_json.specs.Data.{Data, null}
 use Rattle.xi_plain.specs.declared.command.Id.{Id}
@@ -22,6 +22,7 @@ use Rattle.view_update.specs.declared.note.ViewUpdate.{ViewUpdate}
 use Rattle.view_update.specs.declared.note.Scroll.{Scroll}
 use Rattle.entry_lines.specs.Answer.{Reply, accepted, refused, spent, not_built, silent}
 use Rattle.entry_lines.specs.Piece.{entry_messages, lines_written}
+use Rattle.entry_lines.specs.ViewId.{view_id_of}
 use Rattle.doc_session.specs.declared.event.Body.{Body}
 use Rattle.doc_session.specs.declared.event.Body.TheVariants.{Null, Chunk, Copied, Edited, Lines}
 use Rattle.doc_session.specs.declared.event.Event.TheVariants.{Config as Configured, Front, Other}
@@ -43,10 +44,11 @@ view_of (view ∷ views) id = if bytes_eq id view.id then Some view else view_of
 abbrev pub named_view : List OpenView → List ℕ → Option OpenView
 named_view views name = view_of views (encode_utf8_all name)
 
--- A SESSION: how all its texts are laid out and edited, and the views that are open
+-- A SESSION: how all its texts are laid out and edited, the views that are open in the order of their openings, and how many were opened
 pub record Session : Type 0 where
   pub config : Config
   pub views : List OpenView
+  pub opened : ℕ
 
 -- what an act comes to: what it is answered, the views that are open after it, and the updates and the place to scroll to that the
 -- front end is told, if any
@@ -101,10 +103,6 @@ refusing_view views = refusing views (BadParams (codes "view_id"))
 abbrev pub leaving : List OpenView → Outcome
 leaving views = record { reply = silent; views = views; updates = []; scroll = None }
 
--- the id of the first view
-abbrev pub view_id : List ℕ
-view_id = codes "view-id-1"
-
 -- the most characters that may be inserted into a document
 abbrev pub text_limit : ℕ
 text_limit = 2 ^ 40
@@ -115,7 +113,7 @@ first_config = record { tab = 4; width = 0; spaces = false }
 
 -- a session without entries
 abbrev pub first_session : Session
-first_session = record { config = first_config; views = [] }
+first_session = record { config = first_config; views = []; opened = 0 }
 
 -- the configuration after a change: a member of which nothing is said stays
 abbrev pub config_with : Config → Changes → Config
@@ -130,17 +128,18 @@ abbrev pub config_after : Config → Act → Config
 config_after config (Configure changes) = config_with config changes
 config_after config act = config
 
--- the document of the first view, on an empty text, without plugins
-abbrev pub first_document : Config → Document
-first_document config = loaded_document [] 0 text_limit config
+-- the document of a view that is opened on this text, without plugins
+abbrev pub opened_document : Config → List ℕ → Document
+opened_document config text = loaded_document text 0 text_limit config
 
--- the first view, before its front end was told anything
-abbrev pub first_view : Config → OpenView
-first_view config = record { id = view_id; document = first_document config }
+-- the view that is opened after so many, before its front end was told anything
+abbrev pub next_view : Config → ℕ → List ℕ → OpenView
+next_view config opened text = record { id = view_id_of (opened + 1); document = opened_document config text }
 
--- the first view is opened
-abbrev pub opening_outcome : Config → Outcome
-opening_outcome config = taking (accepted (text_data view_id)) None other_step (first_view config ∷ [])
+-- a view is opened behind those that are open, and its id is the answer
+abbrev pub opening_outcome : Config → ℕ → List OpenView → List ℕ → Outcome
+opening_outcome config opened views text =
+    taking (accepted (text_data (view_id_of (opened + 1)))) None other_step (views ++ next_view config opened text ∷ [])
 
 -- the step of a view that is told a configuration
 abbrev pub config_step : Config → OpenView → EventStep
@@ -184,18 +183,32 @@ abbrev pub undone_outcome : List OpenView → Option OpenView → Outcome
 undone_outcome views None = refusing_view views
 undone_outcome views (Some view) = keeping views not_built
 
--- a view is opened, where none was, on no file
-abbrev pub open_outcome : Config → List OpenView → Option (List ℕ) → Outcome
-open_outcome config [] None = opening_outcome config
-open_outcome config views path = keeping views not_built
+-- a view is opened on an empty text; none is on a file yet
+abbrev pub open_outcome : Config → ℕ → List OpenView → Option (List ℕ) → Outcome
+open_outcome config opened views None = opening_outcome config opened views []
+open_outcome config opened views (Some path) = keeping views not_built
+
+-- how many were opened after an act: an id is never given again
+abbrev pub opened_after : ℕ → Act → ℕ
+opened_after opened (NewView None) = opened + 1
+opened_after opened act = opened
+
+-- the views but the one with this id
+abbrev pub without : List ℕ → List OpenView → List OpenView
+without id views = filter (λ (view : OpenView). not (bytes_eq id view.id)) views
+
+-- the view that was named is closed with its document, where it is open
+abbrev pub close_outcome : List OpenView → Option OpenView → Outcome
+close_outcome views None = refusing_view views
+close_outcome views (Some view) = keeping (without view.id views) (accepted null)
 
 -- THE OUTCOME of an act. A view that is not there is refused first, and what is not done yet last
 abbrev pub outcome : Session → Act → Outcome
 outcome session (Bad fault) = refusing session.views fault
 outcome session Nothing = keeping session.views (accepted null)
 outcome session (Configure changes) = config_outcome session.views (config_with session.config changes)
-outcome session (NewView path) = open_outcome session.config session.views path
-outcome session (CloseView name) = undone_outcome session.views (named_view session.views name)
+outcome session (NewView path) = open_outcome session.config session.opened session.views path
+outcome session (CloseView name) = close_outcome session.views (named_view session.views name)
 outcome session (Save name path) = undone_outcome session.views (named_view session.views name)
 outcome session (Edit name act) = edit_outcome session.views (named_view session.views name) act
 outcome session Closing = leaving session.views
@@ -218,6 +231,7 @@ abbrev pub step : Session → Command → Session
 step session command = record {
   config = config_after session.config command.act;
   views = (outcome session command.act).views;
+  opened = opened_after session.opened command.act;
 }
 
 abbrev pub session_after : Session → List Entry → Session

@@ -1,24 +1,22 @@
-ghost use Rattle.std.specs.Prelude.{◌≡◌, ◌<◌, List, [], ◌∷◌, Option, Some, None, IfOk};
-ghost use Rattle.std.specs.Str.{encode_utf8_all, bytes_eq};
-ghost use Rattle.xi_plain.specs.declared.command.Act.{Act};
-ghost use Rattle.doc_session.specs.Document.{Document};
+ghost use Rattle.std.specs.Prelude.{◌≡◌, ◌+◌, ◌<◌, ◌^◌, ℕ, List, Option, Some, None, IfOk, length, option_map};
 ghost use Rattle.doc_text.specs.Fault.{DocRefuses};
 ghost use Rattle.doc_text.specs.Refusal.{DocRefusal};
-ghost use Rattle.doc_session.specs.Stands.{DocStandsFor};
-ghost use Rattle.doc_session.specs.Step.{EventStep, IsEventFor, event_step};
-ghost use Rattle.core_session.specs.Core.{ServesView, Stands};
-ghost use Rattle.core_session.specs.InnerSession.{IsMade, IsOutcome, IsSpentOrLack, IsTaken, MayBeAsked, TakesEvents};
+ghost use Rattle.doc_session.specs.PositionView.{position_view};
+ghost use Rattle.doc_session.specs.Step.{EventStep};
 ghost use Rattle.entry_lines.specs.Answer.{accepted, reply_of};
-ghost use Rattle.core_session.specs.Session.{OpenView, Session, config_after, config_outcome, view_id, named_view, outcome, edit_came, edit_outcome, undone_outcome, open_outcome, front_outcome, keeping, refusing, refusing_view, result_of, spent_total};
+ghost use Rattle.entry_lines.specs.ViewId.{view_id_of};
+ghost use Rattle.core_session.specs.Core.{IsOfLine, Stands};
+ghost use Rattle.core_session.specs.InnerSession.{AreThere, HasTab, IsEdited, IsFoundAt, IsOutcome, IsSpentOrLack, MayBeAsked, each_step};
+ghost use Rattle.core_session.specs.Session.{OpenView, Session, close_outcome, config_after, edit_came, edit_outcome, front_outcome, keeping, named_view, open_outcome, opening_outcome, outcome, refusing, refusing_view, result_of, scroll_for, spent_total, taking, undone_outcome};
 
-use crate::piece::{FIRST_VIEW, first_view};
+use crate::after::after_alone;
+use crate::opened::{Opened, place_of};
+use crate::stepped::{Stepped, ToEach};
 use doc_session::{Body, Doc, DocFault, Effects, Event};
-use entry_lines::FrontReply;
-use plain_screen::Update;
-use plain_text::{NoMemory, Steps, Text, TryClone};
+use entry_lines::{FrontReply, view_id_of};
+use plain_text::{List, NoMemory, Text, TryClone};
 use std::alloc::Global;
-use std::marker::Brand;
-use std::sync::ledger::{Blank, Ledger};
+use view_update::{Scroll, ViewUpdate};
 use xi_plain::{Act, Config, EditAct, Fault};
 
 /// The member of a line that names its view.
@@ -27,188 +25,216 @@ const VIEW_MEMBER: &str = "view_id";
 /// The most characters that may be inserted into a document.
 const TEXT_LIMIT: u64 = 1 << 40;
 
-/// What an act came to: what it is answered, the document that takes the place of the present one, where there is another, and what
-/// else the front end is told.
+/// What an act came to: what it is answered, the views that are open then, and what else the front end is told.
 #[derive(Drop)]
 pub struct ActEffects {
     pub reply: FrontReply,
-    pub next: Option<Doc>,
-    pub update: Option<Update>,
-    pub scroll: Option<(u64, u64)>,
+    pub held: List<Opened>,
+    pub updates: List<ViewUpdate>,
+    pub scroll: Option<Scroll>,
 }
 
-/// Does what a command asks, beside the present document. `config` is how texts are laid out and edited from then on.
+/// Does what a command asks, beside the views that are open. `opened` is how many were opened before, and `config` how texts are laid out
+/// and edited from then on.
 pub fn act_on(
     alloc: Global,
-    document: &Option<Doc>,
+    held: &[Opened],
+    opened: u64,
     config: Config,
     act: &Act,
 ) -> Result<ActEffects, NoMemory>
-    requires asked { MayBeAsked document.now }
+    requires asked { MayBeAsked held.now }
+    requires few { opened < 2 ^ 63 }
     requires tab { 0 < config.tab }
-    ensures { (session : Session) → Stands document.now session.views → config ≡ config_after session.config act.now
-        → IfOk result (IsOutcome document.now (outcome session act.now)) }
+    requires line { IsOfLine act.now }
+    ensures { (session : Session) → AreThere held.now session.views → opened ≡ session.opened
+        → config ≡ config_after session.config act.now → IfOk result (IsOutcome (outcome session act.now)) }
 {
     match act {
-        Act::Bad(fault) => refused(alloc, document, fault),
-        Act::Nothing => others(alloc, document, FrontReply::Accepted),
-        Act::Configure(_) => configure(alloc, document, config),
-        Act::NewView { path } => open(alloc, document, config, path),
-        Act::CloseView { view } => undone(alloc, document, view),
-        Act::Save { view, path: _ } => undone(alloc, document, view),
-        Act::Edit { view, act } => edit(alloc, document, view, act),
-        Act::Closing => Ok(changed_nothing(FrontReply::Silent)),
-        _ => others(alloc, document, FrontReply::NotBuilt),
+        Act::Bad(fault) => refused(alloc, held, fault),
+        Act::Nothing => others(alloc, held, FrontReply::Accepted),
+        Act::Configure(_) => each(alloc, held, ToEach::Config(config), FrontReply::Accepted),
+        Act::NewView { path } => open(alloc, held, opened, config, path),
+        Act::CloseView { view } => close(alloc, held, view),
+        Act::Save { view, path: _ } => undone(alloc, held, view),
+        Act::Edit { view, act } => edit(alloc, held, view, act),
+        Act::Closing => unreachable!(),
+        _ => others(alloc, held, FrontReply::NotBuilt),
     }
 }
 
-/// Texts are laid out and edited so from now on: a document is told, also where nothing changes.
-fn configure(alloc: Global, document: &Option<Doc>, config: Config) -> Result<ActEffects, NoMemory>
-    requires asked { MayBeAsked document.now }
-    requires tab { 0 < config.tab }
-    ensures { (views : List OpenView) → Stands document.now views
-        → IfOk result (IsOutcome document.now (config_outcome views config)) }
+/// Each view takes its step, answered so, and nothing is scrolled.
+fn each(
+    alloc: Global,
+    held: &[Opened],
+    told: ToEach,
+    reply: FrontReply,
+) -> Result<ActEffects, NoMemory>
+    requires asked { MayBeAsked held.now }
+    requires tab { HasTab told }
+    ensures { (views : List OpenView) → Stands held.now views
+        → IfOk result (IsOutcome (taking (reply_of reply) None (each_step told) views)) }
 {
-    match document {
-        Some(doc) => step(alloc, doc, Event::Config(config), FrontReply::Accepted),
-        None => Ok(changed_nothing(FrontReply::Accepted)),
-    }
+    let mut stepped = Stepped::new(alloc);
+    stepped.take(alloc, held, told)?;
+    Ok(effects_of(stepped, reply, None))
 }
 
-/// A line that is none of a document's own: it ends its run of typing.
-fn others(alloc: Global, document: &Option<Doc>, reply: FrontReply) -> Result<ActEffects, NoMemory>
-    requires { MayBeAsked document.now }
-    ensures { (views : List OpenView) → Stands document.now views
-        → IfOk result (IsOutcome document.now (keeping views (reply_of reply))) }
+/// A line that is none of a document's own: it ends the runs of typing.
+fn others(alloc: Global, held: &[Opened], reply: FrontReply) -> Result<ActEffects, NoMemory>
+    requires { MayBeAsked held.now }
+    ensures { (views : List OpenView) → Stands held.now views
+        → IfOk result (IsOutcome (keeping views (reply_of reply))) }
 {
-    match document {
-        Some(doc) => step(alloc, doc, Event::Other, reply),
-        None => Ok(changed_nothing(reply)),
-    }
+    each(alloc, held, ToEach::Other, reply)
 }
 
-/// The step of a document at an event that it never refuses, answered so.
-fn step(alloc: Global, doc: &Doc, event: Event, reply: FrontReply) -> Result<ActEffects, NoMemory>
-    requires alone { TakesEvents doc.now }
-    requires event { IsEventFor 0 event }
-    ensures { (plain : Document) → DocStandsFor doc.now plain → IfOk result (IsTaken (event_step plain event) reply) }
+fn effects_of(stepped: Stepped, reply: FrontReply, scroll: Option<Scroll>) -> ActEffects
+    ensures { result ≡ record { reply = reply; held = stepped.held; updates = stepped.updates; scroll = scroll } }
 {
-    match after_alone(alloc, doc, event) {
-        Ok((next, effects)) => Ok(taken(reply, next, effects)),
-        Err(_) => Err(NoMemory),
-    }
-}
-
-fn changed_nothing(reply: FrontReply) -> ActEffects
-    ensures { result ≡ record { reply = reply; next = None; update = None; scroll = None } }
-{
+    let Stepped { held, updates } = stepped;
     ActEffects {
         reply,
-        next: None,
-        update: None,
-        scroll: None,
+        held,
+        updates,
+        scroll,
     }
 }
 
-fn refused(alloc: Global, document: &Option<Doc>, fault: &Fault) -> Result<ActEffects, NoMemory>
-    requires { MayBeAsked document.now }
-    ensures { (views : List OpenView) → Stands document.now views
-        → IfOk result (IsOutcome document.now (refusing views fault.now)) }
+fn refused(alloc: Global, held: &[Opened], fault: &Fault) -> Result<ActEffects, NoMemory>
+    requires { MayBeAsked held.now }
+    ensures { (views : List OpenView) → Stands held.now views → IfOk result (IsOutcome (refusing views fault.now)) }
 {
-    others(alloc, document, FrontReply::Refused(fault.copy(alloc)?))
+    others(alloc, held, FrontReply::Refused(fault.copy(alloc)?))
 }
 
 /// The refusal of a view that is not there.
-fn refused_view(alloc: Global, document: &Option<Doc>) -> Result<ActEffects, NoMemory>
-    requires { MayBeAsked document.now }
-    ensures { (views : List OpenView) → Stands document.now views
-        → IfOk result (IsOutcome document.now (refusing_view views)) }
+fn refused_view(alloc: Global, held: &[Opened]) -> Result<ActEffects, NoMemory>
+    requires { MayBeAsked held.now }
+    ensures { (views : List OpenView) → Stands held.now views → IfOk result (IsOutcome (refusing_view views)) }
 {
     let member = Text::from_ascii(alloc, VIEW_MEMBER)?;
-    others(
-        alloc,
-        document,
-        FrontReply::Refused(Fault::BadParams(member)),
-    )
+    others(alloc, held, FrontReply::Refused(Fault::BadParams(member)))
 }
 
 /// What is not done yet of a view.
-fn undone(alloc: Global, document: &Option<Doc>, name: &Text) -> Result<ActEffects, NoMemory>
-    requires { MayBeAsked document.now }
-    ensures { (views : List OpenView) → Stands document.now views
-        → IfOk result (IsOutcome document.now (undone_outcome views (named_view views name.now))) }
+fn undone(alloc: Global, held: &[Opened], name: &Text) -> Result<ActEffects, NoMemory>
+    requires { MayBeAsked held.now }
+    ensures { (views : List OpenView) → AreThere held.now views
+        → IfOk result (IsOutcome (undone_outcome views (named_view views name.now))) }
 {
-    match document {
-        Some(_) if is_first_view(name) => others(alloc, document, FrontReply::NotBuilt),
-        _ => refused_view(alloc, document),
+    match place_of(held, name) {
+        Some(_) => others(alloc, held, FrontReply::NotBuilt),
+        None => refused_view(alloc, held),
     }
 }
 
+/// Opens a view behind those that are open, whose runs of typing end.
 fn open(
     alloc: Global,
-    document: &Option<Doc>,
+    held: &[Opened],
+    opened: u64,
     config: Config,
     path: &Option<Text>,
 ) -> Result<ActEffects, NoMemory>
-    requires asked { MayBeAsked document.now }
+    requires asked { MayBeAsked held.now }
+    requires few { opened < 2 ^ 63 }
     requires tab { 0 < config.tab }
-    ensures { (views : List OpenView) → Stands document.now views
-        → IfOk result (IsOutcome document.now (open_outcome config views path.now)) }
+    ensures { (views : List OpenView) → Stands held.now views
+        → IfOk result (IsOutcome (open_outcome config opened views path.now)) }
 {
-    if document.is_some() || path.is_some() {
-        return others(alloc, document, FrontReply::NotBuilt);
+    match path {
+        Some(_) => others(alloc, held, FrontReply::NotBuilt),
+        None => open_text(
+            alloc,
+            held,
+            view_id_of(alloc, opened + 1)?,
+            Text::new(alloc),
+            config,
+        ),
     }
-    let view = first_view(alloc)?;
-    let doc = Doc::of_text(alloc, Text::new(alloc), 0, TEXT_LIMIT, config)?;
-    let opened = step(alloc, &doc, Event::Other, FrontReply::Opened(view));
-    drop(doc);
-    opened
 }
 
-fn edit(
+/// Opens a view with this id on a text.
+fn open_text(
     alloc: Global,
-    document: &Option<Doc>,
-    name: &Text,
-    act: &EditAct,
+    held: &[Opened],
+    id: Text,
+    text: Text,
+    config: Config,
 ) -> Result<ActEffects, NoMemory>
-    requires { MayBeAsked document.now }
-    ensures { (views : List OpenView) → Stands document.now views
-        → IfOk result (IsOutcome document.now (edit_outcome views (named_view views name.now) act.now)) }
+    requires asked { MayBeAsked held.now }
+    requires tab { 0 < config.tab }
+    ensures { (opened : ℕ) (views : List OpenView) → id ≡ view_id_of (opened + 1) → Stands held.now views
+        → IfOk result (IsOutcome (opening_outcome config opened views text)) }
 {
-    match document {
-        Some(doc) if is_first_view(name) => edit_document(alloc, doc, act),
-        _ => refused_view(alloc, document),
+    let doc = Doc::of_text(alloc, text, 0, TEXT_LIMIT, config)?;
+    let mut stepped = Stepped::new(alloc);
+    stepped.take(alloc, held, ToEach::Other)?;
+    stepped.take_one(alloc, &id, &doc, ToEach::Other)?;
+    drop(doc);
+    Ok(effects_of(stepped, FrontReply::Opened(id), None))
+}
+
+/// Closes a view and its document.
+fn close(alloc: Global, held: &[Opened], name: &Text) -> Result<ActEffects, NoMemory>
+    requires { MayBeAsked held.now }
+    ensures { (views : List OpenView) → AreThere held.now views
+        → IfOk result (IsOutcome (close_outcome views (named_view views name.now))) }
+{
+    match place_of(held, name) {
+        Some(at) => close_at(alloc, held, at),
+        None => refused_view(alloc, held),
     }
 }
 
-fn is_first_view(name: &Text) -> bool
-    ensures { result ≡ bytes_eq (encode_utf8_all name.now) view_id }
+/// Closes the view that stands there.
+fn close_at(alloc: Global, held: &[Opened], at: usize) -> Result<ActEffects, NoMemory>
+    requires asked { MayBeAsked held.now }
+    requires inside { at < length held.now }
+    ensures { (views : List OpenView) (view : OpenView) → AreThere held.now views → IsFoundAt views at view
+        → IfOk result (IsOutcome (close_outcome views (Some view))) }
 {
-    name.as_str() == FIRST_VIEW
+    let mut stepped = Stepped::new(alloc);
+    stepped.take(alloc, &held[..at], ToEach::Other)?;
+    stepped.take(alloc, &held[at + 1..], ToEach::Other)?;
+    Ok(effects_of(stepped, FrontReply::Accepted, None))
 }
 
-/// Edits the view that is there.
-fn edit_document(alloc: Global, doc: &Doc, act: &EditAct) -> Result<ActEffects, NoMemory>
-    requires { MayBeAsked (Some doc.now) }
-    ensures { (view : OpenView) → ServesView doc.now view
-        → IfOk result (IsOutcome (Some doc.now) (front_outcome (view ∷ []) view act.now)) }
+fn edit(alloc: Global, held: &[Opened], name: &Text, act: &EditAct) -> Result<ActEffects, NoMemory>
+    requires { MayBeAsked held.now }
+    ensures { (views : List OpenView) → AreThere held.now views
+        → IfOk result (IsOutcome (edit_outcome views (named_view views name.now) act.now)) }
 {
-    match after_alone(alloc, doc, Event::Front(act.copy(alloc)?)) {
-        Ok((next, effects)) => Ok(edited(next, effects)),
-        Err(fault) => not_edited(alloc, doc, fault),
+    match place_of(held, name) {
+        Some(at) => edit_at(alloc, held, at, act),
+        None => refused_view(alloc, held),
+    }
+}
+
+/// Edits the view that stands there.
+fn edit_at(alloc: Global, held: &[Opened], at: usize, act: &EditAct) -> Result<ActEffects, NoMemory>
+    requires asked { MayBeAsked held.now }
+    requires inside { at < length held.now }
+    ensures { (views : List OpenView) (view : OpenView) → AreThere held.now views → IsFoundAt views at view
+        → IfOk result (IsOutcome (front_outcome views view act.now)) }
+{
+    match after_alone(alloc, &held[at].doc, Event::Front(act.copy(alloc)?)) {
+        Ok((next, effects)) => edited(alloc, held, at, next, effects),
+        Err(fault) => not_edited(alloc, held, fault),
     }
 }
 
 /// What the fault of an edit comes to. The front end's edits are against the head, and their deltas fit; it gives no styles.
-fn not_edited(alloc: Global, doc: &Doc, fault: DocFault) -> Result<ActEffects, NoMemory>
+fn not_edited(alloc: Global, held: &[Opened], fault: DocFault) -> Result<ActEffects, NoMemory>
     requires fault { IsSpentOrLack fault }
-    requires asked { MayBeAsked (Some doc.now) }
-    ensures { (view : OpenView) (refusal : Option DocRefusal) (step : EventStep)
-        → ServesView doc.now view → DocRefuses refusal fault
-        → IfOk result (IsOutcome (Some doc.now) (edit_came (view ∷ []) view (spent_total refusal) step)) }
+    requires asked { MayBeAsked held.now }
+    ensures { (views : List OpenView) (view : OpenView) (refusal : Option DocRefusal) (step : EventStep)
+        → Stands held.now views → DocRefuses refusal fault
+        → IfOk result (IsOutcome (edit_came views view (spent_total refusal) step)) }
 {
     match fault {
-        DocFault::Spent(_) => step(alloc, doc, Event::Other, FrontReply::Spent),
+        DocFault::Spent(_) => others(alloc, held, FrontReply::Spent),
         DocFault::NoMemory => Err(NoMemory),
         DocFault::Unknown(_)
         | DocFault::Collected(_)
@@ -217,30 +243,19 @@ fn not_edited(alloc: Global, doc: &Doc, fault: DocFault) -> Result<ActEffects, N
     }
 }
 
-fn taken(reply: FrontReply, next: Doc, effects: Effects) -> ActEffects
-    ensures { result ≡ record { reply = reply; next = Some next; update = effects.update; scroll = effects.scroll } }
-{
-    let Effects {
-        body,
-        update,
-        scroll,
-        notice,
-    } = effects;
-    drop((body, notice));
-    ActEffects {
-        reply,
-        next: Some(next),
-        update,
-        scroll,
-    }
-}
-
-/// What an edit of the view came to, which is answered as the document says.
-fn edited(next: Doc, effects: Effects) -> ActEffects
-    ensures reply { reply_of result.reply ≡ accepted (result_of effects.body) }
-    ensures next { result.next ≡ Some next }
-    ensures update { result.update ≡ effects.update }
-    ensures scroll { result.scroll ≡ effects.scroll }
+/// What an edit of the view that stands there came to, which is answered as its document says.
+fn edited(
+    alloc: Global,
+    held: &[Opened],
+    at: usize,
+    next: Doc,
+    effects: Effects,
+) -> Result<ActEffects, NoMemory>
+    requires asked { MayBeAsked held.now }
+    requires inside { at < length held.now }
+    ensures { (views : List OpenView) (view : OpenView) (step : EventStep) → AreThere held.now views
+        → IsFoundAt views at view → IsEdited step next effects
+        → IfOk result (IsOutcome (edit_came views view None step)) }
 {
     let Effects {
         body,
@@ -249,11 +264,28 @@ fn edited(next: Doc, effects: Effects) -> ActEffects
         notice,
     } = effects;
     drop(notice);
-    ActEffects {
-        reply: answer_of(body),
-        next: Some(next),
-        update,
-        scroll,
+    let id = &held[at].id;
+    let mut stepped = Stepped::new(alloc);
+    stepped.take(alloc, &held[..at], ToEach::Other)?;
+    stepped.push(alloc, id, next, update)?;
+    stepped.take(alloc, &held[at + 1..], ToEach::Other)?;
+    let scroll = scroll_of(alloc, id, scroll)?;
+    Ok(effects_of(stepped, answer_of(body), scroll))
+}
+
+fn scroll_of(
+    alloc: Global,
+    id: &Text,
+    scroll: Option<(u64, u64)>,
+) -> Result<Option<Scroll>, NoMemory>
+    ensures { IfOk result (λ place. place ≡ scroll_for id.now (option_map position_view scroll)) }
+{
+    match scroll {
+        Some((line, col)) => {
+            let view = id.copy(alloc)?;
+            Ok(Some(Scroll { view, line, col }))
+        }
+        None => Ok(None),
     }
 }
 
@@ -266,28 +298,4 @@ fn answer_of(body: Body) -> FrontReply
             FrontReply::Accepted
         }
     }
-}
-
-/// The document after an event of the front end, whose steps nobody counts.
-fn after_alone(alloc: Global, doc: &Doc, event: Event) -> Result<(Doc, Effects), DocFault>
-    requires alone { TakesEvents doc.now }
-    requires event { IsEventFor 0 event }
-    ensures { IsMade doc.now event result }
-{
-    counted::<Brand>(alloc, doc, event, Blank::new(1))
-}
-
-fn counted<L: Ledger>(
-    alloc: Global,
-    doc: &Doc,
-    event: Event,
-    blank: Blank,
-) -> Result<(Doc, Effects), DocFault>
-    requires blank { (blank.name ≡ L.name) × ((blank.parts ≡ L.parts) × (0 < blank.parts)) }
-    requires alone { TakesEvents doc.now }
-    requires event { IsEventFor 0 event }
-    ensures { IsMade doc.now event result }
-{
-    let mut steps = Steps::<L>::new(blank);
-    doc.after(alloc, event, &mut steps)
 }

@@ -1,6 +1,6 @@
-ghost use Rattle.std.specs.Prelude.{◌≡◌, ◌<◌};
+ghost use Rattle.std.specs.Prelude.{◌≡◌, ◌<◌, ◌^◌};
 ghost use Rattle.front_wire.specs.Fair.{AreFairChanges, IsFairAct};
-ghost use Rattle.core_session.specs.Session.{config_with, config_after};
+ghost use Rattle.core_session.specs.Session.{config_with, config_after, opened_after};
 
 use xi_plain::{Act, Changes, Config};
 
@@ -21,6 +21,17 @@ pub fn config_after(config: Config, act: &Act) -> Config
     match act {
         Act::Configure(changes) => config_with(config, *changes),
         _ => config,
+    }
+}
+
+/// How many views were opened after a command.
+pub fn opened_after(opened: u64, act: &Act) -> u64
+    requires few { opened < 2 ^ 63 }
+    ensures { result ≡ opened_after opened act.now }
+{
+    match act {
+        Act::NewView { path: None } => opened + 1,
+        _ => opened,
     }
 }
 

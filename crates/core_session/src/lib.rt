@@ -1,4 +1,4 @@
-//! A session: its journal, its document, its configuration and its sink.
+//! A session: its journal, the views that are open, its configuration and its sink.
 //!
 //! [`Core::enter`] makes each line of the front end one entry of the journal and one piece of bytes, which is written before the entry
 //! stands. `specs/Session.antt` has the plain session, which is a fold over the journal; `specs/Shows.antt` says what a front end can
@@ -6,11 +6,13 @@
 #![tactic(auto)]
 
 mod act;
+mod after;
 mod config;
 mod made;
-mod piece;
+mod opened;
 mod prepare;
 mod session;
+mod stepped;
 mod write;
 
 pub use session::{Core, Entered};

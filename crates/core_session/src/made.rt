@@ -1,6 +1,5 @@
 // What is made in parts, and put in place. These functions know nothing of what they hold, so to let it go is one step of their proof.
 ghost use Rattle.std.specs.Prelude.{◌≡◌, Err, IfErr, IfOk, Ok};
-ghost use Rattle.std.specs.Option.{option_or};
 
 /// Both parts, where the second one was made; else the first is let go.
 pub(crate) fn both<A: Drop, B, E>(first: A, second: Result<B, E>) -> Result<(A, B), E>
@@ -13,11 +12,9 @@ pub(crate) fn both<A: Drop, B, E>(first: A, second: Result<B, E>) -> Result<(A, 
     }
 }
 
-/// Puts the next one in place, where there is one.
-pub(crate) fn put<T: Drop>(place: &mut Option<T>, next: Option<T>)
-    ensures { place.new ≡ option_or next place.old }
+/// Puts the next one in place.
+pub(crate) fn put<T: Drop>(place: &mut T, next: T)
+    ensures { place.new ≡ next }
 {
-    if next.is_some() {
-        *place = next;
-    }
+    *place = next;
 }

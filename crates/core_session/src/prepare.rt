@@ -1,69 +1,83 @@
-ghost use Rattle.std.specs.Prelude.{◌≡◌, ◌<◌, IfOk};
+ghost use Rattle.std.specs.Prelude.{◌≡◌, ◌<◌, ◌^◌, IfOk};
 ghost use Rattle.front_wire.specs.Front.{command_of};
 ghost use Rattle.json_rpc.specs.Request.{IsWireId};
 ghost use Rattle.core_session.specs.Session.{Session, config_after};
-ghost use Rattle.core_session.specs.Core.{IsOfLine, Stands, StandsForSession};
-ghost use Rattle.core_session.specs.InnerSession.{IsDone, IsPrepared, MayBeAsked};
+ghost use Rattle.core_session.specs.Core.{IsOfLine, StandsForSession};
+ghost use Rattle.core_session.specs.InnerSession.{AreThere, HasApart, IsDone, IsPrepared, MayBeAsked};
 
 use crate::act::{ActEffects, act_on};
-use crate::config::config_after;
+use crate::config::{config_after, opened_after};
 use crate::made::both;
-use crate::piece::piece_of;
+use crate::opened::Opened;
 use crate::session::Prepared;
-use doc_session::Doc;
+use entry_lines::{FrontNews, piece_of};
 use front_wire::command_of;
-use plain_text::{NoMemory, Text};
+use plain_text::{List, NoMemory, Text};
 use std::alloc::Global;
 use xi_plain::{Command, Config};
 
-/// What a line comes to, beside the present document and configuration.
+/// What a line comes to, beside the views that are open and the configuration.
 pub fn prepare(
     alloc: Global,
-    document: &Option<Doc>,
+    held: &[Opened],
+    opened: u64,
     config: Config,
     line: &[u8],
 ) -> Result<Prepared, NoMemory>
-    requires asked { MayBeAsked document.now }
+    requires asked { MayBeAsked held.now }
+    requires few { opened < 2 ^ 63 }
     requires tab { 0 < config.tab }
     ensures command { IfOk result (λ made. made.command ≡ command_of line.now) }
     ensures asks { IfOk result (λ made. IsOfLine made.command.act) }
-    ensures prepared { (session : Session) → StandsForSession document.now config session
-        → IfOk result (IsPrepared document.now session) }
+    ensures prepared { (session : Session) → HasApart session.views → StandsForSession held.now opened config session
+        → IfOk result (IsPrepared session) }
 {
     let command = command_of(alloc, line)?;
     let config = config_after(config, &command.act);
-    let done = done(alloc, document, config, &command);
-    let (command, (piece, next)) = both(command, done)?;
+    let then = opened_after(opened, &command.act);
+    let done = done(alloc, held, opened, config, &command);
+    let (command, (piece, held)) = both(command, done)?;
     Ok(Prepared {
         command,
         piece,
-        next,
+        held,
+        opened: then,
         config,
     })
 }
 
-/// The piece of a command, and the document that takes the place of the present one, where there is another. `config` is how texts are
-/// laid out and edited after it.
+/// The piece of a command, and the views that are open after it. `config` is how texts are laid out and edited after it.
 fn done(
     alloc: Global,
-    document: &Option<Doc>,
+    held: &[Opened],
+    opened: u64,
     config: Config,
     command: &Command,
-) -> Result<(Text, Option<Doc>), NoMemory>
-    requires asked { MayBeAsked document.now }
+) -> Result<(Text, List<Opened>), NoMemory>
+    requires asked { MayBeAsked held.now }
+    requires few { opened < 2 ^ 63 }
     requires tab { 0 < config.tab }
     requires id { IsWireId command.now.id }
-    ensures { (session : Session) → Stands document.now session.views → config ≡ config_after session.config command.now.act
-        → IfOk result (λ made. IsDone document.now session command.now made.0 made.1) }
+    requires line { IsOfLine command.now.act }
+    ensures { (session : Session) → AreThere held.now session.views → opened ≡ session.opened
+        → config ≡ config_after session.config command.now.act
+        → IfOk result (λ made. IsDone session command.now made.0 made.1) }
 {
-    let effects = act_on(alloc, document, config, &command.act)?;
+    let effects = act_on(alloc, held, opened, config, &command.act)?;
     let ActEffects {
         reply,
-        next,
-        update,
+        held,
+        updates,
         scroll,
     } = effects;
-    let piece = piece_of(alloc, &command.id, reply, update, scroll);
-    let (next, piece) = both(next, piece)?;
-    Ok((piece, next))
+    let news = FrontNews {
+        reply,
+        styles: List::new(alloc),
+        updates,
+        scroll,
+    };
+    let piece = piece_of(alloc, &command.id, &news);
+    drop(news);
+    let (held, piece) = both(held, piece)?;
+    Ok((piece, held))
 }

@@ -8,11 +8,11 @@ ghost use Rattle.front_wire.specs.Front.{command_of};
 
 use crate::config::FIRST_CONFIG;
 use crate::made::put;
+use crate::opened::Opened;
 use crate::prepare::prepare;
 use crate::write::write_piece;
-use doc_session::Doc;
 use outside::Sink;
-use plain_text::Text;
+use plain_text::{List, Text};
 use std::alloc::Global;
 use xi_plain::{Act, Command, Config, Entry, Id, ShelfNote};
 
@@ -31,17 +31,21 @@ pub enum Entered {
 pub struct Prepared {
     pub command: Command,
     pub piece: Text,
-    /// The document that takes the place of the present one, where there is another.
-    pub next: Option<Doc>,
+    /// The views that are open then.
+    pub held: List<Opened>,
+    /// How many were opened by then.
+    pub opened: u64,
     /// How texts are laid out and edited from then on.
     pub config: Config,
 }
 
-/// A session with its journal, its document, its configuration and the sink that it writes to. There is always room for its closing entry.
+/// A session with its journal, the views that are open in the order of their openings, how many were opened, its configuration and the sink
+/// that it writes to. There is always room for its closing entry.
 #[derive(Drop)]
 pub struct Core<K> {
     journal: Vec<Entry>,
-    document: Option<Doc>,
+    views: List<Opened>,
+    opened: u64,
     config: Config,
     sink: K,
 }
@@ -61,7 +65,8 @@ impl<K: Sink> Core<K> {
         match Vec::with_capacity(alloc, 1) {
             Ok(journal) => Ok(Core {
                 journal,
-                document: None,
+                views: List::new(alloc),
+                opened: 0,
                 config: FIRST_CONFIG,
                 sink,
             }),
@@ -84,18 +89,18 @@ impl<K: Sink> Core<K> {
         if self.journal.reserve(2).is_err() {
             return Entered::NoMemory;
         }
-        match prepare(alloc, &self.document, self.config, line) {
+        match prepare(alloc, self.views.as_slice(), self.opened, self.config, line) {
             Ok(made) => self.put(made),
             Err(_) => Entered::NoMemory,
         }
     }
 
-    /// Writes the piece, makes the entry, and puts document and configuration in their places last. A broken write drops them.
+    /// Writes the piece, makes the entry, and puts views and configuration in their places last. A broken write drops them.
     fn put(&mut self, made: Prepared) -> Entered
         requires serving { IsServing self.old }
         requires room { vec_len self.old.journal + 2 ≤ vec_capacity self.old.journal }
         requires asks { IsOfLine made.command.act }
-        requires prepared { IsPrepared self.old.document (session_of (journal_of self.old)) made }
+        requires prepared { IsPrepared (session_of (journal_of self.old)) made }
         ensures sent { result ≡ Entered.Taken
             → AddsSentEntry (sink_state K.held K.faults K.failures) self.old self.new made.command }
         ensures unsent { result ≡ Entered.SinkFault → (n : ℕ)
@@ -106,7 +111,8 @@ impl<K: Sink> Core<K> {
         let Prepared {
             command,
             piece,
-            next,
+            held,
+            opened,
             config,
         } = made;
         let bytes = piece.as_str().as_bytes();
@@ -114,10 +120,11 @@ impl<K: Sink> Core<K> {
         let sent = taken == bytes.len();
         self.journal.push_reserved(front_entry(command, sent));
         if !sent {
-            drop(next);
+            drop(held);
             return Entered::SinkFault;
         }
-        put(&mut self.document, next);
+        put(&mut self.views, held);
+        self.opened = opened;
         self.config = config;
         Entered::Taken
     }
@@ -145,11 +152,12 @@ impl<K: Sink> Core<K> {
     {
         let Core {
             journal,
-            document,
+            views,
+            opened: _,
             config: _,
             sink,
         } = self;
-        drop(document);
+        drop(views);
         (journal, sink)
     }
 }

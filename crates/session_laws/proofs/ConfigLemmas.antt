@@ -1,5 +1,5 @@
 -- All views are laid out and edited as their session is.
-use Rattle.std.proofs.Common.{◌≡◌, ℕ, Bool, true, false, List, [], ◌∷◌, Option, Some, None, refl, ◌∙◌, subst}
+use Rattle.std.proofs.Common.{◌≡◌, ℕ, Bool, true, false, List, [], ◌∷◌, ◌++◌, Option, Some, None, refl, ◌∙◌, subst}
 use Rattle.std.specs.Prelude.{if◌then◌else◌}
 use Rattle.std.specs.List.{AllByRecursion}
 use Rattle.std.specs.Str.{bytes_eq, encode_utf8_all}
@@ -11,7 +11,8 @@ use Rattle.xi_plain.specs.declared.entry.Entry.{Entry}
 use Rattle.doc_session.specs.declared.event.Event.TheVariants.{Config as Configured, Front, Other}
 use Rattle.doc_session.specs.Step.{EventStep, event_step, refusal_at}
 use Rattle.doc_session.proofs.ForCallers.{config-event_step}
-use Rattle.core_session.specs.Session.{OpenView, Session, first_document, first_session, config_with, config_after, config_step, edit_came, edit_outcome, named_view, open_outcome, other_step, outcome, own_step, session_after, spent_total, step, stepped, undone_outcome, view_of}
+use Rattle.core_session.specs.Session.{OpenView, Session, first_session, close_outcome, config_with, config_after, config_step, edit_came, edit_outcome, named_view, next_view, open_outcome, other_step, outcome, own_step, session_after, spent_total, step, stepped, undone_outcome, view_of, without}
+use Rattle.core_session.proofs.ForCallers.{all_without}
 use Rattle.session_laws.specs.Laws.{AllAreConfigured}
 
 -- these views are laid out and edited so
@@ -74,20 +75,34 @@ configured_undone : (config : Config) (views : List OpenView) (found : Option Op
 configured_undone config views None all = configured_others config views all
 configured_undone config views (Some own) all = configured_others config views all
 
-configured_open : (config : Config) (views : List OpenView) (path : Option (List ℕ)) → AreConfigured config views →
-    AreConfigured config (open_outcome config views path).views
+configured_push : (config : Config) (views : List OpenView) (next : OpenView) → next.document.view.config ≡ config → AreConfigured config views →
+    AreConfigured config (views ++ next ∷ [])
 unfolding AreConfigured
-configured_open config [] None all = (config-event_step (first_document config) Other, tt)
-configured_open config [] (Some path) all = tt
-configured_open config (view ∷ views) path all = configured_others config (view ∷ views) all
+configured_push config [] next is all = (is, tt)
+configured_push config (view ∷ views) next is all = (all.0, configured_push config views next is all.1)
+
+configured_open : (config : Config) (opened : ℕ) (views : List OpenView) (path : Option (List ℕ)) → AreConfigured config views →
+    AreConfigured config (open_outcome config opened views path).views
+configured_open config opened views None all =
+    configured_others config (views ++ next_view config opened [] ∷ []) (configured_push config views (next_view config opened []) refl all)
+configured_open config opened views (Some path) all = configured_others config views all
+
+configured_without : (config : Config) (id : List ℕ) (views : List OpenView) → AreConfigured config views → AreConfigured config (without id views)
+unfolding AreConfigured
+configured_without config id views all = all_without (λ (view : OpenView). view.document.view.config ≡ config) id views all
+
+configured_close : (config : Config) (views : List OpenView) (found : Option OpenView) → AreConfigured config views →
+    AreConfigured config (close_outcome views found).views
+configured_close config views None all = configured_others config views all
+configured_close config views (Some own) all = configured_others config (without own.id views) (configured_without config own.id views all)
 
 configured_outcome : (session : Session) (act : Act) → AreConfigured session.config session.views →
     AreConfigured (config_after session.config act) (outcome session act).views
 configured_outcome session (Edit name act) all = configured_edit session.config session.views name (named_view session.views name) act refl all
-configured_outcome session (CloseView name) all = configured_undone session.config session.views (named_view session.views name) all
+configured_outcome session (CloseView name) all = configured_close session.config session.views (named_view session.views name) all
 configured_outcome session (Save name path) all = configured_undone session.config session.views (named_view session.views name) all
 configured_outcome session Closing all = all
-configured_outcome session (NewView path) all = configured_open session.config session.views path all
+configured_outcome session (NewView path) all = configured_open session.config session.opened session.views path all
 configured_outcome session (Configure changes) all =
     let next = config_with session.config changes in
     configured_steps session.config next (config_step next) session.views (λ view at. config-event_step view.document (Configured next)) all

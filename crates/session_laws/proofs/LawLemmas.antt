@@ -14,7 +14,7 @@ use Rattle.view_update.proofs.ForCallers.{updates_are_read, updates_read_back}
 use Rattle.doc_text.specs.Collecting.{AreEnded}
 use Rattle.doc_text.proofs.ForCallers.{none-retired}
 use Rattle.core_session.specs.Shows.{updates_in, screen_with, rebuilt_from}
-use Rattle.session_laws.specs.Laws.{NothingWaits, UnreadShowsNothing, OtherViewIsPassedOver, OtherViewShowsNothing, only_rebuilt_from}
+use Rattle.session_laws.specs.Laws.{NothingWaits, UnreadShowsNothing, OtherViewIsPassedOver}
 use Rattle.core_session.proofs.ForCallers.{updates_of-some, updates_in-lines}
 
 -- one message alone
@@ -38,10 +38,6 @@ other_view_is_passed_over id view update fair other =
     ap (rebuilt_from id (Some [])) (updates_in-update view update fair) ∙
     ap (λ here. if here then screen_after [] update.ops else Some []) other
 
-pub other_view_shows_nothing : OtherViewShowsNothing
-other_view_shows_nothing view update fair other =
-    ap (only_rebuilt_from (Some [])) (updates_in-update view update fair) ∙ ap (λ here. if here then screen_after [] update.ops else None) other
-
 -- ---- nothing waits
 
 ended_all : (sessions : List (Option ℕ)) → length sessions ≡ 0 → AreEnded sessions
@@ -49,11 +45,11 @@ ended_all [] none = tt
 ended_all (session ∷ sessions) none = absurd cc
 
 pub nothing_waits : NothingWaits
-nothing_waits document [] stands = tt
-nothing_waits None (view ∷ views) stands = absurd stands
-nothing_waits (Some doc) (view ∷ next ∷ views) stands = absurd stands
-nothing_waits (Some doc) (view ∷ []) stands =
-    let serves = stands.serves in
+nothing_waits [] [] stands = tt
+nothing_waits [] (view ∷ views) stands = absurd stands
+nothing_waits (kept ∷ held) [] stands = absurd stands
+nothing_waits (kept ∷ held) (view ∷ views) stands =
+    let serves = stands.0.serves in
     let is = serves.stands in
     let ended = ended_all view.document.text.sessions (ap length (sym is.text.parts.sessions) ∙ serves.no_sessions) in
-    ((is.text.none_left, none-retired _ view.document.text is.text ended), tt)
+    ((is.text.none_left, none-retired _ view.document.text is.text ended), nothing_waits held views stands.1)

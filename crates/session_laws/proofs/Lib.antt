@@ -1,4 +1,3 @@
 pub mod ConfigLemmas
 pub mod LawLemmas
-pub mod OnlyViewLemmas
 pub mod RowLemmas

@@ -14,14 +14,14 @@ use Rattle.plain_text.specs.InputLines.{ended_lines, lines_of}
 use Rattle.front_wire.specs.Front.{command_of}
 use Rattle.outside.specs.Sink.{Gains}
 use Rattle.xi_plain.specs.Journal.{closing_entry}
-use Rattle.core_session.specs.Session.{first_session, view_id, written}
+use Rattle.core_session.specs.Session.{first_session, written}
 use Rattle.core_session.specs.Core.{piece_after}
 use Rattle.xi_top.specs.declared.ending.Ending.TheVariants.{NoMemory, SourceFault, SinkFault, TooMany, TooLong}
 use Rattle.xi_top.specs.Ending.{Outcome, status_of}
 use Rattle.xi_top.specs.Written.{IsProperPart}
 use Rattle.xi_top.specs.Run.{Passage, IsRun}
-use Rattle.session_laws.specs.Rows.{FirstInsertion, FirstReadFails, FirstView, HalfLine, StrangeNotes, ThirdWriteFails, ThreeInsertions, first_bytes, insertion, opening, opening_bytes, opening_line, unsent_insertion}
-use Rattle.session_laws.proofs.LawLemmas.{other_view_is_passed_over, other_view_shows_nothing, unread_shows_nothing}
+use Rattle.session_laws.specs.Rows.{FirstInsertion, FirstReadFails, FirstView, HalfLine, StrangeNotes, ThirdWriteFails, ThreeInsertions, first_bytes, first_id, insertion, opening, opening_bytes, opening_line, unsent_insertion}
+use Rattle.session_laws.proofs.LawLemmas.{other_view_is_passed_over, unread_shows_nothing}
 use Rattle.xi_top.proofs.ForCallers.{told_input, asked-lines}
 
 -- ---- what a session writes
@@ -45,9 +45,8 @@ second_update = record { ops = []; pristine = true }
 pub strange_notes : StrangeNotes
 unfolding line_of digits escape_byte lib.Utf8.encode second_update
 strange_notes = record {
-  no_params = unread_shows_nothing view_id (object no_members) IsLineOf-empty_note refl;
-  other_view = other_view_is_passed_over view_id (codes "view-id-2") second_update (record { id = refl; ops = tt }) refl;
-  only_view = other_view_shows_nothing (codes "view-id-2") second_update (record { id = refl; ops = tt }) refl;
+  no_params = unread_shows_nothing first_id (object no_members) IsLineOf-empty_note refl;
+  other_view = other_view_is_passed_over first_id (codes "view-id-2") second_update (record { id = refl; ops = tt }) refl;
 }
 
 -- ---- the first read fails

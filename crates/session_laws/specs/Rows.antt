@@ -9,10 +9,9 @@ use Rattle.xi_plain.specs.declared.entry.Entry.{Entry}
 use Rattle.xi_plain.specs.declared.entry.ShelfNote.TheVariants.{NoCall}
 use Rattle.outside.specs.Sink.{SinkState}
 use Rattle.xi_plain.specs.Journal.{closing_entry}
-use Rattle.core_session.specs.Session.{first_session, session_of, view_id, written}
+use Rattle.core_session.specs.Session.{first_session, session_of, written}
 use Rattle.core_session.specs.Shows.{rebuilt}
 use Rattle.core_session.specs.Core.{piece_after}
-use Rattle.session_laws.specs.Laws.{only_rebuilt}
 use Rattle.xi_top.specs.Written.{IsCutOff, IsProperPart}
 use Rattle.xi_top.specs.Run.{Passage, RunsAlone}
 
@@ -20,12 +19,16 @@ use Rattle.xi_top.specs.Run.{Passage, RunsAlone}
 abbrev pub entry_of : Id → Act → Entry
 entry_of id act = record { caller = 0; command = record { id = id; act = act }; shelf = NoCall; sent = true }
 
+-- the id of the first view
+abbrev pub first_id : List ℕ
+first_id = codes "view-id-1"
+
 -- the opening of the first view, and the insertion of characters into it
 abbrev pub opening : Entry
 opening = entry_of (Num (pos 0)) (NewView None)
 
 abbrev pub insertion : List ℕ → Entry
-insertion chars = entry_of NoId (Edit view_id (Insert chars))
+insertion chars = entry_of NoId (Edit first_id (Insert chars))
 
 -- what the opening writes, and the insertions of `a`, `é` and LF after it
 abbrev pub opening_bytes : List ℕ
@@ -65,12 +68,10 @@ FirstInsertion = written first_session (opening ∷ insertion (97 ∷ []) ∷ []
 abbrev pub second_view_bytes : List ℕ
 second_view_bytes = codes "{\"method\":\"update\",\"params\":{\"update\":{\"ops\":[],\"pristine\":true},\"view_id\":\"view-id-2\"}}\n"
 
--- bytes with a note of unknown shape show no screen. An update of a second view leaves the first one's screen as it was, and shows a front
--- end that knows the first alone nothing
+-- bytes with a note of unknown shape show no screen. An update of a second view leaves the first one's screen as it was
 pub record StrangeNotes : Type 0 where
-  pub no_params : rebuilt view_id (codes "{\"method\":\"update\",\"params\":{}}\n") ≡ None
-  pub other_view : rebuilt view_id second_view_bytes ≡ Some []
-  pub only_view : only_rebuilt second_view_bytes ≡ None
+  pub no_params : rebuilt first_id (codes "{\"method\":\"update\",\"params\":{}}\n") ≡ None
+  pub other_view : rebuilt first_id second_view_bytes ≡ Some []
 
 -- each of three insertions tells its line and where the caret is; the last begins a line
 abbrev pub ThreeInsertions : Type 0

@@ -1,6 +1,6 @@
 //! Laws of the definitions, each the contract of a function: they hold of all journals and all bytes.
 
-ghost use Rattle.session_laws.specs.Laws.{AllAreConfigured, NothingWaits, OnlyViewIsShown, OtherViewIsPassedOver, OtherViewShowsNothing, RevisionsAreFew, UnreadShowsNothing};
+ghost use Rattle.session_laws.specs.Laws.{AllAreConfigured, NothingWaits, OtherViewIsPassedOver, RevisionsAreFew, UnreadShowsNothing};
 
 /// A document has at most as many revisions as its journal has entries.
 pub fn revisions_are_few()
@@ -25,14 +25,4 @@ pub fn unread_shows_nothing()
 /// An update of another view leaves a screen as it was.
 pub fn other_view_is_passed_over()
     ensures { OtherViewIsPassedOver }
-{}
-
-/// A front end that knows the first view alone is shown nothing by an update of another one.
-pub fn other_view_shows_nothing()
-    ensures { OtherViewShowsNothing }
-{}
-
-/// While there is no second view, such a front end sees what the journal defines.
-pub fn only_view_is_shown()
-    ensures { OnlyViewIsShown }
 {}

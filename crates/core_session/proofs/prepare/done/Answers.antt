@@ -1,17 +1,23 @@
-use Rattle.std.proofs.Common.{Option, sym, subst}
+use Rattle.std.proofs.Common.{List, sym, subst}
 use Rattle.std.proofs.lemmas.Result.{IfOk-at_ok}
-use Rattle.doc_session.specs.InMemory.{Doc}
+use Rattle.std.specs.Str.{encode_utf8_all}
+use Rattle.entry_lines.specs.Answer.{reply_of}
+use Rattle.entry_lines.specs.Piece.{AreLinesOf, entry_messages}
+use Rattle.view_update.specs.declared.note.NumberedStyle.{NumberedStyle}
+use Rattle.core_session.specs.declared.opened.Opened.{Opened}
 use Rattle.core_session.specs.InnerSession.{IsDone}
 use Rattle.core_session.proofs.PrepareLemmas.{IsDone-by}
 use Rattle.core_session.proofs.prepare.done.Goals as goal
 
 pub returns : goal.returns
-returns c = λ session stands config.
-    let document = c.args.document.now in
+returns c = λ session there opened config.
     let command = c.args.command.now in
-    let piece = c.in_ok-next.piece in
-    let At : Option Doc → Type 0 = λ next. IsDone document session command piece next in
-    let made = c.in_ok-next.ensures.made in
+    let last = c.in_ok-held in
+    let At : List Opened → Type 0 = λ held. IsDone session command last.piece held in
+    let made = last.ensures.made in
+    let effects = c.in_ok-effects.effects in
+    let Lines : List NumberedStyle → Type 0 =
+    λ styles. AreLinesOf (entry_messages command.id (reply_of effects.reply) styles effects.updates effects.scroll) (encode_utf8_all last.piece) in
     subst At (sym made.0)
-    (IsDone-by document session command c.in_ok-effects.effects piece (c.in_ok-effects.ensures session stands config)
-    (IfOk-at_ok _ made.1 c.piece_of-piece.ensures.reads_back) (IfOk-at_ok _ made.1 c.piece_of-piece.ensures.lines))
+    (IsDone-by session command c.in_ok-effects.effects last.piece (c.in_ok-effects.ensures session there opened config)
+    (IfOk-at_ok _ made.1 c.piece_of-piece.ensures.reads_back) (subst Lines c.new.ensures (IfOk-at_ok _ made.1 c.piece_of-piece.ensures.lines)))

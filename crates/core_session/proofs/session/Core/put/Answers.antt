@@ -1,4 +1,5 @@
 use Rattle.std.proofs.Common.{◌≡◌, ◌++◌, ◌∷◌, [], ◌<◌, List, ℕ, true, false, length, ap, ◌∙◌, subst, arith, eq-eqb, take}
+use Rattle.std.specs.Prelude.{◌^◌}
 use Rattle.std.proofs.lemmas.Bool.{ne_eqb}
 use Rattle.std.proofs.lemmas.List.{take_all}
 use Rattle.outside.specs.Sink.{Gains}
@@ -8,7 +9,9 @@ use Rattle.core_session.proofs.session.Core.put.Goals as goal
 
 pub returns-clause-sent : goal.returns-clause-sent
 returns-clause-sent g c = λ _.
-    let parts = serves_push _ c.args.made.command _ _ _ c.requires.serving.sent c.requires.serving.showing c.requires.asks
+    let journal = c.args.self.now.journal in
+    let few : length journal.items < 2 ^ 63 = omega (arith, journal.ok.0, journal.ok.1, journal.small, c.requires.room) in
+    let parts = serves_push _ c.args.made.command _ _ _ _ few c.requires.serving.sent c.requires.serving.showing c.requires.asks
     c.requires.prepared.lines c.requires.prepared.reads_back c.requires.prepared.stands in
     let entry : c.front_entry.result ≡ front_entry c.args.made.command true =
     c.front_entry.ensures ∙ ap (front_entry c.args.made.command) (eq-eqb _ _ c.if-not-sent.false) in

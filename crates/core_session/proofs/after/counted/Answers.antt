@@ -1,7 +1,7 @@
 use Rattle.std.proofs.Common.{ℕ, sym, subst}
 use Rattle.doc_session.specs.Step.{IsEventFor}
 use Rattle.core_session.proofs.PrepareLemmas.{IsMade-after}
-use Rattle.core_session.proofs.act.counted.Goals as goal
+use Rattle.core_session.proofs.after.counted.Goals as goal
 
 pub after-requires-clause-event : goal.after-requires-clause-event
 after-requires-clause-event g c =

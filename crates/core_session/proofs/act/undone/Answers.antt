@@ -1,0 +1,19 @@
+use Rattle.std.proofs.Common.{ℕ, Option, IfOk, sym, subst}
+use Rattle.core_session.specs.InnerSession.{IsOutcome, IsFirstNamed, IsPlaceOf}
+use Rattle.core_session.specs.Session.{OpenView, undone_outcome}
+use Rattle.core_session.proofs.OpenLemmas.{first_inside, named_at, none_named}
+use Rattle.core_session.proofs.act.undone.Goals as goal
+
+pub returns-in-Some : goal.returns-in-Some
+returns-in-Some c = λ views there.
+    let is : IsFirstNamed c.args.held.now c.args.name.now c.in-Some.field-0 =
+    subst (IsPlaceOf c.args.held.now c.args.name.now) c.in-Some.is c.place_of.ensures in
+    let found = named_at c.args.held.now views c.args.name.now c.in-Some.field-0 there is in
+    let At : Option OpenView → Type 0 = λ named. IfOk c.others.result (IsOutcome (undone_outcome views named)) in
+    subst At (sym found.named) (c.others.ensures views there.0)
+
+pub returns-in-None : goal.returns-in-None
+returns-in-None c = λ views there.
+    let none = none_named c.args.held.now views c.args.name.now there (subst (IsPlaceOf c.args.held.now c.args.name.now) c.in-None.is c.place_of.ensures) in
+    let At : Option OpenView → Type 0 = λ named. IfOk c.refused_view.result (IsOutcome (undone_outcome views named)) in
+    subst At (sym none) (c.refused_view.ensures views there.0)
