@@ -1,6 +1,6 @@
 #!/usr/bin/env python3
 """Says which crates stand on a crate, and so are proved anew after a change of it; without a name, the longest chain of crates that the
-program stands on, by the processor seconds of their proofs, as docs/ARCHITECTURE.md has them, and by their number, with the four of the base
+program stands on, by the processor seconds of their proofs, as docs/COSTS.md has them, and by their number, with the four of the base
 counted as one. It ends with status 1 where a chain is longer than it may be.
 
     python3 docs/above.py plain_edits
@@ -29,7 +29,7 @@ def above(crate):
 def seconds():
     """The processor seconds that the proof of each crate took."""
     took = {}
-    for line in open(f"{TOP}/docs/ARCHITECTURE.md", encoding="utf-8"):
+    for line in open(f"{TOP}/docs/COSTS.md", encoding="utf-8"):
         row = re.match(r"\| `(\w+)` \| (\d*) \|.*\|.*\|", line)
         if row: took[row[1]] = int(row[2] or 0)
     took[BASE] = sum(took.get(it, 0) for it in PARTS)

@@ -5,7 +5,7 @@
     python3 examples/cost.py CORE                                      texts of 1 KB, 1 MB and 10 MB: at most two minutes on a quiet machine
     python3 examples/cost.py CORE --sizes 1e3,1e6,1e7,1e8 --limit 120  texts of these lengths in bytes, with so many seconds for each
     python3 examples/cost.py CORE --only insert,undo                   these entries alone
-    python3 examples/cost.py CORE --write                              puts the tables into docs/ARCHITECTURE.md besides
+    python3 examples/cost.py CORE --write                              puts the tables into docs/COSTS.md besides
 
 Each series of entries ends with a look at the screen that the updates rebuild: it has the lines that the text has there, or its figures
 count for nothing (`wrong`). What was not measured within its time is `late`. Both miss each goal.
@@ -475,10 +475,10 @@ def tables(words):
 
 def write(lines):
     """Puts the tables between their two marks into the page."""
-    page = os.path.join(os.path.dirname(os.path.abspath(__file__)), "..", "docs", "ARCHITECTURE.md")
+    page = os.path.join(os.path.dirname(os.path.abspath(__file__)), "..", "docs", "COSTS.md")
     with open(page) as it: text = it.read()
     begin, end = "<!-- the table of examples/cost.py -->\n", "<!-- its end -->\n"
-    if text.count(begin) != 1 or text.count(end) != 1 or text.index(end) < text.index(begin): sys.exit("docs/ARCHITECTURE.md has no marks for the table")
+    if text.count(begin) != 1 or text.count(end) != 1 or text.index(end) < text.index(begin): sys.exit("docs/COSTS.md has no marks for the table")
     head, tail = text.split(begin)[0], text.split(end)[1]
     with open(page, "w") as it: it.write(head + begin + "\n".join(lines) + "\n" + end + tail)
 
