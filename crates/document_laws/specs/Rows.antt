@@ -102,13 +102,15 @@ pub record Collects : Type 0 where
   pub dropped : kept (after_events (ends ∷ cuts_off)).text.history ≡ 1
   pub no_redo : text_after (ends ∷ cuts_off ++ Front Redo ∷ []) ≡ 98 ∷ []
   pub redone : text_after (ends ∷ cuts_off ++ Front Undo ∷ Front Redo ∷ []) ≡ 98 ∷ []
-  -- a session that has not acknowledged the head makes it wait
+  -- a session that has acknowledged no revision from which on it stays undone makes it wait; the head need not be acknowledged
   pub waits : kept (after_events cuts_off).text.history ≡ 2
-  pub waits_below : (after_events (cuts_off ++ acknowledges 2 ∷ [])).text.history.collected ≡ []
+  pub waits_below : (after_events (cuts_off ++ acknowledges 1 ∷ [])).text.history.collected ≡ []
+  pub goes_below : (after_events (cuts_off ++ acknowledges 2 ∷ [])).text.history.collected ≡ 1 ∷ []
+  pub floor_below : (after_events (cuts_off ++ acknowledges 2 ∷ [])).text.history.floor ≡ 2
   pub is_told : (after_events (cuts_off ++ acknowledges 3 ∷ [])).text.history.collected ≡ 1 ∷ []
   pub is_over : (after_events (cuts_off ++ ends ∷ [])).text.history.collected ≡ 1 ∷ []
   -- what it has acknowledged does not fall, and is refused above the head and below the floor
-  pub stays : (after_events (cuts_off ++ acknowledges 2 ∷ acknowledges 1 ∷ [])).text.sessions ≡ Some 2 ∷ []
+  pub stays : (after_events (types 97 ∷ acknowledges 1 ∷ acknowledges 0 ∷ [])).text.sessions ≡ Some 1 ∷ []
   pub above : refusal_at (after_events cuts_off) (acknowledges 4) ≡ Some (of_edit (unknown 3))
   pub below : refusal_at (after_events (cuts_off ++ acknowledges 3 ∷ [])) (acknowledges 2) ≡ Some (of_edit (collected 3))
   pub again : refusal_at (after_events (cuts_off ++ acknowledges 3 ∷ [])) (acknowledges 3) ≡ None
