@@ -67,6 +67,7 @@ abbrev pub is_ordered : ℕ → List Entry → Bool
 is_ordered plugins [] = true
 is_ordered plugins (entry ∷ entries) = nat_le entry.caller plugins && (may_follow entry entries && is_ordered plugins entries)
 
+-- THE ORDER of a journal: each entry may stand where it does
 abbrev pub IsOrdered : ℕ → List Entry → Type 0
 IsOrdered plugins journal = is_ordered plugins journal ≡ true
 
