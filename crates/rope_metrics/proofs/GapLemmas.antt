@@ -5,7 +5,8 @@ use Rattle.rope_metrics.specs.declared.measure.Measure.{Measure}
 use Rattle.rope_metrics.specs.declared.measure.Measure.TheVariants.{Chars}
 use Rattle.rope_metrics.specs.Measure.{is_plain, long, long_by, IsGapWithin}
 use Rattle.rope_metrics.specs.Inner.{IsChunkAt, IsGapWithinIn}
-use Rattle.rope_metrics.proofs.OffsetLemmas.{long-append, long_by-fits, long_by-together, plain-long, two_cuts}
+use Rattle.rope_metrics.proofs.OffsetLemmas.{long-append, long_by-fits, long_by-together, two_cuts}
+use Rattle.rope_metrics.proofs.PlainLemmas.{plain-long}
 use Rattle.rope_node.specs.declared.lengths.Lengths.{Lengths}
 use Rattle.rope_node.specs.Lengths.{is_countable, lengths_of, together}
 use Rattle.plain_text.specs.Text.{byte_len}

@@ -1,3 +1,4 @@
 pub mod OffsetLemmas
+pub mod PlainLemmas
 pub mod GapLemmas
 pub mod ForCallers

@@ -1,19 +1,17 @@
 -- Offsets of a text in a measure, by its leaves and in one of them.
-use Rattle.std.proofs.Common.{◌≡◌, ℕ, ◌+◌, ◌-◌, true, take, drop, ◌^◌, ◌<◌, ◌≤◌, ◌⊎◌, inl, inr, IsTrue, List, [], ◌∷◌, ◌++◌, length, append_assoc, refl, sym, ap, subst, ◌∙◌, arith, length-append}
+use Rattle.std.proofs.Common.{◌≡◌, ℕ, ◌+◌, ◌^◌, ◌<◌, ◌≤◌, ◌⊎◌, inl, inr, IsTrue, List, [], ◌∷◌, ◌++◌, length, append_assoc, refl, sym, ap, subst, ◌∙◌, arith, length-append}
 use Rattle.std.specs.List.{flat_map}
 use Rattle.std.specs.Prelude.{IfNone, IfSome, None, Option, Some}
 use Rattle.std.proofs.lemmas.Bool.{ltb-true}
 use Rattle.std.proofs.lemmas.Grind.{flat_map-append}
-use Rattle.std.proofs.lemmas.List.{append-nil, length-take-le, take-append-drop}
+use Rattle.std.proofs.lemmas.List.{append-nil}
 use Rattle.rope_metrics.specs.declared.measure.Measure.{Measure}
 use Rattle.rope_metrics.specs.declared.measure.Measure.TheVariants.{Chars, Bytes, Utf16, Lines}
-use Rattle.rope_metrics.specs.Measure.{is_plain, long, long_by, HasNone, IsConverted}
+use Rattle.rope_metrics.specs.Measure.{long, long_by, HasNone, IsConverted}
 use Rattle.rope_metrics.specs.Inner.{HasNoneIn, IsChunkAt, IsConvertedIn}
 use Rattle.rope_node.specs.declared.lengths.Lengths.{Lengths}
 use Rattle.rope_node.specs.Lengths.{is_countable, lengths_of, lengths_sum, no_lengths, together}
 use Rattle.rope_node.specs.Node.{text_of}
-use Rattle.rope_node.proofs.ForCallers.{length-short}
-use Rattle.plain_text.specs.Text.{byte_len}
 use Rattle.shared_tree.specs.Shape.{Shape}
 
 pub long_by-together : (m : Measure) (a b : Lengths) → long_by m (together a b) ≡ long_by m a + long_by m b
@@ -240,50 +238,3 @@ module _ (from : Measure) (text : List ℕ) (at : ℕ) (own : List ℕ) (before 
   pub none-answer : (answer : Option ℕ) → IfNone answer (HasNoneIn from before own at) → IfNone answer (HasNone from text at)
   none-answer None none = none-within none
   none-answer (Some offset) none = tt
-
--- ---- in a leaf whose characters take one byte each
-
-module _ (own : List ℕ) (plain : byte_len own ≡ length own) where
-  -- so does each front of it
-  plain-front : (seen rest : List ℕ) → own ≡ seen ++ rest → byte_len seen ≡ length seen
-  plain-front seen rest cut =
-      omega (arith, plain, ap byte_len cut, ap length cut, long-append Bytes seen rest, length-append seen rest, length-short seen, length-short rest)
-
-  pub plain-long : (m : Measure) → is_plain m ≡ true → (seen rest : List ℕ) → own ≡ seen ++ rest → long m seen ≡ length seen
-  plain-long Chars is seen rest cut = refl
-  plain-long Bytes is seen rest cut = plain-front seen rest cut
-  plain-long Utf16 is seen rest cut = absurd cc
-  plain-long Lines is seen rest cut = absurd cc
-
-  module _ (from to : Measure) (from_is : is_plain from ≡ true) (to_is : is_plain to ≡ true) (before : Lengths) (at : ℕ)
-      (passed : long_by from before < at) (reached : at ≤ long_by from (together before (lengths_of own))) where
-    abbrev ahead : ℕ
-    ahead = at - long_by from before
-
-    whole : own ≡ own ++ []
-    whole = sym (append-nil own)
-
-    within-own : ahead ≤ length own
-    within-own = omega (arith, passed, reached, long_by-together from before (lengths_of own), plain-long from from_is own [] whole)
-
-    seen-length : length (take ahead own) ≡ ahead
-    seen-length = length-take-le ahead own within-own
-
-    parts : own ≡ take ahead own ++ drop ahead own
-    parts = sym (take-append-drop ahead own)
-
-    pub plain-converted : IsConvertedIn from to before own at (long_by to before + (at - long_by from before))
-    plain-converted = record {
-      seen = take ahead own;
-      rest = drop ahead own;
-      cut = parts;
-      ends = omega (arith, passed, seen-length, plain-long from from_is (take ahead own) (drop ahead own) parts);
-      first = λ shorter longer c is.
-          let cut : own ≡ shorter ++ ((c ∷ longer) ++ drop ahead own) = parts ∙ ap (λ xs. xs ++ drop ahead own) is ∙ append_assoc shorter (c ∷ longer) (drop ahead own) in
-          omega (arith, passed, seen-length, ap length is, length-append shorter (c ∷ longer), plain-long from from_is shorter ((c ∷ longer) ++ drop ahead own) cut);
-      is = omega (arith, seen-length, plain-long to to_is (take ahead own) (drop ahead own) parts);
-    }
-
-    pub plain-fits : IsTrue (is_countable (together before (lengths_of own))) → long_by to before + (at - long_by from before) < 2 ^ 64
-    plain-fits fit =
-        omega (arith, within-own, plain-long to to_is own [] whole, long_by-together to before (lengths_of own), long_by-fits to (together before (lengths_of own)) fit)

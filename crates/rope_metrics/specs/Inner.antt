@@ -3,7 +3,7 @@ use Rattle.std.specs.Prelude.{◌≡◌, ◌≢◌, ℕ, ◌+◌, ◌<◌, ◌�
 use Rattle.rope_metrics.specs.declared.measure.Measure.{Measure}
 use Rattle.rope_metrics.specs.Measure.{long, long_by}
 use Rattle.rope_node.specs.declared.lengths.Lengths.{Lengths}
-use Rattle.rope_node.specs.Lengths.{is_countable, lengths_of, together}
+use Rattle.rope_node.specs.Lengths.{is_countable, lengths_of, lf_count, together}
 
 -- the leaf of the text in which the measure passes `at`, with the lengths of all before it
 pub record IsChunkAt (measure : Measure) (text : List ℕ) (at : ℕ) (own : List ℕ) (before : Lengths) : Type 0 where
@@ -37,3 +37,9 @@ pub record IsGapWithinIn (measure : Measure) (before : Lengths) (own : List ℕ)
   pub is : gap ≡ before.chars + length seen
   pub within : long_by measure before + long measure seen ≤ at
   pub past : at < long_by measure before + long measure (seen ++ next ∷ [])
+
+-- what stands behind the first LF of a text
+pub record IsPastLf (text rest : List ℕ) : Type 0 where
+  pub front : List ℕ
+  pub cut : text ≡ (front ++ 10 ∷ []) ++ rest
+  pub none : lf_count front ≡ 0

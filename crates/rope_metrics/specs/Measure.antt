@@ -5,11 +5,11 @@ use Rattle.rope_metrics.specs.declared.measure.Measure.TheVariants.{Chars, Bytes
 use Rattle.rope_node.specs.declared.lengths.Lengths.{Lengths}
 use Rattle.rope_node.specs.Lengths.{lengths_of, no_lengths}
 
--- whether it is one of characters or of bytes, which are the same where each character takes one byte
+-- whether it is one of characters, of bytes or of units of UTF-16, which are the same where each character takes one byte
 abbrev pub is_plain : Measure → Bool
 is_plain Chars = true
 is_plain Bytes = true
-is_plain Utf16 = false
+is_plain Utf16 = true
 is_plain Lines = false
 
 -- the length in this measure

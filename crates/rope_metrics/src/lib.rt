@@ -7,6 +7,7 @@
 mod gap;
 mod measure;
 mod offset;
+mod plain;
 
 pub use gap::gap_within;
 pub use measure::Measure;

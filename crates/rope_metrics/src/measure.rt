@@ -33,13 +33,13 @@ impl shared_tree::Measure<Lengths> for Measure {
 }
 
 impl Measure {
-    /// Whether it is one of characters or of bytes, which are the same where each character takes one byte.
+    /// Whether it is one of characters, of bytes or of units of UTF-16, which are the same where each character takes one byte.
     pub(crate) fn is_plain(self) -> bool
         ensures { result ≡ is_plain self }
     {
         match self {
-            Measure::Chars | Measure::Bytes => true,
-            Measure::Utf16 | Measure::Lines => false,
+            Measure::Chars | Measure::Bytes | Measure::Utf16 => true,
+            Measure::Lines => false,
         }
     }
 

@@ -2,11 +2,12 @@ ghost use Rattle.std.specs.Prelude.{◌≡◌, ◌+◌, ◌<◌, ◌≤◌, leng
 ghost use Rattle.std.specs.Str.{chars};
 ghost use Rattle.rope_node.specs.Lengths.{is_countable, lengths_of, together};
 ghost use Rattle.rope_node.specs.Node.{text_of};
-ghost use Rattle.rope_metrics.specs.Measure.{is_plain, long, long_by, HasNone, IsConverted};
+ghost use Rattle.rope_metrics.specs.Measure.{long, long_by, HasNone, IsConverted};
 ghost use Rattle.rope_metrics.specs.Inner.{HasNoneIn, IsChunkAt, IsConvertedIn};
 ghost use Rattle.plain_text.specs.Text.{byte_len};
 
 use crate::Measure;
+use crate::plain::{long, split_at_offset};
 use plain_text::Steps;
 use rope_node::{Chunk, Lengths, Node};
 use shared_tree::{Leaf, Measure as _};
@@ -20,7 +21,8 @@ pub fn total(node: &Node, m: Measure) -> u64
 }
 
 /// The offset in another measure of the first gap that has this one; `None` where there is no such gap. One step a node on the way,
-/// and a walk over the characters of one leaf; none from bytes to characters or back where each of them takes one byte.
+/// and a walk over the characters of one leaf. Where each of them takes one byte, LFs alone are looked for, and nothing is where neither
+/// measure is of lines.
 pub fn convert<L: Ledger>(
     node: &Node,
     from: Measure,
@@ -71,7 +73,7 @@ pub(crate) fn chunk_at<'a, L: Ledger>(
     }
 }
 
-/// The same of a leaf, where `before` are the lengths of all before it. Where each character takes one byte, none is read.
+/// The same of a leaf, where `before` are the lengths of all before it.
 fn in_chunk(chunk: &Chunk, from: Measure, to: Measure, at: u64, before: &Lengths) -> Option<u64>
     requires passed { long_by from before.now < at }
     requires reached { at ≤ long_by from (together before.now (lengths_of chunk.now)) }
@@ -79,7 +81,7 @@ fn in_chunk(chunk: &Chunk, from: Measure, to: Measure, at: u64, before: &Lengths
     ensures some { IfSome result (λ offset. IsConvertedIn from to before.now chunk.now at offset) }
     ensures none { IfNone result (HasNoneIn from before.now chunk.now at) }
 {
-    if from.is_plain() && to.is_plain() && is_plain(chunk) {
+    if is_plain(chunk) {
         return Some(plain_offset(chunk, from, to, at, before));
     }
     within(chunk.text().as_str(), from, to, at, before)
@@ -98,12 +100,11 @@ fn plain_offset(chunk: &Chunk, from: Measure, to: Measure, at: u64, before: &Len
     requires reached { at ≤ long_by from (together before.now (lengths_of chunk.now)) }
     requires fits { IsTrue (is_countable (together before.now (lengths_of chunk.now))) }
     requires plain { byte_len chunk.now ≡ length chunk.now }
-    requires from { is_plain from ≡ true }
-    requires to { is_plain to ≡ true }
     ensures { IsConvertedIn from to before.now chunk.now at result }
 {
-    let _chunk = chunk;
-    to.width(before) + (at - from.width(before))
+    let text = chunk.text().as_str().as_bytes();
+    let (front, _back) = split_at_offset(text, from, at - from.width(before));
+    to.width(before) + long(front, to)
 }
 
 /// The same of the text of a leaf, character by character.
