@@ -1,7 +1,8 @@
 -- Where an edit takes a gap: the count over its runs and additions, and that it rises with the gap.
-use Rattle.std.proofs.Common.{◌≡◌, ℕ, zero, suc, true, false, Bool, ◌+◌, ◌-◌, ◌<◌, ◌≤◌, List, [], ◌∷◌, length, get_or, drop, map, cond, length-append, refl, ap, sym, ◌∙◌, arith, ⊎_elim}
+use Rattle.std.proofs.Common.{◌≡◌, ℕ, zero, suc, true, false, Bool, ◌+◌, ◌-◌, ◌<◌, ◌≤◌, List, [], ◌∷◌, ◌++◌, length, get_or, drop, map, cond, append_assoc, length-append, refl, ap, sym, subst, ◌∙◌, arith, ⊎_elim}
 use Rattle.std.specs.Prelude.{min, max, ◌||◌, ◌&&◌, nat_lt, nat_le, ◌==◌, if◌then◌else◌}
 use Rattle.std.specs.List.{count_by, sum_by, range_with_len}
+use Rattle.std.proofs.lemmas.List.{drop_all}
 use Rattle.std.proofs.lemmas.Bool.{ltb-true, ltb-false, lt-ltb, le-ltb, le-leb, lt-leb, eq-eqb, ne_eqb, and_parts, cases_lt, cases_eq, cond_both}
 use Rattle.std.proofs.lemmas.List.Sums.{sum_by-cons, count_by-le-length}
 use Rattle.std.proofs.lemmas.List.FromFn.{length-range_with_len}
@@ -11,11 +12,13 @@ use Rattle.plain_text.specs.declared.run.Run.{Run}
 use Rattle.plain_edits.specs.declared.delta.Added.{Added}
 use Rattle.plain_edits.specs.declared.delta.UnitDelta.{UnitDelta}
 use Rattle.plain_edits.specs.Delta.{is_in_runs, text_at_gap}
-use Rattle.plain_edits.specs.UnitDelta.{AreRuns, IsUnitDelta, unit_keeps, unit_adds}
-use Rattle.selection_core.specs.Selection.{lesser_end, AreRightOf, IsSelection, merged_regions}
-use Rattle.selection_core.specs.Mapped.{new_gap, mapped_region, mapped_regions, length_after}
-use Rattle.selection_core.specs.Inner.{gaps_left, part_left}
-use Rattle.selection_core.proofs.MergeLemmas.{AreInOrder, IsSelection-merged_regions, drop-next}
+use Rattle.plain_edits.specs.UnitDelta.{AreAdds, AreRuns, IsUnitDelta, unit_keeps, unit_adds}
+use Rattle.selection_core.specs.Selection.{lesser_end, greater_end, AreRightOf, IsSelection, merged_regions}
+use Rattle.selection_core.specs.Mapped.{AreWithin, new_gap, mapped_region, mapped_regions, length_after}
+use Rattle.selection_core.specs.declared.gap_walk.Passed.{Passed}
+use Rattle.selection_core.specs.declared.gap_walk.GapWalk.{GapWalk}
+use Rattle.selection_core.specs.Inner.{gaps_left, part_left, kept_left, EndsPast, GoesFrom, HasPassedRuns, HasPassedAdds, IsWalked}
+use Rattle.selection_core.proofs.MergeLemmas.{AreInOrder, IsSelection-merged_regions, drop-next, drop-item}
 
 -- ---- sums over the first numbers
 
@@ -88,33 +91,85 @@ kept_count base from run runs gap rise =
     run_count run.start run.end 0 gap rise.1 in
     omega (arith, both, one)
 
--- so many characters left of the gap are kept by the runs so far, and others by the runs that are left
-pub record IsCounted (units : UnitDelta) (gap kept : ℕ) (rest : List Run) : Type 0 where
-  pub so_far : kept + count_by (is_in_runs rest) (range_with_len 0 gap) ≡ count_by (unit_keeps units) (range_with_len 0 gap)
-  pub ahead : AreRuns units.base 0 rest
+-- runs from a gap on keep nothing left of it
+none_before : (base from : ℕ) (runs : List Run) → AreRuns base from runs → (gap : ℕ) → gap ≤ from →
+    count_by (is_in_runs runs) (range_with_len 0 gap) ≡ 0
+none_before base from runs rise gap before = below 0 gap (omega arith)
+  where
+    below : (low n : ℕ) → low + n ≤ from → count_by (is_in_runs runs) (range_with_len low n) ≡ 0
+    below low zero inside = refl
+    below low (suc n) inside =
+        let not : 0 + cond (is_in_runs runs low) 1 0 ≡ 0 = rw (is_in_runs-before base from runs rise low (omega arith)) refl in
+        omega
+        (arith, sum_by-cons (λ index. cond (is_in_runs runs index) 1 0) low (range_with_len (low + 1) n), not, below (low + 1) n (omega arith))
 
-pub IsCounted-start : (units : UnitDelta) (gap : ℕ) (rest : List Run) → IsUnitDelta units → rest ≡ units.kept → IsCounted units gap 0 rest
-IsCounted-start units gap rest good same = rw same (record { so_far = omega arith; ahead = good.runs })
+pub HasPassedRuns-start : (units : UnitDelta) (gap : ℕ) (passed : Passed) → IsUnitDelta units → passed.parts ≡ 0 → passed.count ≡ 0 →
+    HasPassedRuns units gap passed
+HasPassedRuns-start units gap passed good first none =
+    record { count = λ to right. rw first (omega (arith, none)); ahead = rw first good.runs }
 
-IsCounted-next : (units : UnitDelta) (gap kept next : ℕ) (run : Run) (rest more : List Run) → IsCounted units gap kept rest → rest ≡ run ∷ more →
-    next + min run.start gap ≡ kept + min run.end gap → IsCounted units gap next more
-IsCounted-next units gap kept next run rest more counted is step =
-    let here : IsCounted units gap kept (run ∷ more) = rw (sym is) counted in
-    record {
-      so_far = omega (arith, kept_count units.base 0 run more gap here.ahead, here.so_far, step);
-      ahead = AreRuns-weaker units.base 0 run.end more (omega arith) here.ahead.2;
-    }
+pub HasPassedRuns-later : (units : UnitDelta) (gap to : ℕ) (passed : Passed) → gap ≤ to → HasPassedRuns units gap passed → HasPassedRuns units to passed
+HasPassedRuns-later units gap to passed right walked =
+    record { count = λ far more. walked.count far (omega arith); ahead = walked.ahead }
 
-pub IsCounted-step : (units : UnitDelta) (gap kept first last : ℕ) (items : List Run) (i : ℕ) (d : Run) → i < length items → IsCounted units gap kept (drop i items) →
-    last ≡ min (get_or items i d).end gap → first ≡ min (get_or items i d).start gap → IsCounted units gap (kept + (last - first)) (drop (i + 1) items)
-IsCounted-step units gap kept first last items i d below counted ends starts =
-    let is = drop-next items i d below in
-    let here : IsCounted units gap kept (get_or items i d ∷ drop (i + 1) items) = rw (sym is) counted in
-    IsCounted-next units gap kept (kept + (last - first)) (get_or items i d) (drop i items) (drop (i + 1) items) counted is (omega (arith, here.ahead.1, ends, starts))
+-- the run that is next, where it ends by the gap, is left behind
+pub HasPassedRuns-next : (units : UnitDelta) (items : List Run) (gap parts count : ℕ) (d : Run) → items ≡ units.kept → parts < length items →
+    (get_or items parts d).end ≤ gap → HasPassedRuns units gap (record { parts = parts; count = count }) →
+    ((get_or items parts d).start ≤ (get_or items parts d).end) ×
+    HasPassedRuns units gap (record { parts = parts + 1; count = count + ((get_or items parts d).end - (get_or items parts d).start) })
+HasPassedRuns-next units items gap parts count d same inside ends walked =
+    let run : Run = get_or items parts d in
+    let more : List Run = drop (parts + 1) units.kept in
+    let is : drop parts units.kept ≡ run ∷ more = rw (sym same) (drop-next items parts d inside) in
+    let rise : AreRuns units.base 0 (run ∷ more) = subst (λ rest. AreRuns units.base 0 rest) is walked.ahead in (
+      rise.1,
+      record {
+        count = λ to right.
+            let before : count + count_by (is_in_runs (run ∷ more)) (range_with_len 0 to) ≡ kept_left units to =
+            subst (λ rest. count + count_by (is_in_runs rest) (range_with_len 0 to) ≡ kept_left units to) is (walked.count to right) in
+            omega (arith, kept_count units.base 0 run more to rise, before, rise.1);
+        ahead = AreRuns-weaker units.base 0 run.end more (omega arith) rise.2;
+      },
+    )
 
-pub IsCounted-bound : (units : UnitDelta) (gap kept : ℕ) (rest : List Run) → IsCounted units gap kept rest → kept ≤ gap
-IsCounted-bound units gap kept rest counted =
-    omega (arith, counted.so_far, count_by-le-length (unit_keeps units) (range_with_len 0 gap), length-range_with_len 0 gap)
+pub HasPassedRuns-bound : (units : UnitDelta) (gap : ℕ) (passed : Passed) → HasPassedRuns units gap passed → passed.count ≤ gap
+HasPassedRuns-bound units gap passed walked =
+    omega (arith, walked.count gap (omega arith), count_by-le-length (unit_keeps units) (range_with_len 0 gap), length-range_with_len 0 gap)
+
+pub kept_left-bound : (units : UnitDelta) (gap : ℕ) → kept_left units gap ≤ gap
+kept_left-bound units gap = omega (arith, count_by-le-length (unit_keeps units) (range_with_len 0 gap), length-range_with_len 0 gap)
+
+pub EndsPast-from : (gap : ℕ) (items runs : List Run) (parts : ℕ) (d : Run) → items ≡ runs → (parts < length items → gap < (get_or items parts d).end) →
+    EndsPast gap (drop parts runs)
+EndsPast-from gap items runs parts d same = rw (sym same) (by items parts)
+  where
+    by : (runs : List Run) (parts : ℕ) → (parts < length runs → gap < (get_or runs parts d).end) → EndsPast gap (drop parts runs)
+    by [] zero past = tt
+    by [] (suc parts) past = tt
+    by (run ∷ runs) zero past = past (omega arith)
+    by (run ∷ runs) (suc parts) past = by runs parts (λ inside. past (omega arith))
+
+-- what is kept left of the gap, where no run is left, and where one is
+pub kept_left-none : (units : UnitDelta) (items : List Run) (gap : ℕ) (passed : Passed) → items ≡ units.kept → HasPassedRuns units gap passed →
+    length items ≤ passed.parts → passed.count ≡ kept_left units gap
+kept_left-none units items gap passed same walked past =
+    let none : drop passed.parts units.kept ≡ [] = rw (sym same) (drop_all passed.parts items (omega arith)) in
+    let all : passed.count + count_by (is_in_runs []) (range_with_len 0 gap) ≡ kept_left units gap =
+    subst (λ rest. passed.count + count_by (is_in_runs rest) (range_with_len 0 gap) ≡ kept_left units gap) none (walked.count gap (omega arith)) in
+    omega (arith, all, sum_by-nothing (λ index. cond (is_in_runs [] index) 1 0) (λ index. refl) (range_with_len 0 gap))
+
+pub kept_left-some : (units : UnitDelta) (items : List Run) (gap start : ℕ) (passed : Passed) (d : Run) → items ≡ units.kept →
+    HasPassedRuns units gap passed → EndsPast gap (drop passed.parts units.kept) → passed.parts < length items →
+    start ≡ min (get_or items passed.parts d).start gap → passed.count + (gap - start) ≡ kept_left units gap
+kept_left-some units items gap start passed d same walked past inside starts =
+    let run : Run = get_or items passed.parts d in
+    let more : List Run = drop (passed.parts + 1) units.kept in
+    let is : drop passed.parts units.kept ≡ run ∷ more = rw (sym same) (drop-next items passed.parts d inside) in
+    let all : passed.count + count_by (is_in_runs (run ∷ more)) (range_with_len 0 gap) ≡ kept_left units gap =
+    subst (λ rest. passed.count + count_by (is_in_runs rest) (range_with_len 0 gap) ≡ kept_left units gap) is (walked.count gap (omega arith)) in
+    let rise : AreRuns units.base 0 (run ∷ more) = subst (λ rest. AreRuns units.base 0 rest) is walked.ahead in
+    let ends : gap < run.end = subst (λ rest. EndsPast gap rest) is past in
+    omega (arith, starts, all, kept_count units.base 0 run more gap rise, none_before units.base run.end more rise.2 gap (omega arith))
 
 -- ---- the additions
 
@@ -173,33 +228,124 @@ added_bound : (units : UnitDelta) (after : Bool) (gap : ℕ) → gap ≤ units.b
 added_bound units true gap within = sum_by-rise (λ left. length (unit_adds units left)) 0 gap (units.base + 1) (omega arith)
 added_bound units false gap within = sum_by-rise (λ left. length (unit_adds units left)) 0 (gap + 1) (units.base + 1) (omega arith)
 
--- so many characters are added left of a caret by the additions so far, and others by those that are left
-pub record IsAdded (units : UnitDelta) (gaps added : ℕ) (rest : List Added) : Type 0 where
-  pub so_far : added + sum_by (part_left gaps) rest ≡ sum_by (λ left. length (unit_adds units left)) (range_with_len 0 gaps)
+AreAdds-weaker : (base low from : ℕ) (adds : List Added) → low ≤ from → AreAdds base from adds → AreAdds base low adds
+AreAdds-weaker base low from [] below rise = tt
+AreAdds-weaker base low from (added ∷ adds) below rise = (omega (arith, rise.0), rise.1, rise.2, rise.3)
 
-pub IsAdded-start : (units : UnitDelta) (gaps : ℕ) (rest : List Added) → rest ≡ units.added → IsAdded units gaps 0 rest
-IsAdded-start units gaps rest same = rw same (record { so_far = omega (arith, parts_left gaps units.added) })
+-- additions at a gap and right of it put nothing into the gaps left of it
+none_left : (base from : ℕ) (adds : List Added) → AreAdds base from adds → (gaps : ℕ) → gaps ≤ from → sum_by (part_left gaps) adds ≡ 0
+none_left base from [] rise gaps before = refl
+none_left base from (added ∷ adds) rise gaps before =
+    let not : part_left gaps added ≡ 0 = rw (le-ltb added.gap gaps (omega (arith, rise.0))) refl in
+    omega (arith, sum_by-cons (part_left gaps) added adds, not, none_left base (added.gap + 1) adds rise.3 gaps (omega (arith, rise.0)))
 
-pub IsAdded-next : (units : UnitDelta) (gaps sum next : ℕ) (added : Added) (rest more : List Added) → IsAdded units gaps sum rest → rest ≡ added ∷ more →
-    next ≡ sum + part_left gaps added → IsAdded units gaps next more
-IsAdded-next units gaps sum next added rest more so_far is step =
-    let here : IsAdded units gaps sum (added ∷ more) = rw (sym is) so_far in
-    record { so_far = omega (arith, here.so_far, sum_by-cons (part_left gaps) added more, step) }
+pub HasPassedAdds-start : (units : UnitDelta) (gaps : ℕ) (passed : Passed) → IsUnitDelta units → passed.parts ≡ 0 → passed.count ≡ 0 →
+    HasPassedAdds units gaps passed
+HasPassedAdds-start units gaps passed good first none =
+    record { count = λ to right. rw first (omega (arith, none)); ahead = rw first good.adds }
 
-pub IsAdded-bound : (units : UnitDelta) (after : Bool) (gap added : ℕ) (rest : List Added) → gap ≤ units.base → IsAdded units (gaps_left after gap) added rest →
-    added ≤ length_after units
-IsAdded-bound units after gap added rest within so_far = omega (arith, so_far.so_far, added_bound units after gap within)
+pub HasPassedAdds-later : (units : UnitDelta) (gaps to : ℕ) (passed : Passed) → gaps ≤ to → HasPassedAdds units gaps passed → HasPassedAdds units to passed
+HasPassedAdds-later units gaps to passed right walked =
+    record { count = λ far more. walked.count far (omega arith); ahead = walked.ahead }
 
-pub IsAdded-all : (units : UnitDelta) (gaps added : ℕ) (rest : List Added) → rest ≡ [] → IsAdded units gaps added rest →
-    added ≡ sum_by (λ left. length (unit_adds units left)) (range_with_len 0 gaps)
-IsAdded-all units gaps added rest none so_far =
-    let here : IsAdded units gaps added [] = rw (sym none) so_far in omega (arith, here.so_far)
+-- the addition that is next, where it goes into the first gaps, is left behind
+pub HasPassedAdds-next : (units : UnitDelta) (items : List Added) (gaps parts count n : ℕ) (first added : Added) → items ≡ units.added →
+    parts < length items → first ≡ get_or items parts first → added ≡ get_or items parts added → nat_lt first.gap gaps ≡ true →
+    n ≡ length (get_or items parts added).text → HasPassedAdds units gaps (record { parts = parts; count = count }) →
+    HasPassedAdds units gaps (record { parts = parts + 1; count = count + n })
+HasPassedAdds-next units items gaps parts count n first added same inside one other left counts walked =
+    let so_many : n ≡ length added.text = counts ∙ ap (λ item. length item.text) (sym other) in
+    let more : List Added = drop (parts + 1) units.added in
+    let is : drop parts units.added ≡ added ∷ more = rw (sym same) (drop-item items parts added inside other) in
+    let alike : first ≡ added = one ∙ same_item items parts first added inside ∙ sym other in
+    let below = ltb-true added.gap gaps (subst (λ item. nat_lt item.gap gaps ≡ true) alike left) in
+    let rise : AreAdds units.base 0 (added ∷ more) = subst (λ rest. AreAdds units.base 0 rest) is walked.ahead in
+    record {
+      count = λ to right.
+          let before : count + sum_by (part_left to) (added ∷ more) ≡ sum_by (part_left to) units.added =
+          subst (λ rest. count + sum_by (part_left to) rest ≡ sum_by (part_left to) units.added) is (walked.count to right) in
+          let part : part_left to added ≡ length added.text = rw (lt-ltb added.gap to (omega (arith, below, right))) refl in
+          omega (arith, sum_by-cons (part_left to) added more, before, part, so_many);
+      ahead = AreAdds-weaker units.base 0 (added.gap + 1) more (omega arith) rise.3;
+    }
+  where
+    same_item : (items : List Added) (i : ℕ) (d e : Added) → i < length items → get_or items i d ≡ get_or items i e
+    same_item [] i d e inside_none = absurd (omega arith)
+    same_item (item ∷ items) zero d e inside_here = refl
+    same_item (item ∷ items) (suc i) d e inside_rest = same_item items i d e (omega arith)
 
-pub IsCounted-all : (units : UnitDelta) (gap kept : ℕ) (rest : List Run) → rest ≡ [] → IsCounted units gap kept rest →
-    kept ≡ count_by (unit_keeps units) (range_with_len 0 gap)
-IsCounted-all units gap kept rest none counted =
-    let here : IsCounted units gap kept [] = rw (sym none) counted in
-    omega (arith, here.so_far, sum_by-nothing (λ index. cond (is_in_runs [] index) 1 0) (λ index. refl) (range_with_len 0 gap))
+pub HasPassedAdds-bound : (units : UnitDelta) (gaps : ℕ) (passed : Passed) → HasPassedAdds units gaps passed → passed.count ≤ sum_by (part_left gaps) units.added
+HasPassedAdds-bound units gaps passed walked = omega (arith, walked.count gaps (omega arith))
+
+pub GoesFrom-from : (gaps : ℕ) (items adds : List Added) (parts : ℕ) (first : Added) → items ≡ adds → first ≡ get_or items parts first → gaps ≤ first.gap →
+    parts < length items → GoesFrom gaps (drop parts adds)
+GoesFrom-from gaps items adds parts first same is from inside =
+    rw (sym same) (subst (λ rest. GoesFrom gaps rest) (sym (drop-item items parts first inside is)) from)
+
+pub GoesFrom-none : (gaps : ℕ) (items adds : List Added) (parts : ℕ) → items ≡ adds → length items ≤ parts → GoesFrom gaps (drop parts adds)
+GoesFrom-none gaps items adds parts same past = rw (sym same, drop_all parts items past) tt
+
+-- what is added left of a caret, where the next addition does not go left of it
+pub added-all : (units : UnitDelta) (gaps : ℕ) (passed : Passed) → HasPassedAdds units gaps passed → GoesFrom gaps (drop passed.parts units.added) →
+    passed.count ≡ sum_by (λ left. length (unit_adds units left)) (range_with_len 0 gaps)
+added-all units gaps passed walked from =
+    omega (arith, walked.count gaps (omega arith), none (drop passed.parts units.added) from walked.ahead, parts_left gaps units.added)
+  where
+    none : (adds : List Added) → GoesFrom gaps adds → AreAdds units.base 0 adds → sum_by (part_left gaps) adds ≡ 0
+    none [] from_here rise = refl
+    none (added ∷ adds) from_here rise = none_left units.base added.gap (added ∷ adds) (omega arith, rise.1, rise.2, rise.3) gaps from_here
+
+-- additions put no more into the first gaps than fits the text after them
+pub parts_left-bound : (units : UnitDelta) (after : Bool) (gap : ℕ) → gap ≤ units.base →
+    sum_by (part_left (gaps_left after gap)) units.added ≤ length_after units
+parts_left-bound units after gap within = omega (arith, parts_left (gaps_left after gap) units.added, added_bound units after gap within)
+
+-- ---- both
+
+gaps_left-rise : (after : Bool) (gap to : ℕ) → gap ≤ to → gaps_left after gap ≤ gaps_left after to
+gaps_left-rise true gap to right = right
+gaps_left-rise false gap to right = omega arith
+
+pub IsWalked-later : (units : UnitDelta) (after : Bool) (gap to : ℕ) (walk : GapWalk) → gap ≤ to → IsWalked units after gap walk → IsWalked units after to walk
+IsWalked-later units after gap to walk right walked = record {
+  kept = HasPassedRuns-later units gap to walk.kept right walked.kept;
+  added = HasPassedAdds-later units (gaps_left after gap) (gaps_left after to) walk.added (gaps_left-rise after gap to right) walked.added;
+}
+
+-- a walk goes on to the first of regions, where there is one
+abbrev pub IsReadyFor : UnitDelta → Bool → GapWalk → List Region → Type 0
+IsReadyFor units after walk [] = Unit {0}
+IsReadyFor units after walk (region ∷ regions) = IsWalked units after (lesser_end region) walk
+
+pub IsReadyFor-start : (units : UnitDelta) (after : Bool) (walk : GapWalk) (regions : List Region) → IsWalked units after 0 walk → IsReadyFor units after walk regions
+IsReadyFor-start units after walk [] walked = tt
+IsReadyFor-start units after walk (region ∷ regions) walked = IsWalked-later units after 0 (lesser_end region) walk (omega arith) walked
+
+-- what stands of the regions that are left, and of the walk
+pub record IsMapping (units : UnitDelta) (after : Bool) (walk : GapWalk) (rest : List Region) : Type 0 where
+  pub sound : IsSelection rest
+  pub within : AreWithin units.base rest
+  pub ready : IsReadyFor units after walk rest
+
+pub IsMapping-next : (units : UnitDelta) (after : Bool) (walk next : GapWalk) (region : Region) (rest more : List Region) → IsMapping units after walk rest →
+    rest ≡ region ∷ more → IsWalked units after (greater_end region) next → IsMapping units after next more
+IsMapping-next units after walk next region rest more mapping is walked = by more (rw (sym is) mapping)
+  where
+    by : (more : List Region) → IsMapping units after walk (region ∷ more) → IsMapping units after next more
+    by [] here = record { sound = tt; within = tt; ready = tt }
+    by (second ∷ others) here = record {
+      sound = here.sound.2;
+      within = here.within.1;
+      ready = IsWalked-later units after (greater_end region) (lesser_end second) next here.sound.0 walked;
+    }
+
+-- the region that is next is mapped
+pub mapped-next : (f : Region → Region) (list next regions : List Region) (i : ℕ) (made d : Region) → i < length regions →
+    list ++ map f (drop i regions) ≡ map f regions → next ≡ list ++ made ∷ [] → made ≡ f (get_or regions i d) →
+    next ++ map f (drop (i + 1) regions) ≡ map f regions
+mapped-next f list next regions i made d inside so_far pushed is =
+    ap (λ start. start ++ map f (drop (i + 1) regions)) pushed ∙ append_assoc list (made ∷ []) (map f (drop (i + 1) regions)) ∙
+    ap (λ region. list ++ region ∷ map f (drop (i + 1) regions)) is ∙ ap (λ rest. list ++ map f rest) (sym (drop-next regions i d inside)) ∙ so_far
 
 -- ---- the gap, and the regions
 

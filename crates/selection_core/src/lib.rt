@@ -6,6 +6,7 @@
 //! [`laws::order_does_not_matter`] that regions make one selection in whatever order they come.
 #![tactic(auto)]
 
+mod gap_walk;
 pub mod laws;
 mod mapping;
 mod merging;

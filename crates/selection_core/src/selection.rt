@@ -41,7 +41,7 @@ pub trait Selection: Sized {
         ensures sound { IfOk result (λ sel. IsSelection (regions_of sel)) };
 
     /// The selection after an edit. Each end stays left of the character right of it; `after` the edit, it stays right of the
-    /// character left of it. This costs the elements of the edit, and the bytes that it adds, for each region.
+    /// character left of it. This costs the regions, the elements of the edit, and the bytes that it adds.
     fn map(&self, alloc: Global, units: &UnitDelta, after: bool) -> Result<Self, NoMemory>
         requires sound { IsSelection (regions_of self.now) }
         requires within { AreWithin units.now.base (regions_of self.now) }
