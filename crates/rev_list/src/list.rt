@@ -228,9 +228,29 @@ impl RevList {
         }
     }
 
-    /// The list as it was at a kept revision, which shares the records up to there with this one. It costs what [`RevList::dead_then`]
-    /// does, and for each revision from the floor up to there the logarithm of the number of groups, or the groups that it turns.
+    /// The list as it was at a kept revision, which shares the records up to there with this one: at the head in O(1). Below it costs what
+    /// [`RevList::dead_then`] does, and for each revision from the floor up to there the logarithm of the number of groups, or the groups
+    /// that it turns.
     pub fn until(&self, alloc: Global, rev: u64) -> Result<RevList, NoMemory>
+        requires { IsKeptAt self.now rev }
+        ensures { IfOk result (λ made. made ≡ history_until self.now rev) }
+    {
+        if rev == self.head() {
+            return self.until_head(alloc);
+        }
+        self.until_below(alloc, rev)
+    }
+
+    // Up to the head it is the list.
+    fn until_head(&self, alloc: Global) -> Result<RevList, NoMemory>
+        ensures { IfOk result (λ made. made ≡ history_until self.now (head self.now)) }
+    {
+        let _walk = self.revisions_after(self.floor());
+        self.copy(alloc)
+    }
+
+    // The same at any kept revision, by the records up to there.
+    fn until_below(&self, alloc: Global, rev: u64) -> Result<RevList, NoMemory>
         requires { IsKeptAt self.now rev }
         ensures { IfOk result (λ made. made ≡ history_until self.now rev) }
     {

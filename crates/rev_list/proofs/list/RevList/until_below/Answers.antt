@@ -7,7 +7,7 @@ use Rattle.rev_list.specs.Settled.{settled_history}
 use Rattle.rev_list.specs.Until.{history_until}
 use Rattle.rev_list.proofs.RecordLemmas.{floor-history_of, head-history_of, hidden_then-history_of, until_record}
 use Rattle.rev_list.proofs.UntilLemmas.{until_from_floor, until_is, until-taken, HoldsRevisions-until}
-use Rattle.rev_list.proofs.list.RevList.until.Goals as goal
+use Rattle.rev_list.proofs.list.RevList.until_below.Goals as goal
 
 pub front-requires : goal.front-requires
 front-requires c =
