@@ -10,4 +10,5 @@ pub mod BackLemmas
 pub mod TableLemmas
 pub mod DeadLemmas
 pub mod LengthLemmas
+pub mod ApartLemmas
 pub mod ForCallers

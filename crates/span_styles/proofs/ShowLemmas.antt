@@ -109,12 +109,12 @@ spans_from-styled at (suc n) style rest other =
 pub record IsShowing (spans : List Span) (walk : Layer) (at end : ℕ) (all : List Span) : Type 0 where
   pub so_far : spans ++ spans_from at (take (end - at) walk) ≡ all
 
-take_none : {X : Type 0} (n : ℕ) → take {A = X} n [] ≡ []
+pub take_none : {X : Type 0} (n : ℕ) → take {A = X} n [] ≡ []
 take_none zero = refl
 take_none (suc n) = refl
 
 -- a front of what begins with characters of one style
-take-front : (n left len : ℕ) (walk : Layer) (style : Option ℕ) → n ≤ len → n ≤ left → walk ≡ replicate len style ++ drop len walk →
+pub take-front : (n left len : ℕ) (walk : Layer) (style : Option ℕ) → n ≤ len → n ≤ left → walk ≡ replicate len style ++ drop len walk →
     take left walk ≡ replicate n style ++ take (left - n) (drop n walk)
 take-front zero left len walk style low few is = let all : left ≡ left - 0 = omega arith in ap (λ k. take k walk) all
 take-front (suc n) zero len walk style low few is = absurd (omega arith)
@@ -131,7 +131,7 @@ slice_get-taken zero xs style is = cc
 slice_get-taken (suc k) [] style is = is
 slice_get-taken (suc k) (x ∷ xs) style is = is
 
-slice_get-dropped : (n : ℕ) (xs : Layer) → slice_get (drop n xs) 0 ≡ slice_get xs n
+pub slice_get-dropped : (n : ℕ) (xs : Layer) → slice_get (drop n xs) 0 ≡ slice_get xs n
 slice_get-dropped zero xs = refl
 slice_get-dropped (suc n) [] = refl
 slice_get-dropped (suc n) (x ∷ xs) = slice_get-dropped n xs

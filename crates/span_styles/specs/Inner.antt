@@ -1,5 +1,5 @@
 -- What private functions say: layers as runs of one style, and walks over them.
-use Rattle.std.specs.Prelude.{◌≡◌, ◌≢◌, ◌⊎◌, ℕ, suc, ◌+◌, ◌-◌, ◌^◌, ◌<◌, Bool, true, false, List, [], ◌∷◌, ◌++◌, length, map, replicate, drop, Option, None, Some, is_some, slice_get}
+use Rattle.std.specs.Prelude.{◌≡◌, ◌≢◌, ◌⊎◌, ℕ, suc, ◌+◌, ◌-◌, ◌^◌, ◌<◌, Bool, true, false, List, [], ◌∷◌, ◌++◌, length, map, replicate, take, drop, min, Option, None, Some, is_some, slice_get}
 use Rattle.std.specs.List.{range_with_len}
 use Rattle.plain_text.specs.declared.run.Run.{Run}
 use Rattle.plain_edits.specs.declared.style.Span.{Span}
@@ -92,3 +92,14 @@ shown_count (Dropped ∷ steps) = shown_count steps
 abbrev pub one_span : ℕ → ℕ → Option ℕ → List Span
 one_span start end None = []
 one_span start end (Some style) = record { start = start; end = end; style = style } ∷ []
+
+-- two layers are the same where no gap is named; else they differ, and not left of the gap
+abbrev pub IsApartFrom : Option ℕ → Layer → Layer → Type 0
+IsApartFrom None layer other = layer ≡ other
+IsApartFrom (Some at) layer other = (layer ≢ other) × (take at layer ≡ take at other)
+
+-- the lesser of two gaps, of which there may be one, or none
+abbrev pub least_of : Option ℕ → Option ℕ → Option ℕ
+least_of None other = other
+least_of (Some at) None = Some at
+least_of (Some at) (Some gap) = Some (min at gap)

@@ -1,11 +1,12 @@
 -- Layers of styles over a text, and what is done to them. A contract sees each as one optional style for each character.
-use Rattle.std.specs.Prelude.{◌≡◌, ℕ, ◌≤◌, List, length, map, replicate, None, fold, slice_set, slice_index_or, [], ◌∷◌}
-use Rattle.std.specs.List.{AllByRecursion, enumerate_from}
+use Rattle.std.specs.Prelude.{◌≡◌, ◌≢◌, ℕ, ◌≤◌, List, length, map, replicate, Option, None, Some, fold, slice_set, slice_index_or, [], ◌∷◌}
+use Rattle.std.specs.List.{AllByRecursion, enumerate_from, flat_map}
 use Rattle.plain_text.specs.declared.run.Run.{Run}
 use Rattle.plain_edits.specs.declared.style.Span.{Span}
 use Rattle.plain_edits.specs.declared.delta.UnitDelta.{UnitDelta}
 use Rattle.plain_edits.specs.UnitDelta.{unit_keeps, unit_adds}
 use Rattle.plain_edits.specs.Styles.{Layer, mapped_layer, spanned_style}
+use Rattle.span_runs.specs.Spans.{spans_in}
 use Rattle.span_styles.specs.declared.spanned.SpannedRange.{SpannedRange}
 
 -- a layer in which no character has a style
@@ -55,3 +56,9 @@ RiseWithin from to [] = from ≤ to
 RiseWithin from to (spanned ∷ ranges) =
     (from ≤ spanned.range.start) × (spanned.range.start ≤ spanned.range.end) × LieIn spanned.range spanned.spans ×
     RiseWithin spanned.range.end to ranges
+
+-- two lists of layers are the same where no gap is named; else they differ, and up to the gap they show the same spans
+abbrev pub AreApartFrom : Option ℕ → List Layer → List Layer → Type 0
+AreApartFrom None layers others = layers ≡ others
+AreApartFrom (Some at) layers others =
+    (layers ≢ others) × ((range : Run) → range.end ≤ at → flat_map (spans_in range) layers ≡ flat_map (spans_in range) others)

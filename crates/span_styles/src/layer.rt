@@ -3,9 +3,10 @@ ghost use Rattle.std.specs.Arc.{arc_value};
 ghost use Rattle.plain_edits.specs.UnitDelta.{IsUnitDelta, unit_adds, unit_keeps};
 ghost use Rattle.plain_edits.specs.Styles.{mapped_layer};
 ghost use Rattle.span_runs.specs.Spans.{spans_in};
-ghost use Rattle.span_styles.specs.Layers.{RiseWithin, length_after, spanned_layer};
-ghost use Rattle.span_styles.specs.Inner.{one_span};
+ghost use Rattle.span_styles.specs.Layers.{RiseWithin, length_after, spanned_layer, unstyled};
+ghost use Rattle.span_styles.specs.Inner.{IsApartFrom, one_span};
 
+use crate::apart::{bare_front, runs_apart};
 use crate::run::StyleRuns;
 use crate::spanned::{SpannedRange, spanned};
 use delta_core::{Part, UnitWalk};
@@ -93,6 +94,22 @@ impl StyleLayer {
         }
     }
 
+    /// A gap left of which the layer styles no character in another way than the other, where they are not the same.
+    pub(crate) fn apart_from(&self, other: &StyleLayer) -> Option<u64>
+        ensures { IsApartFrom result self.now other.now }
+    {
+        match &self.runs {
+            None => match &other.runs {
+                None => bare_apart(self.len, other.len),
+                Some(others) => Some(bare_front(others, self.len)),
+            },
+            Some(runs) => match &other.runs {
+                None => Some(bare_front(runs, other.len)),
+                Some(others) => runs_apart(runs, others),
+            },
+        }
+    }
+
     /// Puts the spans of the layer in a range at the end of others. This costs a search, and the spans.
     pub(crate) fn push_spans(&self, spans: &mut Spans, range: Run) -> Result<(), NoMemory>
         ensures { OnOk result (spans.new ≡ spans.old ++ spans_in range self.now) }
@@ -115,6 +132,13 @@ impl TryClone for StyleLayer {
             runs,
         })
     }
+}
+
+// The same of layers without a style.
+fn bare_apart(len: u64, other: u64) -> Option<u64>
+    ensures { IsApartFrom result (unstyled len) (unstyled other) }
+{
+    if len == other { None } else { Some(0) }
 }
 
 // A layer after an edit: what is kept keeps its style, and what is added has none.

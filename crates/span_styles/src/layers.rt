@@ -1,10 +1,11 @@
 ghost use Rattle.std.specs.Prelude.{◌≡◌, ◌↔◌, ◌∷◌, ◌<◌, ◌≤◌, ◌^◌, [], length, IsTrue, IfOk};
 ghost use Rattle.plain_edits.specs.UnitDelta.{IsUnitDelta};
 ghost use Rattle.span_runs.specs.Spans.{spans_in, spans_of};
-ghost use Rattle.span_styles.specs.Layers.{AreOver, LieIn, RiseWithin, layer_at, length_after, mapped_layers, new_layers, spanned_layers};
+ghost use Rattle.span_styles.specs.Layers.{AreApartFrom, AreOver, LieIn, RiseWithin, layer_at, length_after, mapped_layers, new_layers, spanned_layers};
 ghost use Rattle.std.specs.List.{flat_map};
 ghost use Rattle.span_styles.specs.Inner.{IsWhole, LeavesAll};
 
+use crate::apart::layers_apart;
 use crate::layer::StyleLayer;
 use crate::spanned::SpannedRange;
 use delta_core::{Part, UnitWalk};
@@ -95,6 +96,14 @@ impl Layers {
         Ok(Layers {
             layers: mapped(alloc, &self.layers, units, len)?,
         })
+    }
+
+    /// A gap left of which the layers style no character in another way than others, where they are not the same; of two layers that both have
+    /// styles it is the first such character. This costs the runs up to there.
+    pub fn apart_from(&self, other: &Layers) -> Option<u64>
+        ensures { AreApartFrom result self.now other.now }
+    {
+        layers_apart(&self.layers, &other.layers)
     }
 
     /// The spans that the layers show in a range, in the coordinates of the text: their runs of one style, cut at the range's ends. This

@@ -6,6 +6,7 @@
 //! says that an edit leaves each character its style, and gives no other character any.
 #![tactic(auto)]
 
+mod apart;
 mod key;
 pub mod laws;
 mod layer;
