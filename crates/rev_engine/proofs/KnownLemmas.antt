@@ -1,16 +1,20 @@
 -- Which groups are known: they may be undone.
-use Rattle.std.proofs.Common.{◌≡◌, ◌↔◌, ℕ, ◌<◌, Bool, true, false, not, ◌||◌, if◌then◌else◌, IsTrue, is_some, Option, Some, None, List, refl, ap, sym, ◌∙◌}
+use Rattle.std.proofs.Common.{◌≡◌, ◌↔◌, ℕ, ◌<◌, ◌≤◌, Bool, true, false, not, ◌||◌, ◌==◌, if◌then◌else◌, IsTrue, is_some, Option, Some, None, List, take, refl, ap, sym, ◌∙◌}
 use Rattle.std.specs.List.{AllByRecursion, list_any}
+use Rattle.std.proofs.lemmas.Bool.{lt-leb}
 use Rattle.plain_text.specs.Numbers.{has, IsRising}
 use Rattle.plain_edits.specs.History.{History}
 use Rattle.plain_edits.specs.Edits.{is_edit_of}
+use Rattle.plain_edits.specs.HistorySteps.{IsWellFormed}
 use Rattle.plain_edits.specs.Undo.{undone_now}
+use Rattle.collection_laws.specs.Left.{left_of}
 use Rattle.rev_list.specs.Edit.{undone_by}
 use Rattle.rev_list.specs.Groups.{IsFirstEdit}
 use Rattle.rev_list.proofs.ForCallers.{any_edit, no_edit}
 use Rattle.rev_undo.proofs.ForCallers.{of_all, of_one}
 use Rattle.rev_engine.specs.Asked.{IsKnown}
 use Rattle.rev_engine.proofs.FrozenLemmas.{has-undone_by}
+use Rattle.rev_engine.proofs.LeftLemmas.{none_by-left}
 
 -- a group with a first edit is known, and one without is where it is collected
 pub known_some : (h : History) (group : ℕ) (found : Option ℕ) → 0 < group → IsFirstEdit h.revisions group found → is_some found ≡ true → IsKnown h group
@@ -25,6 +29,17 @@ known_none h group None counts is none =
     let same : (list_any (is_edit_of group) h.revisions || has h.collected group) ≡ has h.collected group =
     ap (λ b. b || has h.collected group) (no_edit h.revisions group is) in
     (λ collected. (counts, same ∙ collected), λ known. sym same ∙ known.1)
+
+-- a group that is not collected, and whose first edit in what is left is after a revision from the floor on, has none by then
+pub none_by : (h : History) (group first rev : ℕ) → IsWellFormed h → has h.collected group ≡ false → h.floor ≤ rev →
+    IsFirstEdit (left_of h).revisions group (Some first) → rev < first → list_any (is_edit_of group) (take rev h.revisions) ≡ false
+none_by h group first rev formed kept low is later =
+    none_by-left h group formed kept rev low
+    (second_none (group == 0) (list_any (is_edit_of group) (take rev (left_of h).revisions)) (is rev ∙ lt-leb first rev later))
+  where
+    second_none : (a b : Bool) → (a || b) ≡ false → b ≡ false
+    second_none true b none = absurd cc
+    second_none false b none = none
 
 -- where what is undone is known, a set is known exactly where the groups are in which it differs
 pub known_by : (h : History) (groups : List ℕ) → IsRising (undone_now h) → IsRising groups → AllByRecursion (IsKnown h) (undone_now h) →

@@ -1,5 +1,5 @@
 -- What is left of a history: its edits are the history's, it may be collected where the history may, and a change of it is one of the history.
-use Rattle.std.proofs.Common.{◌≡◌, ℕ, zero, suc, ◌+◌, ◌<◌, ◌≤◌, Bool, true, false, not, ◌&&◌, ◌||◌, ◌==◌, if◌then◌else◌, inl, inr, ◌⊎◌, cond, List, [], ◌∷◌, length, map, filter, drop, slice_get, refl, ap, ap₂, sym, ◌∙◌, arith}
+use Rattle.std.proofs.Common.{◌≡◌, ℕ, zero, suc, ◌+◌, ◌<◌, ◌≤◌, Bool, true, false, not, ◌&&◌, ◌||◌, ◌==◌, if◌then◌else◌, inl, inr, ◌⊎◌, cond, List, [], ◌∷◌, length, map, filter, take, drop, slice_get, refl, ap, ap₂, sym, ◌∙◌, arith}
 use Rattle.std.specs.List.{list_any, range_with_len}
 use Rattle.std.proofs.lemmas.Bool.{both_ways, eqb-true, eq-eqb, or_cases, or_left, or_right}
 use Rattle.std.proofs.lemmas.List.Folds.{list_any-append}
@@ -99,6 +99,51 @@ module _ (h : History) (group : ℕ) where
           list_any (is_edit_of group) (left_of h).revisions ≡ true
       by rev own (inl stays) = edit_in (left_of h) (settled_rev h rev) stays.some stays.is (stays.group ∙ own)
       by rev own (inr goes) = absurd (both_ways (has h.collected group) kept (ap (has h.collected) (sym own) ∙ goes.is))
+
+  -- the same up to a revision
+  found_by : (revisions : List Revision) (rev : ℕ) → list_any (is_edit_of group) (take rev revisions) ≡ true →
+      (n : ℕ) × ((n < rev) × ((is_edit (slice_get revisions n) ≡ true) × (edit_group (slice_get revisions n) ≡ group)))
+  found_by revisions zero is = absurd (both_ways false refl is)
+  found_by [] (suc rev) is = absurd (both_ways false refl is)
+  found_by (edit base g priority author ∷ revisions) (suc rev) is =
+      elim (or_cases (g == group) (list_any (is_edit_of group) (take rev revisions)) is) [
+        | inl own ↦ (0, (omega arith, (refl, eqb-true g group own)))
+        | inr later ↦ let rest = found_by revisions rev later in (suc rest.0, (omega (arith, rest.1.0), rest.1.1))
+      ]
+  found_by (undo groups ∷ revisions) (suc rev) is = let rest = found_by revisions rev is in (suc rest.0, (omega (arith, rest.1.0), rest.1.1))
+
+  there_by : (revisions : List Revision) (n rev : ℕ) → n < rev → is_edit (slice_get revisions n) ≡ true → edit_group (slice_get revisions n) ≡ group →
+      list_any (is_edit_of group) (take rev revisions) ≡ true
+  there_by revisions n zero within is own = absurd (omega (arith, within))
+  there_by [] n (suc rev) within is own = absurd (both_ways false refl is)
+  there_by (edit base g priority author ∷ revisions) zero (suc rev) within is own = or_left (g == group) _ (eq-eqb g group own)
+  there_by (undo groups ∷ revisions) zero (suc rev) within is own = absurd (both_ways false refl is)
+  there_by (revision ∷ revisions) (suc n) (suc rev) within is own =
+      or_right (is_edit_of group revision) _ (there_by revisions n rev (omega (arith, within)) is own)
+
+  edit_by : (g : History) (at rev : ℕ) → 0 < at → at ≤ rev → is_edit (revision_at g.revisions at) ≡ true → group_of g.revisions at ≡ group →
+      list_any (is_edit_of group) (take rev g.revisions) ≡ true
+  edit_by g zero rev some within is own = absurd (omega (arith, some))
+  edit_by g (suc n) rev some within is own = there_by g.revisions n rev (omega (arith, within)) is own
+
+  -- one that is not collected, and has none in what is left by a revision from the floor on, has none by then
+  pub none_by-left : IsWellFormed h → has h.collected group ≡ false → (rev : ℕ) → h.floor ≤ rev →
+      list_any (is_edit_of group) (take rev (left_of h).revisions) ≡ false → list_any (is_edit_of group) (take rev h.revisions) ≡ false
+  none_by-left formed kept rev low none = by (list_any (is_edit_of group) (take rev h.revisions)) refl
+    where
+      settled_by : (at : ℕ) → at ≤ rev → group_of h.revisions at ≡ group → (StaysAs h at) ⊎ (IsForgotten h at) → ⊥
+      settled_by at within own (inl stays) =
+          let below : settled_rev h at ≤ rev =
+          elim stays.beside [ inl same ↦ omega (arith, same, within) | inr parts ↦ omega (arith, parts.0, low) ] in
+          both_ways (list_any (is_edit_of group) (take rev (left_of h).revisions)) none
+          (edit_by (left_of h) (settled_rev h at) rev stays.some below stays.is (stays.group ∙ own))
+      settled_by at within own (inr goes) = both_ways (has h.collected group) kept (ap (has h.collected) (sym own) ∙ goes.is)
+
+      by : (b : Bool) → list_any (is_edit_of group) (take rev h.revisions) ≡ b → list_any (is_edit_of group) (take rev h.revisions) ≡ false
+      by true some =
+          let at = found_by h.revisions rev some in
+          absurd (settled_by (suc at.0) (omega (arith, at.1.0)) at.1.1.1 (settles h (suc at.0) formed at.1.1.0))
+      by false none = none
 
   -- a group that has an edit or is collected has one in what is left, or is collected
   pub known-left : IsWellFormed h → (list_any (is_edit_of group) h.revisions || has h.collected group) ≡ true →

@@ -1,12 +1,12 @@
-ghost use Rattle.std.specs.List.{flat_map};
-ghost use Rattle.std.specs.Prelude.{◌≡◌, ◌≢◌, ◌+◌, ◌^◌, ◌<◌, ◌≤◌, ◌↔◌, ℕ, false, None, length, IfOk, IfErr, IfSome, IsTrue, OnErr, OnOk};
+ghost use Rattle.std.specs.List.{flat_map, list_any};
+ghost use Rattle.std.specs.Prelude.{◌≡◌, ◌≢◌, ◌+◌, ◌^◌, ◌<◌, ◌≤◌, ◌↔◌, ℕ, false, None, length, take, IfOk, IfErr, IfSome, IsTrue, OnErr, OnOk};
 ghost use Rattle.plain_text.specs.Numbers.{has, IsRising};
 ghost use Rattle.plain_text.specs.Text.{byte_len};
 ghost use Rattle.plain_edits.specs.UnitDelta.{IsCanonical, IsUnitDelta};
 ghost use Rattle.plain_edits.specs.History.{History, head, loaded, text_at};
 ghost use Rattle.plain_edits.specs.Collection.{collected_at, collection_of, kept};
 ghost use Rattle.rev_collect.specs.Choice.{collection_said};
-ghost use Rattle.plain_edits.specs.Edits.{edit_refusal, edited, undid};
+ghost use Rattle.plain_edits.specs.Edits.{edit_refusal, edited, is_edit_of, undid};
 ghost use Rattle.plain_edits.specs.Undo.{undone_now};
 ghost use Rattle.rev_list.specs.Edit.{undone_by};
 ghost use Rattle.rev_undo.specs.Under.{AgreesOnCollected};
@@ -119,6 +119,19 @@ impl Engine {
         ensures revisions { result ≡ has self.now.revisions.collected group }
     {
         self.revs.is_collected(group)
+    }
+
+    /// Whether the first edit of a group that is not collected is after a revision from the floor on, in the logarithm of the number of
+    /// groups. So it is false of a group that has no edit.
+    pub fn begins_after(&self, group: u64, rev: u64) -> bool
+        requires { self.now.revisions.floor ≤ rev }
+        ensures { (history : History) → StandsFor self.now history → has history.collected group ≡ false → IsTrue result
+            → list_any (is_edit_of group) (take rev history.revisions) ≡ false }
+    {
+        match self.revs.first_edit(group) {
+            Some(first) => rev < first,
+            None => false,
+        }
     }
 
     /// How many characters can still be shown by a kept revision, in O(1).
