@@ -1,8 +1,8 @@
 -- Stack and history go on to agree after each step.
-use Rattle.std.proofs.Common.{◌≡◌, ℕ, ◌+◌, ◌-◌, ◌<◌, ◌≤◌, Bool, true, false, not, ◌&&◌, ◌||◌, if◌then◌else◌, nat_lt, nat_le, ◌==◌, List, [], ◌∷◌, ◌++◌, length, take, drop, get_or, Option, Some, None, refl, ap, ap₂, sym, ◌∙◌, inl, inr, arith}
+use Rattle.std.proofs.Common.{◌≡◌, ℕ, zero, suc, ◌+◌, ◌-◌, ◌<◌, ◌≤◌, Bool, true, false, not, ◌&&◌, ◌||◌, if◌then◌else◌, nat_lt, nat_le, ◌==◌, List, [], ◌∷◌, ◌++◌, length, take, drop, get_or, Option, Some, None, refl, ap, ap₂, sym, ◌∙◌, inl, inr, arith, take_all}
 use Rattle.std.specs.List.{list_any}
 use Rattle.std.proofs.lemmas.Bool.{cases_eq, cases_lt, and_parts, and_from, or_cases, or_left, or_right, eqb-true, eq-eqb, ne_eqb, ltb-true, leb-true, lt-ltb, le-leb}
-use Rattle.std.proofs.lemmas.List.{length-drop, length_push, take-append-drop, take_more, get_or-drop, get_or_push}
+use Rattle.std.proofs.lemmas.List.{length-drop, length_push, take-append-drop, take-append-le, take_more, get_or-drop, get_or_push}
 use Rattle.std.proofs.lemmas.List.Folds.{list_any-append}
 use Rattle.plain_text.specs.Numbers.{has}
 use Rattle.plain_text.proofs.callers.NumberLemmas.{has-with_numbers}
@@ -15,7 +15,7 @@ use Rattle.edit_groups.specs.declared.typing.Kind.{Kind}
 use Rattle.edit_groups.specs.declared.typing.Typing.{Typing}
 use Rattle.edit_groups.specs.Grouping.{group_by, groups_by, run_group}
 use Rattle.edit_groups.specs.Typing.{is_same_kind, run_on, run_with}
-use Rattle.doc_text.specs.Agree.{Agree, IsNewest, is_given}
+use Rattle.doc_text.specs.Agree.{Agree, AreInOrder, IsNewest, is_given}
 use Rattle.doc_text.specs.Inner.{IsTurned}
 
 -- ---- truths
@@ -151,6 +151,23 @@ has-next_undo s group stack is =
     ap (λ xs. has xs group) front ∙ has-append (take (s.index - 1) s.live) (group ∷ []) group ∙
     or_right (has (take (s.index - 1) s.live) group) (has (group ∷ []) group) (has-own group [])
 
+-- ---- the order of the groups
+
+-- after one more revision: all that have an edit then are those that were given out
+in_order-more : (revisions : List Revision) (last : Revision) (groups : Groups) → AreInOrder revisions →
+    ((group : ℕ) → list_any (is_edit_of group) (revisions ++ last ∷ []) ≡ is_given groups group) → AreInOrder (revisions ++ last ∷ [])
+in_order-more revisions last groups was given = λ rev low high counts le some.
+    let more : List Revision = revisions ++ last ∷ [] in
+    elim (cases_lt (length revisions) rev) [
+      | inl over ↦
+          let all : take rev more ≡ more = take_all rev more (omega (arith, over, length_push revisions last)) in
+          let parts = is_given-parts groups high (sym (given high) ∙ ap (list_any (is_edit_of high)) (sym all) ∙ some) in
+          ap (list_any (is_edit_of low)) all ∙ given low ∙ is_given-from groups low counts (omega (arith, le, parts.1))
+      | inr within ↦
+          let same : take rev more ≡ take rev revisions = take-append-le rev revisions (last ∷ []) (omega (arith, within)) in
+          ap (list_any (is_edit_of low)) same ∙ was rev low high counts le (ap (list_any (is_edit_of high)) (sym same) ∙ some)
+    ]
+
 -- ---- the group of an edit
 
 -- it opens the next group, or joins the newest
@@ -282,6 +299,9 @@ module _ (revisions : List Revision) (collected : List ℕ) (groups : Groups) (t
             undone-edit revisions base (group_by groups joined) priority author ∙ agree.undone ∙ undone-edited joined;
         given = λ group. edits-more group last ∙ given-edited joined group known;
         few = omega (arith, few-edited joined, length_push revisions last);
+        in_order =
+            in_order-more revisions last (groups_by groups joined) agree.in_order
+            (λ group. edits-more group last ∙ given-edited joined group known);
         known = known-edited joined;
         collected_given = collected_given-edited joined;
         newest = newest;
@@ -313,6 +333,9 @@ module _ (revisions : List Revision) (collected : List ℕ) (groups : Groups) (t
           undone = ap (undone (revisions ++ last ∷ [])) (length_push revisions last) ∙ undone-undo revisions next.undone;
           given = λ g. edits-more g last ∙ or-false (is_given groups g) ∙ sym (given-turned g);
           few = omega (arith, agree.few, turn.given, length_push revisions last);
+          in_order =
+              in_order-more revisions last next agree.in_order
+              (λ g. edits-more g last ∙ or-false (is_given groups g) ∙ sym (given-turned g));
           known = λ g. known-turned g ∙ agree.known g ∙ ap (λ b. b && not (has collected g)) (sym (given-turned g));
           collected_given = λ g gone. given-turned g ∙ agree.collected_given g gone;
           newest = tt;
@@ -325,6 +348,7 @@ module _ (revisions : List Revision) (collected : List ℕ) (groups : Groups) (t
     undone = agree.undone;
     given = agree.given;
     few = agree.few;
+    in_order = agree.in_order;
     known = agree.known;
     collected_given = agree.collected_given;
     newest = IsNewest-run groups typing kind agree.newest;
@@ -336,6 +360,7 @@ module _ (revisions : List Revision) (collected : List ℕ) (groups : Groups) (t
     undone = agree.undone;
     given = agree.given;
     few = agree.few;
+    in_order = agree.in_order;
     known = agree.known;
     collected_given = agree.collected_given;
     newest = tt;
@@ -348,10 +373,18 @@ Agree-loaded stack = record {
   undone = refl;
   given = λ group. none group;
   few = omega arith;
+  in_order = λ rev low high counts le some. absurd (no (list_any (is_edit_of high) (take rev none_yet)) some (ap (list_any (is_edit_of high)) (take_nothing rev)));
   known = λ group. ap (λ b. b && true) (none group);
   collected_given = λ group gone. no false gone refl;
   newest = tt;
 }
   where
+    none_yet : List Revision
+    none_yet = []
+
+    take_nothing : (rev : ℕ) → take rev none_yet ≡ []
+    take_nothing zero = refl
+    take_nothing (suc rev) = refl
+
     none : (group : ℕ) → false ≡ is_given no_groups group
     none group = sym (absent (is_given no_groups group) (λ given. let parts = is_given-parts no_groups group given in absurd (omega (arith, parts))))

@@ -110,6 +110,7 @@ module _ (revisions : List Revision) (collected : List ℕ) (groups : Groups) (t
     undone = agree.undone;
     given = agree.given;
     few = agree.few;
+    in_order = agree.in_order;
     known = known-less;
     collected_given = given-less;
     newest = newest-retired groups (fold without_number groups.retired gone) typing agree.newest;
@@ -268,6 +269,15 @@ module _ (text : TextState) (plain : Writing) (stands : IsTextOf text plain) whe
         least-uncollected,
         least-kept plain.history plain.sessions ((formed-stands text.engine plain.history stands.state.stands).floor) stands.acknowledged,
       ))
+
+  -- nor where each of them begins later
+  pub nothing-begun : (most : ℕ) → most ≡ least_acknowledged (head text.engine.revisions) text.sessions →
+      ((floor : ℕ) → floor ≤ most → resting_groups plain.history plain.groups.retired floor ≡ []) → None ≡ collection_after plain
+  nothing-begun most is none =
+      let least = least_acknowledged (head plain.history) plain.sessions in
+      let here : most ≡ least = is ∙ least-uncollected in
+      let floor = clean_floor plain.history.revisions least in
+      sym (ap (collection_at floor) (none floor (omega (arith, here, (greatest_clean_floor plain.history.revisions least).is_within))))
 
   -- and else what there is
   pub found-least : (most : ℕ) → most ≡ least_acknowledged (head text.engine.revisions) text.sessions →

@@ -5,6 +5,7 @@ pub mod MoveLemmas
 pub mod SessionLemmas
 pub mod OnceLemmas
 pub mod RestLemmas
+pub mod OldestLemmas
 pub mod LaterLemmas
 pub mod CollectLemmas
 pub mod LoadLemmas

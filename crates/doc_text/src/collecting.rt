@@ -1,7 +1,7 @@
 // What a collection reads of a text, and makes of it.
-ghost use Rattle.std.specs.Prelude.{◌≡◌, ◌≤◌, Some, IfOk, IfSome, unwrap_or};
+ghost use Rattle.std.specs.Prelude.{◌≡◌, ℕ, ◌≤◌, [], Some, IfOk, IfSome, IsTrue, unwrap_or};
 ghost use Rattle.std.specs.Arc.{arc_value};
-ghost use Rattle.plain_edits.specs.Collection.{collected_at};
+ghost use Rattle.plain_edits.specs.Collection.{collected_at, resting_groups};
 ghost use Rattle.plain_edits.specs.History.{History, head};
 ghost use Rattle.rev_collect.specs.Choice.{collection_said};
 ghost use Rattle.rev_engine.specs.Asked.{IsCollectionTaken};
@@ -35,8 +35,9 @@ impl TextState {
         }
     }
 
-    // What is collected now, if anything: the groups of a floor. That is nothing where no group is retired. No session has acknowledged
-    // less than the floor.
+    // What is collected now, if anything: the groups of a floor. That is nothing where no group is retired, or where the oldest retired one
+    // begins after what was acknowledged: then it costs the logarithm of the number of groups. No session has acknowledged less than the
+    // floor.
     fn collectable(&self, alloc: Global) -> Result<Option<(u64, BTreeSet<u64>)>, NoMemory>
         ensures found { (plain : Writing) → IsTextOf self.now plain
             → IfOk result (λ found. collection_said found ≡ collection_after plain) }
@@ -47,8 +48,24 @@ impl TextState {
         if !self.stack.has_retired() || least < engine.floor() {
             return Ok(None);
         }
+        if self.all_begin_after(least) {
+            return Ok(None);
+        }
         let retired = retired_groups(alloc, &self.stack)?;
         engine.collectable(alloc, least, &retired)
+    }
+
+    // Whether the oldest retired group has its first edit after this revision, from the floor on. Then so has each of them, since groups
+    // are given out in the order of their first edits.
+    fn all_begin_after(&self, rev: u64) -> bool
+        requires { self.now.engine.revisions.floor ≤ rev }
+        ensures { (plain : Writing) → IsTextOf self.now plain → IsTrue result
+            → (floor : ℕ) → floor ≤ rev → resting_groups plain.history plain.groups.retired floor ≡ [] }
+    {
+        match self.stack.retired(0) {
+            Some(oldest) => self.engine.begins_after(oldest, rev),
+            None => false,
+        }
     }
 
     // The text after a collection, which the engine makes and the stack too.

@@ -13,7 +13,7 @@ use Rattle.doc_text.specs.Collecting.{least_acknowledged}
 use Rattle.doc_text.specs.InMemory.{TextState}
 use Rattle.doc_text.specs.Inner.{MayCollectIn}
 use Rattle.doc_text.specs.Stands.{IsTextOf}
-use Rattle.doc_text.proofs.CollectLemmas.{MayCollectIn-found, found-least, nothing-below, nothing-retired}
+use Rattle.doc_text.proofs.CollectLemmas.{MayCollectIn-found, found-least, nothing-begun, nothing-below, nothing-retired}
 use Rattle.doc_text.proofs.text.TextState.collectable.Goals.{then-not-has_retired-via-then-not-has_retired, then-not-has_retired-via-else-not-has_retired+then-least-floor}
 use Rattle.doc_text.proofs.text.TextState.collectable.Goals as goal
 
@@ -32,6 +32,15 @@ returns-then-not-has_retired-clause-found c = λ plain stands.
           (subst (λ n. n < (arc_value doc.engine).revisions.floor) least_is
           (subst (λ n. c.least-least.result < n) (w.floor.ensures.revisions ∙ ap (λ (e : State). e.revisions.floor) c.deref-engine.ensures) w.if-least-floor.true))
     ]
+
+pub returns-then-all_begin_after-clause-found : goal.returns-then-all_begin_after-clause-found
+returns-then-all_begin_after-clause-found c = λ plain stands.
+    let doc = c.self.inside in
+    let was = subst (λ (d : TextState). IsTextOf d plain) (sym c.self.view_is) stands in
+    let head_is = c.head.ensures.revisions ∙ ap (λ (e : State). head e.revisions) c.deref-engine.ensures in
+    let least_is : c.least-least.result ≡ least_acknowledged (head (arc_value doc.engine).revisions) doc.sessions =
+    c.least-least.ensures ∙ ap (λ n. least_acknowledged n doc.sessions) head_is in
+    nothing-begun _ plain was c.least-least.result least_is (c.all_begin_after.ensures plain stands c.if-all_begin_after.true)
 
 pub collectable-requires-clause-known : goal.collectable-requires-clause-known
 collectable-requires-clause-known c =
