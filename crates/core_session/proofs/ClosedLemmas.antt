@@ -11,7 +11,7 @@ use Rattle.core_session.proofs.ShowsLemmas.{no_lines, shows_push}
 use Rattle.core_session.proofs.SessionLemmas.{written-push}
 
 -- what a session wrote shows its journal with the closing entry, which writes nothing
-pub shows_closed : {K : Type 0} (core : Core K) → IsServing core → Shows (journal_of core ++ closing_entry ∷ []) (written first_session (journal_of core))
+pub shows_closed : {K H : Type 0} (core : Core K H) → IsServing core → Shows (journal_of core ++ closing_entry ∷ []) (written first_session (journal_of core))
 shows_closed core serving =
     let journal = journal_of core in
     let few : length journal < 2 ^ 63 = omega (arith, core.journal.ok.0, core.journal.ok.1, core.journal.small, serving.room) in

@@ -1,5 +1,6 @@
 -- What other crates may cite of the proofs of `core_session`.
 pub use Rattle.core_session.proofs.SessionLemmas.{views_of-push, written-push, IsOfLine-command_of}
+pub use Rattle.core_session.proofs.ShelfLemmas.{AreSavesAsked-closed, AreSavesAsked-push, HoldsSaves-closed, HoldsSaves-keeps, HoldsSaves-none, HoldsSaves-push}
 pub use Rattle.core_session.proofs.StepLemmas.{all_without}
 pub use Rattle.core_session.proofs.RevisionLemmas.{revisions_few}
 pub use Rattle.core_session.proofs.ShowsLemmas.{updates_in-push, updates_in-lines, updates_of-some}

@@ -1,5 +1,5 @@
 -- What views in memory come to that take their steps one after the other, and what an act comes to by them.
-use Rattle.std.proofs.Common.{take_all, length-drop, ◌-◌, ◌≡◌, ℕ, zero, suc, add-one, ◌+◌, ◌<◌, ◌≤◌, false, true, List, [], ◌∷◌, ◌++◌, length, take, drop, get_or, map, not, Option, Some, None, refl, sym, ◌∙◌, ap, subst, arith, append-nil, append_assoc, length-append, length-take-le}
+use Rattle.std.proofs.Common.{take_all, length-drop, ◌-◌, ◌≡◌, ℕ, zero, suc, add-one, ◌+◌, ◌<◌, ◌≤◌, false, true, List, [], ◌∷◌, ◌++◌, length, take, drop, get_or, not, Option, Some, None, refl, sym, ◌∙◌, ap, subst, arith, append-nil, append_assoc, length-append, length-take-le}
 use Rattle.std.proofs.Math.Seq.{drop-cons, split_at}
 use Rattle.std.proofs.lemmas.List.{map-append, drop_all}
 use Rattle.std.specs.Prelude.{if◌then◌else◌, option_map, Result, Ok, Err, OnOk}
@@ -13,7 +13,6 @@ use Rattle.doc_session.specs.Step.{AreEffectsOf, EventStep, IsEventFor, event_st
 use Rattle.doc_text.specs.Writing.{loaded_text}
 use Rattle.doc_text.proofs.ForCallers.{head-text}
 use Rattle.xi_plain.specs.declared.config.Config.{Config}
-use Rattle.view_update.specs.declared.note.ViewUpdate.{ViewUpdate}
 use Rattle.core_session.specs.declared.opened.Opened.{Opened}
 use Rattle.core_session.specs.declared.stepped.Stepped.{Stepped}
 use Rattle.core_session.specs.declared.stepped.ToEach.{ToEach}

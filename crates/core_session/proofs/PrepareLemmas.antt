@@ -17,9 +17,10 @@ use Rattle.doc_session.specs.Step.{AreEffectsOf, event_step, refusal_at}
 use Rattle.core_session.specs.declared.act.ActEffects.{ActEffects}
 use Rattle.entry_lines.specs.Answer.{Reply, reply_of}
 use Rattle.entry_lines.specs.Piece.{AreLinesOf, UpdatesReadBack, entry_messages}
-use Rattle.core_session.specs.declared.opened.Opened.{Opened}
-use Rattle.core_session.specs.Session.{Session, config_after, opened_after, outcome}
-use Rattle.core_session.specs.InnerSession.{IsDone, IsMade, IsOutcome, IsPrepared}
+use Rattle.core_session.specs.declared.ask.Asked.{Asked}
+use Rattle.core_session.specs.declared.given.Given.{Given}
+use Rattle.core_session.specs.Session.{Session, config_after, outcome}
+use Rattle.core_session.specs.InnerSession.{IsAsked, IsDone, IsMade, IsOutcome, IsPrepared}
 
 -- an event of a document in which no plugin has a session
 pub IsMade-after : (old : Doc) (event : Event) (result : Result (Doc × Effects) DocFault) → length old.text.sessions ≡ 0 →
@@ -38,14 +39,14 @@ IsMade-after old event (Ok made) none stands effects accepted refused kept = rec
 }
 
 -- a command, by what its act came to and by the lines of that
-pub IsDone-by : (session : Session) (command : Command) (effects : ActEffects) (piece : List ℕ) →
-    IsOutcome (outcome session command.act) effects → UpdatesReadBack effects.updates →
+pub IsDone-by : (session : Session) (command : Command) (gave : Given) (effects : ActEffects) (piece : List ℕ) →
+    IsOutcome (outcome session command.act gave) effects → UpdatesReadBack effects.updates →
     AreLinesOf (entry_messages command.id (reply_of effects.reply) [] effects.updates effects.scroll) (encode_utf8_all piece) →
-    IsDone session command piece effects.held
-IsDone-by session command effects piece is reads lines =
+    IsDone session command gave piece effects.held
+IsDone-by session command gave effects piece is reads lines =
     let At : Reply → List ViewUpdate → Option Scroll → Type 0 =
     λ reply updates scroll. AreLinesOf (entry_messages command.id reply [] updates scroll) (encode_utf8_all piece) in
-    let done = outcome session command.act in
+    let done = outcome session command.act gave in
     let by_reply : At done.reply effects.updates effects.scroll = subst (λ reply. At reply effects.updates effects.scroll) is.reply lines in
     let by_updates : At done.reply done.updates effects.scroll = subst (λ updates. At done.reply updates effects.scroll) is.updates by_reply in
     record {
@@ -54,12 +55,19 @@ IsDone-by session command effects piece is reads lines =
       stands = is.stands;
     }
 
--- the same with how many were opened and the configuration after it
-pub IsPrepared-by : (session : Session) (command : Command) (piece : List ℕ) (held : List Opened) (opened : ℕ) (config : Config) →
-    IsDone session command piece held → opened ≡ opened_after session.opened command.act → config ≡ config_after session.config command.act →
-    0 < config.tab → IsPrepared session (record { command = command; piece = piece; held = held; opened = opened; config = config })
-IsPrepared-by session command piece held opened config done many is tab = record {
-  lines = done.lines;
-  reads_back = done.reads_back;
-  stands = record { views = done.stands; opened = many; config = is; tab = tab };
+-- the same with the configuration after it
+pub IsPrepared-by : (session : Session) (command : Command) (asked : Asked) (config : Config) → IsAsked session command asked →
+    config ≡ config_after session.config command.act → 0 < config.tab →
+    IsPrepared session (record {
+      command = command;
+      note = asked.note;
+      piece = asked.piece;
+      held = asked.held;
+      opened = asked.opened;
+      config = config;
+    })
+IsPrepared-by session command asked config is same tab = record {
+  lines = is.done.lines;
+  reads_back = is.done.reads_back;
+  stands = record { views = is.done.stands; opened = is.opened; config = same; tab = tab };
 }

@@ -4,7 +4,8 @@ use Rattle.xi_plain.specs.declared.command.Act.{Act}
 use Rattle.xi_plain.specs.declared.entry.Entry.{Entry}
 use Rattle.plain_edits.specs.History.{head}
 use Rattle.doc_session.specs.Step.{EventStep}
-use Rattle.core_session.specs.Session.{OpenView, HaveRevisions, Session, first_session, outcome, stepped, step, session_after, views_of}
+use Rattle.core_session.specs.declared.given.Given.{Given}
+use Rattle.core_session.specs.Session.{OpenView, HaveRevisions, Session, first_session, given_by, outcome, stepped, step, session_after, views_of}
 use Rattle.core_session.proofs.StepLemmas.{IsBase, IsSlow, all_base, by_views}
 
 -- the views one by one
@@ -19,13 +20,13 @@ few_more n [] few = tt
 few_more n (view ∷ views) few = (omega (arith, few.0), few_more n views few.1)
 
 few_base : (n : ℕ) (session : Session) (opened : ℕ) (base : List OpenView) → IsBase session opened base → HaveRevisions n session.views → HaveRevisions n base
-few_base n session opened base is few = all_base (λ (view : OpenView). head view.document.text.history ≤ n) session opened base is (omega arith) few
+few_base n session opened base is few = all_base (λ (view : OpenView). head view.document.text.history ≤ n) session opened base is (λ text. omega arith) few
 
-few_step : (n : ℕ) (session : Session) (act : Act) → HaveRevisions n session.views → HaveRevisions (n + 1) (outcome session act).views
+few_step : (n : ℕ) (session : Session) (act : Act) (gave : Given) → HaveRevisions n session.views → HaveRevisions (n + 1) (outcome session act gave).views
 unfolding IsSlow
-few_step n session act few =
+few_step n session act gave few =
     by_views session (λ opened views. HaveRevisions (n + 1) views)
-    (λ opened base each is slow. few_steps n base each (slow n few) (few_base n session opened base is few)) (few_more n session.views few) act
+    (λ opened base each is slow. few_steps n base each (slow n few) (few_base n session opened base is few)) (few_more n session.views few) act gave
 
 few_after : (n : ℕ) (session : Session) (entries : List Entry) → HaveRevisions n session.views →
     HaveRevisions (n + length entries) (session_after session entries).views
@@ -36,7 +37,7 @@ few_after n session [] few =
 few_after n session (entry ∷ entries) few =
     let At : ℕ → Type 0 = λ most. HaveRevisions most (session_after session (entry ∷ entries)).views in
     let same : n + 1 + length entries ≡ n + length (entry ∷ entries) = omega arith in
-    subst At same (few_after (n + 1) (step session entry.command) entries (few_step n session entry.command.act few))
+    subst At same (few_after (n + 1) (step session entry) entries (few_step n session entry.command.act (given_by entry.shelf) few))
 
 pub revisions_few : (journal : List Entry) → HaveRevisions (length journal) (views_of journal)
 revisions_few journal =

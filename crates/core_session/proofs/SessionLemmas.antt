@@ -1,10 +1,12 @@
 -- Lemmas on the plain session: one more entry.
-use Rattle.std.proofs.Common.{take_all, length-drop, length, ◌-◌, ◌≡◌, ℕ, zero, suc, ◌+◌, arith, zero-add, take, drop, List, [], ◌∷◌, ◌++◌, Some, None, refl, ap, sym, ◌∙◌, append_assoc, append-nil}
+use Rattle.std.proofs.Common.{take_all, length-drop, length, ◌-◌, ◌≡◌, ℕ, zero, suc, ◌+◌, arith, zero-add, take, drop, List, [], ◌∷◌, ◌++◌, refl, ap, sym, ◌∙◌, append_assoc, append-nil}
 use Rattle.std.specs.List.{AllByRecursion}
 use Rattle.serde_json.specs.Data.{Data}
 use Rattle.xi_plain.specs.declared.command.Command.{Command}
 use Rattle.xi_plain.specs.declared.entry.Entry.{Entry}
-use Rattle.core_session.specs.Session.{Session, first_session, messages, outcome, step, session_after, session_of, views_of, written, piece_of}
+use Rattle.xi_plain.specs.declared.entry.ShelfNote.{ShelfNote}
+use Rattle.xi_plain.specs.Journal.{may_have_note}
+use Rattle.core_session.specs.Session.{Session, first_session, given_by, messages, outcome, step, session_after, session_of, views_of, written, piece_of}
 use Rattle.core_session.specs.Core.{IsOfLine, IsOpen, front_entry}
 use Rattle.entry_lines.specs.Piece.{lines_written}
 use Rattle.entry_lines.proofs.ForCallers.{all_append, lines_written-append}
@@ -17,29 +19,29 @@ use Rattle.front_wire.proofs.ForCallers.{closes-command_of}
 pub session_after-append : (session : Session) (front back : List Entry) →
     session_after session (front ++ back) ≡ session_after (session_after session front) back
 session_after-append session [] back = refl
-session_after-append session (entry ∷ front) back = session_after-append (step session entry.command) front back
+session_after-append session (entry ∷ front) back = session_after-append (step session entry) front back
 
 -- the messages of entries, one after the other
 pub all_messages : Session → List Entry → List Data
 all_messages session [] = []
-all_messages session (entry ∷ entries) = messages session entry.command ++ all_messages (step session entry.command) entries
+all_messages session (entry ∷ entries) = messages session entry.command (given_by entry.shelf) ++ all_messages (step session entry) entries
 
 pub all_messages-append : (session : Session) (front back : List Entry) →
     all_messages session (front ++ back) ≡ all_messages session front ++ all_messages (session_after session front) back
 unfolding all_messages
 all_messages-append session [] back = refl
 all_messages-append session (entry ∷ front) back =
-    ap (λ rest. messages session entry.command ++ rest) (all_messages-append (step session entry.command) front back) ∙
-    sym (append_assoc (messages session entry.command) (all_messages (step session entry.command) front)
-    (all_messages (session_after (step session entry.command) front) back))
+    ap (λ rest. messages session entry.command (given_by entry.shelf) ++ rest) (all_messages-append (step session entry) front back) ∙
+    sym (append_assoc (messages session entry.command (given_by entry.shelf)) (all_messages (step session entry) front)
+    (all_messages (session_after (step session entry) front) back))
 
 -- one more entry
 pub session_of-push : (journal : List Entry) (entry : Entry) →
-    session_of (journal ++ entry ∷ []) ≡ step (session_of journal) entry.command
+    session_of (journal ++ entry ∷ []) ≡ step (session_of journal) entry
 session_of-push journal entry = session_after-append first_session journal (entry ∷ [])
 
 pub views_of-push : (journal : List Entry) (entry : Entry) →
-    views_of (journal ++ entry ∷ []) ≡ (outcome (session_of journal) entry.command.act).views
+    views_of (journal ++ entry ∷ []) ≡ (outcome (session_of journal) entry.command.act (given_by entry.shelf)).views
 views_of-push journal entry = ap (λ (session : Session). session.views) (session_of-push journal entry)
 
 -- the messages of a journal
@@ -47,19 +49,19 @@ pub messages_of : List Entry → List Data
 messages_of journal = all_messages first_session journal
 
 pub messages_of-push : (journal : List Entry) (entry : Entry) →
-    messages_of (journal ++ entry ∷ []) ≡ messages_of journal ++ messages (session_of journal) entry.command
+    messages_of (journal ++ entry ∷ []) ≡ messages_of journal ++ messages (session_of journal) entry.command (given_by entry.shelf)
 unfolding all_messages messages_of
 messages_of-push journal entry =
     all_messages-append first_session journal (entry ∷ []) ∙
-    ap (λ rest. messages_of journal ++ rest) (append-nil (messages (session_of journal) entry.command))
+    ap (λ rest. messages_of journal ++ rest) (append-nil (messages (session_of journal) entry.command (given_by entry.shelf)))
 
 -- what entries write is the lines of their messages
 written-all : (session : Session) (entries : List Entry) → written session entries ≡ lines_written (all_messages session entries)
 unfolding all_messages
 written-all session [] = refl
 written-all session (entry ∷ entries) =
-    ap (λ rest. piece_of session entry.command ++ rest) (written-all (step session entry.command) entries) ∙
-    sym (lines_written-append (messages session entry.command) (all_messages (step session entry.command) entries))
+    ap (λ rest. piece_of session entry ++ rest) (written-all (step session entry) entries) ∙
+    sym (lines_written-append (messages session entry.command (given_by entry.shelf)) (all_messages (step session entry) entries))
 
 pub written-messages : (journal : List Entry) → written first_session journal ≡ lines_written (messages_of journal)
 unfolding messages_of
@@ -67,9 +69,9 @@ written-messages journal = written-all first_session journal
 
 -- one more entry writes its piece
 pub written-push : (journal : List Entry) (entry : Entry) →
-    written first_session (journal ++ entry ∷ []) ≡ written first_session journal ++ piece_of (session_of journal) entry.command
+    written first_session (journal ++ entry ∷ []) ≡ written first_session journal ++ piece_of (session_of journal) entry
 written-push journal entry =
-    let said = messages (session_of journal) entry.command in
+    let said = messages (session_of journal) entry.command (given_by entry.shelf) in
     written-messages (journal ++ entry ∷ []) ∙ ap lines_written (messages_of-push journal entry) ∙
     lines_written-append (messages_of journal) said ∙ ap (λ front. front ++ lines_written said) (sym (written-messages journal))
 
@@ -86,9 +88,10 @@ take-plus (suc m) n (x ∷ xs) =
     ap (λ k. take k (x ∷ xs)) less ∙ ap (λ rest. x ∷ rest) (take-plus m n xs)
 
 -- one more entry that is open
-pub IsOpen-push : (journal : List Entry) (command : Command) → AllByRecursion IsOpen journal → IsOfLine command.act →
-    AllByRecursion IsOpen (journal ++ front_entry command true ∷ [])
-IsOpen-push journal command sent asks = all_append IsOpen journal (front_entry command true ∷ []) sent (record { caller = refl; asks = asks; shelf = refl; sent = refl }, tt)
+pub IsOpen-push : (journal : List Entry) (command : Command) (note : ShelfNote) → AllByRecursion IsOpen journal → IsOfLine command.act →
+    may_have_note command.act note ≡ true → AllByRecursion IsOpen (journal ++ front_entry command note true ∷ [])
+IsOpen-push journal command note sent asks kind =
+    all_append IsOpen journal (front_entry command note true ∷ []) sent (record { caller = refl; asks = asks; note = kind; sent = refl }, tt)
 
 -- the rest of a slice is what stands after its front
 take_rest : (m : ℕ) (xs : List ℕ) → take (length xs - m) (drop m xs) ≡ drop m xs

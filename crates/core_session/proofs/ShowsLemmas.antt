@@ -1,5 +1,5 @@
 -- One more entry is shown, where those before it are.
-use Rattle.std.proofs.Common.{◌≡◌, ℕ, ◌+◌, ◌-◌, ◌<◌, ◌≤◌, length, arith, Bool, true, false, List, [], ◌∷◌, ◌++◌, map, Option, Some, None, refl, ap, sym, ◌∙◌, subst, append-nil, ◌⊎◌, inl, inr}
+use Rattle.std.proofs.Common.{◌≡◌, ℕ, ◌+◌, ◌-◌, ◌<◌, ◌≤◌, length, arith, true, false, List, [], ◌∷◌, ◌++◌, map, Option, Some, None, refl, ap, sym, ◌∙◌, subst, append-nil, ◌⊎◌, inl, inr}
 use Rattle.std.specs.Prelude.{if◌then◌else◌, ◌^◌}
 use Rattle.std.specs.Str.{bytes_eq}
 use Rattle.std.specs.List.{filter_map, cons_option, AllByRecursion}
@@ -10,6 +10,8 @@ use Rattle.xi_plain.specs.declared.command.Id.{Id}
 use Rattle.xi_plain.specs.declared.command.Command.{Command}
 use Rattle.xi_plain.specs.declared.config.Config.{Config}
 use Rattle.xi_plain.specs.declared.entry.Entry.{Entry}
+use Rattle.xi_plain.specs.declared.entry.ShelfNote.{ShelfNote}
+use Rattle.xi_plain.specs.Journal.{may_have_note}
 use Rattle.xi_plain.specs.declared.command.Act.{Act}
 use Rattle.plain_text.specs.declared.run.Run.{Run}
 use Rattle.plain_screen.specs.declared.screen.Update.{Update}
@@ -20,8 +22,9 @@ use Rattle.doc_session.specs.ScreenOf.{IsUpToDate}
 use Rattle.doc_session.specs.Step.{EventStep}
 use Rattle.entry_lines.specs.Piece.{AreLinesOf, UpdatesReadBack, lines_written}
 use Rattle.entry_lines.proofs.ForCallers.{all_append, pieces_say_their_updates}
+use Rattle.core_session.specs.declared.given.Given.{Given}
 use Rattle.core_session.specs.declared.opened.Opened.{Opened}
-use Rattle.core_session.specs.Session.{OpenView, HaveRevisions, Session, first_session, session_of, view_of, views_of, Outcome, opened_after, outcome, leaving, outcome_messages, stepped, told, updates_for, messages, step, written, piece_of}
+use Rattle.core_session.specs.Session.{OpenView, HaveRevisions, Session, first_session, session_of, view_of, views_of, Outcome, act_step, given_by, opened_after, outcome, leaving, outcome_messages, stepped, told, updates_for, messages, step, written, piece_of}
 use Rattle.core_session.specs.Shows.{updates_in, screen_with, rebuilt_from, rebuilt, IsShown, AreShown, SendsTo, NoteSendsTo, NotesSendTo, requested, last_requested, Shows}
 use Rattle.doc_text.proofs.ForCallers.{head-text}
 use Rattle.entry_lines.specs.ViewId.{view_id_of}
@@ -276,14 +279,14 @@ sends_leaving : (requests : List ℕ → Run) (views : List OpenView) → Sends 
 unfolding Sends note_list
 sends_leaving requests views = tt
 
-pub sends : (session : Session) (act : Act) → session.opened + 1 < 2 ^ 64 → AreNumbered 0 session.opened session.views →
-    Sends (requested act) (outcome session act)
+pub sends : (session : Session) (act : Act) (gave : Given) → session.opened + 1 < 2 ^ 64 → AreNumbered 0 session.opened session.views →
+    Sends (requested act) (outcome session act gave)
 unfolding Sends
-sends session act small are =
+sends session act gave small are =
     by_outcome session (λ requests opened done. opened < 2 ^ 64 → Sends requests done)
     (λ requests opened base reply scroll each is keep. λ few. sends_steps requests each base (apart_base session opened base is few are) keep)
-    (λ requests none. λ few. sends_leaving requests session.views) act
-    (apart-numbered 0 session.opened session.views (omega (arith, small)) are) (omega (arith, small, opened_few session.opened act))
+    (λ requests none. λ few. sends_leaving requests session.views) act gave
+    (apart-numbered 0 session.opened session.views (omega (arith, small)) are) (omega (arith, small, opened_few session.opened act gave))
 
 -- ---- the lines that are valid
 
@@ -305,21 +308,21 @@ shown_leaving requests lasts (view ∷ views) none before =
     let At : Run → Type 0 = λ request. IsUpToDate request view.document in
     (subst At (sym none.0) (IsUpToDate-over (lasts view.id) view.document before.0), shown_leaving requests lasts views none.1 before.1)
 
-stays_up_to_date : (session : Session) (act : Act) → HasApart session.views → AreLastTold session.views → (lasts : List ℕ → Run) →
-    AreUpToDate lasts session.views → AreUpToDate (requested act) (outcome session act).views
-stays_up_to_date session act apart last lasts before =
+stays_up_to_date : (session : Session) (act : Act) (gave : Given) → HasApart session.views → AreLastTold session.views → (lasts : List ℕ → Run) →
+    AreUpToDate lasts session.views → AreUpToDate (requested act) (outcome session act gave).views
+stays_up_to_date session act gave apart last lasts before =
     by_outcome session (λ requests opened done. AreUpToDate requests done.views)
     (λ requests opened base reply scroll each is keep. shown_each requests each base keep (last_base session opened base is last))
-    (λ requests none. shown_leaving requests lasts session.views none before) act apart
+    (λ requests none. shown_leaving requests lasts session.views none before) act gave apart
 
 -- ---- one more entry is shown
 
 -- the updates in what is written are those in the pieces
 pub updates_in-push : (journal : List Entry) (entry : Entry) →
     updates_in (written first_session (journal ++ entry ∷ [])) ≡
-    updates_in (written first_session journal) ++ updates_in (piece_of (session_of journal) entry.command)
+    updates_in (written first_session journal) ++ updates_in (piece_of (session_of journal) entry)
 updates_in-push journal entry =
-    let said = messages (session_of journal) entry.command in
+    let said = messages (session_of journal) entry.command (given_by entry.shelf) in
     ap updates_in (written-messages (journal ++ entry ∷ [])) ∙ updates_in-lines (messages_of (journal ++ entry ∷ [])) ∙
     ap updates_of (messages_of-push journal entry) ∙ updates_of-append (messages_of journal) said ∙
     ap (λ xs. xs ++ updates_of said) (sym (ap updates_in (written-messages journal) ∙ updates_in-lines (messages_of journal))) ∙
@@ -338,7 +341,7 @@ rebuilt_base : (bytes : List ℕ) (session : Session) (opened : ℕ) (base : Lis
     ScreensAre bytes session.opened session.views → AreRebuilt bytes base
 rebuilt_base bytes session opened base small is are =
     all_base (λ (view : OpenView). rebuilt view.id bytes ≡ Some view.document.screen) session opened base is
-    (are.fresh (view_id_of (session.opened + 1)) (next_not_given session.opened small)) are.kept
+    (λ text. are.fresh (view_id_of (session.opened + 1)) (next_not_given session.opened small)) are.kept
 
 -- and by the notes of their steps they are rebuilt after these
 rebuilt_steps : (before after : List ℕ) (notes : List (Option ViewUpdate)) (steps : OpenView → EventStep) (views : List OpenView) →
@@ -364,11 +367,11 @@ unchanged before after (view ∷ views) is was =
     (ap (rebuilt_from view.id (Some [])) (is ∙ append-nil (updates_in before)) ∙ was.0, unchanged before after views is was.1)
 
 -- what is shown after an outcome, where its updates were written
-screens_after : (session : Session) (act : Act) (before after : List ℕ) → session.opened + 1 < 2 ^ 64 → AreNumbered 0 session.opened session.views →
-    updates_in after ≡ updates_in before ++ note_list (outcome session act).updates → ScreensAre before session.opened session.views →
-    ScreensAre after (opened_after session.opened act) (outcome session act).views
+screens_after : (session : Session) (act : Act) (gave : Given) (before after : List ℕ) → session.opened + 1 < 2 ^ 64 → AreNumbered 0 session.opened session.views →
+    updates_in after ≡ updates_in before ++ note_list (outcome session act gave).updates → ScreensAre before session.opened session.views →
+    ScreensAre after (opened_after session.opened act gave) (outcome session act gave).views
 unfolding note_list
-screens_after session act before after small are is was =
+screens_after session act gave before after small are is was =
     by_outcome session
     (λ requests opened done.
     session.opened ≤ opened → opened < 2 ^ 64 → updates_in after ≡ updates_in before ++ note_list done.updates → ScreensAre after opened done.views)
@@ -386,17 +389,17 @@ screens_after session act before after small are is was =
       kept = unchanged before after session.views told_is was.kept;
       fresh = λ id free. ap (rebuilt_from id (Some [])) (told_is ∙ append-nil (updates_in before)) ∙ was.fresh id free;
     })
-    act (apart-numbered 0 session.opened session.views (omega (arith, small)) are) (opened_more session.opened act)
-    (omega (arith, small, opened_few session.opened act)) is
+    act gave (apart-numbered 0 session.opened session.views (omega (arith, small)) are) (opened_more session.opened act gave)
+    (omega (arith, small, opened_few session.opened act gave)) is
 
 rebuilt_push : (journal : List Entry) (entry : Entry) → length journal < 2 ^ 63 → IsShowing journal →
-    updates_in (piece_of (session_of journal) entry.command) ≡ note_list (outcome (session_of journal) entry.command.act).updates →
+    updates_in (piece_of (session_of journal) entry) ≡ note_list (outcome (session_of journal) entry.command.act (given_by entry.shelf)).updates →
     ScreensAre (written first_session (journal ++ entry ∷ [])) (session_of (journal ++ entry ∷ [])).opened (views_of (journal ++ entry ∷ []))
 rebuilt_push journal entry small showing said =
     let session = session_of journal in
     let At : Session → Type 0 = λ next. ScreensAre (written first_session (journal ++ entry ∷ [])) next.opened next.views in
     subst At (sym (session_of-push journal entry))
-    (screens_after session entry.command.act (written first_session journal) (written first_session (journal ++ entry ∷ []))
+    (screens_after session entry.command.act (given_by entry.shelf) (written first_session journal) (written first_session (journal ++ entry ∷ []))
     (omega (arith, small, opened_of journal)) (numbered_of journal)
     (updates_in-push journal entry ∙ ap (λ notes. updates_in (written first_session journal) ++ notes) said) (screens_of journal showing))
 
@@ -453,8 +456,8 @@ shown_push journal entry small showing screens =
     let before : AreUpToDate (last_requested journal) session.views =
     up_to_date-AreShown (last_requested journal) session.views (written first_session journal) showing.screens
     (showing.shows.screens journal [] (sym (append-nil journal))) in
-    let after : AreUpToDate (requested entry.command.act) (outcome session entry.command.act).views =
-    stays_up_to_date session entry.command.act (apart_of journal small) (last_of journal small) (last_requested journal) before in
+    let after : AreUpToDate (requested entry.command.act) (outcome session entry.command.act (given_by entry.shelf)).views =
+    stays_up_to_date session entry.command.act (given_by entry.shelf) (apart_of journal small) (last_of journal small) (last_requested journal) before in
     let put = subst (AreUpToDate (requested entry.command.act)) (sym (views_of-push journal entry)) after in
     AreShown-up_to_date (last_requested (journal ++ entry ∷ [])) (views_of (journal ++ entry ∷ [])) (written first_session (journal ++ entry ∷ []))
     screens
@@ -472,41 +475,41 @@ screens_push journal entry small showing screens front back (inr (rest, is, last
 
 -- the entry at hand is the one that was added, or one before
 sends_push : (journal : List Entry) (entry : Entry) → length journal < 2 ^ 63 → Shows journal (written first_session journal) →
-    updates_in (piece_of (session_of journal) entry.command) ≡ note_list (outcome (session_of journal) entry.command.act).updates →
+    updates_in (piece_of (session_of journal) entry) ≡ note_list (outcome (session_of journal) entry.command.act (given_by entry.shelf)).updates →
     (front : List Entry) (last : Entry) (back : List Entry) → SplitsPush journal entry front (last ∷ back) →
-    NotesSendTo (requested last.command.act) (views_of (front ++ last ∷ [])) (updates_in (piece_of (session_of front) last.command))
+    NotesSendTo (requested last.command.act) (views_of (front ++ last ∷ [])) (updates_in (piece_of (session_of front) last))
 unfolding SplitsPush Sends
 sends_push journal entry small each said front last back (inl (none, all)) = absurd cc
 sends_push journal entry small each said front last back (inr ([], is, only)) =
     let At : List Entry → Entry → Type 0 =
     λ entries e.
-    NotesSendTo (requested e.command.act) (views_of (entries ++ e ∷ [])) (updates_in (piece_of (session_of entries) e.command)) in
+    NotesSendTo (requested e.command.act) (views_of (entries ++ e ∷ [])) (updates_in (piece_of (session_of entries) e)) in
     let added : last ≡ entry = cc in
     let whole : journal ≡ front = is ∙ append-nil front in
     let To : List OpenView → List (Option ViewUpdate) → Type 0 = NotesSendTo (requested entry.command.act) in
     let session = session_of journal in
-    let Of : List OpenView → Type 0 = λ views. To views (updates_in (piece_of session entry.command)) in
-    let Notes : List (Option ViewUpdate) → Type 0 = λ notes. To (outcome session entry.command.act).views notes in
+    let Of : List OpenView → Type 0 = λ views. To views (updates_in (piece_of session entry)) in
+    let Notes : List (Option ViewUpdate) → Type 0 = λ notes. To (outcome session entry.command.act (given_by entry.shelf)).views notes in
     let here : At journal entry =
-    subst Of (sym (views_of-push journal entry)) (subst Notes (sym said) (sends session entry.command.act (omega (arith, small, opened_of journal)) (numbered_of journal))) in
+    subst Of (sym (views_of-push journal entry)) (subst Notes (sym said) (sends session entry.command.act (given_by entry.shelf) (omega (arith, small, opened_of journal)) (numbered_of journal))) in
     let Last : Entry → Type 0 = λ e. At front e in
     let Before : List Entry → Type 0 = λ entries. At entries entry in
     subst Last (sym added) (subst Before whole here)
 sends_push journal entry small each said front last back (inr (r ∷ rest, is, only)) =
     let same : r ≡ last = cc in
     let At : Entry → Type 0 =
-    λ e. NotesSendTo (requested e.command.act) (views_of (front ++ e ∷ [])) (updates_in (piece_of (session_of front) e.command)) in
+    λ e. NotesSendTo (requested e.command.act) (views_of (front ++ e ∷ [])) (updates_in (piece_of (session_of front) e)) in
     subst At same (each.sends front r rest is)
 
 -- what one more entry of a served session comes to
 pub shows_push : (journal : List Entry) (entry : Entry) → length journal < 2 ^ 63 → IsShowing journal →
-    AreLines (messages (session_of journal) entry.command) → UpdatesReadBack (outcome (session_of journal) entry.command.act).updates →
+    AreLines (messages (session_of journal) entry.command (given_by entry.shelf)) → UpdatesReadBack (outcome (session_of journal) entry.command.act (given_by entry.shelf)).updates →
     IsShowing (journal ++ entry ∷ [])
 unfolding AreLines
 shows_push journal entry small showing lines reads =
     let session = session_of journal in
-    let said : updates_in (piece_of session entry.command) ≡ note_list (outcome session entry.command.act).updates =
-    updates_in-lines (messages session entry.command) ∙ updates_of-outcome entry.command.id (outcome session entry.command.act) lines reads in
+    let said : updates_in (piece_of session entry) ≡ note_list (outcome session entry.command.act (given_by entry.shelf)).updates =
+    updates_in-lines (messages session entry.command (given_by entry.shelf)) ∙ updates_of-outcome entry.command.id (outcome session entry.command.act (given_by entry.shelf)) lines reads in
     let screens = rebuilt_push journal entry small showing said in
     record {
       shows = record {
@@ -520,15 +523,16 @@ shows_push journal entry small showing lines reads =
     }
 
 -- a command that was prepared is an entry that is served, with the views that it leaves and the configuration after it
-pub serves_push : (journal : List Entry) (command : Command) (held : List Opened) (opened : ℕ) (config : Config) (piece : List ℕ) →
-    length journal < 2 ^ 63 → AllByRecursion IsOpen journal → IsShowing journal → IsOfLine command.act →
-    AreLinesOf (messages (session_of journal) command) piece → UpdatesReadBack (outcome (session_of journal) command.act).updates →
-    StandsForSession held opened config (step (session_of journal) command) →
-    AllByRecursion IsOpen (journal ++ front_entry command true ∷ []) × IsShowing (journal ++ front_entry command true ∷ []) ×
-    StandsForSession held opened config (session_of (journal ++ front_entry command true ∷ []))
+pub serves_push : (journal : List Entry) (command : Command) (note : ShelfNote) (held : List Opened) (opened : ℕ) (config : Config) (piece : List ℕ) →
+    length journal < 2 ^ 63 → AllByRecursion IsOpen journal → IsShowing journal → IsOfLine command.act → may_have_note command.act note ≡ true →
+    AreLinesOf (messages (session_of journal) command (given_by note)) piece →
+    UpdatesReadBack (outcome (session_of journal) command.act (given_by note)).updates →
+    StandsForSession held opened config (act_step (session_of journal) command.act (given_by note)) →
+    AllByRecursion IsOpen (journal ++ front_entry command note true ∷ []) × IsShowing (journal ++ front_entry command note true ∷ []) ×
+    StandsForSession held opened config (session_of (journal ++ front_entry command note true ∷ []))
 unfolding AreLines
-serves_push journal command held opened config piece small sent showing asks lines reads stands = (
-  IsOpen-push journal command sent asks,
-  shows_push journal (front_entry command true) small showing lines.each reads,
-  subst (StandsForSession held opened config) (sym (session_of-push journal (front_entry command true))) stands,
+serves_push journal command note held opened config piece small sent showing asks kind lines reads stands = (
+  IsOpen-push journal command note sent asks kind,
+  shows_push journal (front_entry command note true) small showing lines.each reads,
+  subst (StandsForSession held opened config) (sym (session_of-push journal (front_entry command note true))) stands,
 )

@@ -19,7 +19,7 @@ use Rattle.doc_view.specs.View.{View, asked_in, layout_in}
 use Rattle.plain_text.specs.declared.run.Run.{Run}
 use Rattle.view_update.specs.declared.note.Scroll.{Scroll}
 use Rattle.xi_plain.specs.declared.entry.Entry.{Entry}
-use Rattle.doc_session.specs.declared.event.Event.TheVariants.{Config as Configured, Front, Other}
+use Rattle.doc_session.specs.declared.event.Event.TheVariants.{Config as Configured, Front, Other, Saved}
 use Rattle.doc_session.specs.Document.{Document, layout_of, no_request}
 use Rattle.doc_session.specs.declared.looking.Viewing.TheVariants.{Layout, Other as NoCommand}
 use Rattle.doc_session.specs.ScreenOf.{IsUpToDate}
@@ -28,14 +28,16 @@ use Rattle.doc_text.specs.Refusal.{edit_refused}
 use Rattle.doc_text.specs.Writing.{Writing}
 use Rattle.doc_text.proofs.ForCallers.{part-collected}
 use Rattle.doc_session.specs.Effects.{pristine_from, screen_told, settled, update_after}
-use Rattle.doc_session.specs.Step.{EventStep, event_step, act_step, collected_document, command_refusal, effect_on, refusal_at, request_of, viewed_document}
+use Rattle.doc_session.specs.Step.{EventStep, event_step, act_step, collected_document, command_refusal, effect_on, refusal_at, request_of, saved_document, viewed_document}
 use Rattle.doc_session.proofs.ForCallers.{by_front, IsLastTold-settled, IsUpToDate-settled, part-settled, request_of-refused, updates_show}
 use Rattle.entry_lines.specs.Answer.{Reply, spent}
+use Rattle.core_session.specs.declared.given.Given.{Given}
+use Rattle.core_session.specs.declared.given.Given.TheVariants as given
 use Rattle.core_session.specs.InnerSession.{HasApart}
-use Rattle.core_session.specs.Session.{OpenView, HaveRevisions, Session, first_session, view_of, named_view, views_of, Outcome, outcome, config_with, config_step, taking, leaving, keeping, next_view, opened_after, other_step, own_step, close_outcome, edit_came, edit_outcome, undone_outcome, spent_total, step, stepped, session_after, session_of, without}
+use Rattle.core_session.specs.Session.{OpenView, HaveRevisions, Session, first_session, view_of, named_view, views_of, Outcome, outcome, config_with, config_step, taking, leaving, keeping, next_view, opened_after, open_outcome, other_step, own_step, close_outcome, edit_came, edit_outcome, given_by, save_outcome, spent_total, step, stepped, session_after, session_of, without}
 use Rattle.core_session.specs.Shows.{SendsWithin, requested}
 use Rattle.core_session.proofs.PlanLemmas.{sends-plan_from}
-use Rattle.core_session.proofs.ViewLemmas.{id_is, view_of-found, OnlyOwn, only_own, AreNumbered, numbered_none, numbered_high, numbered_push, numbered_without, numbered_stepped, apart-numbered}
+use Rattle.core_session.proofs.ViewLemmas.{id_is, view_of-found, OnlyOwn, only_own, AreNumbered, numbered_none, numbered_push, numbered_without, numbered_stepped, apart-numbered}
 
 -- the update, where there is one, makes this screen of that, and sends lines of this window, or requested, alone
 unfoldable pub MakesScreen : Option Update → Screen → Screen → Type 0
@@ -127,6 +129,10 @@ keeps_config : (config : Config) (document : Document) → KeepsStep no_request 
 unfolding KeepsStep
 keeps_config config document = keeps_still document (viewed_document document (Layout config)) refl refl refl
 
+keeps_saved : (document : Document) → KeepsStep no_request document (event_step document Saved)
+unfolding KeepsStep
+keeps_saved document = keeps_still document (saved_document document) refl refl refl
+
 keeps_act : (document : Document) (act : EditAct) → KeepsStep (request_of act) document (event_step document (Front act))
 unfolding KeepsStep
 keeps_act document act =
@@ -214,22 +220,47 @@ keep_own views name own act step apart found keeps =
     let id = encode_utf8_all name in
     keep_each_own name act own step views (sym (id_is id own.id (view_of-found views id own found))) keeps (only_own id own views apart found)
 
+-- the view that is saved takes its own step, and each other one the other step, with no request
+saved_or_other : (own : Bool) (view : OpenView) (step : EventStep) → (own ≡ true → KeepsStep no_request view.document step) →
+    KeepsStep no_request view.document (if own then step else other_step view)
+saved_or_other true view step keeps = keeps refl
+saved_or_other false view step keeps = keeps_other view.document
+
+keep_each_saved : (id : List ℕ) (own : OpenView) (step : EventStep) (views : List OpenView) → own.id ≡ id → KeepsStep no_request own.document step →
+    OnlyOwn id own views → KeepEach (λ _. no_request) (own_step own step) views
+unfolding KeepEach OnlyOwn
+keep_each_saved id own step [] is keeps only = tt
+keep_each_saved id own step (view ∷ views) is keeps only =
+    let At : OpenView → Type 0 = λ v. KeepsStep no_request v.document step in (
+      saved_or_other (bytes_eq own.id view.id) view step
+          (λ same. subst At (only.0 (ap (λ name. bytes_eq name view.id) (sym is) ∙ same)) keeps),
+      keep_each_saved id own step views is keeps only.1,
+    )
+
+keep_saved : (views : List OpenView) (name : List ℕ) (own : OpenView) → HasApart views → named_view views name ≡ Some own →
+    KeepEach (λ _. no_request) (own_step own (event_step own.document Saved)) views
+keep_saved views name own apart found =
+    let id = encode_utf8_all name in
+    keep_each_saved id own (event_step own.document Saved) views (sym (id_is id own.id (view_of-found views id own found)))
+    (keeps_saved own.document) (only_own id own views apart found)
+
 -- ---- what every outcome is
 
 -- the views whose steps it is: those that were open, the next one behind them, or all but one; and how many were opened by then
 unfoldable pub IsBase : Session → ℕ → List OpenView → Type 0
 IsBase session opened base =
     ((opened ≡ session.opened) × (base ≡ session.views)) ⊎
-    (((opened ≡ session.opened + 1) × (base ≡ session.views ++ next_view session.config session.opened [] ∷ [])) ⊎
+    (((text : List ℕ) × (opened ≡ session.opened + 1) × (base ≡ session.views ++ next_view session.config session.opened text ∷ [])) ⊎
     ((id : List ℕ) × (opened ≡ session.opened) × (base ≡ without id session.views)))
 
 base_same : (session : Session) → IsBase session session.opened session.views
 unfolding IsBase
 base_same session = inl (refl, refl)
 
-base_next : (session : Session) → IsBase session (session.opened + 1) (session.views ++ next_view session.config session.opened [] ∷ [])
+base_next : (session : Session) (text : List ℕ) →
+    IsBase session (session.opened + 1) (session.views ++ next_view session.config session.opened text ∷ [])
 unfolding IsBase
-base_next session = inr (inl (refl, refl))
+base_next session text = inr (inl (text, refl, refl))
 
 base_without : (session : Session) (id : List ℕ) → IsBase session session.opened (without id session.views)
 unfolding IsBase
@@ -268,30 +299,45 @@ module _ (session : Session) (P : (List ℕ → Run) → ℕ → Outcome → Typ
   stays : (act : Act) (reply : Reply) → ((id : List ℕ) → requested act id ≡ no_request) → P (requested act) session.opened (keeping session.views reply)
   stays act reply none = idle act session.opened session.views reply (base_same session) none
 
-  undoes : (act : Act) (found : Option OpenView) → ((id : List ℕ) → requested act id ≡ no_request) →
-      P (requested act) session.opened (undone_outcome session.views found)
-  undoes act None none = stays act _ none
-  undoes act (Some own) none = stays act _ none
+  saves : (name path : List ℕ) (found : Option OpenView) (gave : Given) → HasApart session.views → named_view session.views name ≡ found →
+      P (requested (Save name path)) session.opened (save_outcome session.views found gave)
+  saves name path None gave apart is = stays (Save name path) _ (λ id. refl)
+  saves name path (Some own) given.Done apart is =
+      steps (requested (Save name path)) session.opened session.views _ _ (own_step own (event_step own.document Saved)) (base_same session)
+      (keep_saved session.views name own apart is)
+  saves name path (Some own) given.Nothing apart is = stays (Save name path) _ (λ id. refl)
+  saves name path (Some own) (given.Found text) apart is = stays (Save name path) _ (λ id. refl)
+  saves name path (Some own) given.NotText apart is = stays (Save name path) _ (λ id. refl)
+  saves name path (Some own) given.Failed apart is = stays (Save name path) _ (λ id. refl)
+
+  opens : (path : Option (List ℕ)) (gave : Given) →
+      P (requested (NewView path)) (opened_after session.opened (NewView path) gave)
+      (open_outcome session.config session.opened session.views path gave)
+  opens None gave = idle (NewView None) (session.opened + 1) _ _ (base_next session []) (λ id. refl)
+  opens (Some path) (given.Found text) = idle (NewView (Some path)) (session.opened + 1) _ _ (base_next session text) (λ id. refl)
+  opens (Some path) given.NotText = stays (NewView (Some path)) _ (λ id. refl)
+  opens (Some path) given.Nothing = stays (NewView (Some path)) _ (λ id. refl)
+  opens (Some path) given.Failed = stays (NewView (Some path)) _ (λ id. refl)
+  opens (Some path) given.Done = stays (NewView (Some path)) _ (λ id. refl)
 
   closes : (name : List ℕ) (found : Option OpenView) → P (requested (CloseView name)) session.opened (close_outcome session.views found)
   closes name None = stays (CloseView name) _ (λ id. refl)
   closes name (Some own) = idle (CloseView name) session.opened (without own.id session.views) _ (base_without session own.id) (λ id. refl)
 
-  pub by_outcome : (act : Act) → HasApart session.views → P (requested act) (opened_after session.opened act) (outcome session act)
-  by_outcome (Edit name act) apart = edits name (named_view session.views name) act apart refl
-  by_outcome (CloseView name) apart = closes name (named_view session.views name)
-  by_outcome (Save name path) apart = undoes (Save name path) (named_view session.views name) (λ id. refl)
-  by_outcome Closing apart = leaves (requested Closing) (nothing_requested (requested Closing) session.views (λ id. refl))
-  by_outcome (NewView None) apart = idle (NewView None) (session.opened + 1) _ _ (base_next session) (λ id. refl)
-  by_outcome (NewView (Some path)) apart = stays (NewView (Some path)) _ (λ id. refl)
-  by_outcome (Configure changes) apart =
+  pub by_outcome : (act : Act) (gave : Given) → HasApart session.views → P (requested act) (opened_after session.opened act gave) (outcome session act gave)
+  by_outcome (Edit name act) gave apart = edits name (named_view session.views name) act apart refl
+  by_outcome (CloseView name) gave apart = closes name (named_view session.views name)
+  by_outcome (Save name path) gave apart = saves name path (named_view session.views name) gave apart refl
+  by_outcome Closing gave apart = leaves (requested Closing) (nothing_requested (requested Closing) session.views (λ id. refl))
+  by_outcome (NewView path) gave apart = opens path gave
+  by_outcome (Configure changes) gave apart =
       let next = config_with session.config changes in
       steps (requested (Configure changes)) session.opened session.views _ _ (config_step next) (base_same session)
       (keep_each (requested (Configure changes)) (config_step next) session.views (λ view. keeps_config next view.document)
       (nothing_requested (requested (Configure changes)) session.views (λ id. refl)))
-  by_outcome (Bad fault) apart = stays (Bad fault) _ (λ id. refl)
-  by_outcome Nothing apart = stays Nothing _ (λ id. refl)
-  by_outcome act apart = stays act _ (λ id. refl)
+  by_outcome (Bad fault) gave apart = stays (Bad fault) _ (λ id. refl)
+  by_outcome Nothing gave apart = stays Nothing _ (λ id. refl)
+  by_outcome act gave apart = stays act _ (λ id. refl)
 
 -- ---- the views of every outcome, whatever their ids
 
@@ -321,14 +367,25 @@ found_few most (view ∷ views) id own found few = by (bytes_eq id view.id) foun
         subst At same few.0
     by false is later = later is
 
-slow_own : (session : Session) (id : List ℕ) (own : OpenView) (act : EditAct) → view_of session.views id ≡ Some own →
-    IsSlow session (own_step own (event_step own.document (Front act)))
+-- the own step of a view that was found is one revision at most
+slow_own : (session : Session) (id : List ℕ) (own : OpenView) (step : EventStep) → view_of session.views id ≡ Some own →
+    head step.document.text.history ≤ head own.document.text.history + 1 → IsSlow session (own_step own step)
 unfolding IsSlow KeepsStep
-slow_own session id own act found most few view here = by (bytes_eq own.id view.id)
+slow_own session id own step found one most few view here = by (bytes_eq own.id view.id)
   where
-    by : (same : Bool) → head (if same then event_step own.document (Front act) else other_step view).document.text.history ≤ most + 1
-    by true = omega (arith, found_few most session.views id own found few, (keeps_act own.document act).few)
+    by : (same : Bool) → head (if same then step else other_step view).document.text.history ≤ most + 1
+    by true = omega (arith, found_few most session.views id own found few, one)
     by false = omega (arith, here, (keeps_other view.document).few)
+
+slow_act : (session : Session) (id : List ℕ) (own : OpenView) (act : EditAct) → view_of session.views id ≡ Some own →
+    IsSlow session (own_step own (event_step own.document (Front act)))
+unfolding KeepsStep
+slow_act session id own act found = slow_own session id own (event_step own.document (Front act)) found (keeps_act own.document act).few
+
+slow_saved : (session : Session) (id : List ℕ) (own : OpenView) → view_of session.views id ≡ Some own →
+    IsSlow session (own_step own (event_step own.document Saved))
+unfolding KeepsStep
+slow_saved session id own found = slow_own session id own (event_step own.document Saved) found (keeps_saved own.document).few
 
 module _ (session : Session) (P : ℕ → List OpenView → Type 0)
     (steps : (opened : ℕ) (base : List OpenView) (each : OpenView → EventStep) → IsBase session opened base → IsSlow session each →
@@ -348,30 +405,45 @@ module _ (session : Session) (P : ℕ → List OpenView → Type 0)
       by : (total : Option ℕ) → P session.opened (edit_came session.views own total (event_step own.document (Front act))).views
       by None =
           steps session.opened session.views (own_step own (event_step own.document (Front act))) (base_same session)
-          (slow_own session (encode_utf8_all name) own act is)
+          (slow_act session (encode_utf8_all name) own act is)
       by (Some total) = views_same
 
-  views_undone : (found : Option OpenView) → P session.opened (undone_outcome session.views found).views
-  views_undone None = views_same
-  views_undone (Some own) = views_same
+  views_saved : (name : List ℕ) (found : Option OpenView) (gave : Given) → named_view session.views name ≡ found →
+      P session.opened (save_outcome session.views found gave).views
+  views_saved name None gave is = views_same
+  views_saved name (Some own) given.Done is =
+      steps session.opened session.views (own_step own (event_step own.document Saved)) (base_same session)
+      (slow_saved session (encode_utf8_all name) own is)
+  views_saved name (Some own) given.Nothing is = views_same
+  views_saved name (Some own) (given.Found text) is = views_same
+  views_saved name (Some own) given.NotText is = views_same
+  views_saved name (Some own) given.Failed is = views_same
+
+  views_opened : (path : Option (List ℕ)) (gave : Given) →
+      P (opened_after session.opened (NewView path) gave) (open_outcome session.config session.opened session.views path gave).views
+  views_opened None gave = views_still (session.opened + 1) _ (base_next session [])
+  views_opened (Some path) (given.Found text) = views_still (session.opened + 1) _ (base_next session text)
+  views_opened (Some path) given.NotText = views_same
+  views_opened (Some path) given.Nothing = views_same
+  views_opened (Some path) given.Failed = views_same
+  views_opened (Some path) given.Done = views_same
 
   views_closed : (found : Option OpenView) → P session.opened (close_outcome session.views found).views
   views_closed None = views_same
   views_closed (Some own) = views_still session.opened (without own.id session.views) (base_without session own.id)
 
-  pub by_views : (act : Act) → P (opened_after session.opened act) (outcome session act).views
-  by_views (Edit name act) = views_edited name (named_view session.views name) act refl
-  by_views (CloseView name) = views_closed (named_view session.views name)
-  by_views (Save name path) = views_undone (named_view session.views name)
-  by_views Closing = leaves
-  by_views (NewView None) = views_still (session.opened + 1) _ (base_next session)
-  by_views (NewView (Some path)) = views_same
-  by_views (Configure changes) =
+  pub by_views : (act : Act) (gave : Given) → P (opened_after session.opened act gave) (outcome session act gave).views
+  by_views (Edit name act) gave = views_edited name (named_view session.views name) act refl
+  by_views (CloseView name) gave = views_closed (named_view session.views name)
+  by_views (Save name path) gave = views_saved name (named_view session.views name) gave refl
+  by_views Closing gave = leaves
+  by_views (NewView path) gave = views_opened path gave
+  by_views (Configure changes) gave =
       let next = config_with session.config changes in
       steps session.opened session.views (config_step next) (base_same session) (slow_config session next)
-  by_views (Bad fault) = views_same
-  by_views Nothing = views_same
-  by_views act = views_same
+  by_views (Bad fault) gave = views_same
+  by_views Nothing gave = views_same
+  by_views act gave = views_same
 
 -- ---- ids are those of rising numbers, up to how many were opened
 
@@ -379,38 +451,46 @@ pub numbered_base : (session : Session) (opened : ℕ) (base : List OpenView) �
     AreNumbered 0 session.opened session.views → AreNumbered 0 opened base
 unfolding IsBase
 numbered_base session opened base (inl (many, is)) are = rw (many, is) are
-numbered_base session opened base (inr (inl (many, is))) are =
-    rw (many, is) (numbered_push 0 session.opened session.views (next_view session.config session.opened []) (omega arith) refl are)
+numbered_base session opened base (inr (inl (text, many, is))) are =
+    rw (many, is) (numbered_push 0 session.opened session.views (next_view session.config session.opened text) (omega arith) refl are)
 numbered_base session opened base (inr (inr (id, many, is))) are = rw (many, is) (numbered_without id 0 session.opened session.views are)
 
-pub numbered_step : (session : Session) (act : Act) → AreNumbered 0 session.opened session.views →
-    AreNumbered 0 (opened_after session.opened act) (outcome session act).views
-numbered_step session act are =
-    by_views session (AreNumbered 0) (λ opened base each is slow. numbered_stepped each 0 opened base (numbered_base session opened base is are)) are act
+pub numbered_step : (session : Session) (act : Act) (gave : Given) → AreNumbered 0 session.opened session.views →
+    AreNumbered 0 (opened_after session.opened act gave) (outcome session act gave).views
+numbered_step session act gave are =
+    by_views session (AreNumbered 0) (λ opened base each is slow. numbered_stepped each 0 opened base (numbered_base session opened base is are)) are act gave
 
 numbered_after : (session : Session) (entries : List Entry) → AreNumbered 0 session.opened session.views →
     AreNumbered 0 (session_after session entries).opened (session_after session entries).views
 numbered_after session [] are = are
-numbered_after session (entry ∷ entries) are = numbered_after (step session entry.command) entries (numbered_step session entry.command.act are)
+numbered_after session (entry ∷ entries) are = numbered_after (step session entry) entries (numbered_step session entry.command.act (given_by entry.shelf) are)
 
 pub numbered_of : (journal : List Entry) → AreNumbered 0 (session_of journal).opened (views_of journal)
 numbered_of journal = numbered_after first_session journal (numbered_none 0 0)
 
 -- no more were opened than there are entries
-pub opened_few : (opened : ℕ) (act : Act) → opened_after opened act ≤ opened + 1
-opened_few opened (NewView None) = omega arith
-opened_few opened (NewView (Some path)) = omega arith
-opened_few opened act = omega arith
+pub opened_few : (opened : ℕ) (act : Act) (gave : Given) → opened_after opened act gave ≤ opened + 1
+opened_few opened (NewView None) gave = omega arith
+opened_few opened (NewView (Some path)) (given.Found text) = omega arith
+opened_few opened (NewView (Some path)) given.NotText = omega arith
+opened_few opened (NewView (Some path)) given.Nothing = omega arith
+opened_few opened (NewView (Some path)) given.Failed = omega arith
+opened_few opened (NewView (Some path)) given.Done = omega arith
+opened_few opened act gave = omega arith
 
-pub opened_more : (opened : ℕ) (act : Act) → opened ≤ opened_after opened act
-opened_more opened (NewView None) = omega arith
-opened_more opened (NewView (Some path)) = omega arith
-opened_more opened act = omega arith
+pub opened_more : (opened : ℕ) (act : Act) (gave : Given) → opened ≤ opened_after opened act gave
+opened_more opened (NewView None) gave = omega arith
+opened_more opened (NewView (Some path)) (given.Found text) = omega arith
+opened_more opened (NewView (Some path)) given.NotText = omega arith
+opened_more opened (NewView (Some path)) given.Nothing = omega arith
+opened_more opened (NewView (Some path)) given.Failed = omega arith
+opened_more opened (NewView (Some path)) given.Done = omega arith
+opened_more opened act gave = omega arith
 
 opened_by : (session : Session) (entries : List Entry) → (session_after session entries).opened ≤ session.opened + length entries
 opened_by session [] = omega arith
 opened_by session (entry ∷ entries) =
-    omega (arith, opened_few session.opened entry.command.act, opened_by (step session entry.command) entries)
+    omega (arith, opened_few session.opened entry.command.act (given_by entry.shelf), opened_by (step session entry) entries)
 
 pub opened_of : (journal : List Entry) → (session_of journal).opened ≤ length journal
 opened_of journal = omega (arith, opened_by first_session journal)
@@ -441,15 +521,16 @@ module _ (P : OpenView → Type 0) where
       by false rest = (all.0, rest)
 
   pub all_base : (session : Session) (opened : ℕ) (base : List OpenView) → IsBase session opened base →
-      P (next_view session.config session.opened []) → AllByRecursion P session.views → AllByRecursion P base
+      ((text : List ℕ) → P (next_view session.config session.opened text)) → AllByRecursion P session.views → AllByRecursion P base
   unfolding IsBase
   all_base session opened base (inl (many, is)) next all = rw (is) all
-  all_base session opened base (inr (inl (many, is))) next all = rw (is) (all_push session.views (next_view session.config session.opened []) next all)
+  all_base session opened base (inr (inl (text, many, is))) next all =
+      rw (is) (all_push session.views (next_view session.config session.opened text) (next text) all)
   all_base session opened base (inr (inr (id, many, is))) next all = rw (is) (all_without id session.views all)
 
 pub last_base : (session : Session) (opened : ℕ) (base : List OpenView) → IsBase session opened base → AreLastTold session.views → AreLastTold base
 unfolding AreLastTold
-last_base session opened base is last = all_base (λ view. IsLastTold view.document) session opened base is refl last
+last_base session opened base is last = all_base (λ view. IsLastTold view.document) session opened base is (λ text. refl) last
 
 last_each : (requests : List ℕ → Run) (steps : OpenView → EventStep) (views : List OpenView) → KeepEach requests steps views → AreLastTold views →
     AreLastTold (stepped steps views)
@@ -457,20 +538,22 @@ unfolding AreLastTold KeepEach KeepsStep
 last_each requests steps [] keep last = tt
 last_each requests steps (view ∷ views) keep last = (keep.0.last last.0, last_each requests steps views keep.1 last.1)
 
-pub last_step : (session : Session) (act : Act) → HasApart session.views → AreLastTold session.views → AreLastTold (outcome session act).views
-last_step session act apart last =
+pub last_step : (session : Session) (act : Act) (gave : Given) → HasApart session.views → AreLastTold session.views →
+    AreLastTold (outcome session act gave).views
+last_step session act gave apart last =
     by_outcome session (λ requests opened done. AreLastTold done.views)
     (λ requests opened base reply scroll each is keep. last_each requests each base keep (last_base session opened base is last))
-    (λ requests none. last) act apart
+    (λ requests none. last) act gave apart
 
 last_after : (session : Session) (entries : List Entry) → session.opened + length entries < 2 ^ 63 → AreNumbered 0 session.opened session.views →
     AreLastTold session.views → AreLastTold (session_after session entries).views
 last_after session [] small are last = last
 last_after session (entry ∷ entries) small are last =
     let act = entry.command.act in
+    let gave = given_by entry.shelf in
     let apart = apart-numbered 0 session.opened session.views (omega (arith, small)) are in
-    last_after (step session entry.command) entries (omega (arith, small, opened_few session.opened act)) (numbered_step session act are)
-    (last_step session act apart last)
+    last_after (step session entry) entries (omega (arith, small, opened_few session.opened act gave)) (numbered_step session act gave are)
+    (last_step session act gave apart last)
 
 pub last_of : (journal : List Entry) → length journal < 2 ^ 63 → AreLastTold (views_of journal)
 unfolding AreLastTold

@@ -1,17 +1,16 @@
 -- Lemmas on the views that are open: which one an id finds, and that no two have one id.
-use Rattle.std.proofs.Common.{◌≡◌, ℕ, ◌+◌, ◌-◌, ◌<◌, ◌≤◌, arith, Bool, true, false, List, [], ◌∷◌, ◌++◌, Option, Some, None, not, refl, ap, sym, ◌∙◌, subst, inl, inr}
-use Rattle.std.specs.Prelude.{if◌then◌else◌, ◌^◌, ◌⊎◌, ⊤, filter}
+use Rattle.std.proofs.Common.{◌≡◌, ℕ, ◌+◌, ◌-◌, ◌<◌, ◌≤◌, arith, Bool, true, false, List, [], ◌∷◌, ◌++◌, Some, not, refl, sym, ◌∙◌, subst}
+use Rattle.std.specs.Prelude.{if◌then◌else◌, ◌^◌, ⊤}
 use Rattle.std.specs.List.{AllByRecursion}
 use Rattle.std.specs.Str.{bytes_eq, encode_utf8_all}
 use Rattle.std.proofs.lemmas.Slice.Eq.{bytes_eq-Decides}
 use Rattle.std.proofs.lemmas.Str.{encodes-IsAscii}
-use Rattle.xi_plain.specs.declared.command.Act.{Act}
 use Rattle.doc_session.specs.Step.{EventStep}
 use Rattle.entry_lines.specs.ViewId.{view_id_of}
 use Rattle.entry_lines.proofs.ForCallers.{view_ids_differ}
 use Rattle.core_session.specs.Core.{IsNotGiven}
 use Rattle.core_session.specs.InnerSession.{HasApart}
-use Rattle.core_session.specs.Session.{OpenView, Session, view_of, next_view, stepped, without}
+use Rattle.core_session.specs.Session.{OpenView, view_of, stepped, without}
 
 -- ids that are the same
 pub same_id : (id : List ℕ) → bytes_eq id id ≡ true

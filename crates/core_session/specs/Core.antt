@@ -1,15 +1,15 @@
 -- What a session in memory keeps, and what a call does to it.
-use Rattle.std.specs.Prelude.{◌≡◌, ℕ, ◌+◌, ◌<◌, ◌≤◌, Bool, true, false, List, [], ◌∷◌, ◌++◌, length, take, Some, vec_len, vec_capacity, ⊤}
+use Rattle.std.specs.Prelude.{◌≡◌, ℕ, ◌+◌, ◌<◌, ◌≤◌, Bool, true, false, List, [], ◌∷◌, ◌++◌, length, take, Option, Some, vec_len, vec_capacity, ⊤}
 use Rattle.std.specs.List.{AllByRecursion}
 use Rattle.std.specs.Str.{bytes_eq}
 use Rattle.xi_plain.specs.declared.command.Act.{Act}
 use Rattle.xi_plain.specs.declared.command.Command.{Command}
 use Rattle.xi_plain.specs.declared.config.Config.{Config}
 use Rattle.xi_plain.specs.declared.entry.Entry.{Entry}
-use Rattle.xi_plain.specs.declared.entry.ShelfNote.TheVariants.{NoCall}
-use Rattle.xi_plain.specs.Journal.{closes, IsOrdered}
+use Rattle.xi_plain.specs.declared.entry.ShelfNote.{ShelfNote}
+use Rattle.xi_plain.specs.Journal.{closes, may_have_note}
 use Rattle.outside.specs.Faults.{Rose, counted}
-use Rattle.outside.specs.Sink.{SinkState, Gains}
+use Rattle.outside.specs.Sink.{SinkState, Gains, sink_state}
 use Rattle.doc_session.specs.InMemory.{Doc}
 use Rattle.doc_session.specs.Document.{Document}
 use Rattle.doc_session.specs.Stands.{DocStandsFor}
@@ -17,6 +17,7 @@ use Rattle.entry_lines.specs.ViewId.{view_id_of}
 use Rattle.core_session.specs.declared.opened.Opened.{Opened}
 use Rattle.core_session.specs.declared.session.Core.{Core}
 use Rattle.core_session.specs.Session.{OpenView, Session, first_session, session_of, views_of, piece_of, written}
+use Rattle.core_session.specs.Shelves.{AreSavesAsked, Files, IsNoted, KeepsFiles, ShelfState, shelf_state}
 use Rattle.core_session.specs.Shows.{Shows, rebuilt}
 
 -- the document in memory stands for the plain one, and no plugin has a session in it
@@ -28,21 +29,12 @@ pub record ServesDocument (doc : Doc) (plain : Document) : Type 0 where
 abbrev pub IsOfLine : Act → Type 0
 IsOfLine act = closes act ≡ false
 
--- the entry is one of the front end's lines, and its piece was sent whole
+-- the entry is one of the front end's lines, with a note of its own kind, and its piece was sent whole
 pub record IsOpen (entry : Entry) : Type 0 where
   pub caller : entry.caller ≡ 0
   pub asks : IsOfLine entry.command.act
-  pub shelf : entry.shelf ≡ NoCall
+  pub note : may_have_note entry.command.act entry.shelf ≡ true
   pub sent : entry.sent ≡ true
-
--- the shelf was asked for none of the entries
-abbrev pub IsUnasked : List Entry → Type 0
-IsUnasked journal = AllByRecursion (λ entry. entry.shelf ≡ NoCall) journal
-
--- THE JOURNALS that a session can have while no file is opened or saved: their entries may stand so where there are no plugins, and the
--- shelf is asked for none of them
-abbrev pub IsLegalUnasked : List Entry → Type 0
-IsLegalUnasked journal = IsOrdered 0 journal × IsUnasked journal
 
 -- what is held of a view is its id, and a document that stands for its own
 pub record ServesView (held : Opened) (view : OpenView) : Type 0 where
@@ -64,19 +56,35 @@ pub record StandsForSession (held : List Opened) (many : ℕ) (laid : Config) (s
   pub tab : 0 < laid.tab
 
 -- THE JOURNAL of a session
-abbrev pub journal_of : {K : Type 0} → Core K → List Entry
+abbrev pub journal_of : {K H : Type 0} → Core K H → List Entry
 journal_of core = core.journal.items
 
 -- its sink
-abbrev pub sink_of : {K : Type 0} → Core K → K
+abbrev pub sink_of : {K H : Type 0} → Core K H → K
 sink_of core = core.sink
 
+-- and its shelf
+abbrev pub shelf_of : {K H : Type 0} → Core K H → H
+shelf_of core = core.shelf
+
+-- what its sink and its shelf tell of themselves
+pub record Outlets : Type 0 where
+  pub sink : SinkState
+  pub shelf : ShelfState
+
+-- the same, put together from what each number is for them
+abbrev pub outlets_of : {K H : Type 0} → (K → Option (List ℕ)) → (K → ℕ) → (K → ℕ) → (H → Option Files) → (H → ℕ) → Core K H → Outlets
+outlets_of held faults failures files shelf_faults core = record {
+  sink = sink_state held faults failures (sink_of core);
+  shelf = shelf_state files shelf_faults (shelf_of core);
+}
+
 -- its room: there is some for the closing entry
-abbrev pub HasRoom : {K : Type 0} → Core K → Type 0
+abbrev pub HasRoom : {K H : Type 0} → Core K H → Type 0
 HasRoom core = vec_len core.journal < vec_capacity core.journal
 
 -- the documents and the configuration in memory are those of the session that these entries define
-abbrev pub HasSessionAfter : {K : Type 0} → Core K → List Entry → Type 0
+abbrev pub HasSessionAfter : {K H : Type 0} → Core K H → List Entry → Type 0
 HasSessionAfter core journal = StandsForSession core.views core.opened core.config (session_of journal)
 
 -- of each of the views the front end rebuilds the screen that the view's document says
@@ -94,43 +102,49 @@ pub record IsShowing (journal : List Entry) : Type 0 where
   pub screens : AreRebuilt (written first_session journal) (views_of journal)
   pub fresh : (id : List ℕ) → IsNotGiven (session_of journal).opened id → rebuilt id (written first_session journal) ≡ Some []
 
--- THE SESSION TAKES LINES: all its entries were sent, what they wrote shows them, and its documents and its configuration are those that
--- they define
-pub record IsServing {K : Type 0} (core : Core K) : Type 0 where
+-- THE SESSION TAKES LINES: all its entries were sent, each saving asked the shelf exactly where its view was open, what they wrote shows
+-- them, and its documents and its configuration are those that they define
+pub record IsServing {K H : Type 0} (core : Core K H) : Type 0 where
   pub room : HasRoom core
   pub sent : AllByRecursion IsOpen (journal_of core)
+  pub saves_asked : AreSavesAsked (journal_of core)
   pub showing : IsShowing (journal_of core)
   pub stands : StandsForSession core.views core.opened core.config (session_of (journal_of core))
 
 -- the entry of a command of the front end
-abbrev pub front_entry : Command → Bool → Entry
-front_entry command sent = record { caller = 0; command = command; shelf = NoCall; sent = sent }
+abbrev pub front_entry : Command → ShelfNote → Bool → Entry
+front_entry command note sent = record { caller = 0; command = command; shelf = note; sent = sent }
 
--- the piece that a command writes after these entries
-abbrev pub piece_after : List Entry → Command → List ℕ
-piece_after journal command = piece_of (session_of journal) command
+-- the piece that an entry writes after these entries
+abbrev pub piece_after : List Entry → Entry → List ℕ
+piece_after journal entry = piece_of (session_of journal) entry
 
--- the command is one more entry, which was sent: the sink gained its piece, and no call of it failed
-pub record AddsSentEntry {K : Type 0} (tell : K → SinkState) (old new : Core K) (command : Command) : Type 0 where
+-- the command is one more entry, which was sent: the shelf was asked for it, the sink gained its piece, and no call of that failed
+pub record AddsSentEntry {K H : Type 0} (tell : Core K H → Outlets) (old new : Core K H) (command : Command) : Type 0 where
+  pub note : ShelfNote
   pub serving : IsServing new
-  pub entry : journal_of new ≡ journal_of old ++ front_entry command true ∷ []
-  pub gains : Gains (tell (sink_of old)).held (tell (sink_of new)).held (piece_after (journal_of old) command)
-  pub faults_stay : (tell (sink_of old)).faults ≤ (tell (sink_of new)).faults
-  pub failures_same : (tell (sink_of new)).failures ≡ (tell (sink_of old)).failures
+  pub entry : journal_of new ≡ journal_of old ++ front_entry command note true ∷ []
+  pub noted : IsNoted (tell old).shelf (tell new).shelf (views_of (journal_of old)) command.act note
+  pub gains : Gains (tell old).sink.held (tell new).sink.held (piece_after (journal_of old) (front_entry command note true))
+  pub faults_stay : (tell old).sink.faults ≤ (tell new).sink.faults
+  pub failures_same : (tell new).sink.failures ≡ (tell old).sink.failures
 
--- the command is one more entry, which was not sent: one call of the sink failed after it had gained the first n bytes of the piece, and
--- not all
-pub record AddsUnsentEntry {K : Type 0} (tell : K → SinkState) (old new : Core K) (command : Command) (n : ℕ) : Type 0 where
+-- the command is one more entry, which was not sent: the shelf was asked for it, and then one call of the sink failed after it had gained the
+-- first n bytes of the piece, and not all
+pub record AddsUnsentEntry {K H : Type 0} (tell : Core K H → Outlets) (old new : Core K H) (command : Command) (n : ℕ) : Type 0 where
+  pub note : ShelfNote
   pub room : HasRoom new
-  pub entry : journal_of new ≡ journal_of old ++ front_entry command false ∷ []
-  pub part : n < length (piece_after (journal_of old) command)
-  pub gains : Gains (tell (sink_of old)).held (tell (sink_of new)).held (take n (piece_after (journal_of old) command))
-  pub faults_stay : (tell (sink_of old)).faults ≤ (tell (sink_of new)).faults
-  pub rose : Rose (tell (sink_of old)).faults (tell (sink_of new)).faults
-  pub failures_counted : (tell (sink_of new)).failures ≡ counted (tell (sink_of old)).failures
+  pub entry : journal_of new ≡ journal_of old ++ front_entry command note false ∷ []
+  pub noted : IsNoted (tell old).shelf (tell new).shelf (views_of (journal_of old)) command.act note
+  pub part : n < length (piece_after (journal_of old) (front_entry command note false))
+  pub gains : Gains (tell old).sink.held (tell new).sink.held (take n (piece_after (journal_of old) (front_entry command note false)))
+  pub faults_stay : (tell old).sink.faults ≤ (tell new).sink.faults
+  pub rose : Rose (tell old).sink.faults (tell new).sink.faults
+  pub failures_counted : (tell new).sink.failures ≡ counted (tell old).sink.failures
 
--- no entry is added, and the session takes lines as before
-pub record ChangesNothing {K : Type 0} (old new : Core K) : Type 0 where
+-- no entry is added, the session takes lines as before, and the shelf has the files that it had
+pub record ChangesNothing {K H : Type 0} (tell : Core K H → Outlets) (old new : Core K H) : Type 0 where
   pub serving : IsServing new
   pub journal : journal_of new ≡ journal_of old
   pub sink : sink_of new ≡ sink_of old
+  pub shelf : KeepsFiles (tell old).shelf (tell new).shelf

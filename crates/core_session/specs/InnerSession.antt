@@ -1,18 +1,26 @@
 -- What private functions say: what an act and a command come to in memory.
-use Rattle.std.specs.Prelude.{◌≡◌, ℕ, ◌^◌, ◌-◌, ◌<◌, true, false, List, [], ◌∷◌, ◌++◌, length, Option, Some, None, Result, IfOk, IfErr, ⊤}
+use Rattle.std.specs.Prelude.{◌≡◌, ℕ, ◌^◌, ◌-◌, ◌<◌, ◌≤◌, true, false, List, [], ◌∷◌, ◌++◌, length, take, Option, Some, None, Result, IfOk, IfErr, ⊤}
 use Rattle.std.specs.List.{AllByRecursion}
 use Rattle.std.specs.Str.{bytes_eq, encode_utf8_all}
+use Rattle.outside.specs.declared.shelf.Stored.{Stored}
+use Rattle.outside.specs.declared.shelf.Stored.TheVariants as stored
 use Rattle.plain_edits.specs.History.{head}
 use Rattle.doc_session.specs.InMemory.{Doc}
 use Rattle.doc_session.specs.Document.{Document}
 use Rattle.doc_session.specs.Stands.{DocStandsFor}
+use Rattle.core_session.specs.declared.given.Given.{Given}
+use Rattle.core_session.specs.declared.ask.Asked.{Asked}
 use Rattle.core_session.specs.declared.opened.Opened.{Opened}
+use Rattle.core_session.specs.declared.session.Core.{Core}
 use Rattle.core_session.specs.declared.session.Prepared.{Prepared}
 use Rattle.core_session.specs.declared.stepped.Stepped.{Stepped}
 use Rattle.core_session.specs.declared.stepped.ToEach.{ToEach}
 use Rattle.core_session.specs.declared.stepped.ToEach.TheVariants as to
 use Rattle.xi_plain.specs.declared.command.Command.{Command}
-use Rattle.core_session.specs.Session.{OpenView, Session, outcome, messages, step, stepped, told, Outcome}
+use Rattle.xi_plain.specs.declared.entry.ShelfNote.{ShelfNote}
+use Rattle.outside.specs.Faults.{Rose, counted}
+use Rattle.outside.specs.Sink.{SinkState, Gains}
+use Rattle.core_session.specs.Session.{OpenView, Outcome, Session, act_step, given_by, messages, opened_after, outcome, stepped, told}
 use Rattle.doc_text.specs.Fault.{DocRefuses}
 use Rattle.doc_session.specs.Step.{AreEffectsOf, EventStep, event_step, refusal_at}
 use Rattle.doc_session.specs.declared.event.Effects.{Effects}
@@ -23,7 +31,7 @@ use Rattle.doc_text.specs.declared.fault.DocFault.TheVariants as Fault
 use Rattle.core_session.specs.declared.act.ActEffects.{ActEffects}
 use Rattle.entry_lines.specs.Answer.{reply_of}
 use Rattle.entry_lines.specs.Piece.{AreLinesOf, UpdatesReadBack}
-use Rattle.core_session.specs.Core.{ServesDocument, Stands, StandsForSession}
+use Rattle.core_session.specs.Core.{HasRoom, IsServing, ServesDocument, Stands, StandsForSession, front_entry, journal_of, piece_after, shelf_of, sink_of}
 
 -- no plugin has a session in the document, and it may take one more edit
 abbrev pub TakesEvents : Doc → Type 0
@@ -98,17 +106,42 @@ pub record IsFoundAt (views : List OpenView) (at : ℕ) (view : OpenView) : Type
 abbrev pub IsEdited : EventStep → Doc → Effects → Type 0
 IsEdited step next effects = ServesDocument next step.document × AreEffectsOf step effects
 
--- what a command comes to: the lines of its piece, whose updates read back, and the views after it
-pub record IsDone (session : Session) (command : Command) (piece : List ℕ) (held : List Opened) : Type 0 where
-  pub lines : AreLinesOf (messages session command) (encode_utf8_all piece)
-  pub reads_back : UpdatesReadBack (outcome session command.act).updates
-  pub stands : Stands held (outcome session command.act).views
+-- what a command comes to that was given this: the lines of its piece, whose updates read back, and the views after it
+pub record IsDone (session : Session) (command : Command) (gave : Given) (piece : List ℕ) (held : List Opened) : Type 0 where
+  pub lines : AreLinesOf (messages session command gave) (encode_utf8_all piece)
+  pub reads_back : UpdatesReadBack (outcome session command.act gave).updates
+  pub stands : Stands held (outcome session command.act gave).views
 
--- the same before it is an entry, with how many were opened and the configuration after it
+-- the same by the note that it has, with how many were opened by then
+pub record IsAsked (session : Session) (command : Command) (asked : Asked) : Type 0 where
+  pub done : IsDone session command (given_by asked.note) asked.piece asked.held
+  pub opened : asked.opened ≡ opened_after session.opened command.act (given_by asked.note)
+
+-- the same before it is an entry, with the configuration after it
 pub record IsPrepared (session : Session) (made : Prepared) : Type 0 where
-  pub lines : AreLinesOf (messages session made.command) (encode_utf8_all made.piece)
-  pub reads_back : UpdatesReadBack (outcome session made.command.act).updates
-  pub stands : StandsForSession made.held made.opened made.config (step session made.command)
+  pub lines : AreLinesOf (messages session made.command (given_by made.note)) (encode_utf8_all made.piece)
+  pub reads_back : UpdatesReadBack (outcome session made.command.act (given_by made.note)).updates
+  pub stands : StandsForSession made.held made.opened made.config (act_step session made.command.act (given_by made.note))
+
+-- a command with this note was put in as an entry that was sent, and the shelf was not asked again
+pub record PutsSent {K H : Type 0} (tell : K → SinkState) (old new : Core K H) (command : Command) (note : ShelfNote) : Type 0 where
+  pub serving : IsServing new
+  pub entry : journal_of new ≡ journal_of old ++ front_entry command note true ∷ []
+  pub shelf : shelf_of new ≡ shelf_of old
+  pub gains : Gains (tell (sink_of old)).held (tell (sink_of new)).held (piece_after (journal_of old) (front_entry command note true))
+  pub faults_stay : (tell (sink_of old)).faults ≤ (tell (sink_of new)).faults
+  pub failures_same : (tell (sink_of new)).failures ≡ (tell (sink_of old)).failures
+
+-- the same as an entry that was not sent, whose first n bytes the sink gained
+pub record PutsUnsent {K H : Type 0} (tell : K → SinkState) (old new : Core K H) (command : Command) (note : ShelfNote) (n : ℕ) : Type 0 where
+  pub room : HasRoom new
+  pub entry : journal_of new ≡ journal_of old ++ front_entry command note false ∷ []
+  pub shelf : shelf_of new ≡ shelf_of old
+  pub part : n < length (piece_after (journal_of old) (front_entry command note false))
+  pub gains : Gains (tell (sink_of old)).held (tell (sink_of new)).held (take n (piece_after (journal_of old) (front_entry command note false)))
+  pub faults_stay : (tell (sink_of old)).faults ≤ (tell (sink_of new)).faults
+  pub rose : Rose (tell (sink_of old)).faults (tell (sink_of new)).faults
+  pub failures_counted : (tell (sink_of new)).failures ≡ counted (tell (sink_of old)).failures
 
 -- what came of an act in memory is the outcome
 pub record IsOutcome (outcome : Outcome) (effects : ActEffects) : Type 0 where
@@ -116,6 +149,12 @@ pub record IsOutcome (outcome : Outcome) (effects : ActEffects) : Type 0 where
   pub updates : effects.updates ≡ outcome.updates
   pub scroll : effects.scroll ≡ outcome.scroll
   pub stands : Stands effects.held outcome.views
+
+-- what was made for a file that was written is kept, or what was made for one that could not be
+abbrev pub IsChosenBy : {A : Type 0} → Stored → A → A → A → Type 0
+IsChosenBy stored.Done done failed kept = kept ≡ done
+IsChosenBy stored.Failed done failed kept = kept ≡ failed
+IsChosenBy stored.NoMemory done failed kept = ⊥
 
 -- a fault of the front end's own edit: its characters are spent, or memory is wanting
 abbrev pub IsSpentOrLack : DocFault → Type 0

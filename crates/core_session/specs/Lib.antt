@@ -1,4 +1,5 @@
 pub mod Session
+pub mod Shelves
 pub mod Shows
 pub mod Core
 pub mod InnerSession

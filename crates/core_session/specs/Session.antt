@@ -1,7 +1,7 @@
 -- THE PLAIN SESSION: what the entries of a journal do, one after the other, and what each writes.
 use Rattle.std.specs.Prelude.{ℕ, ◌+◌, ◌^◌, ◌≤◌, not, false, if◌then◌else◌, List, [], ◌∷◌, ◌++◌, map, codes, Option, Some, None, unwrap_or}
 use Rattle.std.specs.List.{AllByRecursion, filter}
-use Rattle.std.specs.Str.{encode_utf8_all, bytes_eq}
+use Rattle.std.specs.Str.{bytes_eq, chars, encode_utf8_all, is_utf8}
 use Rattle.serde_json.specs.Data.{Data, null}
 use Rattle.xi_plain.specs.declared.command.Id.{Id}
 use Rattle.xi_plain.specs.declared.command.Fault.{Fault}
@@ -13,6 +13,8 @@ use Rattle.xi_plain.specs.declared.command.Command.{Command}
 use Rattle.xi_plain.specs.declared.config.Changes.{Changes}
 use Rattle.xi_plain.specs.declared.config.Config.{Config}
 use Rattle.xi_plain.specs.declared.entry.Entry.{Entry}
+use Rattle.xi_plain.specs.declared.entry.ShelfNote.{ShelfNote}
+use Rattle.xi_plain.specs.declared.entry.ShelfNote.TheVariants.{Absent, Done, Failed, Held, NoCall}
 use Rattle.plain_screen.specs.declared.screen.Update.{Update}
 use Rattle.plain_edits.specs.Edits.{spent as spent_by}
 use Rattle.plain_edits.specs.History.{head}
@@ -20,15 +22,17 @@ use Rattle.doc_session.specs.Layout.{Position}
 use Rattle.json_rpc.specs.Response.{text_data}
 use Rattle.view_update.specs.declared.note.ViewUpdate.{ViewUpdate}
 use Rattle.view_update.specs.declared.note.Scroll.{Scroll}
-use Rattle.entry_lines.specs.Answer.{Reply, accepted, refused, spent, not_built, silent}
+use Rattle.entry_lines.specs.Answer.{Reply, accepted, not_built, not_text, refused, shelf_failed, silent, spent}
 use Rattle.entry_lines.specs.Piece.{entry_messages, lines_written}
 use Rattle.entry_lines.specs.ViewId.{view_id_of}
 use Rattle.doc_session.specs.declared.event.Body.{Body}
 use Rattle.doc_session.specs.declared.event.Body.TheVariants.{Null, Chunk, Copied, Edited, Lines}
-use Rattle.doc_session.specs.declared.event.Event.TheVariants.{Config as Configured, Front, Other}
+use Rattle.doc_session.specs.declared.event.Event.TheVariants.{Config as Configured, Front, Other, Saved}
 use Rattle.doc_session.specs.Document.{Document, loaded_document}
 use Rattle.doc_text.specs.Refusal.{DocRefusal, of_edit}
 use Rattle.doc_session.specs.Step.{EventStep, event_step, refusal_at}
+use Rattle.core_session.specs.declared.given.Given.{Given}
+use Rattle.core_session.specs.declared.given.Given.TheVariants as given
 
 -- A VIEW that is open: its id, which is of ASCII, and its document
 pub record OpenView : Type 0 where
@@ -178,20 +182,45 @@ abbrev pub edit_outcome : List OpenView → Option OpenView → EditAct → Outc
 edit_outcome views None act = refusing_view views
 edit_outcome views (Some view) act = front_outcome views view act
 
--- what is not done yet of a view is refused, where the view is open
-abbrev pub undone_outcome : List OpenView → Option OpenView → Outcome
-undone_outcome views None = refusing_view views
-undone_outcome views (Some view) = keeping views not_built
+-- WHAT THE SHELF GAVE an entry, by its note: the text of a file, which is empty where there is no file, or bytes that are no text; that it
+-- wrote the file, that it failed, or nothing where it was not asked
+abbrev pub given_by : ShelfNote → Given
+given_by (Held bytes) = if is_utf8 bytes then given.Found (chars bytes) else given.NotText
+given_by Absent = given.Found []
+given_by Done = given.Done
+given_by Failed = given.Failed
+given_by NoCall = given.Nothing
 
--- a view is opened on an empty text; none is on a file yet
-abbrev pub open_outcome : Config → ℕ → List OpenView → Option (List ℕ) → Outcome
-open_outcome config opened views None = opening_outcome config opened views []
-open_outcome config opened views (Some path) = keeping views not_built
+-- a view is opened on the text of a file; where there is none, no view is
+abbrev pub file_outcome : Config → ℕ → List OpenView → Given → Outcome
+file_outcome config opened views (given.Found text) = opening_outcome config opened views text
+file_outcome config opened views given.NotText = keeping views not_text
+file_outcome config opened views gave = keeping views shelf_failed
 
--- how many were opened after an act: an id is never given again
-abbrev pub opened_after : ℕ → Act → ℕ
-opened_after opened (NewView None) = opened + 1
-opened_after opened act = opened
+-- a view is opened on an empty text, or on what the shelf gave of its file
+abbrev pub open_outcome : Config → ℕ → List OpenView → Option (List ℕ) → Given → Outcome
+open_outcome config opened views None gave = opening_outcome config opened views []
+open_outcome config opened views (Some path) gave = file_outcome config opened views gave
+
+-- how many were opened after an act: one more where a view is opened, and an id is never given again
+abbrev pub opened_after : ℕ → Act → Given → ℕ
+opened_after opened (NewView None) gave = opened + 1
+opened_after opened (NewView (Some path)) (given.Found text) = opened + 1
+opened_after opened act gave = opened
+
+-- a view is saved: that is its own step, and answered null
+abbrev pub saved_outcome : List OpenView → OpenView → Outcome
+saved_outcome views view = taking (accepted null) None (own_step view (event_step view.document Saved)) views
+
+-- A SAVING of a view that is open: it is saved where the shelf wrote its file
+abbrev pub stored_outcome : List OpenView → OpenView → Given → Outcome
+stored_outcome views view given.Done = saved_outcome views view
+stored_outcome views view gave = keeping views shelf_failed
+
+-- the view that was named is saved, where it is open
+abbrev pub save_outcome : List OpenView → Option OpenView → Given → Outcome
+save_outcome views None gave = refusing_view views
+save_outcome views (Some view) gave = stored_outcome views view gave
 
 -- the views but the one with this id
 abbrev pub without : List ℕ → List OpenView → List OpenView
@@ -202,41 +231,45 @@ abbrev pub close_outcome : List OpenView → Option OpenView → Outcome
 close_outcome views None = refusing_view views
 close_outcome views (Some view) = keeping (without view.id views) (accepted null)
 
--- THE OUTCOME of an act. A view that is not there is refused first, and what is not done yet last
-abbrev pub outcome : Session → Act → Outcome
-outcome session (Bad fault) = refusing session.views fault
-outcome session Nothing = keeping session.views (accepted null)
-outcome session (Configure changes) = config_outcome session.views (config_with session.config changes)
-outcome session (NewView path) = open_outcome session.config session.opened session.views path
-outcome session (CloseView name) = close_outcome session.views (named_view session.views name)
-outcome session (Save name path) = undone_outcome session.views (named_view session.views name)
-outcome session (Edit name act) = edit_outcome session.views (named_view session.views name) act
-outcome session Closing = leaving session.views
-outcome session act = keeping session.views not_built
+-- THE OUTCOME of an act, by what the shelf gave it. A view that is not there is refused first, and what is not done yet last
+abbrev pub outcome : Session → Act → Given → Outcome
+outcome session (Bad fault) gave = refusing session.views fault
+outcome session Nothing gave = keeping session.views (accepted null)
+outcome session (Configure changes) gave = config_outcome session.views (config_with session.config changes)
+outcome session (NewView path) gave = open_outcome session.config session.opened session.views path gave
+outcome session (CloseView name) gave = close_outcome session.views (named_view session.views name)
+outcome session (Save name path) gave = save_outcome session.views (named_view session.views name) gave
+outcome session (Edit name act) gave = edit_outcome session.views (named_view session.views name) act
+outcome session Closing gave = leaving session.views
+outcome session act gave = keeping session.views not_built
 
 -- the messages of an outcome in their order
 abbrev pub outcome_messages : Id → Outcome → List Data
 outcome_messages id done = entry_messages id done.reply [] done.updates done.scroll
 
--- the messages of an entry
-abbrev pub messages : Session → Command → List Data
-messages session command = outcome_messages command.id (outcome session command.act)
+-- the messages of a command
+abbrev pub messages : Session → Command → Given → List Data
+messages session command gave = outcome_messages command.id (outcome session command.act gave)
 
 -- THE PIECE of an entry: the lines of its messages
-abbrev pub piece_of : Session → Command → List ℕ
-piece_of session command = lines_written (messages session command)
+abbrev pub piece_of : Session → Entry → List ℕ
+piece_of session entry = lines_written (messages session entry.command (given_by entry.shelf))
+
+-- the session after an act
+abbrev pub act_step : Session → Act → Given → Session
+act_step session act gave = record {
+  config = config_after session.config act;
+  views = (outcome session act gave).views;
+  opened = opened_after session.opened act gave;
+}
 
 -- THE STEP: the session after an entry, and after entries
-abbrev pub step : Session → Command → Session
-step session command = record {
-  config = config_after session.config command.act;
-  views = (outcome session command.act).views;
-  opened = opened_after session.opened command.act;
-}
+abbrev pub step : Session → Entry → Session
+step session entry = act_step session entry.command.act (given_by entry.shelf)
 
 abbrev pub session_after : Session → List Entry → Session
 session_after session [] = session
-session_after session (entry ∷ entries) = session_after (step session entry.command) entries
+session_after session (entry ∷ entries) = session_after (step session entry) entries
 
 -- the session that the entries of a journal define, and its views
 abbrev pub session_of : List Entry → Session
@@ -248,7 +281,7 @@ views_of journal = (session_of journal).views
 -- WHAT ENTRIES WRITE: the pieces of each, one after the other
 abbrev pub written : Session → List Entry → List ℕ
 written session [] = []
-written session (entry ∷ entries) = piece_of session entry.command ++ written (step session entry.command) entries
+written session (entry ∷ entries) = piece_of session entry ++ written (step session entry) entries
 
 -- the document of each of the views has at most so many revisions after its loading
 abbrev pub HaveRevisions : ℕ → List OpenView → Type 0

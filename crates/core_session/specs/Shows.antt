@@ -95,4 +95,4 @@ pub record Shows (journal : List Entry) (bytes : List ℕ) : Type 0 where
   pub screens : (front back : List Entry) → journal ≡ front ++ back → AreShown (last_requested front) (views_of front) (written first_session front)
   pub sends : (front : List Entry) (entry : Entry) (back : List Entry) → journal ≡ front ++ (entry ∷ back) →
       NotesSendTo (requested entry.command.act) (views_of (front ++ entry ∷ []))
-      (updates_in (piece_of (session_of front) entry.command))
+      (updates_in (piece_of (session_of front) entry))

@@ -7,9 +7,10 @@ ghost use Rattle.entry_lines.specs.Answer.{accepted, reply_of};
 ghost use Rattle.entry_lines.specs.ViewId.{view_id_of};
 ghost use Rattle.core_session.specs.Core.{IsOfLine, Stands};
 ghost use Rattle.core_session.specs.InnerSession.{AreThere, HasTab, IsEdited, IsFoundAt, IsOutcome, IsSpentOrLack, MayBeAsked, each_step};
-ghost use Rattle.core_session.specs.Session.{OpenView, Session, close_outcome, config_after, edit_came, edit_outcome, front_outcome, keeping, named_view, open_outcome, opening_outcome, outcome, refusing, refusing_view, result_of, scroll_for, spent_total, taking, undone_outcome};
+ghost use Rattle.core_session.specs.Session.{OpenView, Session, close_outcome, config_after, edit_came, edit_outcome, front_outcome, keeping, named_view, file_outcome, open_outcome, opening_outcome, outcome, refusing, refusing_view, result_of, save_outcome, saved_outcome, scroll_for, spent_total, stored_outcome, taking};
 
 use crate::after::after_alone;
+use crate::given::Given;
 use crate::opened::{Opened, place_of};
 use crate::stepped::{Stepped, ToEach};
 use doc_session::{Body, Doc, DocFault, Effects, Event};
@@ -34,29 +35,30 @@ pub struct ActEffects {
     pub scroll: Option<Scroll>,
 }
 
-/// Does what a command asks, beside the views that are open. `opened` is how many were opened before, and `config` how texts are laid out
-/// and edited from then on.
+/// Does what a command asks that was given this, beside the views that are open. `opened` is how many were opened before, and `config` how
+/// texts are laid out and edited from then on.
 pub fn act_on(
     alloc: Global,
     held: &[Opened],
     opened: u64,
     config: Config,
     act: &Act,
+    given: Given,
 ) -> Result<ActEffects, NoMemory>
     requires asked { MayBeAsked held.now }
     requires few { opened < 2 ^ 63 }
     requires tab { 0 < config.tab }
     requires line { IsOfLine act.now }
     ensures { (session : Session) → AreThere held.now session.views → opened ≡ session.opened
-        → config ≡ config_after session.config act.now → IfOk result (IsOutcome (outcome session act.now)) }
+        → config ≡ config_after session.config act.now → IfOk result (IsOutcome (outcome session act.now given)) }
 {
     match act {
         Act::Bad(fault) => refused(alloc, held, fault),
         Act::Nothing => others(alloc, held, FrontReply::Accepted),
         Act::Configure(_) => each(alloc, held, ToEach::Config(config), FrontReply::Accepted),
-        Act::NewView { path } => open(alloc, held, opened, config, path),
+        Act::NewView { path } => open(alloc, held, opened, config, path, given),
         Act::CloseView { view } => close(alloc, held, view),
-        Act::Save { view, path: _ } => undone(alloc, held, view),
+        Act::Save { view, path: _ } => save(alloc, held, view, &given),
         Act::Edit { view, act } => edit(alloc, held, view, act),
         Act::Closing => unreachable!(),
         _ => others(alloc, held, FrontReply::NotBuilt),
@@ -117,40 +119,53 @@ fn refused_view(alloc: Global, held: &[Opened]) -> Result<ActEffects, NoMemory>
     others(alloc, held, FrontReply::Refused(Fault::BadParams(member)))
 }
 
-/// What is not done yet of a view.
-fn undone(alloc: Global, held: &[Opened], name: &Text) -> Result<ActEffects, NoMemory>
-    requires { MayBeAsked held.now }
-    ensures { (views : List OpenView) → AreThere held.now views
-        → IfOk result (IsOutcome (undone_outcome views (named_view views name.now))) }
-{
-    match place_of(held, name) {
-        Some(_) => others(alloc, held, FrontReply::NotBuilt),
-        None => refused_view(alloc, held),
-    }
-}
-
-/// Opens a view behind those that are open, whose runs of typing end.
+/// Opens a view behind those that are open, whose runs of typing end: on an empty text, or on what was given of its file.
 fn open(
     alloc: Global,
     held: &[Opened],
     opened: u64,
     config: Config,
     path: &Option<Text>,
+    given: Given,
 ) -> Result<ActEffects, NoMemory>
     requires asked { MayBeAsked held.now }
     requires few { opened < 2 ^ 63 }
     requires tab { 0 < config.tab }
     ensures { (views : List OpenView) → Stands held.now views
-        → IfOk result (IsOutcome (open_outcome config opened views path.now)) }
+        → IfOk result (IsOutcome (open_outcome config opened views path.now given)) }
 {
     match path {
-        Some(_) => others(alloc, held, FrontReply::NotBuilt),
+        Some(_) => open_file(alloc, held, opened, config, given),
         None => open_text(
             alloc,
             held,
             view_id_of(alloc, opened + 1)?,
             Text::new(alloc),
             config,
+        ),
+    }
+}
+
+fn open_file(
+    alloc: Global,
+    held: &[Opened],
+    opened: u64,
+    config: Config,
+    given: Given,
+) -> Result<ActEffects, NoMemory>
+    requires asked { MayBeAsked held.now }
+    requires few { opened < 2 ^ 63 }
+    requires tab { 0 < config.tab }
+    ensures { (views : List OpenView) → Stands held.now views
+        → IfOk result (IsOutcome (file_outcome config opened views given)) }
+{
+    match given {
+        Given::Found(text) => open_text(alloc, held, view_id_of(alloc, opened + 1)?, text, config),
+        Given::NotText => others(alloc, held, FrontReply::NotText),
+        Given::Nothing | Given::Failed | Given::Done => others(
+            alloc,
+            held,
+            FrontReply::ShelfFailed,
         ),
     }
 }
@@ -199,6 +214,46 @@ fn close_at(alloc: Global, held: &[Opened], at: usize) -> Result<ActEffects, NoM
     stepped.take(alloc, &held[..at], ToEach::Other)?;
     stepped.take(alloc, &held[at + 1..], ToEach::Other)?;
     Ok(effects_of(stepped, FrontReply::Accepted, None))
+}
+
+/// Saves a view, where its file was written.
+fn save(alloc: Global, held: &[Opened], name: &Text, given: &Given) -> Result<ActEffects, NoMemory>
+    requires { MayBeAsked held.now }
+    ensures { (views : List OpenView) → AreThere held.now views
+        → IfOk result (IsOutcome (save_outcome views (named_view views name.now) given.now)) }
+{
+    match place_of(held, name) {
+        Some(at) => save_at(alloc, held, at, given),
+        None => refused_view(alloc, held),
+    }
+}
+
+/// The same of the view that stands there.
+fn save_at(alloc: Global, held: &[Opened], at: usize, given: &Given) -> Result<ActEffects, NoMemory>
+    requires asked { MayBeAsked held.now }
+    requires inside { at < length held.now }
+    ensures { (views : List OpenView) (view : OpenView) → AreThere held.now views → IsFoundAt views at view
+        → IfOk result (IsOutcome (stored_outcome views view given.now)) }
+{
+    match given {
+        Given::Done => saved(alloc, held, at),
+        Given::Nothing | Given::Found(_) | Given::NotText | Given::Failed => {
+            others(alloc, held, FrontReply::ShelfFailed)
+        }
+    }
+}
+
+/// The view that stands there was saved.
+fn saved(alloc: Global, held: &[Opened], at: usize) -> Result<ActEffects, NoMemory>
+    requires asked { MayBeAsked held.now }
+    requires inside { at < length held.now }
+    ensures { (views : List OpenView) (view : OpenView) → AreThere held.now views → IsFoundAt views at view
+        → IfOk result (IsOutcome (saved_outcome views view)) }
+{
+    match after_alone(alloc, &held[at].doc, Event::Saved) {
+        Ok((next, effects)) => edited(alloc, held, at, next, effects),
+        Err(_) => Err(NoMemory),
+    }
 }
 
 fn edit(alloc: Global, held: &[Opened], name: &Text, act: &EditAct) -> Result<ActEffects, NoMemory>

@@ -1,7 +1,9 @@
-ghost use Rattle.std.specs.Prelude.{◌≡◌, ◌<◌, ◌^◌};
+ghost use Rattle.std.specs.Prelude.{◌≡◌, ◌<◌, ◌^◌, ℕ, List, Some};
+ghost use Rattle.xi_plain.specs.declared.command.Act.TheVariants.{NewView};
 ghost use Rattle.front_wire.specs.Fair.{AreFairChanges, IsFairAct};
 ghost use Rattle.core_session.specs.Session.{config_with, config_after, opened_after};
 
+use crate::given::Given;
 use xi_plain::{Act, Changes, Config};
 
 /// How texts are laid out and edited before anyone says otherwise.
@@ -24,13 +26,25 @@ pub fn config_after(config: Config, act: &Act) -> Config
     }
 }
 
-/// How many views were opened after a command.
-pub fn opened_after(opened: u64, act: &Act) -> u64
+/// How many views were opened after a command that was given this.
+pub fn opened_after(opened: u64, act: &Act, given: &Given) -> u64
     requires few { opened < 2 ^ 63 }
-    ensures { result ≡ opened_after opened act.now }
+    ensures { result ≡ opened_after opened act.now given.now }
 {
     match act {
         Act::NewView { path: None } => opened + 1,
+        Act::NewView { path: Some(_) } => with_found(opened, given),
+        _ => opened,
+    }
+}
+
+/// How many after the opening of a file.
+fn with_found(opened: u64, given: &Given) -> u64
+    requires few { opened < 2 ^ 63 }
+    ensures { (path : List ℕ) → result ≡ opened_after opened (NewView (Some path)) given.now }
+{
+    match given {
+        Given::Found(_) => opened + 1,
         _ => opened,
     }
 }

@@ -7,7 +7,9 @@
 
 mod act;
 mod after;
+mod ask;
 mod config;
+mod given;
 mod made;
 mod opened;
 mod prepare;

@@ -1,5 +1,9 @@
 // What is made in parts, and put in place. These functions know nothing of what they hold, so to let it go is one step of their proof.
 ghost use Rattle.std.specs.Prelude.{◌≡◌, Err, IfErr, IfOk, Ok};
+ghost use Rattle.core_session.specs.InnerSession.{IsChosenBy};
+
+use outside::Stored;
+use plain_text::NoMemory;
 
 /// Both parts, where the second one was made; else the first is let go.
 pub(crate) fn both<A: Drop, B, E>(first: A, second: Result<B, E>) -> Result<(A, B), E>
@@ -17,4 +21,16 @@ pub(crate) fn put<T: Drop>(place: &mut T, next: T)
     ensures { place.new ≡ next }
 {
     *place = next;
+}
+
+/// The first one where a file was written, and the second one where that failed; the other is let go.
+pub(crate) fn by_answer<A: Drop>(answer: Stored, done: A, failed: A) -> Result<A, NoMemory>
+    ensures chosen { IfOk result (IsChosenBy answer done failed) }
+    ensures lack { IfErr result (λ _. answer ≡ Stored.NoMemory) }
+{
+    match answer {
+        Stored::Done => Ok(done),
+        Stored::Failed => Ok(failed),
+        Stored::NoMemory => Err(NoMemory),
+    }
 }

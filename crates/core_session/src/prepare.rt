@@ -1,24 +1,30 @@
-ghost use Rattle.std.specs.Prelude.{◌≡◌, ◌<◌, ◌^◌, IfOk};
+ghost use Rattle.std.specs.Prelude.{◌≡◌, ◌<◌, ◌^◌, IfErr, IfOk};
 ghost use Rattle.front_wire.specs.Front.{command_of};
 ghost use Rattle.json_rpc.specs.Request.{IsWireId};
 ghost use Rattle.core_session.specs.Session.{Session, config_after};
 ghost use Rattle.core_session.specs.Core.{IsOfLine, StandsForSession};
 ghost use Rattle.core_session.specs.InnerSession.{AreThere, HasApart, IsDone, IsPrepared, MayBeAsked};
+ghost use Rattle.core_session.specs.Shelves.{IsNoted, KeepsFiles, shelf_state};
 
 use crate::act::{ActEffects, act_on};
-use crate::config::{config_after, opened_after};
+use crate::ask::{Asked, ask};
+use crate::config::config_after;
+use crate::given::Given;
 use crate::made::both;
 use crate::opened::Opened;
 use crate::session::Prepared;
 use entry_lines::{FrontNews, piece_of};
 use front_wire::command_of;
+use outside::Shelf;
 use plain_text::{List, NoMemory, Text};
 use std::alloc::Global;
 use xi_plain::{Command, Config};
 
-/// What a line comes to, beside the views that are open and the configuration.
-pub fn prepare(
+/// What a line comes to, beside the views that are open and the configuration. The shelf is asked where the line opens a file or saves a
+/// view.
+pub fn prepare<H: Shelf>(
     alloc: Global,
+    shelf: &mut H,
     held: &[Opened],
     opened: u64,
     config: Config,
@@ -31,28 +37,41 @@ pub fn prepare(
     ensures asks { IfOk result (λ made. IsOfLine made.command.act) }
     ensures prepared { (session : Session) → HasApart session.views → StandsForSession held.now opened config session
         → IfOk result (IsPrepared session) }
+    ensures noted { (session : Session) → AreThere held.now session.views → IfOk result (λ made.
+        IsNoted (shelf_state H.files H.faults shelf.old) (shelf_state H.files H.faults shelf.new)
+        session.views made.command.act made.note) }
+    ensures kept { IfErr result (λ _.
+        KeepsFiles (shelf_state H.files H.faults shelf.old) (shelf_state H.files H.faults shelf.new)) }
 {
     let command = command_of(alloc, line)?;
     let config = config_after(config, &command.act);
-    let then = opened_after(opened, &command.act);
-    let done = done(alloc, held, opened, config, &command);
-    let (command, (piece, held)) = both(command, done)?;
-    Ok(Prepared {
-        command,
+    let asked = ask(alloc, shelf, held, opened, config, &command);
+    let (command, asked) = both(command, asked)?;
+    let Asked {
+        note,
         piece,
         held,
-        opened: then,
+        opened,
+    } = asked;
+    Ok(Prepared {
+        command,
+        note,
+        piece,
+        held,
+        opened,
         config,
     })
 }
 
-/// The piece of a command, and the views that are open after it. `config` is how texts are laid out and edited after it.
-fn done(
+/// The piece of a command that was given this, and the views that are open after it. `config` is how texts are laid out and edited after
+/// it.
+pub fn done(
     alloc: Global,
     held: &[Opened],
     opened: u64,
     config: Config,
     command: &Command,
+    given: Given,
 ) -> Result<(Text, List<Opened>), NoMemory>
     requires asked { MayBeAsked held.now }
     requires few { opened < 2 ^ 63 }
@@ -61,9 +80,9 @@ fn done(
     requires line { IsOfLine command.now.act }
     ensures { (session : Session) → AreThere held.now session.views → opened ≡ session.opened
         → config ≡ config_after session.config command.now.act
-        → IfOk result (λ made. IsDone session command.now made.0 made.1) }
+        → IfOk result (λ made. IsDone session command.now given made.0 made.1) }
 {
-    let effects = act_on(alloc, held, opened, config, &command.act)?;
+    let effects = act_on(alloc, held, opened, config, &command.act, given)?;
     let ActEffects {
         reply,
         held,

@@ -1,9 +1,8 @@
-ghost use Rattle.std.specs.Prelude.{◌≡◌, ◌≢◌, ◌+◌, ◌≤◌, ◌++◌, ◌∷◌, ◌⊎◌, [], ℕ, Option, IfOk, IfErr, vec_len, vec_capacity};
+ghost use Rattle.std.specs.Prelude.{◌≡◌, ◌≢◌, ◌+◌, ◌≤◌, ◌++◌, ◌∷◌, ◌⊎◌, [], ℕ, Option, IfOk, IfErr, true, vec_len, vec_capacity};
 ghost use Rattle.outside.specs.Faults.{Rose};
 ghost use Rattle.outside.specs.Sink.{sink_state};
 ghost use Rattle.xi_plain.specs.declared.command.Command.{Command};
-ghost use Rattle.xi_plain.specs.declared.entry.ShelfNote.TheVariants.{NoCall};
-ghost use Rattle.xi_plain.specs.Journal.{closing_entry};
+ghost use Rattle.xi_plain.specs.Journal.{closing_entry, may_have_note};
 ghost use Rattle.front_wire.specs.Front.{command_of};
 
 use crate::config::FIRST_CONFIG;
@@ -11,7 +10,7 @@ use crate::made::put;
 use crate::opened::Opened;
 use crate::prepare::prepare;
 use crate::write::write_piece;
-use outside::Sink;
+use outside::{Shelf, Sink};
 use plain_text::{List, Text};
 use std::alloc::Global;
 use xi_plain::{Act, Command, Config, Entry, Id, ShelfNote};
@@ -30,6 +29,7 @@ pub enum Entered {
 /// What a line comes to, before it is an entry.
 pub struct Prepared {
     pub command: Command,
+    pub note: ShelfNote,
     pub piece: Text,
     /// The views that are open then.
     pub held: List<Opened>,
@@ -39,28 +39,31 @@ pub struct Prepared {
     pub config: Config,
 }
 
-/// A session with its journal, the views that are open in the order of their openings, how many were opened, its configuration and the sink
-/// that it writes to. There is always room for its closing entry.
+/// A session with its journal, the views that are open in the order of their openings, how many were opened, its configuration, the shelf of
+/// its files and the sink that it writes to. There is always room for its closing entry.
 #[derive(Drop)]
-pub struct Core<K> {
+pub struct Core<K, H> {
     journal: Vec<Entry>,
     views: List<Opened>,
     opened: u64,
     config: Config,
+    shelf: H,
     sink: K,
 }
 
-impl<K: Sink> Core<K> {
-    ghost use Rattle.core_session.specs.Core.{IsOfLine, IsServing, AddsSentEntry, AddsUnsentEntry, ChangesNothing, HasSessionAfter, HasRoom, journal_of, sink_of};
-    ghost use Rattle.core_session.specs.Session.{session_of};
-    ghost use Rattle.core_session.specs.InnerSession.{IsPrepared};
+impl<K: Sink, H: Shelf> Core<K, H> {
+    ghost use Rattle.core_session.specs.Core.{IsOfLine, IsServing, AddsSentEntry, AddsUnsentEntry, ChangesNothing, HasSessionAfter, HasRoom, journal_of, outlets_of, shelf_of, sink_of};
+    ghost use Rattle.core_session.specs.Session.{session_of, views_of};
+    ghost use Rattle.core_session.specs.Shelves.{asks_as};
+    ghost use Rattle.core_session.specs.InnerSession.{IsPrepared, PutsSent, PutsUnsent};
 
-    /// A session without entries. For want of memory the sink is given back.
-    pub fn make(alloc: Global, sink: K) -> Result<Core<K>, K>
+    /// A session without entries. For want of memory the sink and the shelf are given back.
+    pub fn make(alloc: Global, sink: K, shelf: H) -> Result<Core<K, H>, (K, H)>
         ensures serving { IfOk result IsServing }
         ensures empty { IfOk result (λ core. journal_of core ≡ []) }
         ensures sink { IfOk result (λ core. sink_of core ≡ sink) }
-        ensures back { IfErr result (λ back. back ≡ sink) }
+        ensures shelf { IfOk result (λ core. shelf_of core ≡ shelf) }
+        ensures back { IfErr result (λ back. (back.0 ≡ sink) × (back.1 ≡ shelf)) }
     {
         match Vec::with_capacity(alloc, 1) {
             Ok(journal) => Ok(Core {
@@ -68,20 +71,23 @@ impl<K: Sink> Core<K> {
                 views: List::new(alloc),
                 opened: 0,
                 config: FIRST_CONFIG,
+                shelf,
                 sink,
             }),
-            Err(_) => Err(sink),
+            Err(_) => Err((sink, shelf)),
         }
     }
 
-    /// Takes a line of the front end, with or without its LF, and writes its piece.
+    /// Takes a line of the front end, with or without its LF, and writes its piece. The shelf is asked before, where the line opens a file or
+    /// saves a view.
     pub fn enter(&mut self, alloc: Global, line: &[u8]) -> Entered
         requires { IsServing self.old }
         ensures sent { result ≡ Entered.Taken
-            → AddsSentEntry (sink_state K.held K.faults K.failures) self.old self.new (command_of line.now) }
+            → AddsSentEntry (outlets_of K.held K.faults K.failures H.files H.faults) self.old self.new (command_of line.now) }
         ensures unsent { result ≡ Entered.SinkFault → (n : ℕ)
-            × AddsUnsentEntry (sink_state K.held K.faults K.failures) self.old self.new (command_of line.now) n }
-        ensures no_memory { result ≡ Entered.NoMemory → ChangesNothing self.old self.new }
+            × AddsUnsentEntry (outlets_of K.held K.faults K.failures H.files H.faults) self.old self.new (command_of line.now) n }
+        ensures no_memory { result ≡ Entered.NoMemory
+            → ChangesNothing (outlets_of K.held K.faults K.failures H.files H.faults) self.old self.new }
         ensures complete { (Rose (K.faults (sink_of self.old)) (K.faults (sink_of self.new)) → ⊥)
             → (result ≡ Entered.Taken) ⊎ (result ≡ Entered.NoMemory) }
         ensures dropped { result ≢ Entered.Taken → HasSessionAfter self.new (journal_of self.old) }
@@ -89,7 +95,14 @@ impl<K: Sink> Core<K> {
         if self.journal.reserve(2).is_err() {
             return Entered::NoMemory;
         }
-        match prepare(alloc, self.views.as_slice(), self.opened, self.config, line) {
+        match prepare(
+            alloc,
+            &mut self.shelf,
+            self.views.as_slice(),
+            self.opened,
+            self.config,
+            line,
+        ) {
             Ok(made) => self.put(made),
             Err(_) => Entered::NoMemory,
         }
@@ -100,16 +113,19 @@ impl<K: Sink> Core<K> {
         requires serving { IsServing self.old }
         requires room { vec_len self.old.journal + 2 ≤ vec_capacity self.old.journal }
         requires asks { IsOfLine made.command.act }
+        requires kind { may_have_note made.command.act made.note ≡ true }
+        requires asked { asks_as (views_of (journal_of self.old)) made.command.act made.note ≡ true }
         requires prepared { IsPrepared (session_of (journal_of self.old)) made }
         ensures sent { result ≡ Entered.Taken
-            → AddsSentEntry (sink_state K.held K.faults K.failures) self.old self.new made.command }
+            → PutsSent (sink_state K.held K.faults K.failures) self.old self.new made.command made.note }
         ensures unsent { result ≡ Entered.SinkFault → (n : ℕ)
-            × AddsUnsentEntry (sink_state K.held K.faults K.failures) self.old self.new made.command n }
+            × PutsUnsent (sink_state K.held K.faults K.failures) self.old self.new made.command made.note n }
         ensures made { result ≢ Entered.NoMemory }
         ensures dropped { result ≢ Entered.Taken → HasSessionAfter self.new (journal_of self.old) }
     {
         let Prepared {
             command,
+            note,
             piece,
             held,
             opened,
@@ -118,7 +134,7 @@ impl<K: Sink> Core<K> {
         let bytes = piece.as_str().as_bytes();
         let taken = write_piece(&mut self.sink, bytes);
         let sent = taken == bytes.len();
-        self.journal.push_reserved(front_entry(command, sent));
+        self.journal.push_reserved(front_entry(command, note, sent));
         if !sent {
             drop(held);
             return Entered::SinkFault;
@@ -141,34 +157,37 @@ impl<K: Sink> Core<K> {
         requires { HasRoom self.old }
         ensures entry { journal_of self.new ≡ journal_of self.old ++ closing_entry ∷ [] }
         ensures sink { sink_of self.new ≡ sink_of self.old }
+        ensures shelf { shelf_of self.new ≡ shelf_of self.old }
     {
         self.journal.push_reserved(closing());
     }
 
-    /// The journal and the sink.
-    pub fn into_parts(self) -> (Vec<Entry>, K)
+    /// The journal, the sink and the shelf.
+    pub fn into_parts(self) -> (Vec<Entry>, K, H)
         ensures journal { result.0.items ≡ journal_of self }
         ensures sink { result.1 ≡ sink_of self }
+        ensures shelf { result.2 ≡ shelf_of self }
     {
         let Core {
             journal,
             views,
             opened: _,
             config: _,
+            shelf,
             sink,
         } = self;
         drop(views);
-        (journal, sink)
+        (journal, sink, shelf)
     }
 }
 
-fn front_entry(command: Command, sent: bool) -> Entry
-    ensures { result ≡ record { caller = 0; command = command; shelf = NoCall; sent = sent } }
+fn front_entry(command: Command, note: ShelfNote, sent: bool) -> Entry
+    ensures { result ≡ record { caller = 0; command = command; shelf = note; sent = sent } }
 {
     Entry {
         caller: 0,
         command,
-        shelf: ShelfNote::NoCall,
+        shelf: note,
         sent,
     }
 }

@@ -21,17 +21,18 @@ source_of script = record { left = script.input.bytes; greatest = script.input.p
 abbrev pub sink_from : Script → Store
 sink_from script = record { held = Some []; refused = 0; greatest = script.output.piece; schedule = schedule_of script.output.failing }
 
--- what a source and a sink in memory tell
-abbrev pub outside_in_memory : Stock → Store → Outside
-outside_in_memory source sink = record {
+-- what a source, a sink and a calm shelf in memory tell
+abbrev pub outside_in_memory : Stock → Store → List (List ℕ × List ℕ) → Outside
+outside_in_memory source sink files = record {
   source = record { left = Some source.left; faults = source.schedule.faults; failures = source.schedule.faults };
   sink = record { held = sink.held; faults = sink.schedule.faults; failures = sink.schedule.faults };
+  shelf = record { files = Some files; faults = 0 };
 }
 
--- from this source and this sink to those of the run
+-- from this source, this sink and no files to those of the run
 abbrev pub passage_between : Stock → Store → Run → Passage
 passage_between source sink run =
-    record { before = outside_in_memory source sink; after = outside_in_memory run.source run.report.sink }
+    record { before = outside_in_memory source sink []; after = outside_in_memory run.source run.report.sink run.report.shelf }
 
 -- the verdict on a run, which was to write these bytes and end with this status: it passes exactly where the run did that
 pub record IsVerdictOn (run : Run) (bytes : List ℕ) (status : ℕ) (verdict : Verdict) : Type 0 where

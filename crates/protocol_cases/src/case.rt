@@ -4,16 +4,16 @@ ghost use Rattle.protocol_cases.specs.Case.{IsJudged, IsCaseOutcome, IsVerdictOn
 
 use crate::script::{ReadFault, Script, read_script};
 use crate::verdict::{Verdict, judge};
-use outside::{MemSink, MemSource};
+use outside::{CalmShelf, MemSink, MemSource};
 use plain_text::NoMemory;
 use std::alloc::Global;
 use xi_top::{Report, run_alone};
 
-/// A run that was made: its source after it, and its report.
+/// A run that was made, with a shelf without files: its source after it, and its report.
 #[derive(Drop)]
 pub struct Run {
     pub source: MemSource,
-    pub report: Report<MemSink>,
+    pub report: Report<MemSink, CalmShelf>,
 }
 
 /// What became of a case: the run, where the script could be read, and the verdict on it.
@@ -58,7 +58,7 @@ fn made(alloc: Global, source: MemSource, sink: MemSink) -> Run
     ensures { RunsAlone (passage_between source sink result) result.report.journal.items result.report.status }
 {
     let mut source = source;
-    let report = run_alone(alloc, &mut source, sink);
+    let report = run_alone(alloc, &mut source, sink, CalmShelf::new(alloc));
     Run { source, report }
 }
 

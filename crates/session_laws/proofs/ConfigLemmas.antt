@@ -8,10 +8,12 @@ use Rattle.xi_plain.specs.declared.command.Act.{Act}
 use Rattle.xi_plain.specs.declared.command.Act.TheVariants.{Configure, NewView, CloseView, Save, Edit, Closing}
 use Rattle.xi_plain.specs.declared.config.Config.{Config}
 use Rattle.xi_plain.specs.declared.entry.Entry.{Entry}
-use Rattle.doc_session.specs.declared.event.Event.TheVariants.{Config as Configured, Front, Other}
+use Rattle.doc_session.specs.declared.event.Event.TheVariants.{Config as Configured, Front, Other, Saved}
 use Rattle.doc_session.specs.Step.{EventStep, event_step, refusal_at}
 use Rattle.doc_session.proofs.ForCallers.{config-event_step}
-use Rattle.core_session.specs.Session.{OpenView, Session, first_session, close_outcome, config_with, config_after, config_step, edit_came, edit_outcome, named_view, next_view, open_outcome, other_step, outcome, own_step, session_after, spent_total, step, stepped, undone_outcome, view_of, without}
+use Rattle.core_session.specs.declared.given.Given.{Given}
+use Rattle.core_session.specs.declared.given.Given.TheVariants as given
+use Rattle.core_session.specs.Session.{OpenView, Session, first_session, close_outcome, config_with, config_after, config_step, edit_came, edit_outcome, given_by, named_view, next_view, open_outcome, other_step, outcome, own_step, save_outcome, session_after, spent_total, step, stepped, view_of, without}
 use Rattle.core_session.proofs.ForCallers.{all_without}
 use Rattle.session_laws.specs.Laws.{AllAreConfigured}
 
@@ -70,10 +72,16 @@ configured_edit config views name (Some own) act is all =
 
 -- ---- all acts
 
-configured_undone : (config : Config) (views : List OpenView) (found : Option OpenView) → AreConfigured config views →
-    AreConfigured config (undone_outcome views found).views
-configured_undone config views None all = configured_others config views all
-configured_undone config views (Some own) all = configured_others config views all
+configured_save : (config : Config) (views : List OpenView) (name : List ℕ) (found : Option OpenView) (gave : Given) → named_view views name ≡ found →
+    AreConfigured config views → AreConfigured config (save_outcome views found gave).views
+configured_save config views name None gave is all = configured_others config views all
+configured_save config views name (Some own) given.Done is all =
+    configured_own config own (event_step own.document Saved) views
+    (config-event_step own.document Saved ∙ found_configured config views (encode_utf8_all name) own is all) all
+configured_save config views name (Some own) given.Nothing is all = configured_others config views all
+configured_save config views name (Some own) (given.Found text) is all = configured_others config views all
+configured_save config views name (Some own) given.NotText is all = configured_others config views all
+configured_save config views name (Some own) given.Failed is all = configured_others config views all
 
 configured_push : (config : Config) (views : List OpenView) (next : OpenView) → next.document.view.config ≡ config → AreConfigured config views →
     AreConfigured config (views ++ next ∷ [])
@@ -81,11 +89,19 @@ unfolding AreConfigured
 configured_push config [] next is all = (is, tt)
 configured_push config (view ∷ views) next is all = (all.0, configured_push config views next is all.1)
 
-configured_open : (config : Config) (opened : ℕ) (views : List OpenView) (path : Option (List ℕ)) → AreConfigured config views →
-    AreConfigured config (open_outcome config opened views path).views
-configured_open config opened views None all =
-    configured_others config (views ++ next_view config opened [] ∷ []) (configured_push config views (next_view config opened []) refl all)
-configured_open config opened views (Some path) all = configured_others config views all
+configured_on : (config : Config) (opened : ℕ) (views : List OpenView) (text : List ℕ) → AreConfigured config views →
+    AreConfigured config (stepped other_step (views ++ next_view config opened text ∷ []))
+configured_on config opened views text all =
+    configured_others config (views ++ next_view config opened text ∷ []) (configured_push config views (next_view config opened text) refl all)
+
+configured_open : (config : Config) (opened : ℕ) (views : List OpenView) (path : Option (List ℕ)) (gave : Given) → AreConfigured config views →
+    AreConfigured config (open_outcome config opened views path gave).views
+configured_open config opened views None gave all = configured_on config opened views [] all
+configured_open config opened views (Some path) (given.Found text) all = configured_on config opened views text all
+configured_open config opened views (Some path) given.NotText all = configured_others config views all
+configured_open config opened views (Some path) given.Nothing all = configured_others config views all
+configured_open config opened views (Some path) given.Failed all = configured_others config views all
+configured_open config opened views (Some path) given.Done all = configured_others config views all
 
 configured_without : (config : Config) (id : List ℕ) (views : List OpenView) → AreConfigured config views → AreConfigured config (without id views)
 unfolding AreConfigured
@@ -96,23 +112,24 @@ configured_close : (config : Config) (views : List OpenView) (found : Option Ope
 configured_close config views None all = configured_others config views all
 configured_close config views (Some own) all = configured_others config (without own.id views) (configured_without config own.id views all)
 
-configured_outcome : (session : Session) (act : Act) → AreConfigured session.config session.views →
-    AreConfigured (config_after session.config act) (outcome session act).views
-configured_outcome session (Edit name act) all = configured_edit session.config session.views name (named_view session.views name) act refl all
-configured_outcome session (CloseView name) all = configured_close session.config session.views (named_view session.views name) all
-configured_outcome session (Save name path) all = configured_undone session.config session.views (named_view session.views name) all
-configured_outcome session Closing all = all
-configured_outcome session (NewView path) all = configured_open session.config session.opened session.views path all
-configured_outcome session (Configure changes) all =
+configured_outcome : (session : Session) (act : Act) (gave : Given) → AreConfigured session.config session.views →
+    AreConfigured (config_after session.config act) (outcome session act gave).views
+configured_outcome session (Edit name act) gave all = configured_edit session.config session.views name (named_view session.views name) act refl all
+configured_outcome session (CloseView name) gave all = configured_close session.config session.views (named_view session.views name) all
+configured_outcome session (Save name path) gave all =
+    configured_save session.config session.views name (named_view session.views name) gave refl all
+configured_outcome session Closing gave all = all
+configured_outcome session (NewView path) gave all = configured_open session.config session.opened session.views path gave all
+configured_outcome session (Configure changes) gave all =
     let next = config_with session.config changes in
     configured_steps session.config next (config_step next) session.views (λ view at. config-event_step view.document (Configured next)) all
-configured_outcome session act all = configured_others session.config session.views all
+configured_outcome session act gave all = configured_others session.config session.views all
 
 configured_after : (session : Session) (entries : List Entry) → AreConfigured session.config session.views →
     AreConfigured (session_after session entries).config (session_after session entries).views
 configured_after session [] all = all
 configured_after session (entry ∷ entries) all =
-    configured_after (step session entry.command) entries (configured_outcome session entry.command.act all)
+    configured_after (step session entry) entries (configured_outcome session entry.command.act (given_by entry.shelf) all)
 
 pub all_are_configured : AllAreConfigured
 unfolding AreConfigured

@@ -98,7 +98,7 @@ third_write_fails before after gained none some cut =
     let bytes : cut.bytes ≡ opening_bytes ++ first_bytes = cut.shows.pieces ∙ ap (written first_session) parts.0 ∙ first_insertion in
     let At : Option (List ℕ) → Option (List ℕ) → Type 0 = λ from to. Gains from to (cut.bytes ++ cut.part) in
     let all : gained ≡ cut.bytes ++ cut.part = subst (At (Some [])) some (subst (λ from. At from after.held) none cut.gains) in
-    let Proper : List Entry → Entry → Type 0 = λ sent last. IsProperPart cut.part (piece_after sent last.command) in (
+    let Proper : List Entry → Entry → Type 0 = λ sent last. IsProperPart cut.part (piece_after sent last) in (
       cut.part,
       all ∙ ap (λ b. b ++ cut.part) bytes,
       subst (Proper (opening ∷ insertion (97 ∷ []) ∷ [])) parts.1 (subst (λ sent. Proper sent cut.last) parts.0 cut.proper),

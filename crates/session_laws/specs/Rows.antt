@@ -92,7 +92,7 @@ abbrev pub ThirdWriteFails : Type 0
 ThirdWriteFails = (before after : SinkState) (gained : List ℕ) → before.held ≡ Some [] → after.held ≡ Some gained →
     IsCutOff before after (opening ∷ (insertion (97 ∷ []) ∷ (unsent_insertion ∷ (closing_entry ∷ [])))) →
     (part : List ℕ) × (gained ≡ (opening_bytes ++ first_bytes) ++ part) ×
-    IsProperPart part (piece_after (opening ∷ insertion (97 ∷ []) ∷ []) unsent_insertion.command)
+    IsProperPart part (piece_after (opening ∷ insertion (97 ∷ []) ∷ []) unsent_insertion)
 
 -- a line of the input
 abbrev pub opening_line : List ℕ

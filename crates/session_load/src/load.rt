@@ -10,6 +10,7 @@ use crate::text::typing_of;
 use crate::words::Size;
 use anyhow::bail;
 use core_session::{Core, Entered};
+use outside::CalmShelf;
 use std::alloc::Global;
 
 const OPENING: &[u8] = b"{\"id\":0,\"method\":\"new_view\",\"params\":{}}";
@@ -18,7 +19,7 @@ const OPENING: &[u8] = b"{\"id\":0,\"method\":\"new_view\",\"params\":{}}";
 pub fn run_script(alloc: Global, size: Size, script: &str) -> anyhow::Result<Table>
     ensures { IfOk result (λ table. IsTable script.now (tallies_of table)) }
 {
-    let Ok(mut core) = Core::make(alloc, CountSink::new()) else {
+    let Ok(mut core) = Core::make(alloc, CountSink::new(), CalmShelf::new(alloc)) else {
         bail!("no memory");
     };
     enter(alloc, &mut core, OPENING)?;
@@ -27,7 +28,11 @@ pub fn run_script(alloc: Global, size: Size, script: &str) -> anyhow::Result<Tab
     enter_lines(alloc, &mut core, script)
 }
 
-fn enter_lines(alloc: Global, core: &mut Core<CountSink>, script: &str) -> anyhow::Result<Table>
+fn enter_lines(
+    alloc: Global,
+    core: &mut Core<CountSink, CalmShelf>,
+    script: &str,
+) -> anyhow::Result<Table>
     requires { IsServing core.old }
     ensures { IfOk result (λ table. IsTableOf (lines script.now) (sink_of core.old).counts (sink_of core.new).counts (tallies_of table)) }
 {
@@ -40,7 +45,11 @@ fn enter_lines(alloc: Global, core: &mut Core<CountSink>, script: &str) -> anyho
 }
 
 /// Enters a line, and says what it made the core write.
-fn enter(alloc: Global, core: &mut Core<CountSink>, line: &[u8]) -> anyhow::Result<Written>
+fn enter(
+    alloc: Global,
+    core: &mut Core<CountSink, CalmShelf>,
+    line: &[u8],
+) -> anyhow::Result<Written>
     requires { IsServing core.old }
     ensures serving { OnOk result (IsServing core.new) }
     ensures written { IfOk result (λ written. written ≡ written_between (sink_of core.old).counts (sink_of core.new).counts) }

@@ -4,6 +4,8 @@
 #[cfg(test)]
 mod awaiting;
 #[cfg(test)]
+mod files;
+#[cfg(test)]
 mod runs;
 #[cfg(test)]
 mod tapes;

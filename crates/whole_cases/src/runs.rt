@@ -3,7 +3,7 @@
 ghost use Rattle.std.specs.Prelude.{◌<◌};
 
 use crate::awaiting::{Awaiting, Counting};
-use outside::{CalmSink, MemSink, MemSource};
+use outside::{CalmShelf, CalmSink, MemSink, MemSource};
 use std::alloc::{AllocError, Global};
 use std::cell::Cell;
 use std::test::Fail;
@@ -63,7 +63,12 @@ fn ran(
     let reads = Vec::from_slice(alloc, &[read])?;
     let writes = Vec::from_slice(alloc, &[write])?;
     let mut source = MemSource::new(input, piece, reads);
-    let report = run_alone(alloc, &mut source, MemSink::new(alloc, 4096, writes));
+    let report = run_alone(
+        alloc,
+        &mut source,
+        MemSink::new(alloc, 4096, writes),
+        CalmShelf::new(alloc),
+    );
     Ok((
         report.status,
         report.journal.len(),
@@ -154,7 +159,7 @@ fn answers_in_time(alloc: Global, piece: usize) -> Result<bool, AllocError>
     let source = MemSource::new(hundred_lines(alloc)?, piece, Vec::new(alloc));
     let mut source = Awaiting::new(source, &written);
     let sink = Counting::new(CalmSink::new(alloc), &written);
-    let report = run_alone(alloc, &mut source, sink);
+    let report = run_alone(alloc, &mut source, sink, CalmShelf::new(alloc));
     Ok(report.status == 0 && report.journal.len() == 101 && written.get() == 200)
 }
 
@@ -174,7 +179,12 @@ fn a_failed_read_is_the_last(rt: HostRuntime) -> Result<(), Fail> {
     let alloc = rt.alloc();
     let failing = Vec::from_slice(alloc, &[3])?;
     let mut source = MemSource::new(joined(alloc, &FIVE_LINES, 5)?, 90, failing);
-    let report = run_alone(alloc, &mut source, CalmSink::new(alloc));
+    let report = run_alone(
+        alloc,
+        &mut source,
+        CalmSink::new(alloc),
+        CalmShelf::new(alloc),
+    );
     assert_eq!(rt; report.status, 4);
     assert_eq!(rt; source.calls(), 3);
     assert_eq!(rt; source.faults(), 1);

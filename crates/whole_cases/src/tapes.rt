@@ -4,7 +4,7 @@ ghost use Rattle.std.specs.Prelude.{◌<◌};
 
 use crate::runs::{FIVE_LINES, FIVE_PIECES, joined};
 use macro_record::{TapeSource, line_count, played};
-use outside::{MemSink, MemSource, Pulled, Source};
+use outside::{CalmShelf, MemSink, MemSource, Pulled, Source};
 use plain_text::{Bytes, NoMemory};
 use std::alloc::{AllocError, Global};
 use std::test::Fail;
@@ -165,7 +165,9 @@ fn insertions_are_played_again(rt: HostRuntime) -> Result<(), Fail> {
 // What a run over a source writes.
 fn written<S: Source>(alloc: Global, source: &mut S) -> Option<Vec<u8>> {
     let sink = MemSink::new(alloc, 4096, Vec::new(alloc));
-    run_alone(alloc, source, sink).sink.into_bytes()
+    run_alone(alloc, source, sink, CalmShelf::new(alloc))
+        .sink
+        .into_bytes()
 }
 
 #[test]

@@ -5,7 +5,7 @@ ghost use Rattle.xi_core.specs.Words.{EndsFor, EndsForSome, EndsWith};
 
 use crate::texts::{Stream, stream_of, text_of};
 use crate::words::{Invocation, invocation_of, words};
-use outside::{StdSink, StdSource};
+use outside::{FileShelf, StdSink, StdSource};
 use plain_text::Text;
 use std::process::ExitCode;
 use xi_top::xi_main;
@@ -49,12 +49,13 @@ fn told(rt: &HostRuntime, invocation: Invocation) -> ExitCode
     }
 }
 
-/// The run over the standard streams: its status is the report's.
+/// The run over the standard streams and the files of the system: its status is the report's.
 fn run(rt: &HostRuntime, words: &[Text]) -> ExitCode
     requires { IsAlone words.now }
     ensures { EndsWith Invocation.Alone (exit_status result) }
 {
     let mut source = StdSource::new(rt.stdin());
-    let report = xi_main(rt.alloc(), words, &mut source, StdSink::new(rt.stdout()));
+    let sink = StdSink::new(rt.stdout());
+    let report = xi_main(rt.alloc(), words, &mut source, sink, FileShelf::new(rt));
     ExitCode::from(report.status)
 }

@@ -3,10 +3,10 @@ use Rattle.std.proofs.Common.{◌≡◌, ◌≢◌, ℕ, ◌+◌, ◌<◌, ◌�
 use Rattle.std.proofs.lemmas.List.{map-append}
 use Rattle.std.specs.Prelude.{IfSome, Bool, ◌&&◌, nat_le, unwrap_or}
 use Rattle.std.specs.Result.{IsErrAnd}
-use Rattle.std.specs.List.{AllByRecursion, concat}
+use Rattle.std.specs.List.{AllByRecursion, concat, list_all}
 use Rattle.xi_plain.specs.declared.command.Command.{Command}
 use Rattle.xi_plain.specs.declared.entry.Entry.{Entry}
-use Rattle.xi_plain.specs.declared.entry.ShelfNote.TheVariants.{NoCall}
+use Rattle.xi_plain.specs.declared.entry.ShelfNote.{ShelfNote}
 use Rattle.xi_plain.proofs.ForCallers.{front_entries-alone}
 use Rattle.plain_text.specs.InputLines.{ended_lines, unended, last_line, lines_of}
 use Rattle.plain_text.proofs.callers.InputLemmas.{concat-lines_of}
@@ -16,17 +16,18 @@ use Rattle.outside.specs.Sink.{SinkState, Gains}
 use Rattle.outside.specs.Source.{SourceState, Gives}
 use Rattle.outside.proofs.ForCallers.{Gives-append, Gains-append, Gains-none, Rose-earlier}
 use Rattle.core_session.specs.declared.session.Core.{Core}
-use Rattle.xi_plain.specs.Journal.{closing_entry, may_follow, is_ordered, IsOrdered, commands, front_entries}
+use Rattle.xi_plain.specs.Journal.{IsLegal, IsOrdered, closing_entry, commands, front_entries, has_own_note, is_ordered, may_follow, may_have_note}
 use Rattle.core_session.specs.Session.{first_session, written}
-use Rattle.core_session.specs.Core.{IsOfLine, IsOpen, IsUnasked, IsLegalUnasked, IsServing, AddsSentEntry, AddsUnsentEntry, ChangesNothing, journal_of, sink_of, piece_after, front_entry}
-use Rattle.core_session.proofs.ForCallers.{written-push, IsOfLine-command_of, shows_closed}
+use Rattle.core_session.specs.Core.{AddsSentEntry, AddsUnsentEntry, IsOfLine, IsOpen, IsServing, Outlets, front_entry, journal_of, piece_after}
+use Rattle.core_session.specs.Shelves.{AreSavesAsked, HoldsSaves}
+use Rattle.core_session.proofs.ForCallers.{AreSavesAsked-closed, AreSavesAsked-push, HoldsSaves-closed, HoldsSaves-keeps, HoldsSaves-none, HoldsSaves-push, IsOfLine-command_of, shows_closed, written-push}
 use Rattle.xi_top.specs.declared.ending.Ending.{Ending}
 use Rattle.xi_top.specs.declared.ending.Ending.TheVariants.{NoMemory, SourceFault, SinkFault, TooMany, TooLong}
 use Rattle.xi_top.specs.Ending.{Outcome, most_lines, too_long}
 use Rattle.xi_top.specs.Lines.{IsShort, IsWithinLimit, IsNextTooLong, AreSoMany, HoldsLines}
 use Rattle.xi_top.specs.Written.{AreSent, IsSent, IsCutOff}
 use Rattle.xi_top.specs.Run.{HasFailedIf}
-use Rattle.xi_top.specs.InnerRun.{Begun, IsSmall, IsWhole, HasTaken, IsNoSourceFault, Stops, GoesOn, Finishes, Enters, FailsBy, KeepsBytes, Counts, EndsLine, HasNoEnd}
+use Rattle.xi_top.specs.InnerRun.{Begun, IsSmall, IsWhole, HasTaken, IsNoSourceFault, Start, Stops, GoesOn, Finishes, Enters, FailsBy, KeepsAll, KeepsBytes, Counts, EndsLine, HasNoEnd, start_of}
 use Rattle.xi_top.proofs.LineLemmas.{ended_lines-more, unended-more, ended_lines-begin, unended-begin, lines_of-first, concat-first}
 
 -- how a run ended where `?` handed on why
@@ -49,31 +50,43 @@ ordered_front (entry ∷ entries) rest each ordered =
     may_stand (nat_le entry.caller 0) (may_follow entry (entries ++ rest)) (is_ordered 0 (entries ++ rest))
     (is_front entry.caller each.0.caller) follows (ordered_front entries rest each.1 ordered)
 
-unasked_front : (entries rest : List Entry) → AllByRecursion IsOpen entries → IsUnasked rest → IsUnasked (entries ++ rest)
-unasked_front [] rest each unasked = unasked
-unasked_front (entry ∷ entries) rest each unasked = (each.0.shelf, unasked_front entries rest each.1 unasked)
+noted_front : (entries rest : List Entry) → AllByRecursion IsOpen entries → list_all has_own_note rest ≡ true →
+    list_all has_own_note (entries ++ rest) ≡ true
+noted_front [] rest each noted = noted
+noted_front (entry ∷ entries) rest each noted = rw (each.0.note, noted_front entries rest each.1 noted) refl
 
-legal_front : (entries rest : List Entry) → AllByRecursion IsOpen entries → IsLegalUnasked rest → IsLegalUnasked (entries ++ rest)
-legal_front entries rest each legal = (ordered_front entries rest each legal.0, unasked_front entries rest each legal.1)
+is_legal_by : (journal : List Entry) → IsOrdered 0 journal → list_all has_own_note journal ≡ true → IsLegal 0 journal
+is_legal_by journal ordered noted = rw (ordered, noted) refl
 
-legal_open : (entries : List Entry) → AllByRecursion IsOpen entries → IsLegalUnasked (entries ++ closing_entry ∷ [])
-legal_open entries each = legal_front entries (closing_entry ∷ []) each (refl, (refl, tt))
+first_part : (a b : Bool) → a && b ≡ true → a ≡ true
+first_part true b both = refl
+first_part false b both = absurd cc
 
-legal_cut : (sent : List Entry) (command : Command) → AllByRecursion IsOpen sent → IsOfLine command.act →
-    IsLegalUnasked ((sent ++ front_entry command false ∷ []) ++ closing_entry ∷ [])
-legal_cut sent command each asks =
-    let last = front_entry command false in
+pub ordered_legal : (journal : List Entry) → IsLegal 0 journal → IsOrdered 0 journal
+ordered_legal journal legal = first_part (is_ordered 0 journal) (list_all has_own_note journal) legal
+
+legal_open : (entries : List Entry) → AllByRecursion IsOpen entries → IsLegal 0 (entries ++ closing_entry ∷ [])
+legal_open entries each =
+    is_legal_by (entries ++ closing_entry ∷ []) (ordered_front entries (closing_entry ∷ []) each refl)
+    (noted_front entries (closing_entry ∷ []) each refl)
+
+legal_cut : (sent : List Entry) (command : Command) (note : ShelfNote) → AllByRecursion IsOpen sent → IsOfLine command.act →
+    may_have_note command.act note ≡ true → IsLegal 0 ((sent ++ front_entry command note false ∷ []) ++ closing_entry ∷ [])
+legal_cut sent command note each asks kind =
+    let last = front_entry command note false in
+    let rest = last ∷ (closing_entry ∷ []) in
     let follows : may_follow last (closing_entry ∷ []) ≡ true = rw asks refl in
-    subst IsLegalUnasked (sym (append_assoc sent (last ∷ []) (closing_entry ∷ [])))
-    (legal_front sent (last ∷ (closing_entry ∷ [])) each
-    (may_stand (nat_le 0 0) (may_follow last (closing_entry ∷ [])) true refl follows refl, (refl, (refl, tt))))
+    let ordered : IsOrdered 0 rest = may_stand (nat_le 0 0) (may_follow last (closing_entry ∷ [])) true refl follows refl in
+    let noted : list_all has_own_note rest ≡ true = rw kind refl in
+    subst (IsLegal 0) (sym (append_assoc sent (last ∷ []) (closing_entry ∷ [])))
+    (is_legal_by (sent ++ rest) (ordered_front sent rest each ordered) (noted_front sent rest each noted))
 
 -- in a legal journal without plugins all entries are the front end's
-holds_front : (outcome : Outcome) (taken left : List ℕ) (entries : List Entry) → IsLegalUnasked (entries ++ closing_entry ∷ []) →
+holds_front : (outcome : Outcome) (taken left : List ℕ) (entries : List Entry) → IsLegal 0 (entries ++ closing_entry ∷ []) →
     HoldsLines outcome taken left (commands entries) → HoldsLines outcome taken left (commands (front_entries entries))
 holds_front outcome taken left entries legal lines =
     let At : List Entry → Type 0 = λ front. HoldsLines outcome taken left (commands front) in
-    subst At (sym (front_entries-alone entries (closing_entry ∷ []) legal.0)) lines
+    subst At (sym (front_entries-alone entries (closing_entry ∷ []) (ordered_legal (entries ++ closing_entry ∷ []) legal))) lines
 
 -- open entries were sent, and the closing one counts as sent
 sent_front : (entries rest : List Entry) → AllByRecursion IsOpen entries → AreSent rest → AreSent (entries ++ rest)
@@ -82,15 +95,16 @@ sent_front (entry ∷ entries) rest each sent = (each.0.sent, sent_front entries
 
 -- ---- one more entry
 
-commands_push : (entries after : List Entry) (line : List ℕ) (lines : List (List ℕ)) (sent : Bool) → commands entries ≡ map command_of lines →
-    after ≡ entries ++ front_entry (command_of line) sent ∷ [] → commands after ≡ map command_of (lines ++ line ∷ [])
-commands_push entries after line lines sent asked is =
-    ap commands is ∙ map-append (λ entry. entry.command) entries (front_entry (command_of line) sent ∷ []) ∙
+commands_push : (entries after : List Entry) (line : List ℕ) (note : ShelfNote) (lines : List (List ℕ)) (sent : Bool) →
+    commands entries ≡ map command_of lines → after ≡ entries ++ front_entry (command_of line) note sent ∷ [] →
+    commands after ≡ map command_of (lines ++ line ∷ [])
+commands_push entries after line note lines sent asked is =
+    ap commands is ∙ map-append (λ entry. entry.command) entries (front_entry (command_of line) note sent ∷ []) ∙
     ap (λ front. front ++ command_of line ∷ []) asked ∙ sym (map-append command_of lines (line ∷ []))
 
 -- where no write failed, every entry was sent
-sent_whole : {K : Type 0} (tell : K → SinkState) (start : SinkState) (core : Core K) → IsWhole tell start core →
-    IsSent start (tell (sink_of core)) (journal_of core ++ closing_entry ∷ [])
+sent_whole : {K H : Type 0} (tell : Core K H → Outlets) (start : Start) (core : Core K H) → IsWhole tell start core →
+    IsSent start.sink (tell core).sink (journal_of core ++ closing_entry ∷ [])
 sent_whole tell start core whole = record {
   each = sent_front (journal_of core) (closing_entry ∷ []) whole.serving.sent (refl, tt);
   failures = whole.failures;
@@ -98,6 +112,10 @@ sent_whole tell start core whole = record {
   gains = whole.gains;
   shows = shows_closed core whole.serving;
 }
+
+-- entries that were there are the first ones of more
+goes_further : (first old new later : List Entry) (entry : Entry) → old ≡ first ++ later → new ≡ old ++ entry ∷ [] → new ≡ first ++ (later ++ entry ∷ [])
+goes_further first old new later entry is more = more ∙ ap (λ log. log ++ entry ∷ []) is ∙ append_assoc first later (entry ∷ [])
 
 -- what holds of some lines and of one more
 each_append : (P : List ℕ → Type 0) (lines : List (List ℕ)) (line : List ℕ) → AllByRecursion P lines → P line → AllByRecursion P (lines ++ line ∷ [])
@@ -138,40 +156,56 @@ holds_first outcome front extra left asked is within many = record {
   few = within.1;
 }
 
-module _ {K : Type 0} (tell : K → SinkState) (start : SinkState) where
-  within_taken : (taken : List ℕ) (core : Core K) (begun : Begun) → HasTaken tell start taken core begun → AreWithin (ended_lines [] taken)
+module _ {K H : Type 0} (tell : Core K H → Outlets) (start : Start) where
+  within_taken : (taken : List ℕ) (core : Core K H) (begun : Begun) → HasTaken tell start taken core begun → AreWithin (ended_lines [] taken)
   unfolding AreWithin
   within_taken taken core begun at = (at.within, omega (arith, at.few, at.counted))
 
-  whole_sent : (old new : Core K) (command : Command) → IsWhole tell start old → AddsSentEntry tell old new command → IsWhole tell start new
+  whole_sent : (old new : Core K H) (command : Command) → IsWhole tell start old → AddsSentEntry tell old new command → IsWhole tell start new
   whole_sent old new command whole adds =
-      let At : List ℕ → Type 0 = λ gained. Gains start.held (tell (sink_of new)).held gained in
+      let entry = front_entry command adds.note true in
+      let At : List ℕ → Type 0 = λ gained. Gains start.sink.held (tell new).sink.held gained in
+      let Saves : List Entry → Type 0 = λ entries. HoldsSaves start.shelf (tell new).shelf entries in
       record {
         serving = adds.serving;
         gains =
-            subst At (sym (ap (written first_session) adds.entry ∙ written-push (journal_of old) (front_entry command true)))
-            (Gains-append start.held (tell (sink_of old)).held (tell (sink_of new)).held (written first_session (journal_of old))
-            (piece_after (journal_of old) command) whole.gains adds.gains);
+            subst At (sym (ap (written first_session) adds.entry ∙ written-push (journal_of old) entry))
+            (Gains-append start.sink.held (tell old).sink.held (tell new).sink.held (written first_session (journal_of old))
+            (piece_after (journal_of old) entry) whole.gains adds.gains);
         stays = omega (arith, whole.stays, adds.faults_stay);
         failures = adds.failures_same ∙ whole.failures;
+        saves =
+            subst Saves (sym adds.entry)
+            (HoldsSaves-push (journal_of old) entry start.shelf (tell old).shelf (tell new).shelf whole.saves adds.noted);
+        later = whole.later ++ entry ∷ [];
+        goes_on = goes_further start.entries (journal_of old) (journal_of new) whole.later entry whole.goes_on adds.entry;
       }
 
-  whole_same : (old new : Core K) → IsWhole tell start old → ChangesNothing old new → IsWhole tell start new
-  whole_same old new whole same =
-      let Gained : K → Type 0 = λ sink. Gains start.held (tell sink).held (written first_session (journal_of new)) in
-      let At : List Entry → Type 0 = λ entries. Gains start.held (tell (sink_of old)).held (written first_session entries) in
-      let Stays : K → Type 0 = λ sink. start.faults ≤ (tell sink).faults in
+  whole_same : (old new : Core K H) → IsWhole tell start old → KeepsAll tell old new → IsWhole tell start new
+  whole_same old new whole (same, kept) =
+      let At : List Entry → Type 0 = λ entries. Gains start.sink.held (tell new).sink.held (written first_session entries) in
+      let Gained : SinkState → Type 0 = λ sink. Gains start.sink.held sink.held (written first_session (journal_of old)) in
+      let Stays : SinkState → Type 0 = λ sink. start.sink.faults ≤ sink.faults in
+      let Saves : List Entry → Type 0 = λ entries. HoldsSaves start.shelf (tell new).shelf entries in
       record {
         serving = same.serving;
-        gains = subst Gained (sym same.sink) (subst At (sym same.journal) whole.gains);
-        stays = subst Stays (sym same.sink) whole.stays;
-        failures = ap (λ sink. (tell sink).failures) same.sink ∙ whole.failures;
+        gains = subst At (sym same.journal) (subst Gained (sym kept) whole.gains);
+        stays = subst Stays (sym kept) whole.stays;
+        failures = ap (λ (sink : SinkState). sink.failures) kept ∙ whole.failures;
+        saves =
+            subst Saves (sym same.journal)
+            (HoldsSaves-keeps start.shelf (tell old).shelf (tell new).shelf (journal_of old) whole.saves same.shelf);
+        later = whole.later;
+        goes_on = same.journal ∙ whole.goes_on;
       }
 
   -- ---- stops
 
+  saves_closed : (core : Core K H) → IsWhole tell start core → HoldsSaves start.shelf (tell core).shelf (journal_of core ++ closing_entry ∷ [])
+  saves_closed core whole = HoldsSaves-closed start.shelf (tell core).shelf (journal_of core) whole.saves
+
   -- the source failed
-  pub stops_source : (taken left : List ℕ) (core : Core K) (begun : Begun) → HasTaken tell start taken core begun →
+  pub stops_source : (taken left : List ℕ) (core : Core K H) (begun : Begun) → HasTaken tell start taken core begun →
       Stops tell start taken left core (Err SourceFault)
   stops_source taken left core begun at =
       let At : List ℕ → Type 0 = λ bytes. HoldsLines (Err SourceFault) bytes left (commands (journal_of core)) in
@@ -182,12 +216,16 @@ module _ {K : Type 0} (tell : K → SinkState) (start : SinkState) where
             holds_front (Err SourceFault) taken left (journal_of core) (legal_open (journal_of core) at.whole.serving.sent)
             (subst At (append-nil taken) (holds_first (Err SourceFault) taken [] left (commands (journal_of core)) at.asked (within_taken taken core begun at) many));
         written = sent_whole tell start core at.whole;
+        saves = saves_closed core at.whole;
         legal = legal_open (journal_of core) at.whole.serving.sent;
+        saves_asked = AreSavesAsked-closed (journal_of core) at.whole.serving.saves_asked;
         stays = at.whole.stays;
+        later = at.whole.later;
+        goes_on = at.whole.goes_on;
       }
 
   -- there was no memory, and these are the first lines
-  stops_memory : (front extra left : List ℕ) (core : Core K) → IsWhole tell start core → commands (journal_of core) ≡ map command_of (ended_lines [] front) →
+  stops_memory : (front extra left : List ℕ) (core : Core K H) → IsWhole tell start core → commands (journal_of core) ≡ map command_of (ended_lines [] front) →
       AreWithin (ended_lines [] front) → Stops tell start (front ++ extra) left core (Err NoMemory)
   stops_memory front extra left core whole asked within = record {
     room = whole.serving.room;
@@ -195,46 +233,64 @@ module _ {K : Type 0} (tell : K → SinkState) (start : SinkState) where
         holds_front (Err NoMemory) (front ++ extra) left (journal_of core) (legal_open (journal_of core) whole.serving.sent)
         (holds_first (Err NoMemory) front extra left (commands (journal_of core)) asked within tt);
     written = sent_whole tell start core whole;
+    saves = saves_closed core whole;
     legal = legal_open (journal_of core) whole.serving.sent;
+    saves_asked = AreSavesAsked-closed (journal_of core) whole.serving.saves_asked;
     stays = whole.stays;
+    later = whole.later;
+    goes_on = whole.goes_on;
   }
 
   -- where the sink failed, its last entry is cut off
-  stops_sink : (taken left line : List ℕ) (old new : Core K) (n : ℕ) → IsWhole tell start old →
+  stops_sink : (taken left line : List ℕ) (old new : Core K H) (n : ℕ) → IsWhole tell start old →
       AddsUnsentEntry tell old new (command_of line) n → HoldsLines (Err SinkFault) taken left (commands (journal_of new)) →
       Stops tell start taken left new (Err SinkFault)
   stops_sink taken left line old new n whole adds lines =
-      let last = front_entry (command_of line) false in
-      let Legal : List Entry → Type 0 = λ entries. IsLegalUnasked (entries ++ closing_entry ∷ []) in
-      let cut : IsCutOff start (tell (sink_of new)) (journal_of new ++ closing_entry ∷ []) = record {
+      let command = command_of line in
+      let last = front_entry command adds.note false in
+      let piece = piece_after (journal_of old) last in
+      let Legal : List Entry → Type 0 = λ entries. IsLegal 0 (entries ++ closing_entry ∷ []) in
+      let Asked : List Entry → Type 0 = λ entries. AreSavesAsked (entries ++ closing_entry ∷ []) in
+      let Saves : List Entry → Type 0 = λ entries. HoldsSaves start.shelf (tell new).shelf (entries ++ closing_entry ∷ []) in
+      let cut : IsCutOff start.sink (tell new).sink (journal_of new ++ closing_entry ∷ []) = record {
         sent = journal_of old;
         last = last;
         cut = ap (λ entries. entries ++ closing_entry ∷ []) adds.entry ∙ append_assoc (journal_of old) (last ∷ []) (closing_entry ∷ []);
         each = subst AreSent (append-nil (journal_of old)) (sent_front (journal_of old) [] whole.serving.sent tt);
         unsent = refl;
-        failures = subst (λ (n : ℕ). (tell (sink_of new)).failures ≡ counted n) whole.failures adds.failures_counted;
-        rose = Rose-earlier start.faults (tell (sink_of old)).faults (tell (sink_of new)).faults whole.stays adds.rose;
+        failures = subst (λ (n : ℕ). (tell new).sink.failures ≡ counted n) whole.failures adds.failures_counted;
+        rose = Rose-earlier start.sink.faults (tell old).sink.faults (tell new).sink.faults whole.stays adds.rose;
         bytes = written first_session (journal_of old);
-        part = take n (piece_after (journal_of old) (command_of line));
+        part = take n piece;
         gains =
-            Gains-append start.held (tell (sink_of old)).held (tell (sink_of new)).held (written first_session (journal_of old))
-            (take n (piece_after (journal_of old) (command_of line))) whole.gains adds.gains;
+            Gains-append start.sink.held (tell old).sink.held (tell new).sink.held (written first_session (journal_of old)) (take n piece)
+            whole.gains adds.gains;
         shows = whole.serving.showing.shows;
         proper = (n, adds.part, refl);
       } in
       let legal : Legal (journal_of new) =
-      subst Legal (sym adds.entry) (legal_cut (journal_of old) (command_of line) whole.serving.sent (IsOfLine-command_of line)) in
+      subst Legal (sym adds.entry)
+      (legal_cut (journal_of old) command adds.note whole.serving.sent (IsOfLine-command_of line) adds.noted.kind) in
       record {
         room = adds.room;
         lines = holds_front (Err SinkFault) taken left (journal_of new) legal lines;
         written = cut;
+        saves =
+            subst Saves (sym adds.entry)
+            (HoldsSaves-closed start.shelf (tell new).shelf (journal_of old ++ last ∷ [])
+            (HoldsSaves-push (journal_of old) last start.shelf (tell old).shelf (tell new).shelf whole.saves adds.noted));
         legal = legal;
+        saves_asked =
+            subst Asked (sym adds.entry)
+            (AreSavesAsked-closed (journal_of old ++ last ∷ []) (AreSavesAsked-push (journal_of old) last whole.serving.saves_asked adds.noted.asked));
         stays = omega (arith, whole.stays, adds.faults_stay);
+        later = whole.later ++ last ∷ [];
+        goes_on = goes_further start.entries (journal_of old) (journal_of new) whole.later last whole.goes_on adds.entry;
       }
 
   -- ---- a line that ends
 
-  module _ (taken bytes line : List ℕ) (old new : Core K) (begun : Begun) (ends : EndsLine bytes) (at : HasTaken tell start taken old begun)
+  module _ (taken bytes line : List ℕ) (old new : Core K H) (begun : Begun) (ends : EndsLine bytes) (at : HasTaken tell start taken old begun)
       (is : line ≡ begun.bytes ++ bytes) where
     same_line : unended [] taken ++ bytes ≡ line
     same_line = ap (λ b. b ++ bytes) (sym at.rest) ∙ sym is
@@ -255,11 +311,11 @@ module _ {K : Type 0} (tell : K → SinkState) (start : SinkState) where
     stops_line SinkFault fits fewer (n, adds) left =
         let At : List ℕ → Type 0 = λ all. HoldsLines (Err SinkFault) all left (commands (journal_of new)) in
         let asked : commands (journal_of new) ≡ map command_of (ended_lines [] (taken ++ bytes)) =
-        commands_push (journal_of old) (journal_of new) line (ended_lines [] taken) false at.asked adds.entry ∙ ap (map command_of) (sym one_more) in
+        commands_push (journal_of old) (journal_of new) line adds.note (ended_lines [] taken) false at.asked adds.entry ∙ ap (map command_of) (sym one_more) in
         stops_sink (taken ++ bytes) left line old new n at.whole adds
         (subst At (append-nil (taken ++ bytes)) (holds_first (Err SinkFault) (taken ++ bytes) [] left (commands (journal_of new)) asked (within_one_more fits fewer) tt))
     stops_line NoMemory fits fewer same left =
-        stops_memory taken bytes left new (whole_same old new at.whole same) (ap commands same.journal ∙ at.asked) (within_taken taken old begun at)
+        stops_memory taken bytes left new (whole_same old new at.whole same) (ap commands same.0.journal ∙ at.asked) (within_taken taken old begun at)
     stops_line SourceFault fits fewer fails left = absurd fails
     stops_line TooMany fits fewer fails left = absurd fails
     stops_line TooLong fits fewer fails left = absurd fails
@@ -273,7 +329,7 @@ module _ {K : Type 0} (tell : K → SinkState) (start : SinkState) where
         record {
           whole = whole_sent old new (command_of line) at.whole adds;
           asked =
-              commands_push (journal_of old) (journal_of new) line (ended_lines [] taken) true at.asked adds.entry ∙
+              commands_push (journal_of old) (journal_of new) line adds.note (ended_lines [] taken) true at.asked adds.entry ∙
               ap (map command_of) (sym one_more);
           rest = none ∙ sym (unended-more taken bytes ends);
           short = subst (AllByRecursion IsShort) (sym one_more) (each_append IsShort (ended_lines [] taken) line at.short fits);
@@ -283,12 +339,12 @@ module _ {K : Type 0} (tell : K → SinkState) (start : SinkState) where
         }
 
   -- there was no memory for its bytes
-  pub stops_no_room : (taken bytes : List ℕ) (core : Core K) (begun : Begun) → HasTaken tell start taken core begun → (left : List ℕ) →
+  pub stops_no_room : (taken bytes : List ℕ) (core : Core K H) (begun : Begun) → HasTaken tell start taken core begun → (left : List ℕ) →
       Stops tell start (taken ++ bytes) left core (Err NoMemory)
   stops_no_room taken bytes core begun at left = stops_memory taken bytes left core at.whole at.asked (within_taken taken core begun at)
 
   -- a line is too long: these first bytes of it have no LF
-  stops_too_long : (taken bytes more left : List ℕ) (core : Core K) (begun : Begun) → HasTaken tell start taken core begun → HasNoEnd bytes →
+  stops_too_long : (taken bytes more left : List ℕ) (core : Core K H) (begun : Begun) → HasTaken tell start taken core begun → HasNoEnd bytes →
       too_long ≤ length (begun.bytes ++ bytes) → Stops tell start (taken ++ (bytes ++ more)) left core (Err TooLong)
   stops_too_long taken bytes more left core begun at none over =
       let Long : List ℕ → Type 0 = λ b. too_long ≤ length b in
@@ -306,11 +362,15 @@ module _ {K : Type 0} (tell : K → SinkState) (start : SinkState) where
             holds_front (Err TooLong) (taken ++ (bytes ++ more)) left (journal_of core) (legal_open (journal_of core) at.whole.serving.sent)
             (holds_first (Err TooLong) taken (bytes ++ more) left (commands (journal_of core)) at.asked (within_taken taken core begun at) next);
         written = sent_whole tell start core at.whole;
+        saves = saves_closed core at.whole;
         legal = legal_open (journal_of core) at.whole.serving.sent;
+        saves_asked = AreSavesAsked-closed (journal_of core) at.whole.serving.saves_asked;
         stays = at.whole.stays;
+        later = at.whole.later;
+        goes_on = at.whole.goes_on;
       }
 
-  pub stops_long_line : (taken bytes : List ℕ) (core : Core K) (begun : Begun) → EndsLine bytes → HasTaken tell start taken core begun →
+  pub stops_long_line : (taken bytes : List ℕ) (core : Core K H) (begun : Begun) → EndsLine bytes → HasTaken tell start taken core begun →
       too_long < length (begun.bytes ++ bytes) → (left : List ℕ) → Stops tell start (taken ++ bytes) left core (Err TooLong)
   stops_long_line taken bytes core begun (front, is, none) at over left =
       let At : List ℕ → Type 0 = λ b. Stops tell start (taken ++ b) left core (Err TooLong) in
@@ -326,7 +386,7 @@ module _ {K : Type 0} (tell : K → SinkState) (start : SinkState) where
       )))
 
   -- as many lines were taken as a run takes
-  stops_many : (taken left : List ℕ) (core : Core K) (begun : Begun) → HasTaken tell start taken core begun → begun.count ≡ most_lines →
+  stops_many : (taken left : List ℕ) (core : Core K H) (begun : Begun) → HasTaken tell start taken core begun → begun.count ≡ most_lines →
       Stops tell start taken left core (Err TooMany)
   stops_many taken left core begun at full =
       let At : List ℕ → Type 0 = λ bytes. HoldsLines (Err TooMany) bytes left (commands (journal_of core)) in
@@ -336,12 +396,16 @@ module _ {K : Type 0} (tell : K → SinkState) (start : SinkState) where
             holds_front (Err TooMany) taken left (journal_of core) (legal_open (journal_of core) at.whole.serving.sent)
             (subst At (append-nil taken) (holds_first (Err TooMany) taken [] left (commands (journal_of core)) at.asked (within_taken taken core begun at) (sym at.counted ∙ full)));
         written = sent_whole tell start core at.whole;
+        saves = saves_closed core at.whole;
         legal = legal_open (journal_of core) at.whole.serving.sent;
+        saves_asked = AreSavesAsked-closed (journal_of core) at.whole.serving.saves_asked;
         stays = at.whole.stays;
+        later = at.whole.later;
+        goes_on = at.whole.goes_on;
       }
 
   -- a line was taken, and was the last one that a run takes or not
-  pub goes_next : (taken : List ℕ) (core : Core K) (begun : Begun) (outcome : Outcome) → HasTaken tell start taken core begun →
+  pub goes_next : (taken : List ℕ) (core : Core K H) (begun : Begun) (outcome : Outcome) → HasTaken tell start taken core begun →
       Counts begun.count outcome → GoesOn tell start taken core begun outcome
   goes_next taken core begun (Ok done) at counts = at
   goes_next taken core begun (Err ending) at counts =
@@ -350,7 +414,7 @@ module _ {K : Type 0} (tell : K → SinkState) (start : SinkState) where
 
   -- ---- bytes that end no line
 
-  pub goes_begin : (taken bytes : List ℕ) (core : Core K) (begun next : Begun) (outcome : Outcome) → HasNoEnd bytes →
+  pub goes_begin : (taken bytes : List ℕ) (core : Core K H) (begun next : Begun) (outcome : Outcome) → HasNoEnd bytes →
       HasTaken tell start taken core begun → KeepsBytes begun next bytes outcome → GoesOn tell start (taken ++ bytes) core next outcome
   goes_begin taken bytes core begun next (Ok done) none at kept =
       let same : ended_lines [] (taken ++ bytes) ≡ ended_lines [] taken = ended_lines-begin taken bytes none in
@@ -388,7 +452,7 @@ module _ {K : Type 0} (tell : K → SinkState) (start : SinkState) where
   }
   many_later SourceFault taken later left lines others inside many = absurd inside
 
-  stops_later : (taken later left : List ℕ) (core : Core K) (ending : Ending) → IsNoSourceFault (Err ending) →
+  stops_later : (taken later left : List ℕ) (core : Core K H) (ending : Ending) → IsNoSourceFault (Err ending) →
       Stops tell start taken (later ++ left) core (Err ending) → Stops tell start (taken ++ later) left core (Err ending)
   stops_later taken later left core ending inside stops =
       let held = stops.lines in
@@ -406,12 +470,16 @@ module _ {K : Type 0} (tell : K → SinkState) (start : SinkState) where
           few = held.few;
         };
         written = stops.written;
+        saves = stops.saves;
         legal = stops.legal;
+        saves_asked = stops.saves_asked;
         stays = stops.stays;
+        later = stops.later;
+        goes_on = stops.goes_on;
       }
 
   -- what went on over a front of bytes stops within the whole
-  pub stops_within : (taken front line later chunk : List ℕ) (core : Core K) (begun : Begun) (ending : Ending) → chunk ≡ front ++ (line ++ later) →
+  pub stops_within : (taken front line later chunk : List ℕ) (core : Core K H) (begun : Begun) (ending : Ending) → chunk ≡ front ++ (line ++ later) →
       GoesOn tell start ((taken ++ front) ++ line) core begun (Err ending) → GoesOn tell start (taken ++ chunk) core begun (Err ending)
   stops_within taken front line later chunk core begun ending is (inside, stops) =
       let At : List ℕ → List ℕ → Type 0 = λ left all. Stops tell start all left core (Err ending) in
@@ -436,7 +504,7 @@ module _ {K : Type 0} (tell : K → SinkState) (start : SinkState) where
     few = within.1;
   }
 
-  stops_finished : (taken : List ℕ) (core : Core K) → IsWhole tell start core → commands (journal_of core) ≡ map command_of (lines_of taken) →
+  stops_finished : (taken : List ℕ) (core : Core K H) → IsWhole tell start core → commands (journal_of core) ≡ map command_of (lines_of taken) →
       AreWithin (lines_of taken) → Stops tell start taken [] core (Ok tt)
   stops_finished taken core whole asked within = record {
     room = whole.serving.room;
@@ -444,11 +512,15 @@ module _ {K : Type 0} (tell : K → SinkState) (start : SinkState) where
         holds_front (Ok tt) taken [] (journal_of core) (legal_open (journal_of core) whole.serving.sent)
         (holds_all (Ok tt) taken (commands (journal_of core)) asked within (refl, refl));
     written = sent_whole tell start core whole;
+    saves = saves_closed core whole;
     legal = legal_open (journal_of core) whole.serving.sent;
+    saves_asked = AreSavesAsked-closed (journal_of core) whole.serving.saves_asked;
     stays = whole.stays;
+    later = whole.later;
+    goes_on = whole.goes_on;
   }
 
-  pub finish_empty : (taken : List ℕ) (core : Core K) (begun : Begun) → HasTaken tell start taken core begun → begun.bytes ≡ [] →
+  pub finish_empty : (taken : List ℕ) (core : Core K H) (begun : Begun) → HasTaken tell start taken core begun → begun.bytes ≡ [] →
       Finishes tell start taken core (Ok tt)
   finish_empty taken core begun at none =
       let all : lines_of taken ≡ ended_lines [] taken =
@@ -464,32 +536,32 @@ module _ {K : Type 0} (tell : K → SinkState) (start : SinkState) where
   all_lines taken begun is some =
       ap (λ rest. ended_lines [] taken ++ last_line rest) (sym is) ∙ ap (λ last. ended_lines [] taken ++ last) (last_line-some begun.bytes some)
 
-  within_all : (taken : List ℕ) (core : Core K) (begun : Begun) → HasTaken tell start taken core begun → IsSmall begun → begun.bytes ≢ [] →
+  within_all : (taken : List ℕ) (core : Core K H) (begun : Begun) → HasTaken tell start taken core begun → IsSmall begun → begun.bytes ≢ [] →
       AreWithin (lines_of taken)
   within_all taken core begun at small some =
       subst AreWithin (sym (all_lines taken begun at.rest some))
       (within_more (ended_lines [] taken) begun.bytes at.within (omega (arith, small.few, at.counted)) (begun.bytes, small.room, inl refl))
 
-  pub finish_last : (taken : List ℕ) (old new : Core K) (begun : Begun) (outcome : Outcome) → HasTaken tell start taken old begun → IsSmall begun →
+  pub finish_last : (taken : List ℕ) (old new : Core K H) (begun : Begun) (outcome : Outcome) → HasTaken tell start taken old begun → IsSmall begun →
       begun.bytes ≢ [] → Enters tell old new (command_of begun.bytes) outcome → Finishes tell start taken new outcome
   finish_last taken old new begun (Ok done) at small some adds = (
     tt,
     stops_finished taken new (whole_sent old new (command_of begun.bytes) at.whole adds)
-        (commands_push (journal_of old) (journal_of new) begun.bytes (ended_lines [] taken) true at.asked adds.entry ∙
+        (commands_push (journal_of old) (journal_of new) begun.bytes adds.note (ended_lines [] taken) true at.asked adds.entry ∙
         ap (map command_of) (sym (all_lines taken begun at.rest some))) (within_all taken old begun at small some),
   )
   finish_last taken old new begun (Err SinkFault) at small some (n, adds) = (
     tt,
     stops_sink taken [] begun.bytes old new n at.whole adds
         (holds_all (Err SinkFault) taken (commands (journal_of new))
-        (commands_push (journal_of old) (journal_of new) begun.bytes (ended_lines [] taken) false at.asked adds.entry ∙
+        (commands_push (journal_of old) (journal_of new) begun.bytes adds.note (ended_lines [] taken) false at.asked adds.entry ∙
         ap (map command_of) (sym (all_lines taken begun at.rest some))) (within_all taken old begun at small some) tt),
   )
   finish_last taken old new begun (Err NoMemory) at small some same =
       let At : List ℕ → Type 0 = λ bytes. Stops tell start bytes [] new (Err NoMemory) in (
         tt,
         subst At (append-nil taken)
-            (stops_memory taken [] [] new (whole_same old new at.whole same) (ap commands same.journal ∙ at.asked) (within_taken taken old begun at)),
+            (stops_memory taken [] [] new (whole_same old new at.whole same) (ap commands same.0.journal ∙ at.asked) (within_taken taken old begun at)),
       )
   finish_last taken old new begun (Err SourceFault) at small some fails = absurd fails
   finish_last taken old new begun (Err TooMany) at small some fails = absurd fails
@@ -498,12 +570,21 @@ module _ {K : Type 0} (tell : K → SinkState) (start : SinkState) where
 -- ---- the run's start and its source
 
 -- before the first byte
-pub at_first : {K : Type 0} (tell : K → SinkState) (core : Core K) (begun : Begun) → IsServing core → journal_of core ≡ [] → begun.bytes ≡ [] →
-    begun.count ≡ 0 → HasTaken tell (tell (sink_of core)) [] core begun
+pub at_first : {K H : Type 0} (tell : Core K H → Outlets) (core : Core K H) (begun : Begun) → IsServing core → journal_of core ≡ [] →
+    begun.bytes ≡ [] → begun.count ≡ 0 → HasTaken tell (start_of (tell core)) [] core begun
 at_first tell core begun serving empty none zero_of =
-    let At : List Entry → Type 0 = λ entries. Gains (tell (sink_of core)).held (tell (sink_of core)).held (written first_session entries) in
+    let At : List Entry → Type 0 = λ entries. Gains (tell core).sink.held (tell core).sink.held (written first_session entries) in
+    let Saves : List Entry → Type 0 = λ entries. HoldsSaves (tell core).shelf (tell core).shelf entries in
     record {
-      whole = record { serving = serving; gains = subst At (sym empty) (Gains-none (tell (sink_of core)).held); stays = omega arith; failures = refl };
+      whole = record {
+        serving = serving;
+        gains = subst At (sym empty) (Gains-none (tell core).sink.held);
+        stays = omega arith;
+        failures = refl;
+        saves = subst Saves (sym empty) (HoldsSaves-none (tell core).shelf);
+        later = [];
+        goes_on = empty;
+      };
       asked = ap commands empty;
       rest = none;
       short = tt;
@@ -513,7 +594,7 @@ at_first tell core begun serving empty none zero_of =
     }
 
 -- what fails to enter a line is not the source
-pub no_fault : {K : Type 0} (tell : K → SinkState) (old new : Core K) (command : Command) (ending : Ending) →
+pub no_fault : {K H : Type 0} (tell : Core K H → Outlets) (old new : Core K H) (command : Command) (ending : Ending) →
     FailsBy tell old new command ending → IsNoSourceFault (Err ending)
 no_fault tell old new command SinkFault fails = tt
 no_fault tell old new command NoMemory fails = tt

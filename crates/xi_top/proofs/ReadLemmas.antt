@@ -1,16 +1,14 @@
 -- Lemmas on a run from read to read: what a step comes to, and the moments before the reads.
-use Rattle.std.proofs.Common.{◌≡◌, ℕ, ◌<◌, ◌≤◌, true, List, [], ◌∷◌, ◌++◌, length, map, Option, Some, None, Ok, Err, refl, ap, sym, ◌∙◌, subst, append-nil, arith}
-use Rattle.std.specs.Prelude.{unwrap_or}
+use Rattle.std.proofs.Common.{◌≡◌, ℕ, ◌<◌, ◌≤◌, List, [], ◌∷◌, ◌++◌, length, Option, Some, None, Ok, Err, refl, ap, sym, ◌∙◌, subst, append-nil, append_assoc, arith}
+use Rattle.std.specs.Prelude.{IfSome, unwrap_or}
 use Rattle.std.specs.List.{AllByRecursion}
 use Rattle.xi_plain.specs.declared.entry.Entry.{Entry}
-use Rattle.xi_plain.specs.Journal.{closing_entry, commands}
-use Rattle.plain_text.specs.InputLines.{ended_lines}
-use Rattle.front_wire.specs.Front.{command_of}
+use Rattle.xi_plain.specs.Journal.{closing_entry}
 use Rattle.outside.specs.Faults.{Rose, counted}
 use Rattle.outside.specs.declared.source.Pulled.{Pulled}
 use Rattle.outside.specs.declared.source.Pulled.TheVariants.{Got, End, Failed}
+use Rattle.outside.specs.Sink.{SinkState}
 use Rattle.outside.specs.Source.{SourceState, Gives}
-use Rattle.outside.specs.Sink.{SinkState, Gains}
 use Rattle.outside.proofs.ForCallers.{Gives-append, Rose-earlier}
 use Rattle.core_session.specs.declared.session.Core.{Core}
 use Rattle.xi_top.specs.declared.step.Run.{Run}
@@ -18,17 +16,22 @@ use Rattle.xi_top.specs.declared.step.Stepped.{Stepped}
 use Rattle.xi_top.specs.declared.step.Stepped.TheVariants.{Goes, Ends}
 use Rattle.xi_top.specs.declared.ending.Ending.TheVariants.{NoMemory, SourceFault, SinkFault, TooMany, TooLong}
 use Rattle.xi_top.specs.Ending.{Outcome, status_of}
-use Rattle.core_session.specs.Session.{first_session, written}
-use Rattle.core_session.specs.Core.{IsOpen, journal_of, sink_of, front_entry}
-use Rattle.xi_top.specs.Run.{HasFailedIf, IsReadByCount, IsRun}
-use Rattle.xi_top.specs.Step.{AsksOnce, HasAnswered, IsNoSourceFault, IsStep, Stops, StepsBy, begun_of, most_read, run_sink}
-use Rattle.xi_top.specs.InTime.{AnswersInTime, IsAnswered, sent_entries}
-use Rattle.xi_top.specs.InnerRun.{FailsOnceIf, GoesOn, IsServed, IsSoFar, both_tell, step_after}
+use Rattle.core_session.specs.Core.{IsOpen, Outlets, journal_of, shelf_of, sink_of}
+use Rattle.core_session.specs.Shelves.{ShelfState}
+use Rattle.xi_top.specs.Run.{HasFailedIf, IsReadByCount, IsRun, Outside, passage_of}
+use Rattle.xi_top.specs.Step.{AsksOnce, HasAnswered, IsNoSourceFault, IsStep, IsWhole, Start, Stops, StepsBy, begun_of, most_read, run_journal, start_of}
+use Rattle.xi_top.specs.Written.{AreSent}
+use Rattle.xi_top.specs.InTime.{AnswersInTime, IsAnswered, Moment}
+use Rattle.xi_top.specs.InnerRun.{FailsOnceIf, GoesOn, IsInTime, IsServed, IsSoFar, all_tell, step_after}
 use Rattle.xi_top.proofs.IntakeLemmas.{left_told, no_failure, stops_source}
+
+-- what the sink and the shelf of a session tell
+abbrev pub tell_both : {K H : Type 0} → (K → SinkState) → (H → ShelfState) → Core K H → Outlets
+tell_both tell_sink tell_shelf core = record { sink = tell_sink (sink_of core); shelf = tell_shelf (shelf_of core) }
 
 -- ---- a step
 
-module _ {S K : Type 0} (tell_source : S → SourceState) (tell : K → SinkState) (start : SinkState) (taken : List ℕ) (before after : S) (run : Run K) where
+module _ {S K H : Type 0} (tell_source : S → SourceState) (tell : Core K H → Outlets) (start : Start) (taken : List ℕ) (before after : S) (run : Run K H) where
   -- where the source failed, the run stopped with what it had answered
   pub step_failed : Gives (tell_source before).left (tell_source after).left [] → (tell_source before).faults ≤ (tell_source after).faults →
       Rose (tell_source before).faults (tell_source after).faults → (tell_source after).failures ≡ counted (tell_source before).failures →
@@ -63,60 +66,133 @@ module _ {S K : Type 0} (tell_source : S → SourceState) (tell : K → SinkStat
 
 -- ---- the moments
 
--- an entry that was sent is that of its command
-open_is : (entry : Entry) → IsOpen entry → entry ≡ front_entry entry.command true
-open_is entry sent = λ t. record { caller = sent.caller t; command = entry.command; shelf = sent.shelf t; sent = sent.sent t }
-
-sent_are : (entries : List Entry) → AllByRecursion IsOpen entries → entries ≡ sent_entries (commands entries)
-sent_are [] each = refl
-sent_are (entry ∷ entries) each =
-    ap (λ first. first ∷ entries) (open_is entry each.0) ∙ ap (λ tail. front_entry entry.command true ∷ tail) (sent_are entries each.1)
+-- entries that are open were sent
+are_sent : (entries : List Entry) → AllByRecursion IsOpen entries → AreSent entries
+are_sent [] each = tt
+are_sent (entry ∷ entries) each = (each.0.sent, are_sent entries each.1)
 
 given_none : (told : Option (List ℕ)) → Gives told told []
 given_none None = tt
 given_none (Some bytes) = refl
 
-module _ {S K : Type 0} (tell_source : S → SourceState) (tell : K → SinkState) (start : SinkState) (before : S) where
+-- moments stay as they are while the journal grows
+answered_later : (start : Outside) (journal more grown : List Entry) (moments : List Moment) → grown ≡ journal ++ more →
+    AllByRecursion (IsAnswered start journal) moments → AllByRecursion (IsAnswered start grown) moments
+answered_later start journal more grown [] is each = tt
+answered_later start journal more grown (moment ∷ moments) is each = (
+  record {
+    entries = each.0.entries;
+    later = each.0.later ++ more;
+    first = is ∙ ap (λ log. log ++ more) each.0.first ∙ append_assoc each.0.entries each.0.later more;
+    asked = each.0.asked;
+    sent = each.0.sent;
+    gives = each.0.gives;
+    gains = each.0.gains;
+    saves = each.0.saves;
+    no_read_failed = each.0.no_read_failed;
+    no_write_failed = each.0.no_write_failed;
+  },
+  answered_later start journal more grown moments is each.1,
+)
+
+in_time_later : (start : Outside) (journal more grown : List Entry) (latest : Moment) → grown ≡ journal ++ more → IsInTime start journal latest →
+    IsInTime start grown latest
+in_time_later start journal more grown latest is in_time = record {
+  earlier = in_time.earlier;
+  one_a_read = in_time.one_a_read;
+  answered = answered_later start journal more grown (latest ∷ in_time.earlier) is in_time.answered;
+}
+
+-- the same start, where the run has come so far
+abbrev pub start_with : Outlets → List Entry → Start
+start_with first entries = record { sink = first.sink; shelf = first.shelf; entries = entries }
+
+-- what a run is since the moment when these were its entries it is since another one
+whole_since : {K H : Type 0} (tell : Core K H → Outlets) (first : Outlets) (entries others later : List Entry) (core : Core K H) →
+    journal_of core ≡ others ++ later → IsWhole tell (start_with first entries) core → IsWhole tell (start_with first others) core
+whole_since tell first entries others later core is whole = record {
+  serving = whole.serving;
+  gains = whole.gains;
+  stays = whole.stays;
+  failures = whole.failures;
+  saves = whole.saves;
+  later = later;
+  goes_on = is;
+}
+
+since : {K H : Type 0} (tell : Core K H → Outlets) (first : Outlets) (entries others later : List Entry) (taken : List ℕ) (run : Run K H) →
+    run_journal run ≡ others ++ later → HasAnswered tell (start_with first entries) taken run → HasAnswered tell (start_with first others) taken run
+since tell first entries others later taken run is at = record {
+  whole = whole_since tell first entries others later run.core is at.whole;
+  asked = at.asked;
+  rest = at.rest;
+  short = at.short;
+  within = at.within;
+  counted = at.counted;
+  few = at.few;
+}
+
+pub answered_since : {K H : Type 0} (tell : Core K H → Outlets) (first : Outlets) (taken : List ℕ) (run : Run K H) →
+    HasAnswered tell (start_of first) taken run → HasAnswered tell (start_with first (run_journal run)) taken run
+answered_since tell first taken run at = since tell first [] (run_journal run) [] taken run (sym (append-nil (run_journal run))) at
+
+answered_first : {K H : Type 0} (tell : Core K H → Outlets) (first : Outlets) (entries : List Entry) (taken : List ℕ) (run : Run K H) →
+    HasAnswered tell (start_with first entries) taken run → HasAnswered tell (start_of first) taken run
+answered_first tell first entries taken run at = since tell first entries [] (run_journal run) taken run refl at
+
+module _ {S K H : Type 0} (tell_source : S → SourceState) (tell : Core K H → Outlets) (first : Outlets) (before : S) where
   -- what was answered, where the bytes were given since the run began
-  answered_at : (now : S) (run : Run K) (taken : List ℕ) → HasAnswered tell start taken run → Gives (tell_source before).left (tell_source now).left taken →
-      (tell_source now).failures ≡ (tell_source before).failures →
-      IsAnswered (both_tell (tell_source before) start) (record { taken = taken; outside = both_tell (tell_source now) (tell (run_sink run)) })
-  answered_at now run taken at gives failures =
-      let At : List Entry → Type 0 = λ entries. Gains start.held (tell (run_sink run)).held (written first_session entries) in
-      let same : journal_of run.core ≡ sent_entries (map command_of (ended_lines [] taken)) =
-      sent_are (journal_of run.core) at.whole.serving.sent ∙ ap sent_entries at.asked in
-      record {
-        gives = gives;
-        gains = subst At same at.whole.gains;
-        no_read_failed = failures;
-        no_write_failed = at.whole.failures;
-      }
+  answered_at : (now : S) (run : Run K H) (taken : List ℕ) → HasAnswered tell (start_of first) taken run →
+      Gives (tell_source before).left (tell_source now).left taken → (tell_source now).failures ≡ (tell_source before).failures →
+      IsAnswered (all_tell (tell_source before) first) (run_journal run)
+      (record { taken = taken; outside = all_tell (tell_source now) (tell run.core) })
+  answered_at now run taken at gives failures = record {
+    entries = run_journal run;
+    later = [];
+    first = sym (append-nil (run_journal run));
+    asked = at.asked;
+    sent = are_sent (run_journal run) at.whole.serving.sent;
+    gives = gives;
+    gains = at.whole.gains;
+    saves = at.whole.saves;
+    no_read_failed = failures;
+    no_write_failed = at.whole.failures;
+  }
 
   -- after one read more
-  pub so_far_next : (now after : S) (old new : Run K) (so_far : IsSoFar tell_source tell start before now old) →
-      IsStep tell start so_far.taken (tell_source now) (tell_source after) new Goes → IsSoFar tell_source tell start before after new
+  pub so_far_next : (now after : S) (old new : Run K H) (so_far : IsSoFar tell_source tell first before now old) →
+      IsStep tell (start_with first (run_journal old)) so_far.taken (tell_source now) (tell_source after) new Goes →
+      IsSoFar tell_source tell first before after new
   so_far_next now after old new so_far step = by step.answer step.asked step.comes_to
     where
       by : (answer : Pulled) → AsksOnce (tell_source now) (tell_source after) answer step.given →
-          StepsBy tell start (so_far.taken ++ step.given) new answer Goes → IsSoFar tell_source tell start before after new
+          StepsBy tell (start_with first (run_journal old)) (so_far.taken ++ step.given) new answer Goes →
+          IsSoFar tell_source tell first before after new
       by (Got n) asked at =
           let At : ℕ → Type 0 = λ m. AsksOnce (tell_source now) (tell_source after) (Got m) step.given in
           let gives : Gives (tell_source before).left (tell_source after).left (so_far.taken ++ step.given) =
           Gives-append (tell_source before).left (tell_source now).left (tell_source after).left so_far.taken step.given so_far.gives asked.gives in
           let failures : (tell_source after).failures ≡ (tell_source before).failures = asked.failures ∙ so_far.failures in
+          let answered = answered_first tell first (run_journal old) (so_far.taken ++ step.given) new at in
+          let start = all_tell (tell_source before) first in
+          let moment : Moment = record { taken = so_far.taken; outside = all_tell (tell_source now) (tell old.core) } in
           record {
             taken = so_far.taken ++ step.given;
-            answered = at;
+            answered = answered;
             gives = gives;
             stays = omega (arith, so_far.stays, asked.stays);
             failures = failures;
             in_time = record {
-              earlier = record { taken = so_far.taken; outside = both_tell (tell_source now) (tell (run_sink old)) } ∷ so_far.in_time.earlier;
+              earlier = moment ∷ so_far.in_time.earlier;
               one_a_read = (
                 record { given = step.given; asked = subst At (sym asked.given_by.0) asked; taken = refl },
                 so_far.in_time.one_a_read,
               );
-              answered = (answered_at after new (so_far.taken ++ step.given) at gives failures, so_far.in_time.answered);
+              answered = (
+                answered_at after new (so_far.taken ++ step.given) answered gives failures,
+                answered_later start (run_journal old) at.whole.later (run_journal new) (moment ∷ so_far.in_time.earlier) at.whole.goes_on
+                    so_far.in_time.answered,
+              );
             };
           }
       by End asked at = absurd at
@@ -132,8 +208,8 @@ module _ {S K : Type 0} (tell_source : S → SourceState) (tell : K → SinkStat
   no_failures (Err SourceFault) old new inside same = absurd inside
 
 -- before the first read
-pub so_far_first : {S K : Type 0} (tell_source : S → SourceState) (tell : K → SinkState) (before : S) (run : Run K) →
-    HasAnswered tell (tell (run_sink run)) [] run → IsSoFar tell_source tell (tell (run_sink run)) before before run
+pub so_far_first : {S K H : Type 0} (tell_source : S → SourceState) (tell : Core K H → Outlets) (before : S) (run : Run K H) →
+    HasAnswered tell (start_of (tell run.core)) [] run → IsSoFar tell_source tell (tell run.core) before before run
 so_far_first tell_source tell before run at = record {
   taken = [];
   answered = at;
@@ -143,14 +219,29 @@ so_far_first tell_source tell before run at = record {
   in_time = record {
     earlier = [];
     one_a_read = refl;
-    answered = (answered_at tell_source tell (tell (run_sink run)) before before run [] at (given_none (tell_source before).left) refl, tt);
+    answered = (answered_at tell_source tell (tell run.core) before before run [] at (given_none (tell_source before).left) refl, tt);
   };
 }
 
+-- a run that stopped since a moment of it stopped since it began
+stops_first : {K H : Type 0} (tell : Core K H → Outlets) (first : Outlets) (entries : List Entry) (taken left : List ℕ) (core : Core K H)
+    (outcome : Outcome) → Stops tell (start_with first entries) taken left core outcome → Stops tell (start_of first) taken left core outcome
+stops_first tell first entries taken left core outcome stops = record {
+  room = stops.room;
+  lines = stops.lines;
+  written = stops.written;
+  saves = stops.saves;
+  legal = stops.legal;
+  saves_asked = stops.saves_asked;
+  stays = stops.stays;
+  later = journal_of core;
+  goes_on = refl;
+}
+
 -- after the last one
-pub served : {S K : Type 0} (tell_source : S → SourceState) (tell : K → SinkState) (before now after : S) (first old new : Run K) (outcome : Outcome)
-    (so_far : IsSoFar tell_source tell (tell (run_sink first)) before now old) →
-    IsStep tell (tell (run_sink first)) so_far.taken (tell_source now) (tell_source after) new (Ends outcome) →
+pub served : {S K H : Type 0} (tell_source : S → SourceState) (tell : Core K H → Outlets) (before now after : S) (first old new : Run K H)
+    (outcome : Outcome) (so_far : IsSoFar tell_source tell (tell first.core) before now old) →
+    IsStep tell (start_with (tell first.core) (run_journal old)) so_far.taken (tell_source now) (tell_source after) new (Ends outcome) →
     IsServed tell_source tell before after first.core new.core outcome
 served tell_source tell before now after first old new outcome so_far step = by step.answer outcome step.asked step.comes_to
   where
@@ -158,73 +249,59 @@ served tell_source tell before now after first old new outcome so_far step = by 
     gives =
         Gives-append (tell_source before).left (tell_source now).left (tell_source after).left so_far.taken step.given so_far.gives step.asked.gives
 
+    by_stops : (answer : Pulled) (outcome : Outcome) (left : List ℕ) → AsksOnce (tell_source now) (tell_source after) answer step.given →
+        Stops tell (start_with (tell first.core) (run_journal old)) (so_far.taken ++ step.given) left new.core outcome →
+        IfSome (tell_source after).left (λ bytes. bytes ≡ left) → HasFailedIf outcome (tell_source before) (tell_source after) →
+        FailsOnceIf outcome (tell_source before) (tell_source after) → IsServed tell_source tell before after first.core new.core outcome
+    by_stops answer outcome left asked stops leaves failed failures =
+        let latest : Moment = record { taken = so_far.taken; outside = all_tell (tell_source now) (tell old.core) } in
+        record {
+          taken = so_far.taken ++ step.given;
+          left = left;
+          gives = gives;
+          leaves = leaves;
+          stops = stops_first tell (tell first.core) (run_journal old) (so_far.taken ++ step.given) left new.core outcome stops;
+          source_failed = failed;
+          stays = omega (arith, so_far.stays, asked.stays);
+          source_failures = failures;
+          latest = latest;
+          in_time =
+              in_time_later (all_tell (tell_source before) (tell first.core)) (run_journal old) stops.later (run_journal new) latest stops.goes_on
+              so_far.in_time;
+          last = record { answer = answer; given = step.given; asked = asked };
+        }
+
     by : (answer : Pulled) (outcome : Outcome) → AsksOnce (tell_source now) (tell_source after) answer step.given →
-        StepsBy tell (tell (run_sink first)) (so_far.taken ++ step.given) new answer (Ends outcome) →
+        StepsBy tell (start_with (tell first.core) (run_journal old)) (so_far.taken ++ step.given) new answer (Ends outcome) →
         IsServed tell_source tell before after first.core new.core outcome
     by (Got n) (Ok done) asked at = absurd at
-    by (Got n) (Err ending) asked (inside, stops) = record {
-      taken = so_far.taken ++ step.given;
-      left = unwrap_or (tell_source after).left [];
-      gives = gives;
-      leaves = left_told (tell_source after).left;
-      stops = stops (unwrap_or (tell_source after).left []);
-      source_failed = no_failure (Err ending) (tell_source before) (tell_source after) inside;
-      stays = omega (arith, so_far.stays, asked.stays);
-      source_failures =
-          no_failures tell_source tell (tell (run_sink first)) before (Err ending) (tell_source before) (tell_source after) inside
-          (asked.failures ∙ so_far.failures);
-      latest = record { taken = so_far.taken; outside = both_tell (tell_source now) (tell (run_sink old)) };
-      in_time = so_far.in_time;
-      last = record { answer = Got n; given = step.given; asked = asked };
-    }
-    by End outcome asked (inside, stops) = record {
-      taken = so_far.taken ++ step.given;
-      left = [];
-      gives = gives;
-      leaves = asked.given_by.1;
-      stops = stops;
-      source_failed = no_failure outcome (tell_source before) (tell_source after) inside;
-      stays = omega (arith, so_far.stays, asked.stays);
-      source_failures =
-          no_failures tell_source tell (tell (run_sink first)) before outcome (tell_source before) (tell_source after) inside
-          (asked.failures ∙ so_far.failures);
-      latest = record { taken = so_far.taken; outside = both_tell (tell_source now) (tell (run_sink old)) };
-      in_time = so_far.in_time;
-      last = record { answer = End; given = step.given; asked = asked };
-    }
+    by (Got n) (Err ending) asked (inside, stops) =
+        by_stops (Got n) (Err ending) (unwrap_or (tell_source after).left []) asked (stops (unwrap_or (tell_source after).left []))
+        (left_told (tell_source after).left) (no_failure (Err ending) (tell_source before) (tell_source after) inside)
+        (no_failures tell_source tell (tell first.core) before (Err ending) (tell_source before) (tell_source after) inside
+        (asked.failures ∙ so_far.failures))
+    by End outcome asked (inside, stops) =
+        by_stops End outcome [] asked stops asked.given_by.1 (no_failure outcome (tell_source before) (tell_source after) inside)
+        (no_failures tell_source tell (tell first.core) before outcome (tell_source before) (tell_source after) inside
+        (asked.failures ∙ so_far.failures))
     by Failed outcome asked (is, stops) =
         let Has : Outcome → Type 0 = λ o. HasFailedIf o (tell_source before) (tell_source after) in
         let Fails : Outcome → Type 0 = λ o. FailsOnceIf o (tell_source before) (tell_source after) in
-        record {
-          taken = so_far.taken ++ step.given;
-          left = unwrap_or (tell_source after).left [];
-          gives = gives;
-          leaves = left_told (tell_source after).left;
-          stops = stops (unwrap_or (tell_source after).left []);
-          source_failed =
-              subst Has (sym is)
-              (Rose-earlier (tell_source before).faults (tell_source now).faults (tell_source after).faults so_far.stays (asked.rose refl));
-          stays = omega (arith, so_far.stays, asked.stays);
-          source_failures = subst Fails (sym is) (asked.failures ∙ ap counted so_far.failures);
-          latest = record { taken = so_far.taken; outside = both_tell (tell_source now) (tell (run_sink old)) };
-          in_time = so_far.in_time;
-          last = record { answer = Failed; given = step.given; asked = asked };
-        }
+        by_stops Failed outcome (unwrap_or (tell_source after).left []) asked (stops (unwrap_or (tell_source after).left []))
+        (left_told (tell_source after).left)
+        (subst Has (sym is)
+        (Rose-earlier (tell_source before).faults (tell_source now).faults (tell_source after).faults so_far.stays (asked.rose refl)))
+        (subst Fails (sym is) (asked.failures ∙ ap counted so_far.failures))
 
 -- ---- the run
 
-module _ {S K : Type 0} (tell_source : S → SourceState) (tell : K → SinkState) (before after : S) (old new : Core K) (outcome : Outcome)
-    (serves : IsServed tell_source tell before after old new outcome) where
-  pub IsRun-served : (journal : List Entry) (first last : K) → journal ≡ journal_of new ++ closing_entry ∷ [] → sink_of old ≡ first → last ≡ sink_of new →
-      IsRun (record { before = both_tell (tell_source before) (tell first); after = both_tell (tell_source after) (tell last) }) journal outcome
-  IsRun-served journal first last closed begins ends =
-      let Began : K → Type 0 =
-      λ k. IsRun (record { before = both_tell (tell_source before) (tell k); after = both_tell (tell_source after) (tell last) }) journal outcome in
-      let Ended : K → Type 0 =
-      λ k. IsRun (record { before = both_tell (tell_source before) (tell (sink_of old)); after = both_tell (tell_source after) (tell k) }) journal outcome in
-      let Has : List Entry → Type 0 =
-      λ entries. IsRun (record { before = both_tell (tell_source before) (tell (sink_of old)); after = both_tell (tell_source after) (tell (sink_of new)) }) entries outcome in
-      subst Began begins (subst Ended (sym ends) (subst Has (sym closed) (record {
+module _ {S K H : Type 0} (tell_source : S → SourceState) (tell_sink : K → SinkState) (tell_shelf : H → ShelfState) (before after : S)
+    (old new : Core K H) (outcome : Outcome) (serves : IsServed tell_source (tell_both tell_sink tell_shelf) before after old new outcome) where
+  pub IsRun-served : (journal : List Entry) (first last : K) (begun ended : H) → journal ≡ journal_of new ++ closing_entry ∷ [] → sink_of old ≡ first →
+      shelf_of old ≡ begun → last ≡ sink_of new → ended ≡ shelf_of new →
+      IsRun (passage_of tell_source tell_sink tell_shelf before after first last begun ended) journal outcome
+  IsRun-served journal first last begun ended closed begins opens ends leaves =
+      rw (closed, sym begins, sym opens, ends, leaves) (record {
         taken = serves.taken;
         left = serves.left;
         gives = serves.gives;
@@ -232,22 +309,25 @@ module _ {S K : Type 0} (tell_source : S → SourceState) (tell : K → SinkStat
         entries = journal_of new;
         closed = refl;
         legal = serves.stops.legal;
+        saves_asked = serves.stops.saves_asked;
         lines = serves.stops.lines;
         written = serves.stops.written;
+        saves = serves.stops.saves;
         source_failed = serves.source_failed;
         source_stays = serves.stays;
         sink_stays = serves.stops.stays;
-      })))
+      })
 
-  pub AnswersInTime-served : (journal : List Entry) (first last : K) → sink_of old ≡ first →
-      AnswersInTime (record { before = both_tell (tell_source before) (tell first); after = both_tell (tell_source after) (tell last) }) journal
-  AnswersInTime-served journal first last begins =
-      let Began : K → Type 0 =
-      λ k. AnswersInTime (record { before = both_tell (tell_source before) (tell k); after = both_tell (tell_source after) (tell last) }) journal in
-      subst Began begins (record {
-        moments = serves.latest ∷ serves.in_time.earlier;
-        one_a_read = serves.in_time.one_a_read;
-        answered = serves.in_time.answered;
+  pub AnswersInTime-served : (journal : List Entry) (first last : K) (begun ended : H) → journal ≡ journal_of new ++ closing_entry ∷ [] →
+      sink_of old ≡ first → shelf_of old ≡ begun → AnswersInTime (passage_of tell_source tell_sink tell_shelf before after first last begun ended) journal
+  AnswersInTime-served journal first last begun ended closed begins opens =
+      let in_time =
+      in_time_later (all_tell (tell_source before) (tell_both tell_sink tell_shelf old)) (journal_of new) (closing_entry ∷ []) journal serves.latest closed
+      serves.in_time in
+      rw (sym begins, sym opens) (record {
+        moments = serves.latest ∷ in_time.earlier;
+        one_a_read = in_time.one_a_read;
+        answered = in_time.answered;
         last = serves.last;
       })
 

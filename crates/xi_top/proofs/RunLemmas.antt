@@ -1,5 +1,5 @@
 -- What a run comes to, by its status and by the count of failed writes.
-use Rattle.std.proofs.Common.{◌≡◌, ℕ, ◌+◌, ◌-◌, ◌<◌, inl, inr, List, [], ◌∷◌, length, map, Ok, Err, refl, ap, sym, ◌∙◌, subst, length-append, arith}
+use Rattle.std.proofs.Common.{◌≡◌, ℕ, ◌+◌, ◌-◌, ◌<◌, inl, inr, List, [], ◌∷◌, ◌++◌, length, map, Ok, Err, refl, ap, sym, ◌∙◌, subst, length-append, arith}
 use Rattle.std.proofs.lemmas.List.{length-map}
 use Rattle.std.specs.Prelude.{IfSome, ◌^◌, ◌⊎◌}
 use Rattle.xi_plain.specs.declared.entry.Entry.{Entry}
@@ -7,20 +7,21 @@ use Rattle.front_wire.specs.Front.{command_of}
 use Rattle.outside.specs.Faults.{Rose}
 use Rattle.outside.specs.Sink.{SinkState}
 use Rattle.outside.proofs.ForCallers.{Gains-none}
-use Rattle.xi_plain.specs.Journal.{closing_entry, commands}
+use Rattle.xi_plain.specs.Journal.{IsLegal, closing_entry, commands}
 use Rattle.xi_plain.proofs.ForCallers.{front_entries-alone}
-use Rattle.core_session.proofs.ForCallers.{shows_none}
+use Rattle.core_session.specs.Shelves.{HoldsSaves, ShelfState}
+use Rattle.core_session.proofs.ForCallers.{HoldsSaves-none, shows_none}
 use Rattle.xi_top.specs.declared.ending.Ending.TheVariants.{NoMemory, SourceFault, SinkFault, TooMany, TooLong}
-use Rattle.core_session.specs.Core.{IsLegalUnasked}
 use Rattle.xi_top.specs.Ending.{Outcome, status_of, most_lines}
 use Rattle.xi_top.specs.Written.{IsSent, IsCutOff, IsWritten, IsWrittenByCount}
 use Rattle.xi_top.specs.Run.{Outside, Passage, IsRun, RunsAlone, HasCauses}
+use Rattle.xi_top.proofs.IntakeLemmas.{ordered_legal}
 
 -- the entries before the closing one ask what the lines do
 pub asked-lines : (passage : Passage) (journal : List Entry) (outcome : Outcome) (run : IsRun passage journal outcome) →
     commands run.entries ≡ map command_of run.lines.lines
 asked-lines passage journal outcome run =
-    ap commands (sym (front_entries-alone run.entries (closing_entry ∷ []) (subst IsLegalUnasked run.closed run.legal).0)) ∙ run.lines.asked
+    ap commands (sym (front_entries-alone run.entries (closing_entry ∷ []) (ordered_legal (run.entries ++ closing_entry ∷ []) (subst (IsLegal 0) run.closed run.legal)))) ∙ run.lines.asked
 
 -- ---- the causes
 
@@ -133,3 +134,14 @@ IsWrittenByCount-run passage journal status (inr (same, none)) =
       at_most_once = λ low. inl (failures, subst Sent (sym none.same) (subst Empty (sym none.empty) (nothing_sent passage.before.sink)));
       none = λ is. failures;
     }
+
+-- ---- what the shelf holds
+
+pub HoldsSaves-run : (passage : Passage) (journal : List Entry) (status : ℕ) → RunsAlone passage journal status →
+    HoldsSaves passage.before.shelf passage.after.shelf journal
+HoldsSaves-run passage journal status (inl (outcome, same, run)) = run.saves
+HoldsSaves-run passage journal status (inr (same, none)) =
+    let shelf : passage.after.shelf ≡ passage.before.shelf = ap (λ (o : Outside). o.shelf) none.same in
+    let At : ShelfState → Type 0 = λ after. HoldsSaves passage.before.shelf after journal in
+    let Of : List Entry → Type 0 = λ entries. HoldsSaves passage.before.shelf passage.before.shelf entries in
+    subst At (sym shelf) (subst Of (sym none.empty) (HoldsSaves-none passage.before.shelf))

@@ -1,5 +1,5 @@
 -- EACH LINE IS ANSWERED BEFORE THE NEXT READ: the moments of a run, one before each read of its source.
-use Rattle.std.specs.Prelude.{◌≡◌, ℕ, true, List, [], ◌∷◌, ◌++◌, length, map, ⊤}
+use Rattle.std.specs.Prelude.{◌≡◌, ℕ, List, [], ◌∷◌, ◌++◌, length, map, ⊤}
 use Rattle.std.specs.List.{AllByRecursion}
 use Rattle.plain_text.specs.InputLines.{ended_lines}
 use Rattle.front_wire.specs.Front.{command_of}
@@ -7,28 +7,31 @@ use Rattle.outside.specs.declared.source.Pulled.{Pulled}
 use Rattle.outside.specs.declared.source.Pulled.TheVariants.{Got}
 use Rattle.outside.specs.Source.{SourceState, Gives}
 use Rattle.outside.specs.Sink.{Gains}
-use Rattle.xi_plain.specs.declared.command.Command.{Command}
 use Rattle.xi_plain.specs.declared.entry.Entry.{Entry}
+use Rattle.xi_plain.specs.Journal.{commands}
 use Rattle.core_session.specs.Session.{first_session, written}
-use Rattle.core_session.specs.Core.{front_entry}
+use Rattle.core_session.specs.Shelves.{HoldsSaves}
 use Rattle.xi_top.specs.Run.{Outside, Passage, IsNoRun}
 use Rattle.xi_top.specs.Step.{AsksOnce}
+use Rattle.xi_top.specs.Written.{AreSent}
 
--- the bytes that were taken by a moment, and what the source and the sink tell at it
+-- the bytes that were taken by a moment, and what the source, the sink and the shelf tell at it
 pub record Moment : Type 0 where
   pub taken : List ℕ
   pub outside : Outside
 
--- the entries of commands that were answered
-abbrev pub sent_entries : List Command → List Entry
-sent_entries commands = map (λ command. front_entry command true) commands
-
--- NOTHING THAT IS WHOLE WAITS: what was taken is what the source gave since the run began, and what the sink gained since then is the
--- pieces of exactly the lines that LF ended in it; and no call failed
-pub record IsAnswered (start : Outside) (moment : Moment) : Type 0 where
+-- NOTHING THAT IS WHOLE WAITS at a moment of a run with this journal: what was taken is what the source gave since the run began, and the
+-- lines that LF ended in it are the first entries, which were sent; what the sink gained since then is their pieces, and the shelf holds
+-- their saves; and no call of source and sink failed
+pub record IsAnswered (start : Outside) (journal : List Entry) (moment : Moment) : Type 0 where
+  pub entries : List Entry
+  pub later : List Entry
+  pub first : journal ≡ entries ++ later
+  pub asked : commands entries ≡ map command_of (ended_lines [] moment.taken)
+  pub sent : AreSent entries
   pub gives : Gives start.source.left moment.outside.source.left moment.taken
-  pub gains : Gains start.sink.held moment.outside.sink.held
-      (written first_session (sent_entries (map command_of (ended_lines [] moment.taken))))
+  pub gains : Gains start.sink.held moment.outside.sink.held (written first_session entries)
+  pub saves : HoldsSaves start.shelf moment.outside.shelf entries
   pub no_read_failed : moment.outside.source.failures ≡ start.source.failures
   pub no_write_failed : moment.outside.sink.failures ≡ start.sink.failures
 
@@ -59,5 +62,5 @@ EndsAfter (moment ∷ moments) passage journal = IsLastRead moment passage.after
 pub record AnswersInTime (passage : Passage) (journal : List Entry) : Type 0 where
   pub moments : List Moment
   pub one_a_read : AreMoments passage.before moments
-  pub answered : AllByRecursion (IsAnswered passage.before) moments
+  pub answered : AllByRecursion (IsAnswered passage.before journal) moments
   pub last : EndsAfter moments passage journal

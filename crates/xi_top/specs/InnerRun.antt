@@ -4,9 +4,9 @@ use Rattle.std.specs.List.{AllByRecursion}
 use Rattle.xi_plain.specs.declared.command.Command.{Command}
 use Rattle.outside.specs.Faults.{counted}
 use Rattle.outside.specs.Source.{SourceState, Gives}
-use Rattle.outside.specs.Sink.{SinkState}
+use Rattle.xi_plain.specs.declared.entry.Entry.{Entry}
 use Rattle.core_session.specs.declared.session.Core.{Core}
-use Rattle.core_session.specs.Core.{IsServing, AddsSentEntry, AddsUnsentEntry, ChangesNothing, sink_of}
+use Rattle.core_session.specs.Core.{AddsSentEntry, AddsUnsentEntry, ChangesNothing, IsServing, Outlets, journal_of}
 use Rattle.xi_top.specs.declared.step.Run.{Run}
 use Rattle.xi_top.specs.declared.step.Stepped.{Stepped}
 use Rattle.xi_top.specs.declared.step.Stepped.TheVariants.{Goes, Ends}
@@ -14,7 +14,7 @@ use Rattle.xi_top.specs.declared.ending.Ending.{Ending}
 use Rattle.xi_top.specs.declared.ending.Ending.TheVariants.{NoMemory, SourceFault, SinkFault, TooMany, TooLong}
 use Rattle.xi_top.specs.Ending.{Outcome, most_lines, too_long}
 use Rattle.xi_top.specs.Run.{Outside, HasFailedIf}
-pub use Rattle.xi_top.specs.Step.{Begun, begun_of, IsSmall, IsWhole, HasTaken, HasAnswered, IsNoSourceFault, Stops, Finishes, run_sink}
+pub use Rattle.xi_top.specs.Step.{Begun, begun_of, IsSmall, IsWhole, HasTaken, HasAnswered, IsNoSourceFault, Start, Stops, Finishes, run_journal, start_of}
 use Rattle.xi_top.specs.InTime.{Moment, IsAnswered, AreMoments, IsLastRead}
 
 -- a number that rises with each byte that is taken
@@ -22,19 +22,19 @@ abbrev pub weight : Begun → ℕ
 weight begun = 16_777_216 * begun.count + length begun.bytes
 
 -- the run goes on after these bytes, or it stopped, whatever is left
-abbrev pub GoesOn : {K : Type 0} → (K → SinkState) → SinkState → List ℕ → Core K → Begun → Outcome → Type 0
+abbrev pub GoesOn : {K H : Type 0} → (Core K H → Outlets) → Start → List ℕ → Core K H → Begun → Outcome → Type 0
 GoesOn tell start taken core begun (Ok done) = HasTaken tell start taken core begun
 GoesOn tell start taken core begun (Err ending) =
     IsNoSourceFault (Err ending) × ((more : List ℕ) → Stops tell start taken more core (Err ending))
 
 -- a run that goes on takes lines, has room for the line that it began, and weighs more by the bytes that it took
-pub record IsFed {K : Type 0} (core : Core K) (old new : Begun) (bytes : List ℕ) : Type 0 where
+pub record IsFed {K H : Type 0} (core : Core K H) (old new : Begun) (bytes : List ℕ) : Type 0 where
   pub serving : IsServing core
   pub small : IsSmall new
   pub heavier : weight old + length bytes ≤ weight new
 
 -- a run that goes on weighs more
-abbrev pub IsHeavier : {K : Type 0} → Run K → Run K → Type 0
+abbrev pub IsHeavier : {K H : Type 0} → Run K H → Run K H → Type 0
 IsHeavier old new = weight (begun_of old.intake) < weight (begun_of new.intake)
 
 -- what a step comes to whose bytes were taken so
@@ -42,14 +42,18 @@ abbrev pub step_after : Outcome → Stepped
 step_after (Ok done) = Goes
 step_after (Err ending) = Ends (Err ending)
 
+-- nothing was changed, and the sink tells what it told
+abbrev pub KeepsAll : {K H : Type 0} → (Core K H → Outlets) → Core K H → Core K H → Type 0
+KeepsAll tell old new = ChangesNothing tell old new × ((tell new).sink ≡ (tell old).sink)
+
 -- why a line was not taken
-abbrev pub FailsBy : {K : Type 0} → (K → SinkState) → Core K → Core K → Command → Ending → Type 0
+abbrev pub FailsBy : {K H : Type 0} → (Core K H → Outlets) → Core K H → Core K H → Command → Ending → Type 0
 FailsBy tell old new command SinkFault = (n : ℕ) × AddsUnsentEntry tell old new command n
-FailsBy tell old new command NoMemory = ChangesNothing old new
+FailsBy tell old new command NoMemory = KeepsAll tell old new
 FailsBy tell old new command ending = ⊥
 
 -- the command was taken, or it was not
-abbrev pub Enters : {K : Type 0} → (K → SinkState) → Core K → Core K → Command → Outcome → Type 0
+abbrev pub Enters : {K H : Type 0} → (Core K H → Outlets) → Core K H → Core K H → Command → Outcome → Type 0
 Enters tell old new command (Ok done) = AddsSentEntry tell old new command
 Enters tell old new command (Err ending) = FailsBy tell old new command ending
 
@@ -88,36 +92,36 @@ abbrev pub FailsOnceIf : Outcome → SourceState → SourceState → Type 0
 FailsOnceIf (Err SourceFault) before after = after.failures ≡ counted before.failures
 FailsOnceIf outcome before after = after.failures ≡ before.failures
 
--- the moments of a run so far, the latest first
-pub record IsInTime (start : Outside) (latest : Moment) : Type 0 where
+-- the moments of a run so far that has this journal, the latest first
+pub record IsInTime (start : Outside) (journal : List Entry) (latest : Moment) : Type 0 where
   pub earlier : List Moment
   pub one_a_read : AreMoments start (latest ∷ earlier)
-  pub answered : AllByRecursion (IsAnswered start) (latest ∷ earlier)
+  pub answered : AllByRecursion (IsAnswered start journal) (latest ∷ earlier)
 
--- what a source and a sink tell, put together
-abbrev pub both_tell : SourceState → SinkState → Outside
-both_tell source sink = record { source = source; sink = sink }
+-- what a source and the outlets of a session tell, put together
+abbrev pub all_tell : SourceState → Outlets → Outside
+all_tell source outlets = record { source = source; sink = outlets.sink; shelf = outlets.shelf }
 
 -- a run so far: what it took, and its moments, of which the latest is now
-pub record IsSoFar {S K : Type 0} (tell_source : S → SourceState) (tell : K → SinkState) (start : SinkState) (before now : S) (run : Run K) : Type 0 where
+pub record IsSoFar {S K H : Type 0} (tell_source : S → SourceState) (tell : Core K H → Outlets) (first : Outlets) (before now : S) (run : Run K H) : Type 0 where
   pub taken : List ℕ
-  pub answered : HasAnswered tell start taken run
+  pub answered : HasAnswered tell (start_of first) taken run
   pub gives : Gives (tell_source before).left (tell_source now).left taken
   pub stays : (tell_source before).faults ≤ (tell_source now).faults
   pub failures : (tell_source now).failures ≡ (tell_source before).failures
-  pub in_time : IsInTime (both_tell (tell_source before) start)
-      (record { taken = taken; outside = both_tell (tell_source now) (tell (run_sink run)) })
+  pub in_time : IsInTime (all_tell (tell_source before) first) (run_journal run)
+      (record { taken = taken; outside = all_tell (tell_source now) (tell run.core) })
 
 -- a source was served from here to where the run stopped
-pub record IsServed {S K : Type 0} (tell_source : S → SourceState) (tell : K → SinkState) (before after : S) (old new : Core K) (outcome : Outcome) : Type 0 where
+pub record IsServed {S K H : Type 0} (tell_source : S → SourceState) (tell : Core K H → Outlets) (before after : S) (old new : Core K H) (outcome : Outcome) : Type 0 where
   pub taken : List ℕ
   pub left : List ℕ
   pub gives : Gives (tell_source before).left (tell_source after).left taken
   pub leaves : IfSome (tell_source after).left (λ bytes. bytes ≡ left)
-  pub stops : Stops tell (tell (sink_of old)) taken left new outcome
+  pub stops : Stops tell (start_of (tell old)) taken left new outcome
   pub source_failed : HasFailedIf outcome (tell_source before) (tell_source after)
   pub stays : (tell_source before).faults ≤ (tell_source after).faults
   pub source_failures : FailsOnceIf outcome (tell_source before) (tell_source after)
   pub latest : Moment
-  pub in_time : IsInTime (both_tell (tell_source before) (tell (sink_of old))) latest
+  pub in_time : IsInTime (all_tell (tell_source before) (tell old)) (journal_of new) latest
   pub last : IsLastRead latest (tell_source after)

@@ -1,36 +1,32 @@
 -- THE RUN: what a run of the core with a source and a sink comes to.
-use Rattle.std.specs.Prelude.{◌≡◌, ℕ, ◌+◌, ◌-◌, ◌^◌, ◌<◌, ◌≤◌, codes, List, [], ◌∷◌, ◌++◌, length, Option, Err, IfSome, ⊤, ◌⊎◌}
+use Rattle.std.specs.Prelude.{◌≡◌, ℕ, ◌+◌, ◌-◌, ◌^◌, ◌<◌, ◌≤◌, codes, List, [], ◌∷◌, ◌++◌, length, Err, IfSome, ⊤, ◌⊎◌}
 use Rattle.xi_plain.specs.declared.entry.Entry.{Entry}
 use Rattle.outside.specs.Faults.{Rose}
-use Rattle.outside.specs.Source.{SourceState, source_state, Gives}
-use Rattle.outside.specs.Sink.{SinkState, sink_state}
-use Rattle.xi_plain.specs.Journal.{closing_entry, commands, front_entries}
+use Rattle.outside.specs.Source.{SourceState, Gives}
+use Rattle.outside.specs.Sink.{SinkState}
+use Rattle.xi_plain.specs.Journal.{IsLegal, closing_entry, commands, front_entries}
 use Rattle.xi_top.specs.declared.ending.Ending.TheVariants.{SourceFault}
-use Rattle.core_session.specs.Core.{IsLegalUnasked}
+use Rattle.core_session.specs.Shelves.{AreSavesAsked, HoldsSaves, ShelfState}
 use Rattle.xi_top.specs.Ending.{Outcome, status_of, most_lines}
 use Rattle.xi_top.specs.Lines.{HoldsLines}
 use Rattle.xi_top.specs.Written.{IsWritten}
 
--- what a source and a sink tell of themselves
+-- what a source, a sink and a shelf tell of themselves
 pub record Outside : Type 0 where
   pub source : SourceState
   pub sink : SinkState
-
--- the same of a source and a sink, put together from what each number is for them
-abbrev pub outside_of : {S K : Type 0} → (S → Option (List ℕ)) → (S → ℕ) → (S → ℕ) → (K → Option (List ℕ)) → (K → ℕ) → (K → ℕ) → S → K → Outside
-outside_of left source_faults source_failures held sink_faults sink_failures source sink =
-    record { source = source_state left source_faults source_failures source; sink = sink_state held sink_faults sink_failures sink }
+  pub shelf : ShelfState
 
 -- what they tell before a run and after it
 pub record Passage : Type 0 where
   pub before : Outside
   pub after : Outside
 
--- the same of a source and a sink before and after, put together in the same way
-abbrev pub passage_of : {S K : Type 0} → (S → Option (List ℕ)) → (S → ℕ) → (S → ℕ) → (K → Option (List ℕ)) → (K → ℕ) → (K → ℕ) → S → S → K → K → Passage
-passage_of left source_faults source_failures held sink_faults sink_failures source_before source_after sink_before sink_after = record {
-  before = outside_of left source_faults source_failures held sink_faults sink_failures source_before sink_before;
-  after = outside_of left source_faults source_failures held sink_faults sink_failures source_after sink_after;
+-- the same of a source, a sink and a shelf before and after, put together from what each of them tells
+abbrev pub passage_of : {S K H : Type 0} → (S → SourceState) → (K → SinkState) → (H → ShelfState) → S → S → K → K → H → H → Passage
+passage_of source_tells sink_tells shelf_tells source_before source_after sink_before sink_after shelf_before shelf_after = record {
+  before = record { source = source_tells source_before; sink = sink_tells sink_before; shelf = shelf_tells shelf_before };
+  after = record { source = source_tells source_after; sink = sink_tells sink_after; shelf = shelf_tells shelf_after };
 }
 
 -- the source's count rose, where the run ended for that
@@ -39,7 +35,8 @@ HasFailedIf (Err SourceFault) before after = Rose before.faults after.faults
 HasFailedIf outcome before after = ⊤
 
 -- THE RUN: the bytes that it took from the source and those that it left there, and the entries that the lines became, closed by the
--- closing entry. Where the source tells nothing these are some bytes
+-- closing entry. The journal is legal, each saving asked the shelf exactly where its view was open, and the shelf holds the saves. Where the
+-- source tells nothing these are some bytes
 pub record IsRun (passage : Passage) (journal : List Entry) (outcome : Outcome) : Type 0 where
   pub taken : List ℕ
   pub left : List ℕ
@@ -47,9 +44,11 @@ pub record IsRun (passage : Passage) (journal : List Entry) (outcome : Outcome) 
   pub leaves : IfSome passage.after.source.left (λ bytes. bytes ≡ left)
   pub entries : List Entry
   pub closed : journal ≡ entries ++ closing_entry ∷ []
-  pub legal : IsLegalUnasked journal
+  pub legal : IsLegal 0 journal
+  pub saves_asked : AreSavesAsked journal
   pub lines : HoldsLines outcome taken left (commands (front_entries entries))
   pub written : IsWritten outcome passage.before.sink passage.after.sink journal
+  pub saves : HoldsSaves passage.before.shelf passage.after.shelf journal
   pub source_failed : HasFailedIf outcome passage.before.source passage.after.source
   pub source_stays : passage.before.source.faults ≤ passage.after.source.faults
   pub sink_stays : passage.before.sink.faults ≤ passage.after.sink.faults

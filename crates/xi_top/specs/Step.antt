@@ -9,7 +9,7 @@ use Rattle.outside.specs.declared.source.Pulled.TheVariants.{Got, End, Failed}
 use Rattle.outside.specs.Source.{SourceState, Gives, failures_after}
 use Rattle.outside.specs.Sink.{SinkState, Gains}
 use Rattle.xi_plain.specs.declared.entry.Entry.{Entry}
-use Rattle.xi_plain.specs.Journal.{closing_entry, commands, front_entries}
+use Rattle.xi_plain.specs.Journal.{IsLegal, closing_entry, commands, front_entries}
 use Rattle.core_session.specs.declared.session.Core.{Core}
 use Rattle.xi_top.specs.declared.feed.Intake.{Intake}
 use Rattle.xi_top.specs.declared.step.Run.{Run}
@@ -17,7 +17,8 @@ use Rattle.xi_top.specs.declared.step.Stepped.{Stepped}
 use Rattle.xi_top.specs.declared.step.Stepped.TheVariants.{Goes, Ends}
 use Rattle.xi_top.specs.declared.ending.Ending.TheVariants.{SourceFault}
 use Rattle.core_session.specs.Session.{first_session, written}
-use Rattle.core_session.specs.Core.{IsLegalUnasked, IsServing, HasRoom, journal_of, sink_of}
+use Rattle.core_session.specs.Core.{HasRoom, IsServing, Outlets, journal_of, shelf_of, sink_of}
+use Rattle.core_session.specs.Shelves.{AreSavesAsked, HoldsSaves, ShelfState}
 use Rattle.xi_top.specs.Ending.{Outcome, most_lines, too_long}
 use Rattle.xi_top.specs.Lines.{IsShort, IsWithinLimit, HoldsLines}
 use Rattle.xi_top.specs.Written.{IsWritten}
@@ -37,15 +38,28 @@ pub record IsSmall (begun : Begun) : Type 0 where
   pub room : length begun.bytes < too_long
   pub few : begun.count < most_lines
 
--- all entries were sent, and the sink gained their pieces
-pub record IsWhole {K : Type 0} (tell : K → SinkState) (start : SinkState) (core : Core K) : Type 0 where
+-- where a run began: what its sink and its shelf told then; and entries that it had by some moment since
+pub record Start : Type 0 where
+  pub sink : SinkState
+  pub shelf : ShelfState
+  pub entries : List Entry
+
+-- that of a session without entries, whose sink and shelf tell this
+abbrev pub start_of : Outlets → Start
+start_of outlets = record { sink = outlets.sink; shelf = outlets.shelf; entries = [] }
+
+-- all entries were sent, the sink gained their pieces, and the shelf holds the saves; those that were there by then are the first of them
+pub record IsWhole {K H : Type 0} (tell : Core K H → Outlets) (start : Start) (core : Core K H) : Type 0 where
   pub serving : IsServing core
-  pub gains : Gains start.held (tell (sink_of core)).held (written first_session (journal_of core))
-  pub stays : start.faults ≤ (tell (sink_of core)).faults
-  pub failures : (tell (sink_of core)).failures ≡ start.failures
+  pub gains : Gains start.sink.held (tell core).sink.held (written first_session (journal_of core))
+  pub stays : start.sink.faults ≤ (tell core).sink.faults
+  pub failures : (tell core).sink.failures ≡ start.sink.failures
+  pub saves : HoldsSaves start.shelf (tell core).shelf (journal_of core)
+  pub later : List Entry
+  pub goes_on : journal_of core ≡ start.entries ++ later
 
 -- these bytes were taken: each line that LF ended in them is an entry, whose piece the sink gained, and none is too long
-pub record HasTaken {K : Type 0} (tell : K → SinkState) (start : SinkState) (taken : List ℕ) (core : Core K) (begun : Begun) : Type 0 where
+pub record HasTaken {K H : Type 0} (tell : Core K H → Outlets) (start : Start) (taken : List ℕ) (core : Core K H) (begun : Begun) : Type 0 where
   pub whole : IsWhole tell start core
   pub asked : commands (journal_of core) ≡ map command_of (ended_lines [] taken)
   pub rest : begun.bytes ≡ unended [] taken
@@ -60,37 +74,45 @@ IsNoSourceFault (Err SourceFault) = ⊥
 IsNoSourceFault outcome = ⊤
 
 -- the run stopped after these bytes were taken, where those are left
-pub record Stops {K : Type 0} (tell : K → SinkState) (start : SinkState) (taken left : List ℕ) (core : Core K) (outcome : Outcome) : Type 0 where
+pub record Stops {K H : Type 0} (tell : Core K H → Outlets) (start : Start) (taken left : List ℕ) (core : Core K H) (outcome : Outcome) : Type 0 where
   pub room : HasRoom core
   pub lines : HoldsLines outcome taken left (commands (front_entries (journal_of core)))
-  pub written : IsWritten outcome start (tell (sink_of core)) (journal_of core ++ closing_entry ∷ [])
-  pub legal : IsLegalUnasked (journal_of core ++ closing_entry ∷ [])
-  pub stays : start.faults ≤ (tell (sink_of core)).faults
+  pub written : IsWritten outcome start.sink (tell core).sink (journal_of core ++ closing_entry ∷ [])
+  pub saves : HoldsSaves start.shelf (tell core).shelf (journal_of core ++ closing_entry ∷ [])
+  pub legal : IsLegal 0 (journal_of core ++ closing_entry ∷ [])
+  pub saves_asked : AreSavesAsked (journal_of core ++ closing_entry ∷ [])
+  pub stays : start.sink.faults ≤ (tell core).sink.faults
+  pub later : List Entry
+  pub goes_on : journal_of core ≡ start.entries ++ later
 
 -- the run stopped at its input's end, or just before
-abbrev pub Finishes : {K : Type 0} → (K → SinkState) → SinkState → List ℕ → Core K → Outcome → Type 0
+abbrev pub Finishes : {K H : Type 0} → (Core K H → Outlets) → Start → List ℕ → Core K H → Outcome → Type 0
 Finishes tell start taken core outcome = IsNoSourceFault outcome × Stops tell start taken [] core outcome
 
 -- THE RUN HAS ANSWERED these bytes: each line that LF ended in them has its entry, which was sent, and the sink gained its piece. Nothing
 -- that is whole waits
-abbrev pub HasAnswered : {K : Type 0} → (K → SinkState) → SinkState → List ℕ → Run K → Type 0
+abbrev pub HasAnswered : {K H : Type 0} → (Core K H → Outlets) → Start → List ℕ → Run K H → Type 0
 HasAnswered tell start taken run = HasTaken tell start taken run.core (begun_of run.intake)
 
 -- the run has not ended
-pub record IsOngoing {K : Type 0} (run : Run K) : Type 0 where
+pub record IsOngoing {K H : Type 0} (run : Run K H) : Type 0 where
   pub serving : IsServing run.core
   pub small : IsSmall (begun_of run.intake)
 
 -- the sink of a run
-abbrev pub run_sink : {K : Type 0} → Run K → K
+abbrev pub run_sink : {K H : Type 0} → Run K H → K
 run_sink run = sink_of run.core
 
+-- and its shelf
+abbrev pub run_shelf : {K H : Type 0} → Run K H → H
+run_shelf run = shelf_of run.core
+
 -- its journal
-abbrev pub run_journal : {K : Type 0} → Run K → List Entry
+abbrev pub run_journal : {K H : Type 0} → Run K H → List Entry
 run_journal run = journal_of run.core
 
 -- it may be closed: there is room for the closing entry
-abbrev pub MayClose : {K : Type 0} → Run K → Type 0
+abbrev pub MayClose : {K H : Type 0} → Run K H → Type 0
 MayClose run = HasRoom run.core
 
 -- ---- one read
@@ -115,7 +137,7 @@ pub record AsksOnce (before after : SourceState) (answer : Pulled) (given : List
 
 -- WHAT A STEP COMES TO by the answer, where all these bytes were taken by then: the run has answered them and goes on, or it stopped in
 -- them; at the input's end it stopped, and what stood after the last LF is a line too; and it stopped where the source failed
-abbrev pub StepsBy : {K : Type 0} → (K → SinkState) → SinkState → List ℕ → Run K → Pulled → Stepped → Type 0
+abbrev pub StepsBy : {K H : Type 0} → (Core K H → Outlets) → Start → List ℕ → Run K H → Pulled → Stepped → Type 0
 StepsBy tell start taken run (Got n) Goes = HasAnswered tell start taken run
 StepsBy tell start taken run (Got n) (Ends (Ok done)) = ⊥
 StepsBy tell start taken run (Got n) (Ends (Err ending)) =
@@ -127,7 +149,7 @@ StepsBy tell start taken run Failed (Ends outcome) =
     (outcome ≡ Err SourceFault) × ((left : List ℕ) → Stops tell start taken left run.core outcome)
 
 -- THE STEP: the source was asked once, and what that came to, where these bytes had been answered before
-pub record IsStep {K : Type 0} (tell : K → SinkState) (start : SinkState) (taken : List ℕ) (before after : SourceState) (new : Run K)
+pub record IsStep {K H : Type 0} (tell : Core K H → Outlets) (start : Start) (taken : List ℕ) (before after : SourceState) (new : Run K H)
     (stepped : Stepped) : Type 0 where
   pub answer : Pulled
   pub given : List ℕ

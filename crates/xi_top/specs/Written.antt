@@ -40,7 +40,7 @@ pub record IsCutOff (before after : SinkState) (journal : List Entry) : Type 0 w
   pub part : List ℕ
   pub gains : Gains before.held after.held (bytes ++ part)
   pub shows : Shows sent bytes
-  pub proper : IsProperPart part (piece_after sent last.command)
+  pub proper : IsProperPart part (piece_after sent last)
 
 -- WHAT WAS WRITTEN, by how the run ended
 abbrev pub IsWritten : Outcome → SinkState → SinkState → List Entry → Type 0

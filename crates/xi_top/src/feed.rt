@@ -1,13 +1,13 @@
 ghost use Rattle.std.specs.Prelude.{◌≡◌, ℕ, ◌+◌, ◌<◌, ◌≤◌, ◌++◌, List, [], length, OnOk};
-ghost use Rattle.outside.specs.Sink.{SinkState, sink_state};
-ghost use Rattle.core_session.specs.Core.{IsServing};
+ghost use Rattle.core_session.specs.Core.{IsServing, outlets_of};
 ghost use Rattle.xi_top.specs.Ending.{most_lines};
+ghost use Rattle.xi_top.specs.Step.{Start};
 
 use crate::ending::Ending;
 use crate::enter::enter;
 use core_session::Core;
 use memchr::memchr;
-use outside::Sink;
+use outside::{Shelf, Sink};
 use std::alloc::Global;
 
 /// The most lines that a run takes.
@@ -37,18 +37,18 @@ impl Intake {
     }
 
     /// Enters each line that LF ends in the chunk, and keeps what stands after the last one. After an `Err` the run ends so.
-    pub fn feed<K: Sink>(
+    pub fn feed<K: Sink, H: Shelf>(
         &mut self,
         alloc: Global,
-        core: &mut Core<K>,
+        core: &mut Core<K, H>,
         chunk: &[u8],
     ) -> Result<(), Ending>
         requires serving { IsServing core.old }
         requires small { IsSmall (begun_of self.old) }
         ensures fed { OnOk result (IsFed core.new (begun_of self.old) (begun_of self.new) chunk.now) }
-        ensures goes { (start : SinkState) (taken : List ℕ)
-            → HasTaken (sink_state K.held K.faults K.failures) start taken core.old (begun_of self.old)
-            → GoesOn (sink_state K.held K.faults K.failures) start (taken ++ chunk.now) core.new (begun_of self.new) result }
+        ensures goes { (start : Start) (taken : List ℕ)
+            → HasTaken (outlets_of K.held K.faults K.failures H.files H.faults) start taken core.old (begun_of self.old)
+            → GoesOn (outlets_of K.held K.faults K.failures H.files H.faults) start (taken ++ chunk.now) core.new (begun_of self.new) result }
     {
         let mut rest = chunk;
         while let Some(at) = memchr(b'\n', rest) {
@@ -60,18 +60,18 @@ impl Intake {
     }
 
     /// Enters the line that these bytes end, of which the last is its LF.
-    fn end_line<K: Sink>(
+    fn end_line<K: Sink, H: Shelf>(
         &mut self,
         alloc: Global,
-        core: &mut Core<K>,
+        core: &mut Core<K, H>,
         ending: &[u8],
     ) -> Result<(), Ending>
         requires serving { IsServing core.old }
         requires small { IsSmall (begun_of self.old) }
         ensures fed { OnOk result (IsFed core.new (begun_of self.old) (begun_of self.new) ending.now) }
-        ensures goes { (start : SinkState) (taken : List ℕ) → EndsLine ending.now
-            → HasTaken (sink_state K.held K.faults K.failures) start taken core.old (begun_of self.old)
-            → GoesOn (sink_state K.held K.faults K.failures) start (taken ++ ending.now) core.new (begun_of self.new) result }
+        ensures goes { (start : Start) (taken : List ℕ) → EndsLine ending.now
+            → HasTaken (outlets_of K.held K.faults K.failures H.files H.faults) start taken core.old (begun_of self.old)
+            → GoesOn (outlets_of K.held K.faults K.failures H.files H.faults) start (taken ++ ending.now) core.new (begun_of self.new) result }
     {
         if ending.len() > TOO_LONG - self.begun.len() {
             return Err(Ending::TooLong);
@@ -113,12 +113,16 @@ impl Intake {
     }
 
     /// Enters what stands after the last LF, where it is not empty, at the input's end.
-    pub fn finish<K: Sink>(&self, alloc: Global, core: &mut Core<K>) -> Result<(), Ending>
+    pub fn finish<K: Sink, H: Shelf>(
+        &self,
+        alloc: Global,
+        core: &mut Core<K, H>,
+    ) -> Result<(), Ending>
         requires serving { IsServing core.old }
         requires small { IsSmall (begun_of self.now) }
-        ensures { (start : SinkState) (taken : List ℕ)
-            → HasTaken (sink_state K.held K.faults K.failures) start taken core.old (begun_of self.now)
-            → Finishes (sink_state K.held K.faults K.failures) start taken core.new result }
+        ensures { (start : Start) (taken : List ℕ)
+            → HasTaken (outlets_of K.held K.faults K.failures H.files H.faults) start taken core.old (begun_of self.now)
+            → Finishes (outlets_of K.held K.faults K.failures H.files H.faults) start taken core.new result }
     {
         if self.begun.is_empty() {
             return Ok(());

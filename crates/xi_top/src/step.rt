@@ -1,14 +1,14 @@
 ghost use Rattle.std.specs.Prelude.{◌≡◌, ◌++◌, ◌∷◌, [], ℕ, List, IfOk, IfErr};
 ghost use Rattle.outside.specs.Source.{source_state};
-ghost use Rattle.outside.specs.Sink.{SinkState, sink_state};
+ghost use Rattle.core_session.specs.Core.{outlets_of};
 ghost use Rattle.xi_plain.specs.Journal.{closing_entry};
-ghost use Rattle.xi_top.specs.Step.{HasAnswered, IsOngoing, IsStep, MayClose, run_journal, run_sink};
+ghost use Rattle.xi_top.specs.Step.{HasAnswered, IsOngoing, IsStep, MayClose, Start, run_journal, run_shelf, run_sink, start_of};
 ghost use Rattle.xi_top.specs.InnerRun.{IsHeavier, step_after};
 
 use crate::ending::Ending;
 use crate::feed::Intake;
 use core_session::Core;
-use outside::{Pulled, Sink, Source};
+use outside::{Pulled, Shelf, Sink, Source};
 use std::alloc::Global;
 use xi_plain::Entry;
 
@@ -26,27 +26,28 @@ pub enum Stepped {
 
 /// A run between two reads: its session, and what it has begun of a line.
 #[derive(Drop)]
-pub struct Run<K> {
-    core: Core<K>,
+pub struct Run<K, H> {
+    core: Core<K, H>,
     intake: Intake,
 }
 
-impl<K: Sink> Run<K> {
-    /// A run before its first read. For want of memory the sink is given back.
-    pub fn make(alloc: Global, sink: K) -> Result<Run<K>, K>
+impl<K: Sink, H: Shelf> Run<K, H> {
+    /// A run before its first read. For want of memory the sink and the shelf are given back.
+    pub fn make(alloc: Global, sink: K, shelf: H) -> Result<Run<K, H>, (K, H)>
         ensures ongoing { IfOk result IsOngoing }
         ensures empty { IfOk result (λ run. run_journal run ≡ []) }
         ensures sink { IfOk result (λ run. run_sink run ≡ sink) }
-        ensures first { IfOk result (λ run. HasAnswered (sink_state K.held K.faults K.failures)
-            (sink_state K.held K.faults K.failures sink) [] run) }
-        ensures back { IfErr result (λ back. back ≡ sink) }
+        ensures shelf { IfOk result (λ run. run_shelf run ≡ shelf) }
+        ensures first { IfOk result (λ run. HasAnswered (outlets_of K.held K.faults K.failures H.files H.faults)
+            (start_of (outlets_of K.held K.faults K.failures H.files H.faults run.core)) [] run) }
+        ensures back { IfErr result (λ back. (back.0 ≡ sink) × (back.1 ≡ shelf)) }
     {
-        match Core::make(alloc, sink) {
+        match Core::make(alloc, sink, shelf) {
             Ok(core) => Ok(Run {
                 core,
                 intake: Intake::new(alloc),
             }),
-            Err(sink) => Err(sink),
+            Err(back) => Err(back),
         }
     }
 
@@ -55,9 +56,9 @@ impl<K: Sink> Run<K> {
         requires { IsOngoing self.old }
         ensures ongoing { result ≡ Stepped.Goes → IsOngoing self.new }
         ensures heavier { result ≡ Stepped.Goes → IsHeavier self.old self.new }
-        ensures step { (start : SinkState) (taken : List ℕ)
-            → HasAnswered (sink_state K.held K.faults K.failures) start taken self.old
-            → IsStep (sink_state K.held K.faults K.failures) start taken
+        ensures step { (start : Start) (taken : List ℕ)
+            → HasAnswered (outlets_of K.held K.faults K.failures H.files H.faults) start taken self.old
+            → IsStep (outlets_of K.held K.faults K.failures H.files H.faults) start taken
             (source_state S.left S.faults S.failures source.old)
             (source_state S.left S.faults S.failures source.new) self.new result }
     {
@@ -69,11 +70,12 @@ impl<K: Sink> Run<K> {
         }
     }
 
-    /// Puts in the closing entry, and gives the journal and the sink.
-    pub fn close(self) -> (Vec<Entry>, K)
+    /// Puts in the closing entry, and gives the journal, the sink and the shelf.
+    pub fn close(self) -> (Vec<Entry>, K, H)
         requires { MayClose self }
         ensures journal { result.0.items ≡ run_journal self ++ closing_entry ∷ [] }
         ensures sink { result.1 ≡ run_sink self }
+        ensures shelf { result.2 ≡ run_shelf self }
     {
         let Run { mut core, intake } = self;
         drop(intake);

@@ -1,4 +1,4 @@
-use Rattle.std.proofs.Common.{ℕ, Option, IfOk, sym, subst}
+use Rattle.std.proofs.Common.{Option, IfOk, sym, subst}
 use Rattle.core_session.specs.InnerSession.{IsOutcome, IsFirstNamed, IsPlaceOf}
 use Rattle.core_session.specs.Session.{OpenView, edit_outcome}
 use Rattle.core_session.proofs.OpenLemmas.{first_inside, named_at, none_named}

@@ -1,5 +1,5 @@
 use Rattle.std.proofs.Common.{rules, ◌≡◌, ◌++◌, ◌≤◌, ℕ, length, length-append, sym, ap, subst, arith}
-use Rattle.outside.specs.Sink.{sink_state}
+use Rattle.core_session.specs.Core.{outlets_of}
 use Rattle.xi_top.specs.Ending.{Outcome, too_long}
 use Rattle.xi_top.specs.InnerRun.{Begun, Counts, GoesOn, begun_of}
 use Rattle.xi_top.proofs.IntakeLemmas.{failed_with, stops_long_line, stops_no_room, stops_line, no_fault, takes_line, goes_next}
@@ -7,7 +7,7 @@ use Rattle.xi_top.proofs.feed.Intake.end_line.Goals as goal
 
 pub returns-then-ending-len-clause-goes : goal.returns-then-ending-len-clause-goes
 returns-then-ending-len-clause-goes g c = λ start taken ends at.
-    let tell = sink_state g.K.Sink.held g.K.Sink.faults g.K.Sink.failures in
+    let tell = outlets_of g.K.Sink.held g.K.Sink.faults g.K.Sink.failures g.H.Shelf.files g.H.Shelf.faults in
     let begun = c.args.self.now.begun in (
       tt,
       stops_long_line tell start taken c.args.ending.now c.args.core.now (begun_of c.args.self.now) ends at
@@ -16,12 +16,12 @@ returns-then-ending-len-clause-goes g c = λ start taken ends at.
 
 pub returns-then-is_err-clause-goes : goal.returns-then-is_err-clause-goes
 returns-then-is_err-clause-goes g c = λ start taken ends at.
-    let tell = sink_state g.K.Sink.held g.K.Sink.faults g.K.Sink.failures in
+    let tell = outlets_of g.K.Sink.held g.K.Sink.faults g.K.Sink.failures g.H.Shelf.files g.H.Shelf.faults in
     (tt, stops_no_room tell start taken c.args.ending.now c.args.core.now (begun_of c.args.self.now) at)
 
 pub returns-in_err-enter-clause-goes : goal.returns-in_err-enter-clause-goes
 returns-in_err-enter-clause-goes g c = λ start taken ends at.
-    let tell = sink_state g.K.Sink.held g.K.Sink.faults g.K.Sink.failures in
+    let tell = outlets_of g.K.Sink.held g.K.Sink.faults g.K.Sink.failures g.H.Shelf.files g.H.Shelf.faults in
     let line = c.deref.result.now in
     let is : line ≡ c.args.self.now.begun.items ++ c.args.ending.now = search rules in
     let fits : length line ≤ too_long =
@@ -37,7 +37,7 @@ returns-in_err-enter-clause-goes g c = λ start taken ends at.
 
 pub returns-clause-goes : goal.returns-clause-goes
 returns-clause-goes g c = λ start taken ends at.
-    let tell = sink_state g.K.Sink.held g.K.Sink.faults g.K.Sink.failures in
+    let tell = outlets_of g.K.Sink.held g.K.Sink.faults g.K.Sink.failures g.H.Shelf.files g.H.Shelf.faults in
     let line = c.deref.result.now in
     let begun = c.args.self.now.begun in
     let is : line ≡ begun.items ++ c.args.ending.now = search rules in

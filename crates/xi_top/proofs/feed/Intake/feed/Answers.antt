@@ -1,6 +1,6 @@
 use Rattle.std.proofs.Common.{◌≡◌, ◌++◌, ◌+◌, ℕ, List, drop, sym, ap, ◌∙◌, subst, append_assoc, arith}
 use Rattle.std.proofs.lemmas.List.{take-append-drop}
-use Rattle.outside.specs.Sink.{sink_state}
+use Rattle.core_session.specs.Core.{outlets_of}
 use Rattle.xi_top.specs.Ending.{Outcome}
 use Rattle.xi_top.specs.InnerRun.{HasTaken, GoesOn, EndsLine, HasNoEnd, begun_of}
 use Rattle.xi_top.proofs.LineLemmas.{none_found, line_found}
@@ -9,7 +9,7 @@ use Rattle.xi_top.proofs.feed.Intake.feed.Goals as goal
 
 pub returns-in_err-end_line-clause-goes : goal.returns-in_err-end_line-clause-goes
 returns-in_err-end_line-clause-goes g c = λ start taken at.
-    let tell = sink_state g.K.Sink.held g.K.Sink.faults g.K.Sink.failures in
+    let tell = outlets_of g.K.Sink.held g.K.Sink.faults g.K.Sink.failures g.H.Shelf.files g.H.Shelf.faults in
     let rest = c.loop-at.rest.now in
     let line = c.split_at.result.0.now in
     let later = c.split_at.result.1.now in
@@ -28,7 +28,7 @@ returns-in_err-end_line-clause-goes g c = λ start taken at.
 
 pub loop-at-preserved : goal.loop-at-preserved
 loop-at-preserved g c =
-    let tell = sink_state g.K.Sink.held g.K.Sink.faults g.K.Sink.failures in
+    let tell = outlets_of g.K.Sink.held g.K.Sink.faults g.K.Sink.failures g.H.Shelf.files g.H.Shelf.faults in
     let rest = c.loop-at.rest.now in
     let line = c.split_at.result.0.now in
     let later = c.split_at.result.1.now in
@@ -54,7 +54,7 @@ loop-at-preserved g c =
 
 pub returns-clause-goes : goal.returns-clause-goes
 returns-clause-goes g c = λ start taken at.
-    let tell = sink_state g.K.Sink.held g.K.Sink.faults g.K.Sink.failures in
+    let tell = outlets_of g.K.Sink.held g.K.Sink.faults g.K.Sink.failures g.H.Shelf.files g.H.Shelf.faults in
     let rest = c.loop-at.rest.now in
     let done = c.loop-at.invariant.done in
     let none : HasNoEnd rest = none_found rest c.in_default.ensures in
