@@ -6,4 +6,5 @@ pub mod PlanLemmas
 pub mod TellLemmas
 pub mod SameLemmas
 pub mod FoundLemmas
+pub mod ReadLemmas
 pub mod ForCallers

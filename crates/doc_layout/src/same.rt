@@ -1,5 +1,5 @@
 // Whether two texts are shown alike, line by line, up to the first line that differs.
-ghost use Rattle.std.specs.Prelude.{◌≡◌, IfOk};
+ghost use Rattle.std.specs.Prelude.{◌≡◌, ◌≤◌, length, take, IfOk};
 ghost use Rattle.std.specs.Str.{bytes_eq};
 ghost use Rattle.std.specs.Cmp.Lexicographic.{pointwise};
 ghost use Rattle.plain_screen.specs.SameLayout.{is_same_layout, is_same_line, is_same_number, is_same_triple};
@@ -14,14 +14,21 @@ use plain_screen::{Line, TextView, Triple};
 use plain_text::{NoMemory, Text};
 use std::alloc::Global;
 
-/// Whether two layouts are the same. This renders the lines of both up to the first that differs, where there are as many.
+/// Whether two layouts are the same, of which the lines before this one are. This renders the lines of both from there up to the first
+/// that differs, where there are as many.
 pub fn is_same_layout<T: TextView>(
     alloc: Global,
     shown: &Shown<'_, T>,
     other: &Shown<'_, T>,
+    from: u64,
 ) -> Result<bool, NoMemory>
     requires one { MayShow (T.text_of shown.now.view.now) shown.now.sel.now.regions shown.now.results.now }
     requires another { MayShow (T.text_of other.now.view.now) other.now.sel.now.regions other.now.results.now }
+    requires inside { from ≤ length (T.pieces_of shown.now.view.now) }
+    requires alike { take from (layout (T.text_of shown.now.view.now) (T.pieces_of shown.now.view.now) shown.now.sel.now.regions
+        shown.now.results.now shown.now.layers.now)
+        ≡ take from (layout (T.text_of other.now.view.now) (T.pieces_of other.now.view.now) other.now.sel.now.regions
+        other.now.results.now other.now.layers.now) }
     ensures { IfOk result (λ same. same ≡ is_same_layout
         (layout (T.text_of shown.now.view.now) (T.pieces_of shown.now.view.now) shown.now.sel.now.regions shown.now.results.now
         shown.now.layers.now)
@@ -30,7 +37,14 @@ pub fn is_same_layout<T: TextView>(
 {
     let found = joined(alloc, shown.results)?;
     let founds = joined(alloc, other.results)?;
-    are_same_lines(alloc, shown, found.as_slice(), other, founds.as_slice())
+    are_same_lines(
+        alloc,
+        shown,
+        found.as_slice(),
+        other,
+        founds.as_slice(),
+        from,
+    )
 }
 
 // The same, with these spans of the whole text in the one and those in the other.
@@ -40,9 +54,15 @@ fn are_same_lines<T: TextView>(
     found: &[Span],
     other: &Shown<'_, T>,
     founds: &[Span],
+    from: u64,
 ) -> Result<bool, NoMemory>
     requires one { MayDraw shown.now.sel.now.regions found.now }
     requires another { MayDraw other.now.sel.now.regions founds.now }
+    requires inside { from ≤ length (T.pieces_of shown.now.view.now) }
+    requires alike { take from (drawn_lines (T.text_of shown.now.view.now) shown.now.sel.now.regions found.now shown.now.layers.now
+        (T.pieces_of shown.now.view.now))
+        ≡ take from (drawn_lines (T.text_of other.now.view.now) other.now.sel.now.regions founds.now other.now.layers.now
+        (T.pieces_of other.now.view.now)) }
     ensures { IfOk result (λ same. same ≡ is_same_layout
         (drawn_lines (T.text_of shown.now.view.now) shown.now.sel.now.regions found.now shown.now.layers.now
         (T.pieces_of shown.now.view.now))
@@ -53,7 +73,7 @@ fn are_same_lines<T: TextView>(
     if len != other.view.lines() {
         return Ok(false);
     }
-    for index in 0..len {
+    for index in from..len {
         let line = line_at(alloc, shown, found, index)?;
         let counterpart = line_at(alloc, other, founds, index)?;
         if !is_same_line(&line, &counterpart) {

@@ -1,10 +1,14 @@
 use Rattle.std.proofs.Common.{◌≡◌, ◌+◌, List, take, sym, ◌∙◌}
 use Rattle.plain_screen.specs.declared.screen.Line.{Line}
 use Rattle.plain_screen.specs.SameLayout.{is_same_line}
+use Rattle.plain_screen.proofs.callers.SameLemmas.{is_same_layout-Decides}
 use Rattle.doc_layout.specs.Inner.{drawn_line, drawn_lines}
 use Rattle.doc_layout.proofs.LayoutLemmas.{mapped-got}
 use Rattle.doc_layout.proofs.SameLemmas.{one-differs-got, one-more-got}
 use Rattle.doc_layout.proofs.same.are_same_lines.Goals as goal
+
+pub loop-index-init : goal.loop-index-init
+loop-index-init g c = (is_same_layout-Decides _ _).1 c.requires.alike
 
 pub returns-then-not-is_same_line : goal.returns-then-not-is_same_line
 returns-then-not-is_same_line g c =

@@ -1,4 +1,4 @@
-use Rattle.std.proofs.Common.{◌≡◌, List, Bool, subst, ◌∙◌}
+use Rattle.std.proofs.Common.{◌≡◌, List, Bool, take, ap, sym, subst, ◌∙◌}
 use Rattle.std.specs.Prelude.{IfOk}
 use Rattle.plain_screen.specs.declared.screen.Line.{Line}
 use Rattle.plain_screen.specs.SameLayout.{is_same_layout}
@@ -16,6 +16,14 @@ pub are_same_lines-requires-clause-another : goal.are_same_lines-requires-clause
 are_same_lines-requires-clause-another g c =
     MayDraw-joined (g.T.TextView.text_of c.args.other.now.view.now) c.args.other.now.sel.now.regions c.args.other.now.results.now c.as_slice-2.result.now
     c.requires.another (c.as_slice-2.ensures ∙ c.in_ok-founds.ensures)
+
+pub are_same_lines-requires-clause-alike : goal.are_same_lines-requires-clause-alike
+are_same_lines-requires-clause-alike g c =
+    let one = drawn-layout (g.T.TextView.text_of c.args.shown.now.view.now) (g.T.TextView.pieces_of c.args.shown.now.view.now) c.args.shown.now.sel.now.regions
+    c.args.shown.now.results.now c.args.shown.now.layers.now c.as_slice.result.now c.requires.one (c.as_slice.ensures ∙ c.in_ok-found.ensures) in
+    let another = drawn-layout (g.T.TextView.text_of c.args.other.now.view.now) (g.T.TextView.pieces_of c.args.other.now.view.now) c.args.other.now.sel.now.regions
+    c.args.other.now.results.now c.args.other.now.layers.now c.as_slice-2.result.now c.requires.another (c.as_slice-2.ensures ∙ c.in_ok-founds.ensures) in
+    ap (take c.args.from) one ∙ c.requires.alike ∙ sym (ap (take c.args.from) another)
 
 pub returns : goal.returns
 returns g c =
