@@ -1,5 +1,5 @@
 -- What a layout reads of regions are their ends: those of one text with the same ends, results, pieces and styles are the same.
-use Rattle.std.proofs.Common.{◌≡◌, ℕ, ◌+◌, ◌<◌, Bool, true, false, List, [], ◌∷◌, ◌++◌, length, map, Some, None, refl, ap, ap₂, sym, subst, ◌∙◌}
+use Rattle.std.proofs.Common.{◌≡◌, ℕ, zero, suc, ◌+◌, ◌-◌, ◌<◌, Bool, true, false, List, [], ◌∷◌, ◌++◌, length, take, map, Some, None, refl, ap, ap₂, sym, subst, ◌∙◌, arith}
 use Rattle.std.specs.Prelude.{if◌then◌else◌, not, nat_lt, nat_le, ◌==◌, ◌&&◌, ◌||◌}
 use Rattle.std.specs.Bool.{beq}
 use Rattle.std.specs.List.{range_with_len}
@@ -13,25 +13,29 @@ use Rattle.plain_edits.specs.Styles.{Layer}
 use Rattle.plain_screen.specs.declared.piece.Piece.{Piece}
 use Rattle.plain_screen.specs.declared.screen.Line.{Line}
 use Rattle.plain_screen.specs.SameLayout.{is_same_layout}
+use Rattle.plain_screen.specs.View.{layout_line_of}
 use Rattle.plain_screen.proofs.callers.SameLemmas.{is_same_layout-Decides}
 use Rattle.xi_plain.specs.declared.config.Config.{Config}
 use Rattle.line_break.specs.Pieces.{wrapped_pieces}
+use Rattle.line_break.proofs.ForCallers.{ArePieces-wrapped}
 use Rattle.line_index.specs.Index.{Index, pieces_in as indexed_pieces}
 use Rattle.find_core.specs.Matches.{matches_of}
 use Rattle.selection_core.specs.Mapped.{AreWithin}
 use Rattle.selection_core.specs.Selection.{IsSelection, greater_end, lesser_end}
-use Rattle.span_runs.specs.Spans.{spans_from}
+use Rattle.span_runs.specs.Spans.{sorted_spans, spans_from}
 use Rattle.span_runs.specs.Triples.{triples_of}
 use Rattle.line_render.specs.Rendered.{carets_of, cursor_of, cut_spans, is_last_piece, is_selected, own_gaps, rendered, selected_layer, text_of_piece}
 use Rattle.edit_ops.specs.Regions.{without_goal}
 use Rattle.doc_layout.specs.Found.{MayShow, found_spans}
 use Rattle.doc_layout.specs.Layout.{layout, styled_spans}
+use Rattle.doc_layout.proofs.ForCallers.{regions-read, styles-read}
 use Rattle.doc_view.specs.declared.search.Search.{Search}
-use Rattle.doc_view.specs.Inner.{IsViewKept, index_at}
+use Rattle.doc_view.specs.Inner.{IsShownApart, IsViewKept, index_at, line_left_of}
 use Rattle.doc_view.specs.Search.{is_for_nothing, results}
-use Rattle.doc_view.specs.Told.{are_same_ends, is_laid_out_alike, is_same_search}
+use Rattle.doc_view.specs.Told.{are_same_ends, is_cut_alike, is_same_search}
 use Rattle.doc_view.specs.View.{View, layout_in, pieces_in}
 use Rattle.doc_view.proofs.MovedLemmas.{AreWithin-plain, IsSelection-plain}
+use Rattle.doc_view.proofs.RegionLemmas.{ends-same}
 use Rattle.doc_view.proofs.SearchLemmas.{results-none}
 
 -- ---- regions without their goals
@@ -116,21 +120,42 @@ results-same text query other same =
     by false some chars true false either = absurd cc
     by false some chars false true either = absurd cc
 
--- ---- one text with its styles that is laid out alike
+-- ---- one text that is cut alike
 
-pub is_same_layout-alike : (before after : View) → after.text ≡ before.text → after.layers ≡ before.layers → is_laid_out_alike before after ≡ true →
+pub is_same_layout-alike : (before after : View) → after.text ≡ before.text → is_cut_alike before after ≡ true → IsShownApart None before after →
     is_same_layout (layout_in before) (layout_in after) ≡ true
-is_same_layout-alike before after text layers alike =
+is_same_layout-alike before after text alike shown =
     let tabs = and_parts (before.config.tab == after.config.tab) _ alike in
-    let widths = and_parts (before.config.width == after.config.width) _ tabs.1 in
-    let rest = and_parts (is_same_search before.query after.query) (are_same_ends before.regions after.regions) widths.1 in
+    let widths = and_parts (before.config.width == after.config.width) (is_same_search before.query after.query) tabs.1 in
     let pieces =
     ap₂ (λ width tab. wrapped_pieces width tab before.text) (eqb-true before.config.width after.config.width widths.0)
     (eqb-true before.config.tab after.config.tab tabs.0) in
     (is_same_layout-Decides (layout_in before) (layout_in after)).1
-    (layout-same before.text (pieces_in before) before.regions after.regions (results before.text before.query) before.layers rest.1 ∙
-    ap₂ (λ cut found. layout before.text cut after.regions found before.layers) pieces (results-same before.text before.query after.query rest.0) ∙
-    ap₂ (λ t ls. layout t (wrapped_pieces after.config.width after.config.tab t) after.regions (results t after.query) ls) (sym text) (sym layers))
+    (layout-same before.text (pieces_in before) before.regions after.regions (results before.text before.query) before.layers shown.0 ∙
+    ap₂ (λ cut found. layout before.text cut after.regions found before.layers) pieces (results-same before.text before.query after.query widths.1) ∙
+    ap₂ (λ t ls. layout t (wrapped_pieces after.config.width after.config.tab t) after.regions (results t after.query) ls) (sym text) shown.1)
+
+-- and its lines before that of a gap left of which what is shown is alike
+pub lines-alike : (before after : View) (gap : ℕ) → all_scalars before.text ≡ true → after.text ≡ before.text → is_cut_alike before after ≡ true →
+    IsShownApart (Some gap) before after → take (line_left_of before gap) (layout_in before) ≡ take (line_left_of before gap) (layout_in after)
+lines-alike before after zero characters text alike shown = refl
+lines-alike before after (suc gap) characters text alike shown =
+    let pieces = pieces_in before in
+    let found = results before.text before.query in
+    let are = ArePieces-wrapped before.config.width before.config.tab before.text characters in
+    let moved : View = record before { regions = after.regions; layers = after.layers } in
+    styles-read before.text pieces before.regions found before.layers after.layers gap are
+    (λ range left. ap sorted_spans (shown.1 range (omega arith))) ∙
+    regions-read before.text pieces before.regions after.regions found after.layers gap are (λ at left. shown.0.carets at (omega arith))
+    (λ index left. shown.0.selected index (omega arith)) ∙
+    ap (take (layout_line_of pieces gap))
+    ((is_same_layout-Decides (layout_in moved) (layout_in after)).0 (is_same_layout-alike moved after text alike (ends-same after.regions, refl)))
+
+-- the line of the character left of a gap, as it is looked up
+pub line_left_of-some : (view : View) (gap line : ℕ) → 0 < gap → line ≡ layout_line_of (pieces_in view) (gap - 1) → line ≡ line_left_of view gap
+line_left_of-some view zero line some is = absurd (omega arith)
+line_left_of-some view (suc gap) line some is =
+    is ∙ ap (layout_line_of (pieces_in view)) (let back : suc gap - 1 ≡ gap = omega arith in back)
 
 -- ---- what a view shows, by its parts
 

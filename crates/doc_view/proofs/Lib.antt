@@ -1,5 +1,6 @@
 pub mod MovedLemmas
 pub mod SearchLemmas
+pub mod RegionLemmas
 pub mod LaidLemmas
 pub mod WrappedLemmas
 pub mod IdleLemmas

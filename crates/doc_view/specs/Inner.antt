@@ -1,19 +1,22 @@
 -- What private functions say: what a view keeps.
-use Rattle.std.specs.Prelude.{◌≡◌, ℕ, ◌<◌, Bool, true, not, ◌&&◌, ◌||◌, ◌==◌, List, [], ◌∷◌, length}
-use Rattle.std.specs.List.{list_any}
+use Rattle.std.specs.Prelude.{◌≡◌, ℕ, zero, suc, ◌<◌, ◌≤◌, min, Bool, true, not, ◌&&◌, ◌||◌, ◌==◌, List, [], ◌∷◌, length, Option, None, Some, option_map, slice_get}
+use Rattle.std.specs.List.{flat_map, list_any}
 use Rattle.std.specs.Option.{is_some}
 use Rattle.std.specs.Str.{all_scalars}
 use Rattle.plain_text.specs.declared.run.Run.{Run}
 use Rattle.plain_text.specs.declared.selection.Region.{Region}
 use Rattle.plain_text.specs.Numbers.{has}
 use Rattle.xi_plain.specs.declared.config.Config.{Config}
+use Rattle.plain_screen.specs.View.{layout_line_of}
 use Rattle.line_index.specs.Index.{Index}
-use Rattle.line_render.specs.Rendered.{carets_of}
+use Rattle.span_runs.specs.Spans.{spans_in}
+use Rattle.line_render.specs.Rendered.{carets_of, is_selected}
 use Rattle.selection_core.specs.Mapped.{AreWithin}
-use Rattle.selection_core.specs.Selection.{IsSelection, last_caret}
+use Rattle.selection_core.specs.Selection.{IsSelection, last_caret, lesser_end}
 use Rattle.doc_view.specs.declared.search.Search.{Search}
 use Rattle.doc_view.specs.Search.{results}
-use Rattle.doc_view.specs.View.{View}
+use Rattle.doc_view.specs.Told.{are_same_ends}
+use Rattle.doc_view.specs.View.{View, pieces_in}
 
 -- the index of a text for a configuration
 abbrev pub index_at : List ℕ → Config → Index
@@ -48,6 +51,40 @@ abbrev pub is_told_apart : View → View → Bool
 is_told_apart before after =
     not (length before.text == length after.text) ||
     (not (has_last_caret before.regions after.regions) || not (has_last_caret after.regions before.regions))
+
+-- ---- where what is shown on one text begins to differ
+
+-- where the region with an index starts, if there is one
+abbrev pub start_at : List Region → ℕ → Option ℕ
+start_at regions index = option_map lesser_end (slice_get regions index)
+
+-- the lesser of two gaps, of which there may be one, or none
+abbrev pub earlier : Option ℕ → Option ℕ → Option ℕ
+earlier None other = other
+earlier (Some gap) None = Some gap
+earlier (Some gap) (Some at) = Some (min gap at)
+
+-- left of a gap the carets of two selections are the same, and the selected characters
+pub record AreAlikeLeftOf (at : ℕ) (regions others : List Region) : Type 0 where
+  pub carets : (gap : ℕ) → gap < at → has (carets_of regions) gap ≡ has (carets_of others) gap
+  pub selected : (index : ℕ) → index < at → is_selected regions index ≡ is_selected others index
+
+-- the ends of two selections are the same where no gap is named, and else they are alike left of it
+abbrev pub AreEndsApart : Option ℕ → List Region → List Region → Type 0
+AreEndsApart None regions others = are_same_ends regions others ≡ true
+AreEndsApart (Some at) regions others = AreAlikeLeftOf at regions others
+
+-- what two views show on one text beside its characters is the same where no gap is named, and else it is alike left of it
+abbrev pub IsShownApart : Option ℕ → View → View → Type 0
+IsShownApart None before after = (are_same_ends before.regions after.regions ≡ true) × (before.layers ≡ after.layers)
+IsShownApart (Some at) before after =
+    AreAlikeLeftOf at before.regions after.regions ×
+    ((range : Run) → range.end ≤ at → flat_map (spans_in range) before.layers ≡ flat_map (spans_in range) after.layers)
+
+-- the line of the character left of a gap; the first one where there is none
+abbrev pub line_left_of : View → ℕ → ℕ
+line_left_of view zero = 0
+line_left_of view (suc gap) = layout_line_of (pieces_in view) gap
 
 -- ---- edits that do nothing
 

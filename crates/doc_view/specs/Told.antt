@@ -12,7 +12,7 @@ use Rattle.doc_layout.specs.Told.{is_covered, planned}
 use Rattle.doc_view.specs.declared.search.Search.{Search}
 use Rattle.doc_view.specs.declared.told.Pristine.{Pristine}
 use Rattle.doc_view.specs.declared.told.TextLeft.{TextLeft}
-use Rattle.doc_view.specs.declared.told.TextLeft.TheVariants.{Same, Edited}
+use Rattle.doc_view.specs.declared.told.TextLeft.TheVariants.{Same, Styled, Edited}
 use Rattle.doc_view.specs.Search.{is_for_nothing}
 use Rattle.doc_view.specs.View.{View, asked_in, layout_in}
 
@@ -37,6 +37,7 @@ is_lacking before after request pristine =
 -- the text and its styles are left so: where they are said to be the same they are
 abbrev pub IsTextLeft : TextLeft → View → View → Type 0
 IsTextLeft Same before after = (after.text ≡ before.text) × (after.layers ≡ before.layers)
+IsTextLeft Styled before after = after.text ≡ before.text
 IsTextLeft Edited before after = ⊤
 
 -- what it is told
@@ -62,8 +63,7 @@ are_same_ends regions others = pointwise has_same_ends regions others
 abbrev pub is_same_search : Search → Search → Bool
 is_same_search query other = bytes_eq query.chars other.chars && (is_for_nothing query || beq query.case_counts other.case_counts)
 
--- WHETHER ONE TEXT WITH ITS STYLES IS LAID OUT ALIKE in two views: with one tab width, one width, the same search and the same ends of regions
-abbrev pub is_laid_out_alike : View → View → Bool
-is_laid_out_alike before after =
-    before.config.tab == after.config.tab && (before.config.width == after.config.width &&
-    (is_same_search before.query after.query && are_same_ends before.regions after.regions))
+-- WHETHER ONE TEXT IS CUT ALIKE in two views, and the same looked for in it: with one tab width, one width and the same search
+abbrev pub is_cut_alike : View → View → Bool
+is_cut_alike before after =
+    before.config.tab == after.config.tab && (before.config.width == after.config.width && is_same_search before.query after.query)

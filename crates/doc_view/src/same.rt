@@ -1,25 +1,54 @@
-// Whether ends of regions, and searches, are the same, whether a gap is one of a caret, and whether a region has a goal.
+// Where the ends of regions begin to differ, whether searches are the same, whether a gap is one of a caret, and whether a region has a goal.
 ghost use Rattle.std.specs.Prelude.{◌≡◌};
 ghost use Rattle.plain_text.specs.Numbers.{has};
 ghost use Rattle.line_render.specs.Rendered.{carets_of};
-ghost use Rattle.doc_view.specs.Inner.{has_goal};
-ghost use Rattle.doc_view.specs.Told.{are_same_ends, has_same_ends, is_same_search};
+ghost use Rattle.selection_core.specs.Selection.{IsSelection};
+ghost use Rattle.doc_view.specs.Inner.{AreEndsApart, earlier, has_goal, start_at};
+ghost use Rattle.doc_view.specs.Told.{has_same_ends, is_same_search};
 
 use crate::search::Search;
 use plain_text::Region;
 
-pub(crate) fn are_same_ends(regions: &[Region], others: &[Region]) -> bool
-    ensures { result ≡ are_same_ends regions.now others.now }
+/// A gap left of which two selections have the same carets and select the same characters, where not all of their ends are the same. It costs the
+/// regions up to the first that has another end.
+pub(crate) fn ends_apart(regions: &[Region], others: &[Region]) -> Option<u64>
+    requires one { IsSelection regions.now }
+    requires another { IsSelection others.now }
+    ensures { AreEndsApart result regions.now others.now }
 {
-    if regions.len() != others.len() {
-        return false;
+    let mut index = 0;
+    while index < regions.len()
+        && index < others.len()
+        && has_same_ends(&regions[index], &others[index])
+    {
+        index += 1;
     }
-    for index in 0..regions.len() {
-        if !has_same_ends(&regions[index], &others[index]) {
-            return false;
-        }
+    earlier(start_at(regions, index), start_at(others, index))
+}
+
+// Where the region with this index starts, if there is one.
+fn start_at(regions: &[Region], index: usize) -> Option<u64>
+    ensures { result ≡ start_at regions.now index }
+{
+    if index < regions.len() {
+        let region = regions[index];
+        Some(region.anchor.min(region.caret))
+    } else {
+        None
     }
-    true
+}
+
+/// The lesser of two gaps, of which there may be one, or none.
+pub(crate) fn earlier(one: Option<u64>, other: Option<u64>) -> Option<u64>
+    ensures { result ≡ earlier one other }
+{
+    match one {
+        None => other,
+        Some(gap) => match other {
+            None => one,
+            Some(at) => Some(gap.min(at)),
+        },
+    }
 }
 
 fn has_same_ends(region: &Region, other: &Region) -> bool

@@ -1,4 +1,4 @@
-ghost use Rattle.std.specs.Prelude.{◌≡◌, ◌≤◌, ◌<◌, ◌^◌, true, [], ◌∷◌, length, map, None, Some, IfOk, IfSome};
+ghost use Rattle.std.specs.Prelude.{◌≡◌, ◌≤◌, ◌<◌, ◌^◌, true, [], ◌∷◌, length, map, take, None, Some, IfOk, IfSome};
 ghost use Rattle.std.specs.Arc.{arc_value};
 ghost use Rattle.std.specs.Str.{all_scalars};
 ghost use Rattle.plain_edits.specs.UnitDelta.{IsUnitDelta};
@@ -6,7 +6,7 @@ ghost use Rattle.edit_ops.specs.Commands.{IsDoneOnText, IsEffect, copied_text, e
 ghost use Rattle.edit_ops.specs.Regions.{without_goal};
 ghost use Rattle.selection_core.specs.Mapped.{AreWithin, length_after};
 ghost use Rattle.selection_core.specs.Selection.{IsSelection, caret_of, last_caret};
-ghost use Rattle.span_styles.specs.Layers.{AreOver, mapped_layers, new_layers};
+ghost use Rattle.span_styles.specs.Layers.{AreApartFrom, AreOver, mapped_layers, new_layers};
 ghost use Rattle.plain_screen.specs.SameLayout.{is_same_layout};
 ghost use Rattle.doc_layout.specs.Changed.{IsChangeOf};
 ghost use Rattle.doc_layout.specs.Found.{MayShow};
@@ -14,13 +14,13 @@ ghost use Rattle.doc_layout.specs.PositionView.{position_view};
 ghost use Rattle.doc_layout.specs.Told.{planned};
 ghost use Rattle.doc_view.specs.Moved.{AreMoved};
 ghost use Rattle.doc_view.specs.Search.{next_found, no_search, previous_found, results, search_for, with_match};
-ghost use Rattle.doc_view.specs.Inner.{has_last_caret, index_at, is_told_apart};
-ghost use Rattle.doc_view.specs.Told.{IsTextLeft, are_same_ends, has_asked, is_laid_out_alike, is_lacking, settled_view, told};
+ghost use Rattle.doc_view.specs.Inner.{IsShownApart, has_last_caret, index_at, is_told_apart, line_left_of};
+ghost use Rattle.doc_view.specs.Told.{IsTextLeft, has_asked, is_cut_alike, is_lacking, settled_view, told};
 ghost use Rattle.doc_view.specs.View.{asked_in, layout_in, pieces_in, point_in};
 
 use crate::indexed::{edited_index, index_of};
 use crate::moved::Goals;
-use crate::same::{are_same_ends, has_caret, has_goal, is_same_search};
+use crate::same::{earlier, ends_apart, has_caret, has_goal, is_same_search};
 use crate::search::{Search, next_match, previous_match, selecting};
 use crate::told::{Pristine, TextLeft};
 use doc_layout::{Asked, Shown, is_same_layout, update_of};
@@ -442,8 +442,9 @@ impl ViewState {
 
     /// What the front end is told where the document has the view `next` after an event that requests these lines; and that view, settled.
     /// This renders the lines that are told. Whether the layout is another it tells without a line where the length of the text is another, where
-    /// the last caret is no caret of the other view, and where text and styles are the same and no end of a region, search, width or tab width is
-    /// another; else it renders lines of both, up to the first that differs.
+    /// the last caret is no caret of the other view, and where the text is the same and no style, end of a region, search, width or tab width is
+    /// another; else it renders lines of both, up to the first that differs. Of one text that is cut alike it begins where regions or styles are
+    /// another, which it finds in their time; styles that the event left are not looked at.
     pub fn settled(
         &self,
         alloc: Global,
@@ -518,42 +519,93 @@ impl ViewState {
         ensures { IfOk result (λ same. same ≡ is_same_layout (layout_in self.now) (layout_in next.now)) }
     {
         match text {
-            TextLeft::Same => self.has_layout_on_text(alloc, next),
-            TextLeft::Edited => self.has_lines_of(alloc, next),
+            TextLeft::Same => self.has_layout_on_text(alloc, next, text),
+            TextLeft::Styled => self.has_layout_on_text(alloc, next, text),
+            TextLeft::Edited => self.has_lines_from(alloc, next, 0),
         }
     }
 
-    // The same, of one text with its styles: no line is read where it is laid out alike.
-    fn has_layout_on_text(&self, alloc: Global, next: &ViewState) -> Result<bool, NoMemory>
-        requires text { next.now.text ≡ self.now.text }
-        requires layers { next.now.layers ≡ self.now.layers }
+    // The same, of one text: where it is cut alike, no line is read where what is shown is the same, and none left of where that differs.
+    fn has_layout_on_text(
+        &self,
+        alloc: Global,
+        next: &ViewState,
+        text: TextLeft,
+    ) -> Result<bool, NoMemory>
+        requires same { next.now.text ≡ self.now.text }
+        requires text { IsTextLeft text self.now next.now }
         ensures { IfOk result (λ same. same ≡ is_same_layout (layout_in self.now) (layout_in next.now)) }
     {
-        if self.is_laid_out_as(next) {
-            return Ok(true);
+        if !self.is_cut_as(next) {
+            return self.has_lines_from(alloc, next, 0);
         }
-        self.has_lines_of(alloc, next)
+        match self.apart_from(next, text) {
+            None => Ok(true),
+            Some(gap) => self.has_lines_past(alloc, next, gap),
+        }
     }
 
-    // Whether one text is laid out alike in both, without a look at it.
-    fn is_laid_out_as(&self, next: &ViewState) -> bool
-        ensures { result ≡ is_laid_out_alike self.now next.now }
+    // Whether one text is cut alike in both, and the same is looked for.
+    fn is_cut_as(&self, next: &ViewState) -> bool
+        ensures { result ≡ is_cut_alike self.now next.now }
     {
         self.config.tab == next.config.tab
             && self.config.width == next.config.width
             && is_same_search(&self.query, &next.query)
-            && self.has_ends(&next.sel)
     }
 
-    // Whether the ends of these regions stand where those of the view do.
-    fn has_ends(&self, sel: &Sel) -> bool
-        ensures { result ≡ are_same_ends self.now.regions sel.now.regions }
+    // A gap left of which both show the same on one text, where they do not show the same on all of it.
+    fn apart_from(&self, next: &ViewState, text: TextLeft) -> Option<u64>
+        requires { IsTextLeft text self.now next.now }
+        ensures { IsShownApart result self.now next.now }
     {
-        are_same_ends(self.sel.regions.as_slice(), sel.regions.as_slice())
+        let regions = self.selection().regions.as_slice();
+        let ends = ends_apart(regions, next.selection().regions.as_slice());
+        let styles = self.styles_apart(next, text);
+        earlier(ends, styles)
     }
 
-    // Whether the layouts are the same, line by line where their texts and carets do not tell them apart.
-    fn has_lines_of(&self, alloc: Global, next: &ViewState) -> Result<bool, NoMemory>
+    // A gap left of which both have the same styles, where they do not have the same; no style is looked at where an event left them.
+    fn styles_apart(&self, next: &ViewState, text: TextLeft) -> Option<u64>
+        requires { IsTextLeft text self.now next.now }
+        ensures { AreApartFrom result self.now.layers next.now.layers }
+    {
+        match text {
+            TextLeft::Same => None,
+            TextLeft::Styled => self.layers().apart_from(next.layers()),
+            TextLeft::Edited => self.layers().apart_from(next.layers()),
+        }
+    }
+
+    // Whether the layouts of one text are the same, which is cut alike and shown alike left of a gap.
+    fn has_lines_past(&self, alloc: Global, next: &ViewState, gap: u64) -> Result<bool, NoMemory>
+        requires text { next.now.text ≡ self.now.text }
+        requires cut { is_cut_alike self.now next.now ≡ true }
+        requires shown { IsShownApart (Some gap) self.now next.now }
+        ensures { IfOk result (λ same. same ≡ is_same_layout (layout_in self.now) (layout_in next.now)) }
+    {
+        let from = self.line_left_of(gap);
+        self.has_lines_from(alloc, next, from)
+    }
+
+    // The line of the character left of a gap; the first one where there is none.
+    fn line_left_of(&self, gap: u64) -> u64
+        ensures line { result ≡ line_left_of self.now gap }
+        ensures inside { result ≤ length (pieces_in self.now) }
+        ensures characters { all_scalars self.now.text ≡ true }
+    {
+        let index = self.line_index();
+        if gap == 0 {
+            return 0;
+        }
+        index.line_of(gap - 1)
+    }
+
+    // Whether the layouts are the same, of which the lines before this one are: line by line where their texts and carets do not tell them
+    // apart.
+    fn has_lines_from(&self, alloc: Global, next: &ViewState, from: u64) -> Result<bool, NoMemory>
+        requires inside { from ≤ length (pieces_in self.now) }
+        requires alike { take from (layout_in self.now) ≡ take from (layout_in next.now) }
         ensures { IfOk result (λ same. same ≡ is_same_layout (layout_in self.now) (layout_in next.now)) }
     {
         let shown = self.shown_text();
@@ -561,7 +613,7 @@ impl ViewState {
         if self.is_told_apart(next) {
             return Ok(false);
         }
-        is_same_layout(alloc, &shown, &other)
+        is_same_layout(alloc, &shown, &other, from)
     }
 
     // Whether the length of the text is another, or the last caret of one is no caret of the other.
