@@ -1,6 +1,7 @@
 //! The program: the core of the xi editor over standard input and output.
 #![tactic(auto)]
 
+mod methods;
 mod program;
 mod texts;
 mod words;

@@ -3,6 +3,7 @@ ghost use Rattle.std.specs.Process.{exit_status};
 ghost use Rattle.xi_top.specs.Run.{IsAlone};
 ghost use Rattle.xi_core.specs.Words.{EndsFor, EndsForSome, EndsWith};
 
+use crate::methods::print_methods;
 use crate::texts::{Stream, stream_of, text_of};
 use crate::words::{Invocation, invocation_of, words};
 use outside::{FileShelf, StdSink, StdSource};
@@ -27,13 +28,15 @@ fn answered(rt: &HostRuntime, words: &[Text]) -> ExitCode
     let invocation = invocation_of(words);
     match invocation {
         Invocation::Alone => run(rt, words),
+        Invocation::Methods => listed(rt),
         _ => told(rt, invocation),
     }
 }
 
 /// Says what the program says of itself.
 fn told(rt: &HostRuntime, invocation: Invocation) -> ExitCode
-    requires { invocation ≢ Invocation.Alone }
+    requires no_run { invocation ≢ Invocation.Alone }
+    requires no_table { invocation ≢ Invocation.Methods }
     ensures { EndsWith invocation (exit_status result) }
 {
     let text = text_of(invocation);
@@ -46,6 +49,16 @@ fn told(rt: &HostRuntime, invocation: Invocation) -> ExitCode
             let _ = eprintln!(rt; "{text}");
             ExitCode::from(2)
         }
+    }
+}
+
+/// Prints the methods that lines may name.
+fn listed(rt: &HostRuntime) -> ExitCode
+    ensures { EndsWith Invocation.Methods (exit_status result) }
+{
+    match print_methods(rt) {
+        Ok(()) => ExitCode::SUCCESS,
+        Err(_) => ExitCode::from(5),
     }
 }
 

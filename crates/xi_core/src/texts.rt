@@ -10,8 +10,11 @@ const USAGE: &str = "usage: xi_core alone";
 const HELP: &str = "usage: xi_core alone
 
 Serves one front end: reads its JSON lines from standard input, and answers on standard output.
+Files are read and written under the paths that it names; a relative one counts from where the core was started.
 Ends with status 0 at the input's end; 2 for other words; 3 where memory runs out; 4 and 5 where
-the input or the output failed; 6 after 2^40 lines; 7 for a line of 2^24 bytes without LF.";
+the input or the output failed; 6 after 2^40 lines; 7 for a line of 2^24 bytes without LF.
+
+Asked --version it tells which one it is, asked --methods what lines may ask, and asked --help this.";
 
 /// Where a text goes.
 #[derive(Clone, Copy)]
@@ -27,7 +30,7 @@ pub fn text_of(invocation: Invocation) -> &'static str
     match invocation {
         Invocation::Help => HELP,
         Invocation::Version => VERSION,
-        Invocation::Alone => "",
+        Invocation::Methods | Invocation::Alone => "",
         Invocation::Misused => USAGE,
     }
 }

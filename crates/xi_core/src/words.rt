@@ -13,6 +13,8 @@ use std::{env, io};
 pub enum Invocation {
     Help,
     Version,
+    /// The table of methods.
+    Methods,
     /// A run that serves one front end.
     Alone,
     /// They are no form.
@@ -65,6 +67,7 @@ pub fn invocation_of(words: &[Text]) -> Invocation
     match words {
         [word] if is_help(word) => Invocation::Help,
         [word] if is_version(word) => Invocation::Version,
+        [word] if is_methods(word) => Invocation::Methods,
         [word] if is_alone(word) => Invocation::Alone,
         _ => Invocation::Misused,
     }
@@ -80,6 +83,12 @@ fn is_version(word: &Text) -> bool
     ensures { IsTrue result ↔ (word.now ≡ codes "--version") }
 {
     word.as_str() == "--version"
+}
+
+fn is_methods(word: &Text) -> bool
+    ensures { IsTrue result ↔ (word.now ≡ codes "--methods") }
+{
+    word.as_str() == "--methods"
 }
 
 fn is_alone(word: &Text) -> bool

@@ -1,24 +1,22 @@
-//! Prints the table of methods, one JSON object a line: first the methods that a line names, then those that `edit` names.
-//!
-//! | member | says |
-//! |---|---|
-//! | `edit` | whether the method is named by `edit` |
-//! | `members` | the members of its parameters in the order in which they are read, each with its name, what it has to be, and whether it may be left out or null |
-//! | `name` | the method |
-//! | `params` | whether its members stand in an `object` or in a `list`, whose items are named by their places from 0; `any` where it has no members |
-#![tactic(auto)]
-
 use case_front::{
     EDIT_METHODS, FRONT_METHODS, Kind, Member, edit_cases, edit_member, front_cases, front_member,
 };
 use std::io;
 
-fn main(rt: HostRuntime) -> io::Result<()> {
+/// Prints the table of methods, one JSON object a line: first the methods that a line names, then those that `edit` names.
+///
+/// | member | says |
+/// |---|---|
+/// | `edit` | whether the method is named by `edit` |
+/// | `members` | the members of its parameters in the order in which they are read, each with its name, what it has to be, and whether it may be left out or null |
+/// | `name` | the method |
+/// | `params` | whether its members stand in an `object` or in a `list`, whose items are named by their places from 0; `any` where it has no members |
+pub fn print_methods(rt: &HostRuntime) -> io::Result<()> {
     for row in 0..FRONT_METHODS {
-        print_method(&rt, Place { edit: false, row })?;
+        print_method(rt, Place { edit: false, row })?;
     }
     for row in 0..EDIT_METHODS {
-        print_method(&rt, Place { edit: true, row })?;
+        print_method(rt, Place { edit: true, row })?;
     }
     Ok(())
 }
