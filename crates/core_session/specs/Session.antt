@@ -22,7 +22,7 @@ use Rattle.doc_session.specs.Layout.{Position}
 use Rattle.json_rpc.specs.Response.{text_data}
 use Rattle.view_update.specs.declared.note.ViewUpdate.{ViewUpdate}
 use Rattle.view_update.specs.declared.note.Scroll.{Scroll}
-use Rattle.entry_lines.specs.Answer.{Reply, accepted, not_built, not_text, refused, shelf_failed, silent, spent}
+use Rattle.entry_lines.specs.Answer.{Reply, accepted, not_text, refused, shelf_failed, silent, spent}
 use Rattle.entry_lines.specs.Piece.{entry_messages, lines_written}
 use Rattle.entry_lines.specs.ViewId.{view_id_of}
 use Rattle.doc_session.specs.declared.event.Body.{Body}
@@ -231,7 +231,7 @@ abbrev pub close_outcome : List OpenView → Option OpenView → Outcome
 close_outcome views None = refusing_view views
 close_outcome views (Some view) = keeping (without view.id views) (accepted null)
 
--- THE OUTCOME of an act, by what the shelf gave it. A view that is not there is refused first, and what is not done yet last
+-- THE OUTCOME of an act, by what the shelf gave it. (What plugins ask comes in no line of the front end, and is not answered here.)
 abbrev pub outcome : Session → Act → Given → Outcome
 outcome session (Bad fault) gave = refusing session.views fault
 outcome session Nothing gave = keeping session.views (accepted null)
@@ -241,7 +241,7 @@ outcome session (CloseView name) gave = close_outcome session.views (named_view 
 outcome session (Save name path) gave = save_outcome session.views (named_view session.views name) gave
 outcome session (Edit name act) gave = edit_outcome session.views (named_view session.views name) act
 outcome session Closing gave = leaving session.views
-outcome session act gave = keeping session.views not_built
+outcome session act gave = keeping session.views silent
 
 -- the messages of an outcome in their order
 abbrev pub outcome_messages : Id → Outcome → List Data

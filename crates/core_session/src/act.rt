@@ -61,7 +61,8 @@ pub fn act_on(
         Act::Save { view, path: _ } => save(alloc, held, view, &given),
         Act::Edit { view, act } => edit(alloc, held, view, act),
         Act::Closing => unreachable!(),
-        _ => others(alloc, held, FrontReply::NotBuilt),
+        // What plugins ask comes in no line of the front end.
+        _ => others(alloc, held, FrontReply::Silent),
     }
 }
 

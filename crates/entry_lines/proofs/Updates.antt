@@ -18,7 +18,7 @@ use Rattle.view_update.specs.declared.note.Scroll.{Scroll}
 use Rattle.view_update.specs.declared.note.NumberedStyle.{NumberedStyle}
 use Rattle.view_update.specs.Reading.{line_update}
 use Rattle.view_update.proofs.ForCallers.{others_are_no_updates}
-use Rattle.entry_lines.specs.Answer.{Reply, accepted, refused, shelf_failed, not_text, spent, not_built, alerting, silent, answers, refusal, refused_by, shelf_refusal, text_refusal, spent_refusal, not_built_refusal}
+use Rattle.entry_lines.specs.Answer.{Reply, accepted, refused, shelf_failed, not_text, spent, alerting, silent, answers, refusal, refused_by, shelf_refusal, text_refusal, spent_refusal}
 use Rattle.entry_lines.specs.Piece.{HaveLines, UpdatesReadBack, entry_messages, style_notes, update_notes, scroll_notes}
 use Rattle.entry_lines.specs.Laws.{PiecesSayTheirUpdates}
 
@@ -89,7 +89,6 @@ updates_of-answers id (refused fault) lines = updates_of-none (refusal id fault)
 updates_of-answers id shelf_failed lines = updates_of-none (shelf_refusal id) (refused_none id (pos 1) (codes "shelf") lines.0)
 updates_of-answers id not_text lines = updates_of-none (text_refusal id) (refused_none id (pos 2) (codes "not text") lines.0)
 updates_of-answers id spent lines = updates_of-none (spent_refusal id) (refused_none id (pos 3) (codes "spent") lines.0)
-updates_of-answers id not_built lines = updates_of-none (not_built_refusal id) (refused_none id (pos 9) (codes "not built") lines.0)
 updates_of-answers id (alerting message) lines =
     updates_of-none (alert_data message) (others_are_no_updates.alert message (line_of (alert_data message)) lines.0)
 updates_of-answers id silent lines = updates_of-nil

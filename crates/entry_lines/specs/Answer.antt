@@ -9,17 +9,16 @@ use Rattle.json_rpc.specs.Refusal.{code_of, message_of}
 use Rattle.json_rpc.specs.Response.{reply_data, error_data, text_data}
 use Rattle.view_update.specs.Notes.{alert_data}
 use Rattle.entry_lines.specs.declared.reply.FrontReply.{FrontReply}
-use Rattle.entry_lines.specs.declared.reply.FrontReply.TheVariants.{Opened, Accepted, Copied, Refused, ShelfFailed, NotText, Spent, NotBuilt, Alert, Silent}
+use Rattle.entry_lines.specs.declared.reply.FrontReply.TheVariants.{Opened, Accepted, Copied, Refused, ShelfFailed, NotText, Spent, Alert, Silent}
 
 -- what is to be answered: a result, a refusal of a line, that the shelf failed, that its bytes are no text, that so many characters may not be
--- inserted, that the program does not do this yet, a message for the user, or nothing
+-- inserted, a message for the user, or nothing
 pub data Reply : Type 0 where
   accepted : (result : Data) → Reply
   refused : (fault : Fault) → Reply
   shelf_failed : Reply
   not_text : Reply
   spent : Reply
-  not_built : Reply
   alerting : (message : List ℕ) → Reply
   silent : Reply
 
@@ -32,7 +31,6 @@ reply_of (Refused fault) = refused fault
 reply_of ShelfFailed = shelf_failed
 reply_of NotText = not_text
 reply_of Spent = spent
-reply_of NotBuilt = not_built
 reply_of (Alert message) = alerting message
 reply_of Silent = silent
 
@@ -65,10 +63,6 @@ text_refusal id = refused_by id (pos 2) (codes "not text")
 abbrev pub spent_refusal : Id → Data
 spent_refusal id = refused_by id (pos 3) (codes "spent")
 
--- the refusal of what the program does not do yet
-abbrev pub not_built_refusal : Id → Data
-not_built_refusal id = refused_by id (pos 9) (codes "not built")
-
 -- the result of a request, where it has an id
 abbrev pub result_messages : Id → Data → List Data
 result_messages NoId result = []
@@ -82,6 +76,5 @@ answers id (refused fault) = refusal id fault ∷ []
 answers id shelf_failed = shelf_refusal id ∷ []
 answers id not_text = text_refusal id ∷ []
 answers id spent = spent_refusal id ∷ []
-answers id not_built = not_built_refusal id ∷ []
 answers id (alerting message) = alert_data message ∷ []
 answers id silent = []

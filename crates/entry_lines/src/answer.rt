@@ -23,9 +23,6 @@ const SHELF: i64 = 1;
 /// The number of the refusal of a file that is no text.
 const NOT_TEXT: i64 = 2;
 
-/// The number of the refusal of what the program does not do yet.
-const NOT_BUILT: i64 = 9;
-
 /// The lines that answer an entry.
 pub fn answer_lines(alloc: Global, id: &Id, reply: &FrontReply) -> Result<Text, NoMemory>
     requires { IsWireId id.now }
@@ -39,7 +36,6 @@ pub fn answer_lines(alloc: Global, id: &Id, reply: &FrontReply) -> Result<Text, 
         FrontReply::ShelfFailed => refused_as(alloc, id, SHELF, "shelf"),
         FrontReply::NotText => refused_as(alloc, id, NOT_TEXT, "not text"),
         FrontReply::Spent => refused_as(alloc, id, SPENT, "spent"),
-        FrontReply::NotBuilt => refused_as(alloc, id, NOT_BUILT, "not built"),
         FrontReply::Alert(message) => write_alert(alloc, message),
         FrontReply::Silent => Ok(Text::new(alloc)),
     }

@@ -22,8 +22,6 @@ pub enum FrontReply {
     NotText,
     /// It would insert more characters than may be.
     Spent,
-    /// The program does not do it yet.
-    NotBuilt,
     /// It asks for no answer, and has a message for the user.
     Alert(Text),
     /// It asks for no answer.

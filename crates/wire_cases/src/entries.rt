@@ -94,8 +94,6 @@ const NOT_TEXT_ALERT: &str = "{\"method\":\"alert\",\"params\":{\"msg\":\"not te
 
 const SPENT: &str = "{\"error\":{\"code\":3,\"message\":\"spent\"},\"id\":18446744073709551615}\n";
 
-const NOT_BUILT: &str = "{\"error\":{\"code\":9,\"message\":\"not built\"},\"id\":5}\n";
-
 #[test]
 fn refusals_of_the_session(rt: HostRuntime) {
     let alloc = rt.alloc();
@@ -108,7 +106,6 @@ fn refusals_of_the_session(rt: HostRuntime) {
             SPENT
         )
     );
-    assert!(rt; is(answered(alloc, 5, FrontReply::NotBuilt), NOT_BUILT));
 }
 
 /// The piece of an entry that copies this text.
