@@ -4,3 +4,6 @@ pub mod MatchLemmas
 pub mod WindowLemmas
 pub mod JoinedLemmas
 pub mod LawLemmas
+pub mod KeptLemmas
+pub mod EditLemmas
+pub mod EditedLemmas

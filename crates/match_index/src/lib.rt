@@ -4,7 +4,9 @@
 //! the characters in the text, from the left. They stand in a tree of strides: how far each match ends behind the one before.
 #![tactic(auto)]
 
+mod edit;
 mod joined;
+mod kept;
 pub mod laws;
 mod matches;
 mod search;

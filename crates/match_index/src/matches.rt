@@ -1,10 +1,16 @@
 ghost use Rattle.std.specs.Prelude.{◌≡◌, length, IfOk};
+ghost use Rattle.plain_edits.specs.UnitDelta.{IsUnitDelta};
+ghost use Rattle.delta_core.specs.Units.{text_after};
 ghost use Rattle.match_index.specs.Found.{first_from, last_to, runs_in, touching};
+ghost use Rattle.match_index.specs.Inner.{strides_under, HasRuns};
 
+use crate::edit::Edit;
 use crate::joined::joined_matches;
+use crate::kept::kept_ends;
 use crate::search::Search;
 use crate::stride::Strides;
 use crate::tree::{ending_by, run_behind};
+use plain_edits::UnitDelta;
 use plain_text::{NoMemory, Run, Runs, Text, TryClone};
 use rope_tree::Rope;
 use shared_tree::Tree;
@@ -52,6 +58,53 @@ impl Matches {
             fold,
             strides,
         })
+    }
+
+    /// The matches in the text after an edit, of which the rope is that text. It costs the parts of the edit and a search around what it
+    /// changes: from the last match on that ends left of that, and from where a match may reach it, up to where a match that was there
+    /// goes on, and else to the text's end. The other matches are shared.
+    pub fn edited(&self, alloc: Global, rope: &Rope, units: &UnitDelta) -> Result<Matches, NoMemory>
+        requires well_formed { IsUnitDelta units.now }
+        requires base { units.now.base ≡ length self.now.text }
+        requires after { rope.now ≡ text_after units.now self.now.text }
+        ensures { IfOk result (λ made. made ≡ record self.now { text = rope.now }) }
+    {
+        let strides = self.strides_after(alloc, rope, units)?;
+        Ok(Matches {
+            rope: rope.copy(alloc)?,
+            chars: self.chars.copy(alloc)?,
+            fold: self.fold,
+            strides,
+        })
+    }
+
+    /// The strides of the matches in the text after an edit.
+    fn strides_after(
+        &self,
+        alloc: Global,
+        rope: &Rope,
+        units: &UnitDelta,
+    ) -> Result<Tree<Strides>, NoMemory>
+        requires well_formed { IsUnitDelta units.now }
+        requires base { units.now.base ≡ length self.now.text }
+        requires after { rope.now ≡ text_after units.now self.now.text }
+        ensures { IfOk result (λ tree. HasRuns (record self.now { text = rope.now }) (strides_under tree)) }
+    {
+        if self.chars.is_empty() {
+            return Ok(Tree::new(alloc));
+        }
+        let (front, back) = kept_ends(units);
+        let edit = Edit {
+            before: &self.rope,
+            strides: &self.strides,
+            after: rope,
+            chars: &self.chars,
+            fold: self.fold,
+            front,
+            old: self.rope.len() - back,
+            new: rope.len() - back,
+        };
+        edit.found_after(alloc)
     }
 
     /// The same matches, shared, in O(1) and what is looked for.
