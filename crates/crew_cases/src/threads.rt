@@ -1,6 +1,7 @@
 //! Runs on threads: the journal of the closed room, and what each plugin was given.
 ghost use Rattle.std.specs.Prelude.{◌≡◌, ◌≤◌, ◌<◌, [], length, vec_len, vec_capacity};
 ghost use Rattle.room_lock.specs.Room.{first_pass};
+ghost use Rattle.plugin_crew.specs.Place.{givens_of};
 ghost use Rattle.plugin_crew.specs.Threads.{IsStaffed};
 ghost use Rattle.crew_cases.specs.Crowd.{IsAllBack};
 
@@ -63,9 +64,9 @@ struct Work<'a> {
 
 // The front closes the room, where this is so.
 fn close_where<R: Threads + Wait>(taker: &mut RoomFront<'_, Desk, R, Player>, closes: bool)
-    requires { IsStaffed taker.old.room.now.table.shared.table_id taker.old.room.now.table.shared.key.first.value taker.old.pass taker.old.posts.items }
-    ensures same { (taker.new.room.now ≡ taker.old.room.now) × (taker.new.posts.items ≡ taker.old.posts.items) }
-    ensures staffed { IsStaffed taker.new.room.now.table.shared.table_id taker.new.room.now.table.shared.key.first.value taker.new.pass taker.new.posts.items }
+    requires { IsStaffed taker.old.room.now.table.shared.table_id taker.old.room.now.table.shared.key.first.value taker.old.pass (givens_of taker.old.posts.items) }
+    ensures same { (taker.new.room.now ≡ taker.old.room.now) × (givens_of taker.new.posts.items ≡ givens_of taker.old.posts.items) }
+    ensures staffed { IsStaffed taker.new.room.now.table.shared.table_id taker.new.room.now.table.shared.key.first.value taker.new.pass (givens_of taker.new.posts.items) }
 {
     if closes {
         taker.close();
@@ -80,7 +81,7 @@ fn front_works<R: Threads + Wait>(
     back: Back<Player>,
     work: Work<'_>,
 ) -> (Option<Text>, Back<Player>)
-    requires staffed { IsStaffed taker.room.now.table.shared.table_id taker.room.now.table.shared.key.first.value taker.pass taker.posts.items }
+    requires staffed { IsStaffed taker.room.now.table.shared.table_id taker.room.now.table.shared.key.first.value taker.pass (givens_of taker.posts.items) }
     requires empty { (back.passes.items ≡ []) × (back.plugins.items ≡ []) }
     requires reserved { (length taker.posts.items < vec_capacity back.passes) × (length taker.posts.items ≤ vec_capacity back.plugins) }
     ensures { IsAllBack taker.entry.room.now.table.shared.table_id taker.entry.room.now.table.shared.key.first.value result.1.passes.items result.1.plugins.items result.1.all_served }
@@ -108,8 +109,7 @@ fn all_in_scope<'s, E, R: Threads + Wait + Sync>(
 ) -> (Option<Text>, Back<Player>)
     requires front { front ≡ first_pass room.now.table.shared.table_id }
     requires few { (vec_len players ≤ 64) × (vec_len players < room.now.table.shared.key.most) }
-    requires flags { vec_len players ≤ length flags.now }
-    requires posts { (posts.items ≡ []) × (vec_len players ≤ vec_capacity posts) }
+    requires vectors { (vec_len players ≤ length flags.now) × (posts.items ≡ []) × (vec_len players ≤ vec_capacity posts) }
     requires empty { (back.passes.items ≡ []) × (back.plugins.items ≡ []) }
     requires reserved { (vec_len players < vec_capacity back.passes) × (vec_len players ≤ vec_capacity back.plugins) }
     ensures { IsAllBack room.now.table.shared.table_id room.now.table.shared.key.first.value result.1.passes.items result.1.plugins.items result.1.all_served }
@@ -133,8 +133,7 @@ fn all_on_threads<R: Threads + Wait + Sync>(
 ) -> (Option<Text>, Back<Player>)
     requires front { front ≡ first_pass room.now.table.shared.table_id }
     requires few { (vec_len players ≤ 64) × (vec_len players < room.now.table.shared.key.most) }
-    requires flags { vec_len players ≤ length flags.now }
-    requires posts { (posts.items ≡ []) × (vec_len players ≤ vec_capacity posts) }
+    requires vectors { (vec_len players ≤ length flags.now) × (posts.items ≡ []) × (vec_len players ≤ vec_capacity posts) }
     requires empty { (back.passes.items ≡ []) × (back.plugins.items ≡ []) }
     requires reserved { (vec_len players < vec_capacity back.passes) × (vec_len players ≤ vec_capacity back.plugins) }
     ensures { IsAllBack room.now.table.shared.table_id room.now.table.shared.key.first.value result.1.passes.items result.1.plugins.items result.1.all_served }
@@ -145,8 +144,7 @@ fn all_on_threads<R: Threads + Wait + Sync>(
         move |scope| -> (Option<Text>, Back<Player>)
             requires front { front ≡ first_pass room.now.table.shared.table_id }
             requires few { (vec_len players ≤ 64) × (vec_len players < room.now.table.shared.key.most) }
-            requires flags { vec_len players ≤ length flags.now }
-            requires posts { (posts.items ≡ []) × (vec_len players ≤ vec_capacity posts) }
+            requires vectors { (vec_len players ≤ length flags.now) × (posts.items ≡ []) × (vec_len players ≤ vec_capacity posts) }
             requires empty { (back.passes.items ≡ []) × (back.plugins.items ≡ []) }
             requires reserved { (vec_len players < vec_capacity back.passes) × (vec_len players ≤ vec_capacity back.plugins) }
             ensures { IsAllBack room.entry.now.table.shared.table_id room.entry.now.table.shared.key.first.value result.1.passes.items result.1.plugins.items result.1.all_served }
@@ -174,7 +172,7 @@ fn first_on_a_thread<'s, E, R: Threads + Wait + Sync>(
     requires few { 2 < room.now.table.shared.key.most }
     requires posts { (posts.items ≡ []) × (2 ≤ vec_capacity posts) }
     ensures room { result.room.now ≡ room.now }
-    ensures staffed { IsStaffed room.now.table.shared.table_id room.now.table.shared.key.first.value result.pass result.posts.items }
+    ensures staffed { IsStaffed room.now.table.shared.table_id room.now.table.shared.key.first.value result.pass (givens_of result.posts.items) }
     ensures count { length result.posts.items ≡ 2 }
 {
     let mut front = front;

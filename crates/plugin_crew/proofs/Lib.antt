@@ -4,3 +4,4 @@ mod MemberLemmas
 mod AloneLemmas
 mod PostLemmas
 mod ThreadLemmas
+mod PlaceLemmas

@@ -1,6 +1,7 @@
 -- A plugin of a run on threads: what its worker handed back, and its turns on the calling thread.
 use Rattle.std.proofs.Common.{◌≡◌, ◌≤◌, ℕ, Bool, true, false, not, List, [], ◌∷◌, length, Option, refl, ap, sym, ◌∙◌, subst, arith}
-use Rattle.std.specs.Prelude.{Result, Ok, Err}
+use Rattle.std.specs.Bool.{MatchBool}
+use Rattle.std.specs.Prelude.{Result, Ok, Err, None}
 use Rattle.atomic_table.specs.Seated.{TableId}
 use Rattle.xi_plain.specs.declared.entry.Entry.{Entry}
 use Rattle.xi_plain.specs.declared.ask.Ask.{Ask}
@@ -22,6 +23,9 @@ use Rattle.plugin_crew.specs.declared.member.Member.{Member}
 use Rattle.plugin_crew.specs.Member.{IsNew}
 use Rattle.plugin_crew.specs.Standing.{HasStanding, is_going, standing_after}
 use Rattle.plugin_crew.specs.Session.{IsSession}
+use Rattle.plugin_crew.specs.declared.post.Work.{Work}
+use Rattle.plugin_crew.specs.declared.post.Work.TheVariants.{Runs}
+use Rattle.plugin_crew.specs.Place.{HasTurnHere, IsVisitHere, IsLeftHere, IsPlaced, place_at, place_by}
 use Rattle.plugin_crew.specs.Post.{HasServed, IsStay, gathered_of, standing_of}
 use Rattle.plugin_crew.proofs.SessionLemmas.{open_as, port_caller, port_ended, session_further, session_new}
 
@@ -90,6 +94,17 @@ module _ {O P : Type 0} (fits : O → ℕ → Ask → Type 0) (legal : O → Lis
             may.fresh new.port (ap told (sym new.now)) new.going);
       }
 
+  -- the place of one that was hired, and has a thread, and of one that has none
+  pub placed_runs : {R : Type 0} (given : Hiring O P) (work : Work O R P) → given.runs ≡ true → work ≡ Runs given
+      → IsPlaced serves answers told (record { given = given; here = place_by work })
+  placed_runs given work runs is =
+      subst (λ b. MatchBool b (place_by work ≡ None) (IsLeftHere serves answers told given (place_by work))) (sym runs) (ap place_by is)
+
+  pub placed_left : {R : Type 0} (given : Hiring O P) (work : Work O R P) → given.runs ≡ false → IsLeftHere serves answers told given (place_by work)
+      → IsPlaced serves answers told (record { given = given; here = place_by work })
+  placed_left given work stays left =
+      subst (λ b. MatchBool b (place_by work ≡ None) (IsLeftHere serves answers told given (place_by work))) (sym stays) left
+
   -- where the session goes on, the port does, and its caller is that of the door
   pub stay_open : (given : Hiring O P) (member : Member P) (door : Seated O) → IsStay fits legal serves answers told given member door
       → is_going member.standing ≡ true → member.port.ended ≡ false
@@ -129,6 +144,21 @@ module _ {O P : Type 0} (fits : O → ℕ → Ask → Type 0) (legal : O → Lis
             (session_further (serves given.first) (answers given.first) given.pass.caller door.pass.seen after.pass.seen member.port next.port (told given.plugin)
             (told member.plugin) (told next.plugin) member.standing stay.visits visit fits_it moved place by_caller tells stay.session);
       }
+
+  -- which is a turn of its place
+  pub stay_turn : (given : Hiring O P) (member next : Member P) (door after : Seated O) (visit : Visit) → is_going member.standing ≡ true
+      → IsVisit member.port visit → next.port ≡ after_visit member.port visit → next.standing ≡ standing_after visit.after
+      → Went (serves door.first) (answers door.first) door.pass.caller door.pass.seen after.pass.seen visit.calls
+      → IsStay fits legal serves answers told given member door
+      → HasTurnHere (serves given.first) (answers given.first) (place_at member door) (place_at next after)
+  stay_turn given member next door after visit going fits_it moved standing went stay =
+      let by_first = subst (λ o. Went (serves o) (answers o) door.pass.caller door.pass.seen after.pass.seen visit.calls) stay.object went in
+      let by_caller = subst (λ who. Went (serves given.first) (answers given.first) who door.pass.seen after.pass.seen visit.calls)
+      (stay_caller given member door stay) by_first in
+      let old = place_at member door in
+      let new = place_at next after in
+      subst (λ goes. MatchBool goes (IsVisitHere (serves given.first) (answers given.first) old new) (new ≡ old)) (sym going)
+      (record { visit = visit; fits = fits_it; moved = moved; stands = standing; went = by_caller })
 
   -- what it came to
   pub stay_served : (given : Hiring O P) (member : Member P) (door : Seated O) → IsStay fits legal serves answers told given member door

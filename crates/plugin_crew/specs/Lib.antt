@@ -5,5 +5,6 @@ pub mod Order
 pub mod Member
 pub mod Taker
 pub mod Alone
+pub mod Place
 pub mod Post
 pub mod Threads

@@ -14,6 +14,8 @@ use Rattle.plugin_session.specs.Hired.{Hiring}
 use Rattle.plugin_crew.specs.declared.post.Gathered.{Gathered}
 use Rattle.plugin_crew.specs.declared.standing.Standing.{Standing}
 use Rattle.plugin_crew.specs.Standing.{HasStanding, is_served}
+use Rattle.plugin_crew.specs.Alone.{MayServe}
+use Rattle.plugin_crew.specs.Place.{Posted, givens_of}
 use Rattle.plugin_crew.specs.Post.{HasServed}
 
 -- the plugin of this number was given a pass of the room
@@ -37,6 +39,11 @@ pub record IsStaffed {O P : Type 0} (room : TableId) (first : O) (pass : Known) 
   pub caller : pass.caller ≡ 0
   pub made : pass.made ≡ length givens + 1
   pub given : AreGiven room first 1 givens
+
+-- the front may take lines: the object lets it and these plugins ask
+abbrev pub MayTake : {O P : Type 0} → (O → ℕ → Ask → Type 0) → (O → List Entry → ℕ → Ask → Reply → List Entry → Type 0)
+    → TableId → O → Known → List (Posted O P) → Type 0
+MayTake fits serves room first pass posts = IsStaffed room first pass (givens_of posts) × MayServe fits serves (length posts) first
 
 -- the plugins that came back, in their order
 abbrev pub plugins_in : {P : Type 0} → List (Gathered P) → List P

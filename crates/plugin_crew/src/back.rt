@@ -2,6 +2,7 @@
 ghost use Rattle.std.specs.Prelude.{◌≡◌, ◌≤◌, ◌<◌, ◌+◌, ◌&&◌, true, List, [], ◌∷◌, ◌++◌, vec_len, vec_capacity, IfOk};
 ghost use Rattle.xi_plain.specs.declared.entry.Entry.{Entry};
 ghost use Rattle.plugin_crew.specs.declared.post.Gathered.{Gathered};
+ghost use Rattle.plugin_crew.specs.Place.{givens_of};
 ghost use Rattle.plugin_crew.specs.Standing.{is_served};
 ghost use Rattle.plugin_crew.specs.Threads.{AreBack, HasEnded, HaveServed, all_in, passes_in, plugins_in};
 
@@ -75,7 +76,7 @@ pub(crate) fn gather<O: Object, R: Threads + Wait, P: Plugin>(
     requires all { back.all_served ≡ true }
     requires passes { vec_len back.passes + vec_len posts ≤ vec_capacity back.passes }
     requires plugins { vec_len back.plugins + vec_len posts ≤ vec_capacity back.plugins }
-    ensures { (cames : List (Gathered P)) × HaveServed O.serves O.answers P.told posts.entry.items cames
+    ensures { (cames : List (Gathered P)) × HaveServed O.serves O.answers P.told (givens_of posts.entry.items) cames
         × (result.passes.items ≡ back.passes.items ++ passes_in cames)
         × (result.plugins.items ≡ back.plugins.items ++ plugins_in cames) × (result.all_served ≡ all_in cames) }
 {

@@ -4,6 +4,7 @@ ghost use Rattle.room_lock.specs.Room.{own};
 ghost use Rattle.plugin_session.specs.Hired.{Hiring, IsHandedBack};
 ghost use Rattle.plugin_session.specs.Worker.{MayWork};
 ghost use Rattle.plugin_crew.specs.declared.standing.Standing.TheVariants.{Going};
+ghost use Rattle.plugin_crew.specs.Place.{HasTurnAt, HasTurnHere, IsLeftHere, IsPlaced, IsVisited, place_at, place_by, place_in};
 ghost use Rattle.plugin_crew.specs.Post.{HasServed, IsStay, IsWork, gathered_of, standing_of};
 
 use crate::member::Member;
@@ -29,7 +30,8 @@ pub(crate) enum Work<'a, O: Object, R, P: Plugin> {
     Ended(Worked<P>),
 }
 
-/// A plugin of a run on threads. To a contract it is what it was given: the object that the room was made with, the pass, and the plugin.
+/// A plugin of a run on threads. To a contract it is what it was given (the object that the room was made with, the pass and the plugin), and
+/// its place, if it has its turns on the calling thread.
 #[derive(Drop)]
 pub struct Post<'a, O: Object, R, P: Plugin> {
     given: Snapshot<Hired<O, P>>,
@@ -39,12 +41,12 @@ pub struct Post<'a, O: Object, R, P: Plugin> {
 impl<'a, O: Object, R, P: Plugin> Model for Post<'a, O, R, P> {
     ghost use Rattle.std.specs.Prelude.{◌≡◌, [], IsSomeAnd};
     ghost use Rattle.room_lock.specs.Room.{own};
-    ghost use Rattle.plugin_session.specs.Hired.{Hiring};
+    ghost use Rattle.plugin_crew.specs.Place.{Posted, place_in};
     ghost use Rattle.plugin_crew.specs.Post.{IsWork};
 
-    ghost Value = { Hiring O P };
+    ghost Value = { Posted O P };
 
-    ghost view = { λ p. p.given.value };
+    ghost view = { λ p. record { given = p.given.value; here = place_in p.work } };
 
     ghost invariant = { λ p. (own p.given.value.pass ≡ []) × IsSomeAnd p.work (λ work. IsWork O.fits O.legal O.serves O.answers P.told p.given.value work) };
 }
@@ -119,10 +121,12 @@ fn work_of<'a, O: Object, R: Wait, P: Plugin>(
     requires { (given : Hiring O P) × (given.first ≡ room.now.table.shared.key.first.value)
         × MayWork O.fits O.legal room.now.table.shared.table_id given.first given.pass
         × IsHandedBack (O.serves given.first) (O.answers given.first) P.told given.pass given.plugin handed }
-    ensures { (given : Hiring O P) → given.first ≡ room.now.table.shared.key.first.value
+    ensures work { (given : Hiring O P) → given.first ≡ room.now.table.shared.key.first.value
         → MayWork O.fits O.legal room.now.table.shared.table_id given.first given.pass
         → IsHandedBack (O.serves given.first) (O.answers given.first) P.told given.pass given.plugin handed
         → IsWork O.fits O.legal O.serves O.answers P.told given result }
+    ensures left { (given : Hiring O P) → IsHandedBack (O.serves given.first) (O.answers given.first) P.told given.pass given.plugin handed
+        → IsLeftHere O.serves O.answers P.told given (place_by result) }
 {
     match handed {
         Ok(worked) => Work::Ended(worked),
@@ -141,8 +145,10 @@ fn stay_once<'a, O: Object, R: Wait, P: Plugin>(
 ) -> (Member<P>, RoomDoor<'a, O, R>)
     requires going { member.standing ≡ Going }
     requires stays { (given : Hiring O P) × IsStay O.fits O.legal O.serves O.answers P.told given member door }
-    ensures { (given : Hiring O P) → IsStay O.fits O.legal O.serves O.answers P.told given member door.entry
+    ensures stays { (given : Hiring O P) → IsStay O.fits O.legal O.serves O.answers P.told given member door.entry
         → IsStay O.fits O.legal O.serves O.answers P.told given result.0 result.1 }
+    ensures turn { (given : Hiring O P) → IsStay O.fits O.legal O.serves O.answers P.told given member door.entry
+        → HasTurnHere (O.serves given.first) (O.answers given.first) (place_at member door.entry) (place_at result.0 result.1) }
 {
     let mut member = member;
     let mut door = door;
@@ -158,8 +164,10 @@ fn stayed<'a, O: Object, R: Wait, P: Plugin>(
     door: RoomDoor<'a, O, R>,
 ) -> (Member<P>, RoomDoor<'a, O, R>)
     requires { (given : Hiring O P) × IsStay O.fits O.legal O.serves O.answers P.told given member door }
-    ensures { (given : Hiring O P) → IsStay O.fits O.legal O.serves O.answers P.told given member door.entry
+    ensures stays { (given : Hiring O P) → IsStay O.fits O.legal O.serves O.answers P.told given member door.entry
         → IsStay O.fits O.legal O.serves O.answers P.told given result.0 result.1 }
+    ensures turn { (given : Hiring O P) → IsStay O.fits O.legal O.serves O.answers P.told given member door.entry
+        → HasTurnHere (O.serves given.first) (O.answers given.first) (place_at member door.entry) (place_at result.0 result.1) }
 {
     if member.standing.is_going() {
         stay_once(alloc, member, door)
@@ -174,15 +182,18 @@ fn visited<'a, O: Object, R: Wait, P: Plugin>(
     work: Work<'a, O, R, P>,
 ) -> Work<'a, O, R, P>
     requires { (given : Hiring O P) × IsWork O.fits O.legal O.serves O.answers P.told given work }
-    ensures { (given : Hiring O P) → IsWork O.fits O.legal O.serves O.answers P.told given work.entry
+    ensures work { (given : Hiring O P) → IsWork O.fits O.legal O.serves O.answers P.told given work.entry
         → IsWork O.fits O.legal O.serves O.answers P.told given result }
+    ensures turn { (given : Hiring O P) → IsWork O.fits O.legal O.serves O.answers P.told given work.entry
+        → HasTurnAt (O.serves given.first) (O.answers given.first) (place_by work.entry) (place_by result) }
 {
     match work {
         Work::Stays(member, door) => {
             let (member, door) = stayed(alloc, member, door);
             Work::Stays(member, door)
         }
-        other => other,
+        Work::Runs(hired) => Work::Runs(hired),
+        Work::Ended(worked) => Work::Ended(worked),
     }
 }
 
@@ -192,8 +203,10 @@ fn visited_in<'a, O: Object, R: Wait, P: Plugin>(
     work: Option<Work<'a, O, R, P>>,
 ) -> Option<Work<'a, O, R, P>>
     requires { (given : Hiring O P) × IsSomeAnd work (λ one. IsWork O.fits O.legal O.serves O.answers P.told given one) }
-    ensures { (given : Hiring O P) → IsSomeAnd work.entry (λ one. IsWork O.fits O.legal O.serves O.answers P.told given one)
+    ensures work { (given : Hiring O P) → IsSomeAnd work.entry (λ one. IsWork O.fits O.legal O.serves O.answers P.told given one)
         → IsSomeAnd result (λ one. IsWork O.fits O.legal O.serves O.answers P.told given one) }
+    ensures turn { (given : Hiring O P) → IsSomeAnd work.entry (λ one. IsWork O.fits O.legal O.serves O.answers P.told given one)
+        → HasTurnAt (O.serves given.first) (O.answers given.first) (place_in work.entry) (place_in result) }
 {
     match work {
         Some(work) => Some(visited(alloc, work)),
@@ -221,7 +234,8 @@ impl<'a, O: Object, R: Threads + Wait, P: Plugin> Post<'a, O, R, P> {
     pub fn of(alloc: Global, rt: &'a R, room: &'a Room<O>, hired: Hired<O, P>) -> Post<'a, O, R, P>
         requires may { MayWork O.fits O.legal room.now.table.shared.table_id room.now.table.shared.key.first.value hired.pass }
         requires first { hired.first ≡ room.now.table.shared.key.first.value }
-        ensures { result ≡ hired }
+        ensures given { result.given ≡ hired }
+        ensures placed { IsPlaced O.serves O.answers P.told result }
     {
         let given = Snapshot::of(&hired);
         let work = if has_thread(&hired) {
@@ -237,7 +251,7 @@ impl<'a, O: Object, R: Threads + Wait, P: Plugin> Post<'a, O, R, P> {
 
     // One visit, where the plugin has its turns here.
     pub(crate) fn visit(&mut self, alloc: Global)
-        ensures { self.new ≡ self.old }
+        ensures { IsVisited O.serves O.answers self.old self.new }
     {
         let work = mem::replace(&mut self.work, None);
         self.work = visited_in(alloc, work);
@@ -245,7 +259,7 @@ impl<'a, O: Object, R: Threads + Wait, P: Plugin> Post<'a, O, R, P> {
 
     // What became of the plugin. Where it has a thread, that has ended then.
     pub(crate) fn gathered(self, rt: &R) -> Gathered<P>
-        ensures { HasServed (O.serves self.entry.first) (O.answers self.entry.first) self.entry.pass result.pass (P.told self.entry.plugin) (P.told result.plugin) result.standing }
+        ensures { HasServed (O.serves self.entry.given.first) (O.answers self.entry.given.first) self.entry.given.pass result.pass (P.told self.entry.given.plugin) (P.told result.plugin) result.standing }
     {
         let Post { given: _, work } = self;
         match work {

@@ -1,5 +1,6 @@
 // A run on threads: who is hired, who takes lines, and who is gathered.
 ghost use Rattle.std.specs.Prelude.{◌≡◌, ◌≤◌, ◌<◌, ◌+◌, [], length, vec_len, vec_capacity};
+ghost use Rattle.std.specs.List.{All};
 ghost use Rattle.xi_plain.specs.declared.ask.Ask.TheVariants.{CloseDown};
 ghost use Rattle.xi_plain.specs.Journal.{front_entries};
 ghost use Rattle.xi_plain.specs.Room.{Begins};
@@ -7,8 +8,9 @@ ghost use Rattle.room_lock.specs.Room.{IsSamePass, after_split, first_pass, next
 ghost use Rattle.plugin_session.specs.Worker.{MayWork};
 ghost use Rattle.plugin_session.specs.Alone.{IsReady};
 ghost use Rattle.plugin_crew.specs.Alone.{MayServe};
-ghost use Rattle.plugin_crew.specs.Taker.{HasTaken, IsEnteredBy, TellsFaults};
-ghost use Rattle.plugin_crew.specs.Threads.{AreBack, IsGiven, IsStaffed, begun_in};
+ghost use Rattle.plugin_crew.specs.Taker.{HasTaken, IsEnteredBy, IsTakenBy, TellsFaults, adds_entry, is_sent};
+ghost use Rattle.plugin_crew.specs.Place.{AreVisited, AreVisitedIf, IsPlaced, givens_of};
+ghost use Rattle.plugin_crew.specs.Threads.{AreBack, IsGiven, IsStaffed, MayTake, begun_in};
 
 use crate::back::{Back, gather};
 use crate::post::Post;
@@ -24,7 +26,7 @@ use std::thread::{Scope, Threads};
 use xi_plain::{Ask, Bytes, Object};
 
 /// A room with the pass of caller 0, and the plugins of a run on threads. It gives those their turns that have no thread. To a contract it is
-/// the room, the pass, and what each plugin was given.
+/// the room, the pass, and its posts.
 #[derive(Drop)]
 pub struct RoomFront<'a, O: Object, R, P: Plugin> {
     rt: &'a R,
@@ -72,8 +74,9 @@ fn hire_next<
     requires ready { IsReady O.fits front.old.made room.now.table.shared.key.first.value }
     requires lawful { O.legal room.now.table.shared.key.first.value front.old.seen }
     ensures front { front.new ≡ after_split front.old }
-    ensures given { IsGiven room.now.table.shared.table_id room.now.table.shared.key.first.value front.old.made result }
-    ensures plugin { result.plugin ≡ plugin }
+    ensures given { IsGiven room.now.table.shared.table_id room.now.table.shared.key.first.value front.old.made result.given }
+    ensures plugin { result.given.plugin ≡ plugin }
+    ensures placed { IsPlaced O.serves O.answers P.told result }
 {
     let pass = split_pass(room, front);
     let hired = hire(scope, rt, alloc, flag, room, pass, plugin, gate);
@@ -102,15 +105,14 @@ pub fn hire_all<
 ) -> RoomFront<'s, O, R, P>
     requires front { front ≡ first_pass room.now.table.shared.table_id }
     requires few { (vec_len plugins ≤ 64) × (vec_len plugins < room.now.table.shared.key.most) }
-    requires flags { vec_len plugins ≤ length flags.now }
-    requires posts { (posts.items ≡ []) × (vec_len plugins ≤ vec_capacity posts) }
+    requires reserved { (vec_len plugins ≤ length flags.now) × (posts.items ≡ []) × (vec_len plugins ≤ vec_capacity posts) }
     requires may { MayServe O.fits O.serves (length plugins.items) room.now.table.shared.key.first.value }
     requires lawful { O.legal room.now.table.shared.key.first.value [] }
     ensures room { result.room.now ≡ room.now }
     ensures none { front_entries result.pass.seen ≡ [] }
-    ensures may { MayServe O.fits O.serves (length result.posts.items) room.now.table.shared.key.first.value }
-    ensures begun { begun_in result.posts.items ≡ plugins.items }
-    ensures staffed { IsStaffed room.now.table.shared.table_id room.now.table.shared.key.first.value result.pass result.posts.items }
+    ensures begun { begun_in (givens_of result.posts.items) ≡ plugins.items }
+    ensures placed { All (IsPlaced O.serves O.answers P.told) result.posts.items }
+    ensures ready { MayTake O.fits O.serves room.now.table.shared.table_id room.now.table.shared.key.first.value result.pass result.posts.items }
 {
     let mut pass = front;
     let mut posts = posts;
@@ -140,7 +142,7 @@ fn enter_front<O: Object, R: Wait>(rt: &R, room: &Room<O>, pass: &mut Pass, ask:
 
 // Gives each plugin that has no thread one visit, in their order.
 fn round<O: Object, R: Threads + Wait, P: Plugin>(alloc: Global, posts: &mut Vec<Post<'_, O, R, P>>)
-    ensures { posts.new.items ≡ posts.old.items }
+    ensures { AreVisited O.serves O.answers posts.old.items posts.new.items }
 {
     for at in 0..posts.len() {
         posts[at].visit(alloc);
@@ -153,7 +155,7 @@ fn round_where<O: Object, R: Threads + Wait, P: Plugin>(
     posts: &mut Vec<Post<'_, O, R, P>>,
     goes: bool,
 )
-    ensures { posts.new.items ≡ posts.old.items }
+    ensures { AreVisitedIf O.serves O.answers goes posts.old.items posts.new.items }
 {
     if goes {
         round(alloc, posts);
@@ -169,7 +171,7 @@ impl<'a, O: Object, R: Threads + Wait, P: Plugin> RoomFront<'a, O, R, P> {
         pass: Pass,
         posts: Vec<Post<'a, O, R, P>>,
     ) -> RoomFront<'a, O, R, P>
-        requires { IsStaffed room.now.table.shared.table_id room.now.table.shared.key.first.value pass posts.items }
+        requires { IsStaffed room.now.table.shared.table_id room.now.table.shared.key.first.value pass (givens_of posts.items) }
         ensures { (result.room.now ≡ room.now) × (result.pass ≡ pass) × (result.posts.items ≡ posts.entry.items) }
     {
         RoomFront {
@@ -183,10 +185,10 @@ impl<'a, O: Object, R: Threads + Wait, P: Plugin> RoomFront<'a, O, R, P> {
 
     /// Enters the closing entry, and gives each plugin that has no thread its last turn. It may wait.
     pub fn close(&mut self) -> Took
-        requires staffed { IsStaffed self.old.room.now.table.shared.table_id self.old.room.now.table.shared.key.first.value self.old.pass self.old.posts.items }
-        requires may { MayServe O.fits O.serves (length self.old.posts.items) self.old.room.now.table.shared.key.first.value }
-        ensures same { (self.new.room.now ≡ self.old.room.now) × (self.new.posts.items ≡ self.old.posts.items) }
-        ensures staffed { IsStaffed self.new.room.now.table.shared.table_id self.new.room.now.table.shared.key.first.value self.new.pass self.new.posts.items }
+        requires ready { MayTake O.fits O.serves self.old.room.now.table.shared.table_id self.old.room.now.table.shared.key.first.value self.old.pass self.old.posts.items }
+        ensures same { (self.new.room.now ≡ self.old.room.now) × (givens_of self.new.posts.items ≡ givens_of self.old.posts.items) }
+        ensures round { AreVisitedIf O.serves O.answers (adds_entry result) self.old.posts.items self.new.posts.items }
+        ensures ready { MayTake O.fits O.serves self.new.room.now.table.shared.table_id self.new.room.now.table.shared.key.first.value self.new.pass self.new.posts.items }
         ensures took { HasTaken (front_entries self.old.pass.seen) result (front_entries self.new.pass.seen) }
         ensures served { IsEnteredBy (O.serves self.old.room.now.table.shared.key.first.value) CloseDown (front_entries self.old.pass.seen) result (front_entries self.new.pass.seen) }
     {
@@ -199,9 +201,9 @@ impl<'a, O: Object, R: Threads + Wait, P: Plugin> RoomFront<'a, O, R, P> {
     pub fn gather_all(self, back: Back<P>) -> Back<P>
         requires empty { (back.passes.items ≡ []) × (back.plugins.items ≡ []) }
         requires reserved { (length self.posts.items < vec_capacity back.passes) × (length self.posts.items ≤ vec_capacity back.plugins) }
-        requires staffed { IsStaffed self.room.now.table.shared.table_id self.room.now.table.shared.key.first.value self.pass self.posts.items }
+        requires staffed { IsStaffed self.room.now.table.shared.table_id self.room.now.table.shared.key.first.value self.pass (givens_of self.posts.items) }
         ensures { AreBack O.serves O.answers P.told self.entry.room.now.table.shared.table_id self.entry.room.now.table.shared.key.first.value
-            (front_entries self.entry.pass.seen) (begun_in self.entry.posts.items) result.passes.items result.plugins.items result.all_served }
+            (front_entries self.entry.pass.seen) (begun_in (givens_of self.entry.posts.items)) result.passes.items result.plugins.items result.all_served }
     {
         let RoomFront {
             rt,
@@ -218,24 +220,31 @@ impl<'a, O: Object, R: Threads + Wait, P: Plugin> RoomFront<'a, O, R, P> {
 }
 
 impl<O: Object, R: Threads + Wait, P: Plugin> LineTaker for RoomFront<'_, O, R, P> {
-    ghost use Rattle.std.specs.Prelude.{◌≡◌, length, refl};
+    ghost use Rattle.std.specs.Prelude.{◌≡◌, refl};
     ghost use Rattle.std.proofs.Common.{◌∙◌, subst};
     ghost use Rattle.xi_plain.specs.Journal.{front_entries};
     ghost use Rattle.xi_plain.specs.Room.{Begins};
     ghost use Rattle.plugin_session.specs.Seat.{Begins-same, Begins-trans};
-    ghost use Rattle.plugin_crew.specs.Alone.{MayServe, fronts_begin};
-    ghost use Rattle.plugin_crew.specs.Threads.{IsStaffed};
+    ghost use Rattle.plugin_crew.specs.Alone.{fronts_begin};
+    ghost use Rattle.plugin_crew.specs.Place.{givens_of};
+    ghost use Rattle.plugin_crew.specs.Threads.{MayTake};
 
     ghost entries = { λ f. front_entries f.pass.seen };
 
     ghost serves = { λ f. O.serves f.room.now.table.shared.key.first.value };
 
-    ghost later = { λ f g. (g.room.now ≡ f.room.now) × Begins f.pass.seen g.pass.seen × (g.posts.items ≡ f.posts.items) };
+    ghost later = { λ f g. (g.room.now ≡ f.room.now) × Begins f.pass.seen g.pass.seen × (givens_of g.posts.items ≡ givens_of f.posts.items) };
 
-    ghost ready = { λ f. IsStaffed f.room.now.table.shared.table_id f.room.now.table.shared.key.first.value f.pass f.posts.items
-        × MayServe O.fits O.serves (length f.posts.items) f.room.now.table.shared.key.first.value };
+    ghost ready = { λ f. MayTake O.fits O.serves f.room.now.table.shared.table_id f.room.now.table.shared.key.first.value f.pass f.posts.items };
 
-    fn take(&mut self, line: Bytes) -> Took {
+    fn take(&mut self, line: Bytes) -> Took
+        requires ready { MayTake O.fits O.serves self.old.room.now.table.shared.table_id self.old.room.now.table.shared.key.first.value self.old.pass self.old.posts.items }
+        ensures ready { MayTake O.fits O.serves self.new.room.now.table.shared.table_id self.new.room.now.table.shared.key.first.value self.new.pass self.new.posts.items }
+        ensures later { (self.new.room.now ≡ self.old.room.now) × Begins self.old.pass.seen self.new.pass.seen × (givens_of self.new.posts.items ≡ givens_of self.old.posts.items) }
+        ensures took { HasTaken (front_entries self.old.pass.seen) result (front_entries self.new.pass.seen) }
+        ensures served { IsTakenBy (O.serves self.old.room.now.table.shared.key.first.value) line (front_entries self.old.pass.seen) result (front_entries self.new.pass.seen) }
+        ensures round { AreVisitedIf O.serves O.answers (is_sent result) self.old.posts.items self.new.posts.items }
+    {
         let took = enter_front(self.rt, self.room, &mut self.pass, Ask::FrontLine(line));
         round_where(self.alloc, &mut self.posts, took.is_sent());
         took

@@ -2,6 +2,7 @@ use Rattle.std.proofs.Common.{[], ◌∷◌, ◌++◌, length, refl, ap, sym, �
 use Rattle.std.specs.Prelude.{◌&&◌}
 use Rattle.std.proofs.lemmas.List.{append-nil, append_assoc, map-append, nil_from_length}
 use Rattle.plugin_crew.specs.Standing.{is_served}
+use Rattle.plugin_crew.specs.Place.{givens_of}
 use Rattle.plugin_crew.specs.Threads.{HaveServed, passes_in, plugins_in}
 use Rattle.plugin_crew.proofs.ThreadLemmas.{served_snoc, all_snoc}
 use Rattle.plugin_crew.proofs.back.gather.Goals as goal
@@ -31,7 +32,8 @@ loop-post-preserved g c =
         done ++ post ∷ [],
         cames ++ came ∷ [],
         first ∙ (ap (λ l. done ++ l) step ∙ sym (append_assoc done (post ∷ []) c.next.new.self.rest.items)),
-        served_snoc g.O.Object.serves g.O.Object.answers g.P.Plugin.told done cames post came served c.gathered-came.ensures,
+        subst (λ l. HaveServed g.O.Object.serves g.O.Object.answers g.P.Plugin.told l (cames ++ came ∷ [])) (sym (map-append (λ one. one.given) done (post ∷ [])))
+            (served_snoc g.O.Object.serves g.O.Object.answers g.P.Plugin.told (givens_of done) cames post.given came served c.gathered-came.ensures),
         put.passes ∙ ap (λ l. l ++ came.pass ∷ []) passes ∙ append_assoc c.args.back.passes.items (passes_in cames) (came.pass ∷ [])
             ∙ ap (λ l. c.args.back.passes.items ++ l) (sym (map-append (λ one. one.pass) cames (came ∷ []))),
         put.plugins ∙ ap (λ l. l ++ came.plugin ∷ []) plugins ∙ append_assoc c.args.back.plugins.items (plugins_in cames) (came.plugin ∷ [])
@@ -47,7 +49,7 @@ returns g c =
     let none = nil_from_length rest.items (omega (arith, c.in-None.ensures.steps.0, rest.ok.0)) in
     let whole = sym c.into_iter-post-iterator.ensures.into_iter_gives.0 ∙ first ∙ ap (λ l. done ++ l) none ∙ append-nil done in (
       cames,
-      subst (λ l. HaveServed g.O.Object.serves g.O.Object.answers g.P.Plugin.told l cames) (sym whole) served,
+      subst (λ l. HaveServed g.O.Object.serves g.O.Object.answers g.P.Plugin.told (givens_of l) cames) (sym whole) served,
       passes,
       plugins,
       all,

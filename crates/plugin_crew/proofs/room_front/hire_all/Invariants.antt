@@ -1,5 +1,7 @@
 use Rattle.std.proofs.Common.{◌≡◌, ◌≤◌, ◌+◌, [], ◌++◌, length}
 use Rattle.std.specs.Prelude.{vec_len, vec_capacity}
+use Rattle.std.specs.List.{All}
+use Rattle.plugin_crew.specs.Place.{IsPlaced, givens_of}
 use Rattle.plugin_crew.specs.Threads.{AreGiven, begun_in}
 use Rattle.plugin_crew.proofs.room_front.hire_all.Given as goal
 
@@ -14,5 +16,6 @@ invariant-loop-plugin g l =
     × (l.pass.caller ≡ 0)
     × (l.pass.seen ≡ [])
     × (l.pass.made ≡ vec_len l.posts + 1)
-    × (begun_in l.posts.items ++ l.plugin-iterator.rest.items ≡ l.fn.plugins.items)
-    × AreGiven l.room.table.shared.table_id l.room.table.shared.key.first.value 1 l.posts.items
+    × (begun_in (givens_of l.posts.items) ++ l.plugin-iterator.rest.items ≡ l.fn.plugins.items)
+    × AreGiven l.room.table.shared.table_id l.room.table.shared.key.first.value 1 (givens_of l.posts.items)
+    × All (IsPlaced g.O.Object.serves g.O.Object.answers g.P.Plugin.told) l.posts.items

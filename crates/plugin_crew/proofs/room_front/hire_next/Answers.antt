@@ -11,5 +11,5 @@ of-requires-clause-may g c =
 pub returns-clause-given : goal.returns-clause-given
 returns-clause-given g c =
     let room = c.args.room.now.table.shared in
-    given_next room.table_id room.key.first.value c.args.front.now c.split_pass-pass.result c.hire-hired.result c.of.result c.requires.room c.split_pass-pass.ensures.next
-    c.hire-hired.ensures.first c.hire-hired.ensures.given.0 c.of.ensures
+    given_next room.table_id room.key.first.value c.args.front.now c.split_pass-pass.result c.hire-hired.result c.of.result.given c.requires.room c.split_pass-pass.ensures.next
+    c.hire-hired.ensures.first c.hire-hired.ensures.given.0 c.of.ensures.given

@@ -1,13 +1,27 @@
-use Rattle.plugin_crew.proofs.ThreadLemmas.{staffed_on}
+use Rattle.std.proofs.Common.{refl, subst}
+use Rattle.plugin_crew.specs.Place.{AreVisitedIf}
+use Rattle.plugin_crew.proofs.PlaceLemmas.{round_given, take_on}
 use Rattle.plugin_crew.proofs.room_front.RoomFront.close.Goals as goal
 
 pub enter_front-took-requires : goal.enter_front-took-requires
 enter_front-took-requires g c =
-    record { room = c.requires.staffed.here; front = c.requires.staffed.caller; fits = c.requires.may.close; faults = c.requires.may.faults }
+    let (staffed, may) = c.requires.ready in record { room = staffed.here; front = staffed.caller; fits = may.close; faults = may.faults }
 
-pub returns-clause-staffed : goal.returns-clause-staffed
-returns-clause-staffed g c =
+pub returns-clause-same : goal.returns-clause-same
+returns-clause-same g c =
+    let o = g.O.Object in
+    (refl, round_given o.serves o.answers c.adds_entry.result c.args.self.now.posts.items c.round_where.new.posts.items c.round_where.ensures)
+
+pub returns-clause-round : goal.returns-clause-round
+returns-clause-round g c =
+    let o = g.O.Object in
+    let f = c.args.self.now in
+    subst (λ goes. AreVisitedIf o.serves o.answers goes f.posts.items c.round_where.new.posts.items) c.adds_entry.ensures c.round_where.ensures
+
+pub returns-clause-ready : goal.returns-clause-ready
+returns-clause-ready g c =
+    let o = g.O.Object in
     let f = c.args.self.now in
     let room = f.room.now.table.shared in
-    staffed_on room.table_id room.key.first.value f.pass c.enter_front-took.new.pass f.posts.items c.round_where.new.posts.items
-    c.enter_front-took.ensures.same c.round_where.ensures c.requires.staffed
+    take_on o.serves o.answers o.fits room.table_id room.key.first.value f.pass c.enter_front-took.new.pass c.adds_entry.result f.posts.items
+    c.round_where.new.posts.items c.enter_front-took.ensures.same c.round_where.ensures c.requires.ready

@@ -1,4 +1,5 @@
 use Rattle.std.proofs.Common.{◌++◌, [], ◌∷◌, refl, ap, ◌∙◌}
+use Rattle.plugin_crew.specs.Place.{givens_of}
 use Rattle.plugin_crew.specs.Threads.{passes_in, plugins_in}
 use Rattle.plugin_crew.proofs.room_front.RoomFront.gather_all.Goals as goal
 
@@ -7,7 +8,7 @@ returns g c =
     let (cames, served, passes, plugins, all) = c.gather.ensures in
     record {
       front = c.args.self.pass;
-      givens = c.args.self.posts.items;
+      givens = givens_of c.args.self.posts.items;
       cames = cames;
       staffed = c.requires.staffed;
       begun_is = refl;

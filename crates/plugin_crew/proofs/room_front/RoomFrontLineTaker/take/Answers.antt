@@ -1,6 +1,6 @@
-use Rattle.std.proofs.Common.{length, refl, sym, subst}
-use Rattle.plugin_crew.specs.Alone.{MayServe}
-use Rattle.plugin_crew.proofs.ThreadLemmas.{staffed_on}
+use Rattle.std.proofs.Common.{refl, subst}
+use Rattle.plugin_crew.specs.Place.{AreVisitedIf}
+use Rattle.plugin_crew.proofs.PlaceLemmas.{round_given, take_on}
 use Rattle.plugin_crew.proofs.room_front.RoomFrontLineTaker.take.Goals as goal
 
 pub enter_front-took-requires : goal.enter_front-took-requires
@@ -10,13 +10,18 @@ enter_front-took-requires g c =
 
 pub returns-clause-ready : goal.returns-clause-ready
 returns-clause-ready g c =
+    let o = g.O.Object in
     let f = c.args.self.now in
     let room = f.room.now.table.shared in
-    let (staffed, may) = c.requires.ready in (
-      staffed_on room.table_id room.key.first.value f.pass c.enter_front-took.new.pass f.posts.items c.round_where.new.posts.items
-          c.enter_front-took.ensures.same c.round_where.ensures staffed,
-      subst (λ items. MayServe g.O.Object.fits g.O.Object.serves (length items) room.key.first.value) (sym c.round_where.ensures) may,
-    )
+    take_on o.serves o.answers o.fits room.table_id room.key.first.value f.pass c.enter_front-took.new.pass c.is_sent.result f.posts.items
+    c.round_where.new.posts.items c.enter_front-took.ensures.same c.round_where.ensures c.requires.ready
 
 pub returns-clause-later : goal.returns-clause-later
-returns-clause-later g c = (refl, c.enter_front-took.ensures.seen, c.round_where.ensures)
+returns-clause-later g c =
+    let o = g.O.Object in
+    (refl, c.enter_front-took.ensures.seen, round_given o.serves o.answers c.is_sent.result c.args.self.now.posts.items c.round_where.new.posts.items c.round_where.ensures)
+
+pub returns-clause-round : goal.returns-clause-round
+returns-clause-round g c =
+    let o = g.O.Object in
+    subst (λ goes. AreVisitedIf o.serves o.answers goes c.args.self.now.posts.items c.round_where.new.posts.items) c.is_sent.ensures c.round_where.ensures
