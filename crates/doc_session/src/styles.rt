@@ -40,7 +40,7 @@ impl Doc {
         let text = self.text.copy(alloc)?;
         let next = document_of(text, view);
         let said = Said {
-            text: TextLeft::Edited,
+            text: TextLeft::Styled,
             request: NO_REQUEST,
             body: Body::Null,
             scrolling: Scrolling::Nowhere,

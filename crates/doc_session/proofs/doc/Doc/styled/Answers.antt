@@ -41,6 +41,12 @@ document_of-next-requires c =
           ap (λ (t : TextState). length t.sessions) (sym c.in_ok-text.ensures);
     }
 
+pub told-requires : goal.told-requires
+told-requires c = record {
+  text =
+      ap (λ (d : Doc). d.view.text) c.document_of-next.ensures ∙ ap (λ (v : View). v.text) c.in_ok-view.ensures ∙ ap (λ (d : Doc). d.view.text) c.self.view_is;
+}
+
 pub returns-clause-stepped : goal.returns-clause-stepped
 returns-clause-stepped c = λ plain stands.
     let now = c.args.self.now in
