@@ -1,13 +1,12 @@
 #!/usr/bin/env python3
 """An editor for a terminal, over `curses`. It keeps the lines alone that the core sent it, so a long text costs it what a short one does.
 
-    python3 examples/terminal.py CORE [FILE]    (the core opens no file yet, and refuses FILE: the foot of the screen says so)
+    python3 examples/terminal.py CORE [FILE]    (a FILE that is not there is made where it is saved)
 
 Arrows, Home, End, Page keys, with Shift to select, with Ctrl by words; Backspace, Delete, Tab, Enter; Ctrl-A all, Ctrl-C copy, Ctrl-X cut, Ctrl-V paste,
 Ctrl-Z undo, Ctrl-Y redo, Ctrl-F find, Ctrl-N the next match, Ctrl-P the one before, Ctrl-W wrapping, Ctrl-S save, Ctrl-Q leave; a click, the wheel.
 """
 import curses, json, os, queue, subprocess, sys, threading, unicodedata
-
 from front_end import after
 
 TAB = 4
@@ -66,7 +65,7 @@ def width_of(char, column):
 class Editor:
     def __init__(self, window, core, path):
         self.window, self.core, self.path, self.view, self.top, self.left = window, core, path, None, 0, 0
-        self.wraps, self.kept, self.leaves, self.height, self.width = False, "", False, window.getmaxyx()[0] - 1, window.getmaxyx()[1] - 6
+        self.wraps, self.kept, self.copied, self.leaves, self.height, self.width = False, "", 0, False, window.getmaxyx()[0] - 1, window.getmaxyx()[1] - 6
         core.send("new_view", {"file_path": path} if path else {}, self.opened)
 
     def opened(self, view):
@@ -131,8 +130,12 @@ class Editor:
         elif key == "\x17":
             self.wraps, self.left = not self.wraps, 0
             self.sized()
-        elif key in ("\x03", "\x18"): self.edit("copy" if key == "\x03" else "cut", None, lambda chars: setattr(self, "kept", chars))
-        elif key == "\x16": self.edit("paste", {"chars": self.kept})
+        elif key in ("\x03", "\x18"):
+            self.edit("copy" if key == "\x03" else "cut", None, lambda chars: setattr(self, "kept", chars))
+            self.copied = self.core.sent
+        elif key == "\x16":
+            while self.copied in self.core.waits and (message := self.core.came.get()): self.core.take(message)  # what was copied last comes first
+            self.edit("paste", {"chars": self.kept})
         elif key in ("\x0e", "\x10"): self.edit("find_next" if key == "\x0e" else "find_previous", {"wrap_around": True})
         elif key in ("KEY_PPAGE", "KEY_NPAGE"):
             for _ in range(max(self.height - 1, 1)): self.edit("move_up" if key == "KEY_PPAGE" else "move_down")
@@ -156,8 +159,7 @@ class Editor:
             for at in range(end - count, end): found[at] = found.get(at, 0) | look
         return found
 
-    def foot(self, text):
-        self.window.addnstr(self.height, 0, text.ljust(self.width + 5), self.width + 5, curses.A_REVERSE)
+    def foot(self, text): self.window.addnstr(self.height, 0, text.ljust(self.width + 5), self.width + 5, curses.A_REVERSE)
 
     def draw(self):
         """Shows each valid line of the window; of one that is not valid nothing is known."""
@@ -189,9 +191,7 @@ class Editor:
 
 
 def main(window):
-    curses.raw()
-    curses.mousemask(curses.ALL_MOUSE_EVENTS)
-    window.timeout(20)
+    curses.raw(), curses.mousemask(curses.ALL_MOUSE_EVENTS), window.timeout(20)
     Editor(window, Core(sys.argv[1]), os.path.abspath(sys.argv[2]) if sys.argv[2:] else None).run()
 
 

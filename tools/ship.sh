@@ -25,7 +25,7 @@ kit      $(rt version)
 gate     $said
 
 Trusted besides what the gate checks: the toolchain with its checker and its ported crates, the C library, the kernel, and the
-standard streams and files below what the program calls (README.md, 'What is trusted').
+standard streams and files below what the program calls (README.md, 'What is proved, tested, trusted').
 END
 (cd "$room/$name" && find . -type f ! -name SHA256SUMS | sort | sed 's|^\./||' | xargs sha256sum > SHA256SUMS)
 chmod -R u=rwX,go=rX "$room/$name"
