@@ -4,7 +4,7 @@ use Rattle.std.specs.Prelude.{◌^◌}
 use Rattle.xi_plain.specs.declared.entry.Entry.{Entry}
 use Rattle.core_session.specs.declared.session.Core.{Core}
 use Rattle.xi_plain.specs.Journal.{closing_entry}
-use Rattle.core_session.specs.Session.{first_session, views_of, written}
+use Rattle.session_step.specs.Session.{first_session, views_of, written}
 use Rattle.core_session.specs.Core.{IsServing, journal_of}
 use Rattle.core_session.specs.Shows.{AreShown, last_requested, Shows}
 use Rattle.core_session.proofs.ShowsLemmas.{no_lines, shows_push}

@@ -8,7 +8,7 @@ use Rattle.xi_plain.specs.declared.entry.ShelfNote.{ShelfNote}
 use Rattle.core_session.specs.declared.session.Core.{Core}
 use Rattle.core_session.specs.Core.{AddsSentEntry, AddsUnsentEntry, front_entry, journal_of, outlets_of, piece_after, shelf_of, sink_of}
 use Rattle.core_session.specs.InnerSession.{PutsSent, PutsUnsent}
-use Rattle.core_session.specs.Session.{views_of}
+use Rattle.session_step.specs.Session.{views_of}
 use Rattle.core_session.specs.Shelves.{Files, IsNoted, shelf_state}
 
 module _ {K H : Type 0} (held : K → Option (List ℕ)) (faults failures : K → ℕ) (files : H → Option Files) (shelf_faults : H → ℕ)

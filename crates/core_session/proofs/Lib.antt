@@ -1,13 +1,10 @@
 pub mod SessionLemmas
-pub mod ViewLemmas
 pub mod PlanLemmas
 pub mod ScreenLemmas
 pub mod StepLemmas
 pub mod ShelfLemmas
 pub mod RevisionLemmas
 pub mod ShowsLemmas
-pub mod OpenLemmas
-pub mod FaultLemmas
 pub mod PrepareLemmas
 pub mod EnterLemmas
 pub mod ClosedLemmas

@@ -4,8 +4,8 @@ use Rattle.xi_plain.specs.declared.command.Act.{Act}
 use Rattle.xi_plain.specs.declared.entry.Entry.{Entry}
 use Rattle.plain_edits.specs.History.{head}
 use Rattle.doc_session.specs.Step.{EventStep}
-use Rattle.core_session.specs.declared.given.Given.{Given}
-use Rattle.core_session.specs.Session.{OpenView, HaveRevisions, Session, first_session, given_by, outcome, stepped, step, session_after, views_of}
+use Rattle.session_step.specs.declared.given.Given.{Given}
+use Rattle.session_step.specs.Session.{OpenView, HaveRevisions, Session, first_session, given_by, outcome, stepped, step, session_after, views_of}
 use Rattle.core_session.proofs.StepLemmas.{IsBase, IsSlow, all_base, by_views}
 
 -- the views one by one

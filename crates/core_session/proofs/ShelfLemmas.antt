@@ -16,8 +16,8 @@ use Rattle.xi_plain.specs.declared.entry.ShelfNote.{ShelfNote}
 use Rattle.xi_plain.specs.declared.entry.ShelfNote.TheVariants.{Absent, Done, Failed, Held, NoCall}
 use Rattle.xi_plain.specs.Journal.{closing_entry, may_open}
 use Rattle.core_session.specs.declared.ask.Asked.{Asked}
-use Rattle.core_session.specs.declared.given.Given.TheVariants as given
-use Rattle.core_session.specs.Session.{OpenView, Session, first_session, given_by, named_view, session_after, step, views_of}
+use Rattle.session_step.specs.declared.given.Given.TheVariants as given
+use Rattle.session_step.specs.Session.{OpenView, Session, first_session, given_by, named_view, session_after, step, views_of}
 use Rattle.core_session.specs.InnerSession.{IsChosenBy}
 use Rattle.core_session.specs.Shelves.{AreSavesAsked, AreSavesAskedFrom, Files, HoldsSaves, IsNoted, KeepsFiles, NotesTell, NotesTellFrom, NoteTells, ShelfState, asks_as, failed_count, failed_notes, files_after_all, files_with, shelved, with_saved}
 

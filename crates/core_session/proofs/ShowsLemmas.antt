@@ -22,16 +22,16 @@ use Rattle.doc_session.specs.ScreenOf.{IsUpToDate}
 use Rattle.doc_session.specs.Step.{EventStep}
 use Rattle.entry_lines.specs.Piece.{AreLinesOf, UpdatesReadBack, lines_written}
 use Rattle.entry_lines.proofs.ForCallers.{all_append, pieces_say_their_updates}
-use Rattle.core_session.specs.declared.given.Given.{Given}
-use Rattle.core_session.specs.declared.opened.Opened.{Opened}
-use Rattle.core_session.specs.Session.{OpenView, HaveRevisions, Session, first_session, session_of, view_of, views_of, Outcome, act_step, given_by, opened_after, outcome, leaving, outcome_messages, stepped, told, updates_for, messages, step, written, piece_of}
+use Rattle.session_step.specs.declared.given.Given.{Given}
+use Rattle.session_step.specs.declared.opened.Opened.{Opened}
+use Rattle.session_step.specs.Session.{OpenView, HaveRevisions, Session, first_session, session_of, view_of, views_of, Outcome, act_step, given_by, opened_after, outcome, leaving, outcome_messages, stepped, told, updates_for, messages, step, written, piece_of}
 use Rattle.core_session.specs.Shows.{updates_in, screen_with, rebuilt_from, rebuilt, IsShown, AreShown, SendsTo, NoteSendsTo, NotesSendTo, requested, last_requested, Shows}
 use Rattle.doc_text.proofs.ForCallers.{head-text}
 use Rattle.entry_lines.specs.ViewId.{view_id_of}
-use Rattle.core_session.specs.Core.{AreRebuilt, IsNotGiven, IsOfLine, IsOpen, Stands, StandsForSession, IsShowing, front_entry}
-use Rattle.core_session.specs.InnerSession.{HasApart, MayBeAsked}
+use Rattle.core_session.specs.Core.{AreRebuilt, IsOpen, StandsForSession, IsShowing, front_entry}
+use Rattle.session_step.specs.Views.{IsNotGiven, IsOfLine, Stands, HasApart, MayBeAsked}
 use Rattle.core_session.proofs.RevisionLemmas.{revisions_few}
-use Rattle.core_session.proofs.ViewLemmas.{same_id, other_way, AreNumbered, apart-numbered, next_not_given, not_given-before, not_given-others}
+use Rattle.session_step.proofs.ForCallers.{same_id, other_way, AreNumbered, apart-numbered, next_not_given, not_given-before, not_given-others}
 use Rattle.core_session.proofs.StepLemmas.{AreLastTold, IsBase, MakesScreen, UpdateWithin, KeepsStep, KeepEach, NoneRequested, all_base, apart_of, by_outcome, last_base, last_of, numbered_base, numbered_of, opened_few, opened_more, opened_of}
 use Rattle.core_session.proofs.ScreenLemmas.{IsUpToDate-over}
 use Rattle.core_session.proofs.SessionLemmas.{session_of-push, views_of-push, messages_of, messages_of-push, written-messages, IsOpen-push}

@@ -31,13 +31,13 @@ use Rattle.doc_session.specs.Effects.{pristine_from, screen_told, settled, updat
 use Rattle.doc_session.specs.Step.{EventStep, event_step, act_step, collected_document, command_refusal, effect_on, refusal_at, request_of, saved_document, viewed_document}
 use Rattle.doc_session.proofs.ForCallers.{by_front, IsLastTold-settled, IsUpToDate-settled, part-settled, request_of-refused, updates_show}
 use Rattle.entry_lines.specs.Answer.{Reply, spent}
-use Rattle.core_session.specs.declared.given.Given.{Given}
-use Rattle.core_session.specs.declared.given.Given.TheVariants as given
-use Rattle.core_session.specs.InnerSession.{HasApart}
-use Rattle.core_session.specs.Session.{OpenView, HaveRevisions, Session, first_session, view_of, named_view, views_of, Outcome, outcome, config_with, config_step, taking, leaving, keeping, next_view, opened_after, open_outcome, other_step, own_step, close_outcome, edit_came, edit_outcome, given_by, save_outcome, spent_total, step, stepped, session_after, session_of, without}
+use Rattle.session_step.specs.declared.given.Given.{Given}
+use Rattle.session_step.specs.declared.given.Given.TheVariants as given
+use Rattle.session_step.specs.Views.{HasApart}
+use Rattle.session_step.specs.Session.{OpenView, HaveRevisions, Session, first_session, view_of, named_view, views_of, Outcome, outcome, config_with, config_step, taking, leaving, keeping, next_view, opened_after, open_outcome, other_step, own_step, close_outcome, edit_came, edit_outcome, given_by, save_outcome, spent_total, step, stepped, session_after, session_of, without}
 use Rattle.core_session.specs.Shows.{SendsWithin, requested}
 use Rattle.core_session.proofs.PlanLemmas.{sends-plan_from}
-use Rattle.core_session.proofs.ViewLemmas.{id_is, view_of-found, OnlyOwn, only_own, AreNumbered, numbered_none, numbered_push, numbered_without, numbered_stepped, apart-numbered}
+use Rattle.session_step.proofs.ForCallers.{id_is, view_of-found, OnlyOwn, only_own, AreNumbered, numbered_none, numbered_push, numbered_without, numbered_stepped, apart-numbered}
 
 -- the update, where there is one, makes this screen of that, and sends lines of this window, or requested, alone
 unfoldable pub MakesScreen : Option Update → Screen → Screen → Type 0

@@ -1,33 +1,19 @@
 -- What a session in memory keeps, and what a call does to it.
-use Rattle.std.specs.Prelude.{◌≡◌, ℕ, ◌+◌, ◌<◌, ◌≤◌, Bool, true, false, List, [], ◌∷◌, ◌++◌, length, take, Option, Some, vec_len, vec_capacity, ⊤}
+use Rattle.std.specs.Prelude.{◌≡◌, ℕ, ◌+◌, ◌<◌, ◌≤◌, Bool, true, false, List, [], ◌∷◌, ◌++◌, length, take, Option, Some, vec_len, vec_capacity}
 use Rattle.std.specs.List.{AllByRecursion}
-use Rattle.std.specs.Str.{bytes_eq}
-use Rattle.xi_plain.specs.declared.command.Act.{Act}
 use Rattle.xi_plain.specs.declared.command.Command.{Command}
 use Rattle.xi_plain.specs.declared.config.Config.{Config}
 use Rattle.xi_plain.specs.declared.entry.Entry.{Entry}
 use Rattle.xi_plain.specs.declared.entry.ShelfNote.{ShelfNote}
-use Rattle.xi_plain.specs.Journal.{closes, may_have_note}
+use Rattle.xi_plain.specs.Journal.{may_have_note}
 use Rattle.outside.specs.Faults.{Rose, counted}
 use Rattle.outside.specs.Sink.{SinkState, Gains, sink_state}
-use Rattle.doc_session.specs.InMemory.{Doc}
-use Rattle.doc_session.specs.Document.{Document}
-use Rattle.doc_session.specs.Stands.{DocStandsFor}
-use Rattle.entry_lines.specs.ViewId.{view_id_of}
-use Rattle.core_session.specs.declared.opened.Opened.{Opened}
+use Rattle.session_step.specs.declared.opened.Opened.{Opened}
 use Rattle.core_session.specs.declared.session.Core.{Core}
-use Rattle.core_session.specs.Session.{OpenView, Session, first_session, session_of, views_of, piece_of, written}
+use Rattle.session_step.specs.Session.{OpenView, Session, first_session, session_of, views_of, piece_of, written}
+use Rattle.session_step.specs.Views.{IsNotGiven, IsOfLine, Stands}
 use Rattle.core_session.specs.Shelves.{AreSavesAsked, Files, IsNoted, KeepsFiles, ShelfState, shelf_state}
 use Rattle.core_session.specs.Shows.{Shows, rebuilt}
-
--- the document in memory stands for the plain one, and no plugin has a session in it
-pub record ServesDocument (doc : Doc) (plain : Document) : Type 0 where
-  pub stands : DocStandsFor doc plain
-  pub no_sessions : length doc.text.sessions ≡ 0
-
--- a line of the front end asks so: it closes nothing
-abbrev pub IsOfLine : Act → Type 0
-IsOfLine act = closes act ≡ false
 
 -- the entry is one of the front end's lines, with a note of its own kind, and its piece was sent whole
 pub record IsOpen (entry : Entry) : Type 0 where
@@ -35,18 +21,6 @@ pub record IsOpen (entry : Entry) : Type 0 where
   pub asks : IsOfLine entry.command.act
   pub note : may_have_note entry.command.act entry.shelf ≡ true
   pub sent : entry.sent ≡ true
-
--- what is held of a view is its id, and a document that stands for its own
-pub record ServesView (held : Opened) (view : OpenView) : Type 0 where
-  pub id : held.id ≡ view.id
-  pub serves : ServesDocument held.doc view.document
-
--- what is held is of the views that are open, in their order
-abbrev pub Stands : List Opened → List OpenView → Type 0
-Stands [] [] = ⊤
-Stands [] (view ∷ views) = ⊥
-Stands (kept ∷ held) [] = ⊥
-Stands (kept ∷ held) (view ∷ views) = ServesView kept view × Stands held views
 
 -- the views, their number and the configuration in memory are those of the session, and a tab has columns
 pub record StandsForSession (held : List Opened) (many : ℕ) (laid : Config) (session : Session) : Type 0 where
@@ -90,10 +64,6 @@ HasSessionAfter core journal = StandsForSession core.views core.opened core.conf
 -- of each of the views the front end rebuilds the screen that the view's document says
 abbrev pub AreRebuilt : List ℕ → List OpenView → Type 0
 AreRebuilt bytes views = AllByRecursion (λ (view : OpenView). rebuilt view.id bytes ≡ Some view.document.screen) views
-
--- the id is of none of so many views that were opened
-abbrev pub IsNotGiven : ℕ → List ℕ → Type 0
-IsNotGiven opened id = (n : ℕ) → n < opened → bytes_eq (view_id_of (n + 1)) id ≡ false
 
 -- what the entries write shows them, and by its updates the front end has, of each view that is open, the screen that the view's document
 -- says, and an empty one of an id that was not given yet

@@ -1,4 +1,3 @@
-pub mod Session
 pub mod Shelves
 pub mod Shows
 pub mod Core

@@ -10,7 +10,7 @@ use Rattle.xi_plain.specs.Journal.{is_no_call, may_have_note}
 use Rattle.outside.specs.Faults.{Rose}
 use Rattle.outside.specs.Shelf.{bytes_of, with_file}
 use Rattle.doc_text.specs.Writing.{head_text}
-use Rattle.core_session.specs.Session.{OpenView, Session, first_session, named_view, step}
+use Rattle.session_step.specs.Session.{OpenView, Session, first_session, named_view, step}
 
 -- files: paths with their bytes
 abbrev pub Files : Type 0

@@ -16,7 +16,7 @@ use Rattle.view_update.specs.Reading.{line_update}
 use Rattle.doc_session.specs.Document.{Document, layout_of, no_request}
 use Rattle.doc_session.specs.ScreenOf.{IsScreenOf}
 use Rattle.doc_session.specs.Step.{request_of}
-use Rattle.core_session.specs.Session.{OpenView, first_session, session_of, view_of, views_of, piece_of, written}
+use Rattle.session_step.specs.Session.{OpenView, first_session, session_of, view_of, views_of, piece_of, written}
 
 -- the notes `update` in the lines of these bytes: each is an update of a view, or `None` where it can't be read
 abbrev pub updates_in : List ℕ → List (Option ViewUpdate)

@@ -4,18 +4,15 @@ ghost use Rattle.outside.specs.Faults.{Rose};
 ghost use Rattle.xi_plain.specs.declared.entry.ShelfNote.TheVariants.{Done, Failed, Held, NoCall};
 ghost use Rattle.xi_plain.specs.declared.command.Act.TheVariants.{NewView, Save};
 ghost use Rattle.xi_plain.specs.Journal.{may_open};
-ghost use Rattle.core_session.specs.Core.{IsOfLine};
-ghost use Rattle.core_session.specs.InnerSession.{AreThere, IsAsked, IsFoundAt, MayBeAsked};
-ghost use Rattle.core_session.specs.Session.{OpenView, Session, config_after, given_by, named_view};
+ghost use Rattle.session_step.specs.Views.{IsOfLine, AreThere, IsFoundAt, MayBeAsked};
+ghost use Rattle.core_session.specs.InnerSession.{IsAsked};
+ghost use Rattle.session_step.specs.Session.{OpenView, Session, config_after, given_by, named_view};
 ghost use Rattle.core_session.specs.Shelves.{IsNoted, KeepsFiles, NoteTells, shelf_state};
 
-use crate::config::opened_after;
-use crate::given::Given;
-use crate::made::{both, by_answer};
-use crate::opened::{Opened, place_of};
-use crate::prepare::done;
+use crate::made::by_answer;
 use outside::{Shelf, Shelved};
 use plain_text::{Bytes, List, NoMemory, Text};
+use session_step::{Given, Opened, both, done, opened_after, place_of};
 use std::alloc::Global;
 use xi_plain::{Act, Command, Config, ShelfNote};
 

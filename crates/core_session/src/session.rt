@@ -5,13 +5,12 @@ ghost use Rattle.xi_plain.specs.declared.command.Command.{Command};
 ghost use Rattle.xi_plain.specs.Journal.{closing_entry, may_have_note};
 ghost use Rattle.front_wire.specs.Front.{command_of};
 
-use crate::config::FIRST_CONFIG;
 use crate::made::put;
-use crate::opened::Opened;
 use crate::prepare::prepare;
 use crate::write::write_piece;
 use outside::{Shelf, Sink};
 use plain_text::{List, Text};
+use session_step::{FIRST_CONFIG, Opened};
 use std::alloc::Global;
 use xi_plain::{Act, Command, Config, Entry, Id, ShelfNote};
 
@@ -52,8 +51,9 @@ pub struct Core<K, H> {
 }
 
 impl<K: Sink, H: Shelf> Core<K, H> {
-    ghost use Rattle.core_session.specs.Core.{IsOfLine, IsServing, AddsSentEntry, AddsUnsentEntry, ChangesNothing, HasSessionAfter, HasRoom, journal_of, outlets_of, shelf_of, sink_of};
-    ghost use Rattle.core_session.specs.Session.{session_of, views_of};
+    ghost use Rattle.session_step.specs.Views.{IsOfLine};
+    ghost use Rattle.core_session.specs.Core.{IsServing, AddsSentEntry, AddsUnsentEntry, ChangesNothing, HasSessionAfter, HasRoom, journal_of, outlets_of, shelf_of, sink_of};
+    ghost use Rattle.session_step.specs.Session.{session_of, views_of};
     ghost use Rattle.core_session.specs.Shelves.{asks_as};
     ghost use Rattle.core_session.specs.InnerSession.{IsPrepared, PutsSent, PutsUnsent};
 

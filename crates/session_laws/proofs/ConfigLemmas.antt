@@ -11,9 +11,9 @@ use Rattle.xi_plain.specs.declared.entry.Entry.{Entry}
 use Rattle.doc_session.specs.declared.event.Event.TheVariants.{Config as Configured, Front, Other, Saved}
 use Rattle.doc_session.specs.Step.{EventStep, event_step, refusal_at}
 use Rattle.doc_session.proofs.ForCallers.{config-event_step}
-use Rattle.core_session.specs.declared.given.Given.{Given}
-use Rattle.core_session.specs.declared.given.Given.TheVariants as given
-use Rattle.core_session.specs.Session.{OpenView, Session, first_session, close_outcome, config_with, config_after, config_step, edit_came, edit_outcome, given_by, named_view, next_view, open_outcome, other_step, outcome, own_step, save_outcome, session_after, spent_total, step, stepped, view_of, without}
+use Rattle.session_step.specs.declared.given.Given.{Given}
+use Rattle.session_step.specs.declared.given.Given.TheVariants as given
+use Rattle.session_step.specs.Session.{OpenView, Session, first_session, close_outcome, config_with, config_after, config_step, edit_came, edit_outcome, given_by, named_view, next_view, open_outcome, other_step, outcome, own_step, save_outcome, session_after, spent_total, step, stepped, view_of, without}
 use Rattle.core_session.proofs.ForCallers.{all_without}
 use Rattle.session_laws.specs.Laws.{AllAreConfigured}
 

@@ -14,7 +14,7 @@ use Rattle.plain_text.specs.InputLines.{ended_lines, lines_of}
 use Rattle.front_wire.specs.Front.{command_of}
 use Rattle.outside.specs.Sink.{Gains}
 use Rattle.xi_plain.specs.Journal.{closing_entry}
-use Rattle.core_session.specs.Session.{first_session, written}
+use Rattle.session_step.specs.Session.{first_session, written}
 use Rattle.core_session.specs.Core.{piece_after}
 use Rattle.xi_top.specs.declared.ending.Ending.TheVariants.{NoMemory, SourceFault, SinkFault, TooMany, TooLong}
 use Rattle.xi_top.specs.Ending.{Outcome, status_of}

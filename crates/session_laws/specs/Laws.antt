@@ -11,9 +11,9 @@ use Rattle.view_update.specs.Fair.{IsFairUpdate}
 use Rattle.view_update.specs.Reading.{read_params}
 use Rattle.view_update.specs.Written.{update_data}
 use Rattle.doc_text.specs.Collecting.{HasNoneLeft}
-use Rattle.core_session.specs.declared.opened.Opened.{Opened}
-use Rattle.core_session.specs.Core.{Stands}
-use Rattle.core_session.specs.Session.{OpenView, HaveRevisions, session_of, views_of}
+use Rattle.session_step.specs.declared.opened.Opened.{Opened}
+use Rattle.session_step.specs.Views.{Stands}
+use Rattle.session_step.specs.Session.{OpenView, HaveRevisions, session_of, views_of}
 use Rattle.core_session.specs.Shows.{rebuilt}
 
 -- a document has at most as many revisions as its journal has entries

@@ -9,7 +9,7 @@ use Rattle.xi_plain.specs.declared.entry.Entry.{Entry}
 use Rattle.xi_plain.specs.declared.entry.ShelfNote.TheVariants.{NoCall}
 use Rattle.outside.specs.Sink.{SinkState}
 use Rattle.xi_plain.specs.Journal.{closing_entry}
-use Rattle.core_session.specs.Session.{first_session, session_of, written}
+use Rattle.session_step.specs.Session.{first_session, session_of, written}
 use Rattle.core_session.specs.Shows.{rebuilt}
 use Rattle.core_session.specs.Core.{piece_after}
 use Rattle.xi_top.specs.Written.{IsCutOff, IsProperPart}

@@ -17,8 +17,9 @@ use Rattle.outside.specs.Source.{SourceState, Gives}
 use Rattle.outside.proofs.ForCallers.{Gives-append, Gains-append, Gains-none, Rose-earlier}
 use Rattle.core_session.specs.declared.session.Core.{Core}
 use Rattle.xi_plain.specs.Journal.{IsLegal, IsOrdered, closing_entry, commands, front_entries, has_own_note, is_ordered, may_follow, may_have_note}
-use Rattle.core_session.specs.Session.{first_session, written}
-use Rattle.core_session.specs.Core.{AddsSentEntry, AddsUnsentEntry, IsOfLine, IsOpen, IsServing, Outlets, front_entry, journal_of, piece_after}
+use Rattle.session_step.specs.Session.{first_session, written}
+use Rattle.core_session.specs.Core.{AddsSentEntry, AddsUnsentEntry, IsOpen, IsServing, Outlets, front_entry, journal_of, piece_after}
+use Rattle.session_step.specs.Views.{IsOfLine}
 use Rattle.core_session.specs.Shelves.{AreSavesAsked, HoldsSaves}
 use Rattle.core_session.proofs.ForCallers.{AreSavesAsked-closed, AreSavesAsked-push, HoldsSaves-closed, HoldsSaves-keeps, HoldsSaves-none, HoldsSaves-push, IsOfLine-command_of, shows_closed, written-push}
 use Rattle.xi_top.specs.declared.ending.Ending.{Ending}

@@ -9,7 +9,7 @@ use Rattle.outside.specs.Source.{SourceState, Gives}
 use Rattle.outside.specs.Sink.{Gains}
 use Rattle.xi_plain.specs.declared.entry.Entry.{Entry}
 use Rattle.xi_plain.specs.Journal.{commands}
-use Rattle.core_session.specs.Session.{first_session, written}
+use Rattle.session_step.specs.Session.{first_session, written}
 use Rattle.core_session.specs.Shelves.{HoldsSaves}
 use Rattle.xi_top.specs.Run.{Outside, Passage, IsNoRun}
 use Rattle.xi_top.specs.Step.{AsksOnce}

@@ -16,7 +16,7 @@ use Rattle.xi_top.specs.declared.step.Run.{Run}
 use Rattle.xi_top.specs.declared.step.Stepped.{Stepped}
 use Rattle.xi_top.specs.declared.step.Stepped.TheVariants.{Goes, Ends}
 use Rattle.xi_top.specs.declared.ending.Ending.TheVariants.{SourceFault}
-use Rattle.core_session.specs.Session.{first_session, written}
+use Rattle.session_step.specs.Session.{first_session, written}
 use Rattle.core_session.specs.Core.{HasRoom, IsServing, Outlets, journal_of, shelf_of, sink_of}
 use Rattle.core_session.specs.Shelves.{AreSavesAsked, HoldsSaves, ShelfState}
 use Rattle.xi_top.specs.Ending.{Outcome, most_lines, too_long}

@@ -3,9 +3,9 @@ use Rattle.std.proofs.lemmas.Result.{IfOk-weaker}
 use Rattle.xi_plain.specs.declared.command.Act.{Act}
 use Rattle.xi_plain.specs.declared.entry.ShelfNote.TheVariants.{NoCall}
 use Rattle.core_session.specs.declared.ask.Asked.{Asked}
-use Rattle.core_session.specs.InnerSession.{IsFirstNamed, IsPlaceOf}
+use Rattle.session_step.specs.Views.{IsFirstNamed, IsPlaceOf}
 use Rattle.core_session.specs.Shelves.{IsNoted, shelf_state}
-use Rattle.core_session.proofs.OpenLemmas.{first_inside, named_at, none_named}
+use Rattle.session_step.proofs.ForCallers.{first_inside, named_at, none_named}
 use Rattle.core_session.proofs.ShelfLemmas.{noted_absent}
 use Rattle.core_session.proofs.ask.saving.Goals as goal
 

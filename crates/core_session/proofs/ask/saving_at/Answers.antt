@@ -7,7 +7,7 @@ use Rattle.xi_plain.specs.declared.entry.ShelfNote.TheVariants.{Done, Failed}
 use Rattle.core_session.specs.declared.ask.Asked.{Asked}
 use Rattle.core_session.specs.InnerSession.{IsChosenBy}
 use Rattle.core_session.specs.Shelves.{IsNoted, shelf_state}
-use Rattle.core_session.proofs.OpenLemmas.{serves_found}
+use Rattle.session_step.proofs.ForCallers.{serves_found}
 use Rattle.core_session.proofs.ShelfLemmas.{noted_saving}
 use Rattle.core_session.proofs.ask.saving_at.Goals as goal
 

@@ -1,7 +1,7 @@
 use Rattle.std.proofs.Common.{◌≡◌, List, ℕ, refl, ◌∙◌, subst}
 use Rattle.xi_plain.specs.declared.entry.ShelfNote.TheVariants.{Held}
-use Rattle.core_session.specs.declared.given.Given.TheVariants as given
-use Rattle.core_session.specs.Session.{given_by}
+use Rattle.session_step.specs.declared.given.Given.TheVariants as given
+use Rattle.session_step.specs.Session.{given_by}
 use Rattle.core_session.proofs.ShelfLemmas.{no_text_given, text_given}
 use Rattle.core_session.proofs.ask.text_of.Goals as goal
 

@@ -1,6 +1,6 @@
 use Rattle.std.proofs.Common.{sym, ◌∙◌, subst}
 use Rattle.xi_plain.specs.declared.command.Command.{Command}
-use Rattle.core_session.specs.Core.{IsOfLine}
+use Rattle.session_step.specs.Views.{IsOfLine}
 use Rattle.core_session.proofs.SessionLemmas.{IsOfLine-command_of}
 use Rattle.core_session.proofs.prepare.prepare.Goals as goal
 

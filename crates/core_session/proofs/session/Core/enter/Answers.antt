@@ -2,11 +2,13 @@ use Rattle.std.proofs.Common.{◌≡◌, true, List, refl, sym, arith, ◌<◌, 
 use Rattle.std.specs.Prelude.{◌^◌}
 use Rattle.xi_plain.specs.declared.command.Command.{Command}
 use Rattle.xi_plain.specs.declared.entry.Entry.{Entry}
-use Rattle.core_session.specs.declared.opened.Opened.{Opened}
-use Rattle.core_session.specs.Core.{AddsSentEntry, AddsUnsentEntry, Stands, StandsForSession, outlets_of}
-use Rattle.core_session.specs.Session.{session_of, views_of}
+use Rattle.session_step.specs.declared.opened.Opened.{Opened}
+use Rattle.core_session.specs.Core.{AddsSentEntry, AddsUnsentEntry, StandsForSession, outlets_of}
+use Rattle.session_step.specs.Views.{Stands}
+use Rattle.session_step.specs.Session.{session_of, views_of}
 use Rattle.core_session.specs.Shelves.{asks_as}
-use Rattle.core_session.specs.InnerSession.{IsPrepared, MayBeAsked}
+use Rattle.core_session.specs.InnerSession.{IsPrepared}
+use Rattle.session_step.specs.Views.{MayBeAsked}
 use Rattle.core_session.proofs.EnterLemmas.{AddsSent-by, AddsUnsent-by}
 use Rattle.core_session.proofs.ShowsLemmas.{MayBeAsked-stands}
 use Rattle.core_session.proofs.StepLemmas.{apart_of, opened_of}

@@ -1,5 +1,0 @@
-use Rattle.core_session.proofs.OpenLemmas.{IsTakingTo}
-use Rattle.core_session.proofs.stepped.Stepped.take.Given as goal
-
-abbrev pub invariant-loop-kept : goal.invariant-loop-kept
-invariant-loop-kept l = IsTakingTo l.told l.initial.self l.held l.kept-index l.self

@@ -1,0 +1,5 @@
+pub mod ViewLemmas
+pub mod OpenLemmas
+pub mod FaultLemmas
+pub mod DoneLemmas
+pub mod ForCallers

@@ -1,0 +1,23 @@
+use Rattle.std.proofs.Common.{sym, subst, arith}
+use Rattle.session_step.specs.declared.opened.Opened.{Opened}
+use Rattle.session_step.specs.Views.{TakesEvents}
+use Rattle.session_step.proofs.OpenLemmas.{IsTakingTo-none, IsTakingTo-next, IsTakingTo-all, asked_at}
+use Rattle.session_step.proofs.stepped.Stepped.take.Goals as goal
+
+pub take_one-requires-clause-alone : goal.take_one-requires-clause-alone
+take_one-requires-clause-alone c =
+    let At : Opened → Type 0 = λ kept. TakesEvents kept.doc in
+    subst At (sym c.kept-item.is) (asked_at c.args.held.now c.loop-kept.kept-index _ c.requires.asked c.loop-kept-test.true).0
+
+pub loop-kept-init : goal.loop-kept-init
+loop-kept-init c = IsTakingTo-none c.args.told c.args.self.now c.args.held.now
+
+pub loop-kept-preserved : goal.loop-kept-preserved
+loop-kept-preserved c =
+    IsTakingTo-next c.args.told c.args.self.now c.args.held.now c.loop-kept.kept-index c.loop-kept.self c.take_one.new.self _ c.kept-item.result
+    c.loop-kept.invariant c.loop-kept-test.true c.kept-item.is c.in_ok-take_one.ensures
+
+pub returns : goal.returns
+returns c =
+    IsTakingTo-all c.args.told c.args.self.now c.args.held.now c.loop-kept.kept-index c.loop-kept.self c.loop-kept.invariant
+    (omega (arith, c.loop-kept-test.false))

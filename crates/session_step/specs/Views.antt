@@ -1,0 +1,91 @@
+-- THE VIEWS IN MEMORY: what stands for the views of a plain session, and what a command comes to beside them.
+use Rattle.doc_session.specs.Document.{Document}
+use Rattle.doc_session.specs.InMemory.{Doc}
+use Rattle.doc_session.specs.Stands.{DocStandsFor}
+use Rattle.entry_lines.specs.Piece.{AreLinesOf, UpdatesReadBack}
+use Rattle.entry_lines.specs.ViewId.{view_id_of}
+use Rattle.plain_edits.specs.History.{head}
+use Rattle.session_step.specs.Session.{OpenView, Session, messages, outcome}
+use Rattle.session_step.specs.declared.given.Given.{Given}
+use Rattle.session_step.specs.declared.opened.Opened.{Opened}
+use Rattle.std.specs.List.{AllByRecursion}
+use Rattle.std.specs.Prelude.{◌≡◌, ℕ, ◌+◌, ◌<◌, true, false, List, [], ◌∷◌, ◌++◌, length, Option, Some, ⊤, ◌^◌, ◌-◌, None}
+use Rattle.std.specs.Str.{bytes_eq, encode_utf8_all}
+use Rattle.xi_plain.specs.Journal.{closes}
+use Rattle.xi_plain.specs.declared.command.Act.{Act}
+use Rattle.xi_plain.specs.declared.command.Command.{Command}
+
+-- a line of the front end asks so: it closes nothing
+abbrev pub IsOfLine : Act → Type 0
+IsOfLine act = closes act ≡ false
+
+-- the document in memory stands for the plain one, and no plugin has a session in it
+pub record ServesDocument (doc : Doc) (plain : Document) : Type 0 where
+  pub stands : DocStandsFor doc plain
+  pub no_sessions : length doc.text.sessions ≡ 0
+
+-- no plugin has a session in the document, and it may take one more edit
+abbrev pub TakesEvents : Doc → Type 0
+TakesEvents doc = (length doc.text.sessions ≡ 0) × (head doc.text.engine.revisions < 2 ^ 63 - 1)
+
+-- each document takes events, and stands for a plain one
+abbrev pub MayBeAsked : List Opened → Type 0
+MayBeAsked held = AllByRecursion (λ (kept : Opened). TakesEvents kept.doc × ∥ ((plain : Document) × DocStandsFor kept.doc plain) ∥₁) held
+
+-- what is held of a view is its id, and a document that stands for its own
+pub record ServesView (held : Opened) (view : OpenView) : Type 0 where
+  pub id : held.id ≡ view.id
+  pub serves : ServesDocument held.doc view.document
+
+-- what is held is of the views that are open, in their order
+abbrev pub Stands : List Opened → List OpenView → Type 0
+Stands [] [] = ⊤
+Stands [] (view ∷ views) = ⊥
+Stands (kept ∷ held) [] = ⊥
+Stands (kept ∷ held) (view ∷ views) = ServesView kept view × Stands held views
+
+-- ids are of ASCII, and no two views have one
+abbrev pub HasApart : List OpenView → Type 0
+HasApart [] = ⊤
+HasApart (view ∷ views) =
+    (encode_utf8_all view.id ≡ view.id) × AllByRecursion (λ (later : OpenView). bytes_eq view.id later.id ≡ false) views × HasApart views
+
+-- what is held is of these views, whose ids tell them apart
+abbrev pub AreThere : List Opened → List OpenView → Type 0
+AreThere held views = Stands held views × HasApart views
+
+-- the id is of none of so many views that were opened
+abbrev pub IsNotGiven : ℕ → List ℕ → Type 0
+IsNotGiven opened id = (n : ℕ) → n < opened → bytes_eq (view_id_of (n + 1)) id ≡ false
+
+-- the view stands there
+pub record IsFoundAt (views : List OpenView) (at : ℕ) (view : OpenView) : Type 0 where
+  pub front : List OpenView
+  pub back : List OpenView
+  pub cut : views ≡ front ++ view ∷ back
+  pub place : length front ≡ at
+
+-- none of these has the name
+abbrev pub HaveOtherNames : List ℕ → List Opened → Type 0
+HaveOtherNames name held = AllByRecursion (λ (kept : Opened). bytes_eq (encode_utf8_all name) (encode_utf8_all kept.id) ≡ false) held
+
+-- the first that has the name stands there
+pub record IsFirstNamed (held : List Opened) (name : List ℕ) (at : ℕ) : Type 0 where
+  pub front : List Opened
+  pub kept : Opened
+  pub back : List Opened
+  pub cut : held ≡ front ++ kept ∷ back
+  pub place : length front ≡ at
+  pub others : HaveOtherNames name front
+  pub named : bytes_eq (encode_utf8_all name) (encode_utf8_all kept.id) ≡ true
+
+-- where the view with this name stands, if it is there
+abbrev pub IsPlaceOf : List Opened → List ℕ → Option ℕ → Type 0
+IsPlaceOf held name None = HaveOtherNames name held
+IsPlaceOf held name (Some at) = IsFirstNamed held name at
+
+-- what a command comes to that was given this: the lines of its piece, whose updates read back, and the views after it
+pub record IsDone (session : Session) (command : Command) (gave : Given) (piece : List ℕ) (held : List Opened) : Type 0 where
+  pub lines : AreLinesOf (messages session command gave) (encode_utf8_all piece)
+  pub reads_back : UpdatesReadBack (outcome session command.act gave).updates
+  pub stands : Stands held (outcome session command.act gave).views

@@ -1,0 +1,124 @@
+ghost use Rattle.std.specs.Prelude.{◌≡◌, ◌++◌, ◌∷◌, [], OnOk};
+ghost use Rattle.session_step.specs.InnerStep.{HasTab, TakesSteps, each_event};
+ghost use Rattle.session_step.specs.Views.{MayBeAsked, TakesEvents};
+ghost use Rattle.session_step.specs.Session.{updates_for};
+
+use crate::after::after_alone;
+use crate::opened::Opened;
+use doc_session::{Doc, Effects, Event};
+use plain_screen::Update;
+use plain_text::{List, NoMemory, Text, TryClone};
+use std::alloc::Global;
+use view_update::ViewUpdate;
+use xi_plain::Config;
+
+/// What each document is told of a line that is none of its own.
+#[derive(Clone, Copy)]
+pub enum ToEach {
+    Other,
+    Config(Config),
+}
+
+/// The views after their steps, in their order, and the updates that these tell the front end.
+#[derive(Drop)]
+pub struct Stepped {
+    pub held: List<Opened>,
+    pub updates: List<ViewUpdate>,
+}
+
+impl Stepped {
+    pub fn new(alloc: Global) -> Stepped
+        ensures { result ≡ record { held = []; updates = [] } }
+    {
+        Stepped {
+            held: List::new(alloc),
+            updates: List::new(alloc),
+        }
+    }
+
+    /// Puts a view behind those that are there, with what its step told.
+    pub fn push(
+        &mut self,
+        alloc: Global,
+        id: &Text,
+        doc: Doc,
+        update: Option<Update>,
+    ) -> Result<(), NoMemory>
+        ensures held { OnOk result (self.new.held ≡ self.old.held ++ record { id = id.now; doc = doc } ∷ []) }
+        ensures updates { OnOk result (self.new.updates ≡ self.old.updates ++ updates_for id.now update) }
+    {
+        let copy = id.copy(alloc)?;
+        tell(&mut self.updates, alloc, id, update)?;
+        self.held.push(Opened { id: copy, doc })
+    }
+
+    /// Each of these views takes its step at an event that no document refuses.
+    pub fn take(&mut self, alloc: Global, held: &[Opened], told: ToEach) -> Result<(), NoMemory>
+        requires asked { MayBeAsked held.now }
+        requires tab { HasTab told }
+        ensures { OnOk result (TakesSteps told self.old held.now self.new) }
+    {
+        for kept in held {
+            self.take_one(alloc, &kept.id, &kept.doc, told)?;
+        }
+        Ok(())
+    }
+
+    /// The same of one view, which is put behind those that are there.
+    pub fn take_one(
+        &mut self,
+        alloc: Global,
+        id: &Text,
+        doc: &Doc,
+        told: ToEach,
+    ) -> Result<(), NoMemory>
+        requires alone { TakesEvents doc.now }
+        requires tab { HasTab told }
+        ensures { OnOk result (TakesSteps told self.old (record { id = id.now; doc = doc.now } ∷ []) self.new) }
+    {
+        match after_alone(alloc, doc, event_of(told)) {
+            Ok((next, effects)) => self.push(alloc, id, next, update_of(effects)),
+            Err(_) => Err(NoMemory),
+        }
+    }
+}
+
+/// Puts an update of the view with this id behind those that are there, where there is one.
+fn tell(
+    updates: &mut List<ViewUpdate>,
+    alloc: Global,
+    id: &Text,
+    update: Option<Update>,
+) -> Result<(), NoMemory>
+    ensures { OnOk result (updates.new ≡ updates.old ++ updates_for id.now update) }
+{
+    match update {
+        Some(update) => {
+            let view = id.copy(alloc)?;
+            updates.push(ViewUpdate { view, update })
+        }
+        None => Ok(()),
+    }
+}
+
+fn update_of(effects: Effects) -> Option<Update>
+    ensures { result ≡ effects.update }
+{
+    let Effects {
+        body,
+        update,
+        scroll: _,
+        notice,
+    } = effects;
+    drop((body, notice));
+    update
+}
+
+fn event_of(told: ToEach) -> Event
+    ensures { result ≡ each_event told }
+{
+    match told {
+        ToEach::Other => Event::Other,
+        ToEach::Config(config) => Event::Config(config),
+    }
+}
