@@ -8,14 +8,11 @@ use Rattle.find_core.specs.Laws.{AreMatchesFrom, IsMatchAt, IsNextMatch}
 use Rattle.match_index.specs.declared.edit.Rest.{Rest}
 use Rattle.match_index.specs.Strides.{runs_behind, span}
 use Rattle.match_index.specs.Inner.{AreMatchesUpTo, IsLastBy}
+use Rattle.match_index.specs.Changed.{moved}
 use Rattle.match_index.specs.Edited.{IsRest}
 use Rattle.match_index.proofs.MatchLemmas.{before-match, behind-match, match-before, match-behind}
 use Rattle.match_index.proofs.StrideLemmas.{run_to, runs_behind-append, span-next, up-one}
 use Rattle.match_index.proofs.WindowLemmas.{end_of}
-
--- a run of a text of so many characters, as far from the text's end when it has another number of them
-abbrev pub moved : ℕ → ℕ → Run → Run
-moved old new run = record { start = run.start + new - old; end = run.end + new - old }
 
 -- the first of some runs starts at a gap or after it
 abbrev pub StartsFrom : ℕ → List Run → Type 0
@@ -158,7 +155,7 @@ next-long len (stride ∷ strides) zero long more = omega (arith, long.0)
 next-long len (stride ∷ strides) (suc i) long more = omega (arith, next-long len strides i long.1 (omega arith))
 
 -- it starts at a gap or after it, where it ends far enough behind
-starts-at : (len at : ℕ) (strides : List ℕ) (index gap : ℕ) → (index < length strides → gap + len ≤ at + span (take (suc index) strides)) →
+pub starts-at : (len at : ℕ) (strides : List ℕ) (index gap : ℕ) → (index < length strides → gap + len ≤ at + span (take (suc index) strides)) →
     StartsFrom gap (runs_behind len (at + span (take index strides)) (drop index strides))
 starts-at len at [] zero gap far = tt
 starts-at len at [] (suc index) gap far = tt
@@ -169,7 +166,7 @@ starts-at len at (stride ∷ strides) (suc index) gap far =
     subst (λ (n : ℕ). StartsFrom gap (runs_behind len n (drop index strides))) sum
     (starts-at len (at + stride) strides index gap (λ more. let end = far (omega arith) in omega arith))
 
-runs-parted : (len : ℕ) (strides : List ℕ) (index : ℕ) →
+pub runs-parted : (len : ℕ) (strides : List ℕ) (index : ℕ) →
     runs_behind len 0 strides ≡ runs_behind len 0 (take index strides) ++ runs_behind len (0 + span (take index strides)) (drop index strides)
 runs-parted len strides index =
     ap (runs_behind len 0) (sym (take-append-drop index strides)) ∙ runs_behind-append len 0 (take index strides) (drop index strides)

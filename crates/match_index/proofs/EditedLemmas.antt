@@ -16,9 +16,10 @@ use Rattle.match_index.specs.Found.{Found}
 use Rattle.match_index.specs.Strides.{is_countable, reach_of, runs_behind, span, span-append}
 use Rattle.match_index.specs.Inner.{strides_under, AreMatchesUpTo, HasRuns, IsLastBy, IsWalked}
 use Rattle.match_index.specs.Edited.{after_of, HasBegun, HasMet, IsBegun, IsEdit, IsEditing, IsMet}
-use Rattle.match_index.proofs.EditLemmas.{behind-none, behind-some, counts-rise, moved, rest-from, stay-up}
+use Rattle.match_index.specs.Changed.{moved}
+use Rattle.match_index.proofs.EditLemmas.{behind-none, behind-some, counts-rise, next-long, rest-from, stay-up}
 use Rattle.match_index.proofs.MatchLemmas.{folded-append, folded-len, from-append, from-long, has-long, up-long}
-use Rattle.match_index.proofs.StrideLemmas.{end-within, few-strides, runs_behind-append, span-next}
+use Rattle.match_index.proofs.StrideLemmas.{end-within, few-strides, runs_behind-append, span-next, up-one}
 
 -- ---- strides that say the matches of a text
 
@@ -149,6 +150,8 @@ module _ (before strides : List ℕ) (after : Found) (front old new : ℕ) (edit
     inside = by.inside;
     ends = by.ends;
     by_then = by.by_then;
+    near = omega (arith, is, by.by_then);
+    next = λ more. omega (arith, is, edit.some, by.past more, by.ends, up-one strides index, next-long (length after.chars) strides index edit-long more);
     stay =
         subst (λ (text : List ℕ). AreMatchesUpTo (folded after.fold after.chars) text 0 (runs_behind (length after.chars) 0 (take index strides)) start)
         (sym (parted after.text edit.keeps.come edit.keeps.is))
@@ -181,6 +184,16 @@ module _ (before strides : List ℕ) (after : Found) (front old new : ℕ) (edit
         (folded after.fold edit.keeps.come) (folded after.fold edit.keeps.rest) strides are edit-long old new rest met.is past
         (upto-long edit.keeps.gone old edit.keeps.to) (upto-long edit.keeps.come new edit.keeps.to_after)))
 
+    -- those that stay, those that were found, and the old ones behind them
+    pub parts-from : AreMatchesFrom (folded after.fold after.chars) (folded after.fold after.text) 0
+        (runs_behind (length after.chars) 0 (take index strides) ++
+        (runs_behind (length after.chars) from found ++ map (moved old new) (runs_behind (length after.chars) rest.end (drop rest.index strides))))
+    parts-from =
+        from-append (folded after.fold after.chars) (folded after.fold after.text) 0 start (runs_behind (length after.chars) 0 (take index strides))
+        (runs_behind (length after.chars) from found ++ map (moved old new) (runs_behind (length after.chars) rest.end (drop rest.index strides))) begun.stay
+        (from-append (folded after.fold after.chars) (folded after.fold after.text) start at (runs_behind (length after.chars) from found)
+        (map (moved old new) (runs_behind (length after.chars) rest.end (drop rest.index strides))) walked ahead)
+
     joined-from : (behind : List ℕ) →
         runs_behind (length after.chars) (from + span found) behind ≡ map (moved old new) (runs_behind (length after.chars) rest.end (drop rest.index strides)) →
         AreMatchesFrom (folded after.fold after.chars) (folded after.fold after.text) 0
@@ -190,16 +203,12 @@ module _ (before strides : List ℕ) (after : Found) (front old new : ℕ) (edit
         let runs :
         runs_behind (length after.chars) 0 (take index strides ++ (found ++ behind)) ≡
         runs_behind (length after.chars) 0 (take index strides) ++
-        (runs_behind (length after.chars) from found ++ runs_behind (length after.chars) (from + span found) behind) =
+        (runs_behind (length after.chars) from found ++ map (moved old new) (runs_behind (length after.chars) rest.end (drop rest.index strides))) =
         runs_behind-append (length after.chars) 0 (take index strides) (found ++ behind) ∙
         ap (λ (n : ℕ). runs_behind (length after.chars) 0 (take index strides) ++ runs_behind (length after.chars) n (found ++ behind)) first ∙
-        ap (λ (rs : List Run). runs_behind (length after.chars) 0 (take index strides) ++ rs) (runs_behind-append (length after.chars) from found behind) in
-        subst (AreMatchesFrom (folded after.fold after.chars) (folded after.fold after.text) 0) (sym runs)
-        (from-append (folded after.fold after.chars) (folded after.fold after.text) 0 start (runs_behind (length after.chars) 0 (take index strides))
-        (runs_behind (length after.chars) from found ++ runs_behind (length after.chars) (from + span found) behind) begun.stay
-        (from-append (folded after.fold after.chars) (folded after.fold after.text) start at (runs_behind (length after.chars) from found)
-        (runs_behind (length after.chars) (from + span found) behind) walked
-        (subst (AreMatchesFrom (folded after.fold after.chars) (folded after.fold after.text) at) (sym said) ahead)))
+        ap (λ (rs : List Run). runs_behind (length after.chars) 0 (take index strides) ++ rs)
+        (runs_behind-append (length after.chars) from found behind ∙ ap (λ (rs : List Run). runs_behind (length after.chars) from found ++ rs) said) in
+        subst (AreMatchesFrom (folded after.fold after.chars) (folded after.fold after.text) 0) (sym runs) parts-from
 
     -- no old one goes on
     pub joined-last : length strides ≤ rest.index →

@@ -7,7 +7,8 @@ use Rattle.delta_core.specs.Inner.{base_count, text_of_steps}
 use Rattle.delta_core.proofs.ForCallers.{IsMaking, IsMaking-start}
 use Rattle.match_index.specs.Found.{Found}
 use Rattle.match_index.specs.Inner.{HasRuns}
-use Rattle.match_index.specs.Edited.{IsEdit, IsKeptOf, KeepsEnds, KeepsTexts}
+use Rattle.match_index.specs.Changed.{KeepsEnds}
+use Rattle.match_index.specs.Edited.{IsEdit, IsKeptOf, KeepsTexts}
 
 -- ---- part by part
 
@@ -54,6 +55,9 @@ keeping-end steps ahead front back keeping none = record {
       keeping.is ∙ ap (λ (xs : List UnitStep). replicate front Kept ++ (keeping.middle ++ (replicate back Kept ++ xs))) none ∙
       ap (λ (xs : List UnitStep). replicate front Kept ++ (keeping.middle ++ xs)) (append-nil (replicate back Kept));
 }
+
+pub keeps-steps : (steps : List UnitStep) → KeepsEnds steps 0 0
+keeps-steps steps = record { middle = steps; is = sym (append-nil steps) }
 
 pub keeps-none : (steps : List UnitStep) → steps ≡ [] → KeepsEnds steps 0 0
 keeps-none steps none = record { middle = []; is = none }

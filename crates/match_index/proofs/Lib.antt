@@ -7,3 +7,4 @@ pub mod LawLemmas
 pub mod KeptLemmas
 pub mod EditLemmas
 pub mod EditedLemmas
+pub mod ChangedLemmas

@@ -1,4 +1,5 @@
 pub mod Found
+pub mod Changed
 pub mod Strides
 pub mod Inner
 pub mod Edited

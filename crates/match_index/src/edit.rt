@@ -1,14 +1,14 @@
 // An edit of a text whose matches are known: where the search for others begins, and where it comes to the old ones again.
 ghost use Rattle.std.specs.Prelude.{◌≡◌, ◌≤◌, ◌⊎◌, IfOk, OnOk};
 ghost use Rattle.std.specs.List.{AllByRecursion};
-ghost use Rattle.match_index.specs.Edited.{after_of, IsBegun, IsEditing, IsMet, IsRest};
+ghost use Rattle.match_index.specs.Edited.{after_of, IsBegun, IsChanged, IsEditing, IsMet, IsRest, IsSearched};
 ghost use Rattle.match_index.specs.Inner.{strides_under, HasRuns, IsWalked};
 ghost use Rattle.match_index.specs.Strides.{span};
 
 use crate::search::{Search, Walked};
 use crate::stride::Strides;
 use crate::tree::{ending_by, put, stride_at};
-use plain_text::{NoMemory, Text};
+use plain_text::{NoMemory, Run, Text};
 use rope_tree::Rope;
 use shared_tree::Tree;
 use std::alloc::Global;
@@ -46,14 +46,20 @@ impl Edit<'_> {
         }
     }
 
-    /// The strides of the matches in the text after.
-    pub(crate) fn found_after(&self, alloc: Global) -> Result<Tree<Strides>, NoMemory>
+    /// The strides of the matches in the text after, and the run in which the edit changed matches.
+    pub(crate) fn found_after(
+        &self,
+        alloc: Global,
+    ) -> Result<(Tree<Strides>, Option<Run>), NoMemory>
         requires { IsEditing self.now }
-        ensures { IfOk result (λ tree. HasRuns (after_of self.now) (strides_under tree)) }
+        ensures found { IfOk result (λ made. HasRuns (after_of self.now) (strides_under made.0)) }
+        ensures changed { IfOk result (λ made. IsChanged self.now made.1) }
     {
         let (index, mut walked) = self.begun(alloc);
         let rest = self.met(alloc, &mut walked)?;
-        self.joined(alloc, index, &mut walked, rest)
+        let changed = searched(index, &walked, rest);
+        let tree = self.joined(alloc, index, &mut walked, rest)?;
+        Ok((tree, changed))
     }
 
     /// How many matches stay, and the search behind them, from the first gap on at which a match may begin that reaches the change.
@@ -124,6 +130,19 @@ impl Edit<'_> {
             .edited(alloc, index, rest.index + 1, &walked.strides)?;
         Ok(made)
     }
+}
+
+/// Where matches were changed: where the search went, unless no old match stands there and none was found.
+fn searched(index: u64, walked: &Walked, rest: Rest) -> Option<Run>
+    ensures { IsSearched index walked.now rest result }
+{
+    if rest.index == index && walked.strides.len() == 0 {
+        return None;
+    }
+    Some(Run {
+        start: walked.start,
+        end: walked.at,
+    })
 }
 
 /// The first gap from one on across which no match stands, and how many matches end by it.

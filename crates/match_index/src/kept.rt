@@ -1,7 +1,8 @@
 // What an edit keeps of a text at its ends.
 ghost use Rattle.plain_edits.specs.UnitDelta.{IsUnitDelta};
 ghost use Rattle.delta_core.specs.UnitStep.{part_steps, steps_of};
-ghost use Rattle.match_index.specs.Edited.{IsKeptOf, KeepsEnds};
+ghost use Rattle.match_index.specs.Changed.{KeepsEnds};
+ghost use Rattle.match_index.specs.Edited.{IsKeptOf};
 
 use delta_core::{Part, UnitWalk};
 use plain_edits::UnitDelta;

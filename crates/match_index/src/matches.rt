@@ -1,6 +1,7 @@
 ghost use Rattle.std.specs.Prelude.{◌≡◌, length, IfOk};
 ghost use Rattle.plain_edits.specs.UnitDelta.{IsUnitDelta};
 ghost use Rattle.delta_core.specs.Units.{text_after};
+ghost use Rattle.match_index.specs.Changed.{IsChangedIn};
 ghost use Rattle.match_index.specs.Found.{first_from, last_to, runs_in, touching};
 ghost use Rattle.match_index.specs.Inner.{strides_under, HasRuns};
 
@@ -69,29 +70,49 @@ impl Matches {
         requires after { rope.now ≡ text_after units.now self.now.text }
         ensures { IfOk result (λ made. made ≡ record self.now { text = rope.now }) }
     {
-        let strides = self.strides_after(alloc, rope, units)?;
-        Ok(Matches {
+        let (made, _changed) = self.edited_with_run(alloc, rope, units)?;
+        Ok(made)
+    }
+
+    /// The same, and the run of the text after in which matches went or came; `None` where none did. All that the edit changed stands in
+    /// the run: the other matches stay or are moved by what the text grew or shrank.
+    pub fn edited_with_run(
+        &self,
+        alloc: Global,
+        rope: &Rope,
+        units: &UnitDelta,
+    ) -> Result<(Matches, Option<Run>), NoMemory>
+        requires well_formed { IsUnitDelta units.now }
+        requires base { units.now.base ≡ length self.now.text }
+        requires after { rope.now ≡ text_after units.now self.now.text }
+        ensures made { IfOk result (λ made. made.0 ≡ record self.now { text = rope.now }) }
+        ensures changed { IfOk result (λ made. IsChangedIn units.now self.now rope.now made.1) }
+    {
+        let (strides, changed) = self.strides_after(alloc, rope, units)?;
+        let made = Matches {
             rope: rope.copy(alloc)?,
             chars: self.chars.copy(alloc)?,
             fold: self.fold,
             strides,
-        })
+        };
+        Ok((made, changed))
     }
 
-    /// The strides of the matches in the text after an edit.
+    /// The strides of the matches in the text after an edit, and the run in which it changed matches.
     fn strides_after(
         &self,
         alloc: Global,
         rope: &Rope,
         units: &UnitDelta,
-    ) -> Result<Tree<Strides>, NoMemory>
+    ) -> Result<(Tree<Strides>, Option<Run>), NoMemory>
         requires well_formed { IsUnitDelta units.now }
         requires base { units.now.base ≡ length self.now.text }
         requires after { rope.now ≡ text_after units.now self.now.text }
-        ensures { IfOk result (λ tree. HasRuns (record self.now { text = rope.now }) (strides_under tree)) }
+        ensures found { IfOk result (λ made. HasRuns (record self.now { text = rope.now }) (strides_under made.0)) }
+        ensures changed { IfOk result (λ made. IsChangedIn units.now self.now rope.now made.1) }
     {
         if self.chars.is_empty() {
-            return Ok(Tree::new(alloc));
+            return Ok((Tree::new(alloc), None));
         }
         let (front, back) = kept_ends(units);
         let edit = Edit {
