@@ -1,0 +1,3 @@
+pub mod SameLemmas
+pub mod NumberLemmas
+pub mod LawLemmas
