@@ -1,5 +1,6 @@
 -- What an edit comes to where it is refused.
 use Rattle.std.proofs.Common.{◌≡◌, ◌≢◌, Option, refl, subst}
+use Rattle.std.proofs.Math.Logic.{∥∥₁_elim}
 use Rattle.xi_plain.specs.declared.command.EditAct.{EditAct}
 use Rattle.doc_session.specs.InMemory.{Doc}
 use Rattle.doc_session.specs.declared.event.Event.TheVariants.{Front}
