@@ -7,8 +7,6 @@ mod deltas;
 #[cfg(test)]
 mod finds;
 #[cfg(test)]
-mod indexes;
-#[cfg(test)]
 mod streams;
 #[cfg(test)]
 mod subsets;
