@@ -22,6 +22,17 @@ fn a_page_is_read_in_pieces(rt: HostRuntime) {
 }
 
 #[test]
+fn asks_have_no_line_feed(rt: HostRuntime) {
+    assert!(rt;
+        plays(
+            rt.alloc(),
+            "open v 1; open w 0; update w 1 1 0 {\"insert\":\"a\"}; written",
+            "ok; ok; ok; <{\"id\":0,\"method\":\"get_data\",\"params\":{\"max_size\":4,\"rev\":0,\"start\":0,\"view_id\":\"v\"}}><{\"method\":\"ack\",\"params\":{\"rev\":1,\"view_id\":\"w\"}}>"
+        )
+    );
+}
+
+#[test]
 fn updates_wait_for_the_whole_page(rt: HostRuntime) {
     let alloc = rt.alloc();
     assert!(rt;

@@ -99,6 +99,16 @@ fn asks(alloc: Global, book: &mut Book) -> Result<String, NoMemory> {
     Ok(told)
 }
 
+// The lines of asks as they are, each in angle brackets.
+fn written(alloc: Global, book: &mut Book) -> Result<String, NoMemory> {
+    let lines = book.asks()?;
+    let mut told = String::new(alloc);
+    for line in lines.as_slice() {
+        told.push_str(format!(in alloc; "<{line}>")?.as_str())?;
+    }
+    Ok(told)
+}
+
 fn page(alloc: Global, page: Option<&Page>) -> Result<String, NoMemory> {
     Ok(match page {
         None => format!(in alloc; "none")?,
@@ -111,6 +121,7 @@ fn step(alloc: Global, book: &mut Book, said: &str) -> Result<String, NoMemory> 
     let (what, view) = cut(said);
     match what {
         "asks" => asks(alloc, book),
+        "written" => written(alloc, book),
         "page" => {
             let view = Text::from_str(alloc, view)?;
             page(alloc, book.page(&view))

@@ -4,8 +4,6 @@ use Rattle.plain_text.specs.Text.{byte_len}
 use Rattle.xi_plain.specs.declared.command.Id.TheVariants.{NoId, Num}
 use Rattle.xi_plain.specs.declared.command.Act.TheVariants.{GetData, Ack}
 use Rattle.xi_plain.specs.declared.command.Command.{Command}
-use Rattle.json_rpc.specs.Line.{line_of}
-use Rattle.plugin_side.specs.Asking.{command_data}
 use Rattle.plugin_mirror.specs.declared.leaf.Leaf.{Leaf}
 use Rattle.plugin_mirror.specs.Leaf.{wants_piece, wants_ack}
 use Rattle.plugin_mirror.specs.Book.{Pages}
@@ -62,7 +60,3 @@ asked book = commands book.piece book.next book.leaves
 -- the book after that
 abbrev pub after_asks : Pages → Pages
 after_asks book = record book { next = next_asked book.next book.leaves; leaves = leaves_asked book.next book.leaves }
-
--- the line of a command, in bytes
-abbrev pub bytes_of : Command → List ℕ
-bytes_of command = line_of (command_data command)

@@ -2,12 +2,12 @@
 
 ghost use Rattle.std.specs.Prelude.{◌≡◌, ◌++◌, ◌∷◌, [], map, IfOk, OnOk};
 ghost use Rattle.std.specs.Str.{encode_utf8_all};
-ghost use Rattle.plugin_side.specs.Asking.{IsAsk};
-ghost use Rattle.plugin_mirror.specs.Asks.{asks_piece, asks_of, next_after, leaf_asked, piece_ask, acknowledgement, commands, leaves_asked, next_asked, bytes_of};
+ghost use Rattle.plugin_side.specs.Asking.{IsAsk, turn_bytes};
+ghost use Rattle.plugin_mirror.specs.Asks.{asks_piece, asks_of, next_after, leaf_asked, piece_ask, acknowledgement, commands, leaves_asked, next_asked};
 
 use crate::leaf::Leaf;
 use plain_text::{NoMemory, Texts, TryClone};
-use plugin_side::ask_line;
+use plugin_side::turn_line;
 use std::alloc::Global;
 use xi_plain::{Act, Command, Id};
 
@@ -17,7 +17,7 @@ const ID_LIMIT: u64 = 1 << 63;
 /// The lines that ask for what the pages lack.
 pub fn ask_lines(alloc: Global, piece: u64, next: u64, leaves: &[Leaf]) -> Result<Texts, NoMemory>
     ensures { IfOk result (λ lines. map encode_utf8_all lines
-        ≡ map bytes_of (commands piece next leaves.now)) }
+        ≡ map turn_bytes (commands piece next leaves.now)) }
 {
     let mut lines = Texts::new(alloc);
     let mut id = next;
@@ -37,7 +37,7 @@ fn put_ask(
     leaf: &Leaf,
 ) -> Result<(), NoMemory>
     ensures { OnOk result (map encode_utf8_all lines.new
-        ≡ map encode_utf8_all lines.old ++ map bytes_of (asks_of piece next leaf.now)) }
+        ≡ map encode_utf8_all lines.old ++ map turn_bytes (asks_of piece next leaf.now)) }
 {
     if asks_piece(next, leaf) {
         put(alloc, lines, &piece_ask(alloc, piece, next, leaf)?)
@@ -52,9 +52,9 @@ fn put_ask(
 fn put(alloc: Global, lines: &mut Texts, command: &Command) -> Result<(), NoMemory>
     requires { IsAsk command.now.act }
     ensures { OnOk result (map encode_utf8_all lines.new
-        ≡ map encode_utf8_all lines.old ++ bytes_of command.now ∷ []) }
+        ≡ map encode_utf8_all lines.old ++ turn_bytes command.now ∷ []) }
 {
-    let line = ask_line(alloc, command)?;
+    let line = turn_line(alloc, command)?;
     lines.push(line)
 }
 

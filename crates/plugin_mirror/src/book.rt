@@ -1,10 +1,11 @@
 ghost use Rattle.std.specs.Prelude.{◌≡◌, ◌≢◌, ◌^◌, ◌≤◌, [], map, Ok, Err, IfOk, IfErr, OnOk, OnErr};
 ghost use Rattle.std.specs.Option.{option_copied};
 ghost use Rattle.std.specs.Str.{encode_utf8_all};
+ghost use Rattle.plugin_side.specs.Asking.{turn_bytes};
 ghost use Rattle.plugin_side.specs.Heard.{heard_in};
 ghost use Rattle.plugin_mirror.specs.declared.fault.BookFault.TheVariants.{NoMemory as WantOfMemory};
 ghost use Rattle.plugin_mirror.specs.Book.{with_leaves, after_told, taken, page_of};
-ghost use Rattle.plugin_mirror.specs.Asks.{asked, after_asks, bytes_of};
+ghost use Rattle.plugin_mirror.specs.Asks.{asked, after_asks};
 
 use crate::asks::{ask_lines, note_asks};
 use crate::fault::BookFault;
@@ -83,10 +84,10 @@ impl Book {
     }
 
     /// The lines that ask for what the pages lack, in the order of openings: a piece of each page that waits for one, and the
-    /// acknowledgement of each revision that was not acknowledged. It costs the number of pages.
+    /// acknowledgement of each revision that was not acknowledged. They have no LF, as a turn gives them. It costs the number of pages.
     pub fn asks(&mut self) -> Result<Texts, NoMemory>
         ensures lines { IfOk result (λ lines. map encode_utf8_all lines
-            ≡ map bytes_of (asked self.old)) }
+            ≡ map turn_bytes (asked self.old)) }
         ensures after { OnOk result (self.new ≡ after_asks self.old) }
         ensures same { OnErr result (self.new ≡ self.old) }
     {

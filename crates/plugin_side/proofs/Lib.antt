@@ -3,4 +3,5 @@ pub mod Plain
 pub mod ReadBack
 pub mod Hears
 pub mod LineFeeds
+pub mod TurnLines
 pub mod ForCallers

@@ -10,6 +10,7 @@ use Rattle.xi_plain.specs.declared.command.Act.TheVariants.{PluginEdit, GetData,
 use Rattle.xi_plain.specs.declared.command.Command.{Command}
 use Rattle.serde_json.specs.Data.{Data, unsigned, negative, null, boolean, number, array, object, Members, no_members, member}
 use Rattle.serde_json.specs.View.{items_of}
+use Rattle.serde_json.specs.Written.{compact_text}
 use Rattle.json_rpc.specs.Response.{text_data}
 use Rattle.plugin_wire.specs.Told.{whole_data, delta_data}
 
@@ -131,3 +132,7 @@ command_data command =
     object (after_if (codes "id") (id_member command.id)
     (member (codes "method") (text_data (ask_method command.act))
     (member (codes "params") (ask_params command.act) no_members)))
+
+-- its line without the LF at the end, as a turn gives it
+unfoldable pub turn_bytes : Command → List ℕ
+turn_bytes command = compact_text (command_data command)

@@ -3,15 +3,16 @@ ghost use Rattle.std.specs.Str.{encode_utf8_all};
 ghost use Rattle.serde_json.specs.Data.{member, no_members};
 ghost use Rattle.serde_json.specs.View.{view, members_view};
 ghost use Rattle.serde_json.specs.Written.{has_float};
-ghost use Rattle.json_rpc.specs.Line.{line_of, IsLineOf};
+ghost use Rattle.json_rpc.specs.Line.{line_of, HasNoLf, IsLineOf};
 ghost use Rattle.json_rpc.specs.Request.{IsTextId};
 ghost use Rattle.json_rpc.specs.Response.{text_data};
 ghost use Rattle.plugin_wire.specs.Asked.{ask_of};
-ghost use Rattle.plugin_side.specs.Asking.{IsAsk, ask_method, ask_params, id_number, id_member, command_data};
+ghost use Rattle.plugin_side.specs.Asking.{IsAsk, ask_method, ask_params, id_number, id_member, command_data, turn_bytes};
 ghost use Rattle.plugin_side.specs.Range.{IsHeldAct, IsHeldCommand, IsTakenCommand};
 
 use crate::ask_value::params_value;
 use crate::members::put_if;
+use json_rpc::laws::ends_do_not_matter;
 use json_rpc::text_value;
 use plain_text::{NoMemory, Text};
 use serde_json::{Map, Value, put};
@@ -29,6 +30,21 @@ pub fn ask_line(alloc: Global, command: &Command) -> Result<Text, NoMemory>
 {
     let value = command_value(alloc, command)?;
     line(alloc, &value)
+}
+
+/// The same line without its LF, as a turn gives it.
+pub fn turn_line(alloc: Global, command: &Command) -> Result<Text, NoMemory>
+    requires { IsAsk command.now.act }
+    ensures line { IfOk result (λ text. encode_utf8_all text ≡ turn_bytes command.now) }
+    ensures one { IfOk result (λ text. HasNoLf (encode_utf8_all text)) }
+    ensures asked { IfOk result (λ text. IsTakenCommand command.now
+        → ask_of (encode_utf8_all text) ≡ command.now) }
+{
+    ends_do_not_matter();
+    let written = ask_line(alloc, command)?;
+    let mut line = written.into_string();
+    let _lf = line.pop();
+    Ok(Text::from_string(line))
 }
 
 fn line(alloc: Global, value: &Value) -> Result<Text, NoMemory>

@@ -20,7 +20,7 @@ mod read_delta;
 mod span_value;
 mod values;
 
-pub use ask::ask_line;
+pub use ask::{ask_line, turn_line};
 pub use heard::{Answered, Heard, Told};
 pub use hearing::hear;
 pub use line::is_line;
