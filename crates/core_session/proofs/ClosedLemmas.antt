@@ -1,12 +1,15 @@
--- What a session wrote by its closing entry, and before its first one.
-use Rattle.std.proofs.Common.{◌≡◌, ◌<◌, arith, length, List, [], ◌∷◌, ◌++◌, refl, sym, ◌∙◌, append-nil}
+-- What a session wrote by its closing entry, and before its first one; and which sessions take lines.
+use Rattle.std.proofs.Common.{◌≡◌, ◌<◌, false, arith, length, List, [], ◌∷◌, ◌++◌, refl, sym, ◌∙◌, append-nil}
 use Rattle.std.specs.Prelude.{◌^◌}
+use Rattle.std.proofs.Math.Logic.{∥∥₁_map}
 use Rattle.xi_plain.specs.declared.entry.Entry.{Entry}
 use Rattle.core_session.specs.declared.session.Core.{Core}
 use Rattle.xi_plain.specs.Journal.{closing_entry}
 use Rattle.session_step.specs.Session.{first_session, views_of, written}
+use Rattle.core_session.specs.Kept.{is_over}
 use Rattle.core_session.specs.Core.{IsServing, journal_of}
 use Rattle.core_session.specs.Shows.{AreShown, last_requested, Shows}
+use Rattle.core_session.proofs.KeptLemmas.{open_journal, showing_open}
 use Rattle.core_session.proofs.ShowsLemmas.{no_lines, shows_push}
 use Rattle.core_session.proofs.SessionLemmas.{written-push}
 
@@ -14,7 +17,7 @@ use Rattle.core_session.proofs.SessionLemmas.{written-push}
 pub shows_closed : {K H : Type 0} (core : Core K H) → IsServing core → Shows (journal_of core ++ closing_entry ∷ []) (written first_session (journal_of core))
 shows_closed core serving =
     let journal = journal_of core in
-    let few : length journal < 2 ^ 63 = omega (arith, core.journal.ok.0, core.journal.ok.1, core.journal.small, serving.room) in
+    let few : length journal < 2 ^ 63 = omega (arith, core.journal.ok.0, core.journal.ok.1, core.journal.small, core.room) in
     let shows = (shows_push journal closing_entry few serving.showing no_lines tt).shows in
     record {
       pieces = sym (written-push journal closing_entry ∙ append-nil (written first_session journal));
@@ -37,3 +40,14 @@ shows_none = record {
     none_there : (front : List Entry) (entry : Entry) (back : List Entry) → [] ≡ front ++ (entry ∷ back) → ⊥
     none_there [] entry back is = cc
     none_there (first ∷ front) entry back is = cc
+
+-- EACH SESSION that is not over takes lines
+pub serving_of : {K H : Type 0} (core : Core K H) → is_over (journal_of core) ≡ false → ∥ IsServing core ∥₁
+serving_of core goes =
+    let each = open_journal (journal_of core) core.legal goes in
+    ∥∥₁_map core.kept (λ kept. record {
+      sent = each;
+      saves_asked = kept.saves_asked;
+      showing = showing_open (journal_of core) each kept.showing;
+      stands = kept.stands;
+    })

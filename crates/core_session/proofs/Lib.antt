@@ -6,6 +6,7 @@ pub mod ShelfLemmas
 pub mod RevisionLemmas
 pub mod ShowsLemmas
 pub mod PrepareLemmas
+pub mod KeptLemmas
 pub mod EnterLemmas
 pub mod ClosedLemmas
 pub mod ForCallers

@@ -8,7 +8,7 @@ use Rattle.xi_plain.specs.declared.entry.ShelfNote.{ShelfNote}
 use Rattle.xi_plain.specs.Journal.{may_have_note}
 use Rattle.session_step.specs.Session.{Session, first_session, given_by, messages, outcome, step, session_after, session_of, views_of, written, piece_of}
 use Rattle.session_step.specs.Views.{IsOfLine}
-use Rattle.core_session.specs.Core.{IsOpen, front_entry}
+use Rattle.core_session.specs.Kept.{IsOpen, front_entry}
 use Rattle.entry_lines.specs.Piece.{lines_written}
 use Rattle.entry_lines.proofs.ForCallers.{all_append, lines_written-append}
 use Rattle.std.proofs.Math.Seq.{take-nil}

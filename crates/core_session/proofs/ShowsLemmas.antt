@@ -28,7 +28,7 @@ use Rattle.session_step.specs.Session.{OpenView, HaveRevisions, Session, first_s
 use Rattle.core_session.specs.Shows.{updates_in, screen_with, rebuilt_from, rebuilt, IsShown, AreShown, SendsTo, NoteSendsTo, NotesSendTo, requested, last_requested, Shows}
 use Rattle.doc_text.proofs.ForCallers.{head-text}
 use Rattle.entry_lines.specs.ViewId.{view_id_of}
-use Rattle.core_session.specs.Core.{AreRebuilt, IsOpen, StandsForSession, IsShowing, front_entry}
+use Rattle.core_session.specs.Kept.{AreRebuilt, IsOpen, StandsForSession, IsShowing, front_entry}
 use Rattle.session_step.specs.Views.{IsNotGiven, IsOfLine, Stands, HasApart, MayBeAsked}
 use Rattle.core_session.proofs.RevisionLemmas.{revisions_few}
 use Rattle.session_step.proofs.ForCallers.{same_id, other_way, AreNumbered, apart-numbered, next_not_given, not_given-before, not_given-others}

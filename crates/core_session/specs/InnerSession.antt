@@ -5,15 +5,18 @@ use Rattle.outside.specs.declared.shelf.Stored.{Stored}
 use Rattle.outside.specs.declared.shelf.Stored.TheVariants as stored
 use Rattle.core_session.specs.declared.ask.Asked.{Asked}
 use Rattle.core_session.specs.declared.session.Core.{Core}
-use Rattle.core_session.specs.declared.session.Prepared.{Prepared}
+use Rattle.core_session.specs.declared.prepare.Prepared.{Prepared}
 use Rattle.xi_plain.specs.declared.command.Command.{Command}
 use Rattle.xi_plain.specs.declared.entry.ShelfNote.{ShelfNote}
+use Rattle.xi_plain.specs.declared.reply.Reply.{Reply}
+use Rattle.xi_plain.specs.declared.reply.Reply.TheVariants.{SinkFault, Taken}
 use Rattle.outside.specs.Faults.{Rose, counted}
 use Rattle.outside.specs.Sink.{SinkState, Gains}
 use Rattle.session_step.specs.Views.{IsDone}
 use Rattle.session_step.specs.Session.{Session, act_step, given_by, messages, opened_after, outcome}
 use Rattle.entry_lines.specs.Piece.{AreLinesOf, UpdatesReadBack}
-use Rattle.core_session.specs.Core.{HasRoom, IsServing, StandsForSession, front_entry, journal_of, piece_after, shelf_of, sink_of}
+use Rattle.core_session.specs.Kept.{StandsForSession, front_entry}
+use Rattle.core_session.specs.Core.{HasSessionAfter, IsServing, journal_of, piece_after, shelf_of, sink_of}
 
 -- the same by the note that it has, with how many were opened by then
 pub record IsAsked (session : Session) (command : Command) (asked : Asked) : Type 0 where
@@ -37,14 +40,20 @@ pub record PutsSent {K H : Type 0} (tell : K → SinkState) (old new : Core K H)
 
 -- the same as an entry that was not sent, whose first n bytes the sink gained
 pub record PutsUnsent {K H : Type 0} (tell : K → SinkState) (old new : Core K H) (command : Command) (note : ShelfNote) (n : ℕ) : Type 0 where
-  pub room : HasRoom new
   pub entry : journal_of new ≡ journal_of old ++ front_entry command note false ∷ []
+  pub stands : HasSessionAfter new (journal_of new)
   pub shelf : shelf_of new ≡ shelf_of old
   pub part : n < length (piece_after (journal_of old) (front_entry command note false))
   pub gains : Gains (tell (sink_of old)).held (tell (sink_of new)).held (take n (piece_after (journal_of old) (front_entry command note false)))
   pub faults_stay : (tell (sink_of old)).faults ≤ (tell (sink_of new)).faults
   pub rose : Rose (tell (sink_of old)).faults (tell (sink_of new)).faults
   pub failures_counted : (tell (sink_of new)).failures ≡ counted (tell (sink_of old)).failures
+
+-- what came of it, by the reply
+abbrev pub PutsAs : {K H : Type 0} → (K → SinkState) → Core K H → Core K H → Command → ShelfNote → Reply → Type 0
+PutsAs tell old new command note (Taken line) = (line ≡ []) × PutsSent tell old new command note
+PutsAs tell old new command note SinkFault = (n : ℕ) × PutsUnsent tell old new command note n
+PutsAs tell old new command note reply = ⊥
 
 -- what was made for a file that was written is kept, or what was made for one that could not be
 abbrev pub IsChosenBy : {A : Type 0} → Stored → A → A → A → Type 0

@@ -1,4 +1,5 @@
 pub mod Shelves
 pub mod Shows
+pub mod Kept
 pub mod Core
 pub mod InnerSession

@@ -2,18 +2,30 @@ ghost use Rattle.std.specs.Prelude.{◌≡◌, ◌<◌, ◌^◌, IfErr, IfOk};
 ghost use Rattle.front_wire.specs.Front.{command_of};
 ghost use Rattle.session_step.specs.Session.{Session, config_after};
 ghost use Rattle.session_step.specs.Views.{IsOfLine, AreThere, HasApart, MayBeAsked};
-ghost use Rattle.core_session.specs.Core.{StandsForSession};
+ghost use Rattle.core_session.specs.Kept.{StandsForSession};
 ghost use Rattle.core_session.specs.InnerSession.{IsPrepared};
 ghost use Rattle.core_session.specs.Shelves.{IsNoted, KeepsFiles, shelf_state};
 
 use crate::ask::{Asked, ask};
-use crate::session::Prepared;
 use front_wire::command_of;
 use outside::Shelf;
-use plain_text::NoMemory;
+use plain_text::{List, NoMemory, Text};
 use session_step::{Opened, both, config_after};
 use std::alloc::Global;
-use xi_plain::Config;
+use xi_plain::{Command, Config, ShelfNote};
+
+/// What a line comes to, before it is an entry.
+pub struct Prepared {
+    pub command: Command,
+    pub note: ShelfNote,
+    pub piece: Text,
+    /// The views that are open then.
+    pub held: List<Opened>,
+    /// How many were opened by then.
+    pub opened: u64,
+    /// How texts are laid out and edited from then on.
+    pub config: Config,
+}
 
 /// What a line comes to, beside the views that are open and the configuration. The shelf is asked where the line opens a file or saves a
 /// view.

@@ -1,42 +1,24 @@
-ghost use Rattle.std.specs.Prelude.{◌≡◌, ◌≢◌, ◌+◌, ◌≤◌, ◌++◌, ◌∷◌, ◌⊎◌, [], ℕ, Option, IfOk, IfErr, true, vec_len, vec_capacity};
+ghost use Rattle.std.specs.Prelude.{◌≡◌, ◌≢◌, ◌+◌, ◌≤◌, ◌++◌, ◌∷◌, ◌⊎◌, ◌↔◌, [], Bool, None, IfOk, IfErr, IfSome, true, false, vec_len, vec_capacity};
 ghost use Rattle.outside.specs.Faults.{Rose};
 ghost use Rattle.outside.specs.Sink.{sink_state};
 ghost use Rattle.xi_plain.specs.declared.command.Command.{Command};
-ghost use Rattle.xi_plain.specs.Journal.{closing_entry, may_have_note};
+ghost use Rattle.xi_plain.specs.Journal.{IsLegal, closing_entry, may_have_note};
 ghost use Rattle.front_wire.specs.Front.{command_of};
+ghost use Rattle.session_step.specs.Session.{named_view, session_of, views_of};
+ghost use Rattle.session_step.specs.Views.{IsOfLine};
+ghost use Rattle.core_session.specs.Kept.{IsOfJournal, front_entry, has_closing, is_over, reply_if, reserved, stage_if, stage_of};
+ghost use Rattle.core_session.specs.Shelves.{asks_as};
 
 use crate::made::put;
-use crate::prepare::prepare;
+use crate::prepare::{Prepared, prepare};
+use crate::stage::Stage;
 use crate::write::write_piece;
+use doc_session::Doc;
 use outside::{Shelf, Sink};
 use plain_text::{List, Text};
-use session_step::{FIRST_CONFIG, Opened};
+use session_step::{FIRST_CONFIG, Opened, place_of};
 use std::alloc::Global;
-use xi_plain::{Act, Command, Config, Entry, Id, ShelfNote};
-
-/// What became of a line.
-#[derive(Clone, Copy)]
-pub enum Entered {
-    /// It is an entry, and its piece was written.
-    Taken,
-    /// It is an entry, of whose piece a part was written before the sink failed: the session takes no more lines.
-    SinkFault,
-    /// It is no entry, for want of memory, and nothing changed.
-    NoMemory,
-}
-
-/// What a line comes to, before it is an entry.
-pub struct Prepared {
-    pub command: Command,
-    pub note: ShelfNote,
-    pub piece: Text,
-    /// The views that are open then.
-    pub held: List<Opened>,
-    /// How many were opened by then.
-    pub opened: u64,
-    /// How texts are laid out and edited from then on.
-    pub config: Config,
-}
+use xi_plain::{Act, Command, Config, Entry, Id, Reply, ShelfNote};
 
 /// A session with its journal, the views that are open in the order of their openings, how many were opened, its configuration, the shelf of
 /// its files and the sink that it writes to. There is always room for its closing entry.
@@ -46,16 +28,19 @@ pub struct Core<K, H> {
     views: List<Opened>,
     opened: u64,
     config: Config,
+    stage: Stage,
     shelf: H,
     sink: K,
+    alloc: Global,
+    ghost legal: { IsLegal 0 journal.items },
+    ghost staged: { stage ≡ stage_of journal.items },
+    ghost room: { vec_len journal + reserved stage ≤ vec_capacity journal },
+    ghost kept: { ∥ IsOfJournal views opened config journal.items ∥₁ },
 }
 
 impl<K: Sink, H: Shelf> Core<K, H> {
-    ghost use Rattle.session_step.specs.Views.{IsOfLine};
-    ghost use Rattle.core_session.specs.Core.{IsServing, AddsSentEntry, AddsUnsentEntry, ChangesNothing, HasSessionAfter, HasRoom, journal_of, outlets_of, shelf_of, sink_of};
-    ghost use Rattle.session_step.specs.Session.{session_of, views_of};
-    ghost use Rattle.core_session.specs.Shelves.{asks_as};
-    ghost use Rattle.core_session.specs.InnerSession.{IsPrepared, PutsSent, PutsUnsent};
+    ghost use Rattle.core_session.specs.Core.{ComesTo, IsDocOf, IsServing, journal_of, outlets_of, shelf_of, sink_of};
+    ghost use Rattle.core_session.specs.InnerSession.{IsPrepared, PutsAs};
 
     /// A session without entries. For want of memory the sink and the shelf are given back.
     pub fn make(alloc: Global, sink: K, shelf: H) -> Result<Core<K, H>, (K, H)>
@@ -71,32 +56,45 @@ impl<K: Sink, H: Shelf> Core<K, H> {
                 views: List::new(alloc),
                 opened: 0,
                 config: FIRST_CONFIG,
+                stage: Stage::Serves,
                 shelf,
                 sink,
+                alloc,
             }),
             Err(_) => Err((sink, shelf)),
         }
     }
 
     /// Takes a line of the front end, with or without its LF, and writes its piece. The shelf is asked before, where the line opens a file or
-    /// saves a view.
-    pub fn enter(&mut self, alloc: Global, line: &[u8]) -> Entered
-        requires { IsServing self.old }
-        ensures sent { result ≡ Entered.Taken
-            → AddsSentEntry (outlets_of K.held K.faults K.failures H.files H.faults) self.old self.new (command_of line.now) }
-        ensures unsent { result ≡ Entered.SinkFault → (n : ℕ)
-            × AddsUnsentEntry (outlets_of K.held K.faults K.failures H.files H.faults) self.old self.new (command_of line.now) n }
-        ensures no_memory { result ≡ Entered.NoMemory
-            → ChangesNothing (outlets_of K.held K.faults K.failures H.files H.faults) self.old self.new }
+    /// saves a view. A session that was closed, or has an entry that was not sent, takes none.
+    pub fn front_line(&mut self, line: &[u8]) -> Reply
+        ensures closed { (result ≡ Reply.Closed) ↔ (is_over (journal_of self.old) ≡ true) }
+        ensures stays { result ≡ Reply.Closed → self.new ≡ self.old }
+        ensures served { IsServing self.old
+            → ComesTo (outlets_of K.held K.faults K.failures H.files H.faults) self.old self.new (command_of line.now) result }
+        ensures complete { (Rose (K.faults (sink_of self.old)) (K.faults (sink_of self.new)) → ⊥) → is_over (journal_of self.old) ≡ false
+            → (result ≡ Reply.Taken []) ⊎ (result ≡ Reply.NoMemory) }
+    {
+        match self.stage {
+            Stage::Serves => self.take_line(line),
+            Stage::Broken | Stage::Closed => Reply::Closed,
+        }
+    }
+
+    /// The same of a session that takes lines.
+    fn take_line(&mut self, line: &[u8]) -> Reply
+        requires { self.old.stage ≡ Stage.Serves }
+        ensures answers { result ≢ Reply.Closed }
+        ensures served { IsServing self.old
+            → ComesTo (outlets_of K.held K.faults K.failures H.files H.faults) self.old self.new (command_of line.now) result }
         ensures complete { (Rose (K.faults (sink_of self.old)) (K.faults (sink_of self.new)) → ⊥)
-            → (result ≡ Entered.Taken) ⊎ (result ≡ Entered.NoMemory) }
-        ensures dropped { result ≢ Entered.Taken → HasSessionAfter self.new (journal_of self.old) }
+            → (result ≡ Reply.Taken []) ⊎ (result ≡ Reply.NoMemory) }
     {
         if self.journal.reserve(2).is_err() {
-            return Entered::NoMemory;
+            return Reply::NoMemory;
         }
         match prepare(
-            alloc,
+            self.alloc,
             &mut self.shelf,
             self.views.as_slice(),
             self.opened,
@@ -104,24 +102,22 @@ impl<K: Sink, H: Shelf> Core<K, H> {
             line,
         ) {
             Ok(made) => self.put(made),
-            Err(_) => Entered::NoMemory,
+            Err(_) => Reply::NoMemory,
         }
     }
 
-    /// Writes the piece, makes the entry, and puts views and configuration in their places last. A broken write drops them.
-    fn put(&mut self, made: Prepared) -> Entered
-        requires serving { IsServing self.old }
+    /// Writes the piece, makes the entry, and puts views and configuration in their places last.
+    fn put(&mut self, made: Prepared) -> Reply
+        requires serves { self.old.stage ≡ Stage.Serves }
         requires room { vec_len self.old.journal + 2 ≤ vec_capacity self.old.journal }
         requires asks { IsOfLine made.command.act }
         requires kind { may_have_note made.command.act made.note ≡ true }
         requires asked { asks_as (views_of (journal_of self.old)) made.command.act made.note ≡ true }
-        requires prepared { IsPrepared (session_of (journal_of self.old)) made }
-        ensures sent { result ≡ Entered.Taken
-            → PutsSent (sink_state K.held K.faults K.failures) self.old self.new made.command made.note }
-        ensures unsent { result ≡ Entered.SinkFault → (n : ℕ)
-            × PutsUnsent (sink_state K.held K.faults K.failures) self.old self.new made.command made.note n }
-        ensures made { result ≢ Entered.NoMemory }
-        ensures dropped { result ≢ Entered.Taken → HasSessionAfter self.new (journal_of self.old) }
+        requires prepared { ∥ IsPrepared (session_of (journal_of self.old)) made ∥₁ }
+        ensures replies { (sent : Bool) × (result ≡ reply_if sent) }
+        ensures puts { IsServing self.old → IsPrepared (session_of (journal_of self.old)) made
+            → PutsAs (sink_state K.held K.faults K.failures) self.old self.new made.command made.note result }
+        ensures rose { result ≡ Reply.SinkFault → Rose (K.faults (sink_of self.old)) (K.faults (sink_of self.new)) }
     {
         let Prepared {
             command,
@@ -135,14 +131,11 @@ impl<K: Sink, H: Shelf> Core<K, H> {
         let taken = write_piece(&mut self.sink, bytes);
         let sent = taken == bytes.len();
         self.journal.push_reserved(front_entry(command, note, sent));
-        if !sent {
-            drop(held);
-            return Entered::SinkFault;
-        }
         put(&mut self.views, held);
         self.opened = opened;
         self.config = config;
-        Entered::Taken
+        self.stage = stage_if(sent);
+        reply_if(self.alloc, sent)
     }
 
     /// The sink, to look at.
@@ -152,14 +145,35 @@ impl<K: Sink, H: Shelf> Core<K, H> {
         &self.sink
     }
 
-    /// Puts in the closing entry, which takes no memory.
-    pub fn close_down(&mut self)
-        requires { HasRoom self.old }
-        ensures entry { journal_of self.new ≡ journal_of self.old ++ closing_entry ∷ [] }
+    /// The document of the view with this id, to look at, where it is open: it is that of the journal so far.
+    pub fn doc(&self, view: &Text) -> Option<&Doc>
+        ensures absent { (result ≡ None) ↔ (named_view (views_of (journal_of self.now)) view.now ≡ None) }
+        ensures stands { IfSome result (λ doc. ∥ IsDocOf doc.now (named_view (views_of (journal_of self.now)) view.now) ∥₁) }
+    {
+        let held = self.views.as_slice();
+        match place_of(held, view) {
+            Some(at) => Some(&held[at].doc),
+            None => None,
+        }
+    }
+
+    /// Puts in the closing entry, which takes no memory and writes nothing, unless there is one.
+    pub fn close_down(&mut self) -> Reply
+        ensures closed { (result ≡ Reply.Closed) ↔ (has_closing (journal_of self.old) ≡ true) }
+        ensures stays { result ≡ Reply.Closed → self.new ≡ self.old }
+        ensures reply { result ≢ Reply.Closed → result ≡ Reply.Taken [] }
+        ensures entry { result ≢ Reply.Closed → journal_of self.new ≡ journal_of self.old ++ closing_entry ∷ [] }
         ensures sink { sink_of self.new ≡ sink_of self.old }
         ensures shelf { shelf_of self.new ≡ shelf_of self.old }
     {
-        self.journal.push_reserved(closing());
+        match self.stage {
+            Stage::Closed => Reply::Closed,
+            Stage::Serves | Stage::Broken => {
+                self.journal.push_reserved(closing());
+                self.stage = Stage::Closed;
+                Reply::Taken(Text::new(self.alloc))
+            }
+        }
     }
 
     /// The journal, the sink and the shelf.
@@ -173,8 +187,10 @@ impl<K: Sink, H: Shelf> Core<K, H> {
             views,
             opened: _,
             config: _,
+            stage: _,
             shelf,
             sink,
+            alloc: _,
         } = self;
         drop(views);
         (journal, sink, shelf)
@@ -182,13 +198,31 @@ impl<K: Sink, H: Shelf> Core<K, H> {
 }
 
 fn front_entry(command: Command, note: ShelfNote, sent: bool) -> Entry
-    ensures { result ≡ record { caller = 0; command = command; shelf = note; sent = sent } }
+    ensures { result ≡ front_entry command note sent }
 {
     Entry {
         caller: 0,
         command,
         shelf: note,
         sent,
+    }
+}
+
+/// How a session stands after an entry of a line, which was sent or not.
+fn stage_if(sent: bool) -> Stage
+    ensures { result ≡ stage_if sent }
+{
+    if sent { Stage::Serves } else { Stage::Broken }
+}
+
+/// What the front end's line is answered then.
+fn reply_if(alloc: Global, sent: bool) -> Reply
+    ensures { result ≡ reply_if sent }
+{
+    if sent {
+        Reply::Taken(Text::new(alloc))
+    } else {
+        Reply::SinkFault
     }
 }
 

@@ -1,7 +1,7 @@
 -- Lemmas on a run between two bytes: how each step goes on or stops.
 use Rattle.std.proofs.Common.{◌≡◌, ◌≢◌, ℕ, ◌+◌, ◌<◌, ◌≤◌, inl, inr, true, false, List, [], ◌∷◌, ◌++◌, length, take, map, Option, Some, None, Ok, Err, refl, ap, sym, ◌∙◌, subst, append_assoc, append-nil, length-append, arith}
 use Rattle.std.proofs.lemmas.List.{map-append}
-use Rattle.std.specs.Prelude.{IfSome, Bool, ◌&&◌, nat_le, unwrap_or}
+use Rattle.std.specs.Prelude.{IfSome, Bool, ◌&&◌, unwrap_or}
 use Rattle.std.specs.Result.{IsErrAnd}
 use Rattle.std.specs.List.{AllByRecursion, concat, list_all}
 use Rattle.xi_plain.specs.declared.command.Command.{Command}
@@ -16,12 +16,13 @@ use Rattle.outside.specs.Sink.{SinkState, Gains}
 use Rattle.outside.specs.Source.{SourceState, Gives}
 use Rattle.outside.proofs.ForCallers.{Gives-append, Gains-append, Gains-none, Rose-earlier}
 use Rattle.core_session.specs.declared.session.Core.{Core}
-use Rattle.xi_plain.specs.Journal.{IsLegal, IsOrdered, closing_entry, commands, front_entries, has_own_note, is_ordered, may_follow, may_have_note}
+use Rattle.xi_plain.specs.Journal.{IsLegal, IsOrdered, closing_entry, commands, front_entries, has_own_note, is_ordered, may_have_note}
 use Rattle.session_step.specs.Session.{first_session, written}
-use Rattle.core_session.specs.Core.{AddsSentEntry, AddsUnsentEntry, IsOpen, IsServing, Outlets, front_entry, journal_of, piece_after}
+use Rattle.core_session.specs.Kept.{IsOpen, front_entry}
+use Rattle.core_session.specs.Core.{AddsSentEntry, AddsUnsentEntry, IsServing, Outlets, journal_of, piece_after}
 use Rattle.session_step.specs.Views.{IsOfLine}
 use Rattle.core_session.specs.Shelves.{AreSavesAsked, HoldsSaves}
-use Rattle.core_session.proofs.ForCallers.{AreSavesAsked-closed, AreSavesAsked-push, HoldsSaves-closed, HoldsSaves-keeps, HoldsSaves-none, HoldsSaves-push, IsOfLine-command_of, shows_closed, written-push}
+use Rattle.core_session.proofs.ForCallers.{AreSavesAsked-closed, AreSavesAsked-push, HoldsSaves-closed, HoldsSaves-keeps, HoldsSaves-none, HoldsSaves-push, IsLegal-closed, IsLegal-front, IsLegal-push, IsOfLine-command_of, closing-push, open_not_over, shows_closed, written-push}
 use Rattle.xi_top.specs.declared.ending.Ending.{Ending}
 use Rattle.xi_top.specs.declared.ending.Ending.TheVariants.{NoMemory, SourceFault, SinkFault, TooMany, TooLong}
 use Rattle.xi_top.specs.Ending.{Outcome, most_lines, too_long}
@@ -38,27 +39,6 @@ failed_with (Err e) ending is = ap Err is
 
 -- ---- legal journals
 
-may_stand : (is follows ordered : Bool) → is ≡ true → follows ≡ true → ordered ≡ true → is && (follows && ordered) ≡ true
-may_stand is follows ordered first may rest = rw (first, may, rest) refl
-
-is_front : (caller : ℕ) → caller ≡ 0 → nat_le caller 0 ≡ true
-is_front caller front = rw (front) refl
-
-ordered_front : (entries rest : List Entry) → AllByRecursion IsOpen entries → IsOrdered 0 rest → IsOrdered 0 (entries ++ rest)
-ordered_front [] rest each ordered = ordered
-ordered_front (entry ∷ entries) rest each ordered =
-    let follows : may_follow entry (entries ++ rest) ≡ true = rw (each.0.asks, each.0.sent) refl in
-    may_stand (nat_le entry.caller 0) (may_follow entry (entries ++ rest)) (is_ordered 0 (entries ++ rest))
-    (is_front entry.caller each.0.caller) follows (ordered_front entries rest each.1 ordered)
-
-noted_front : (entries rest : List Entry) → AllByRecursion IsOpen entries → list_all has_own_note rest ≡ true →
-    list_all has_own_note (entries ++ rest) ≡ true
-noted_front [] rest each noted = noted
-noted_front (entry ∷ entries) rest each noted = rw (each.0.note, noted_front entries rest each.1 noted) refl
-
-is_legal_by : (journal : List Entry) → IsOrdered 0 journal → list_all has_own_note journal ≡ true → IsLegal 0 journal
-is_legal_by journal ordered noted = rw (ordered, noted) refl
-
 first_part : (a b : Bool) → a && b ≡ true → a ≡ true
 first_part true b both = refl
 first_part false b both = absurd cc
@@ -67,20 +47,13 @@ pub ordered_legal : (journal : List Entry) → IsLegal 0 journal → IsOrdered 0
 ordered_legal journal legal = first_part (is_ordered 0 journal) (list_all has_own_note journal) legal
 
 legal_open : (entries : List Entry) → AllByRecursion IsOpen entries → IsLegal 0 (entries ++ closing_entry ∷ [])
-legal_open entries each =
-    is_legal_by (entries ++ closing_entry ∷ []) (ordered_front entries (closing_entry ∷ []) each refl)
-    (noted_front entries (closing_entry ∷ []) each refl)
+legal_open entries each = IsLegal-front entries (closing_entry ∷ []) each refl
 
 legal_cut : (sent : List Entry) (command : Command) (note : ShelfNote) → AllByRecursion IsOpen sent → IsOfLine command.act →
     may_have_note command.act note ≡ true → IsLegal 0 ((sent ++ front_entry command note false ∷ []) ++ closing_entry ∷ [])
 legal_cut sent command note each asks kind =
-    let last = front_entry command note false in
-    let rest = last ∷ (closing_entry ∷ []) in
-    let follows : may_follow last (closing_entry ∷ []) ≡ true = rw asks refl in
-    let ordered : IsOrdered 0 rest = may_stand (nat_le 0 0) (may_follow last (closing_entry ∷ [])) true refl follows refl in
-    let noted : list_all has_own_note rest ≡ true = rw kind refl in
-    subst (IsLegal 0) (sym (append_assoc sent (last ∷ []) (closing_entry ∷ [])))
-    (is_legal_by (sent ++ rest) (ordered_front sent rest each ordered) (noted_front sent rest each noted))
+    IsLegal-closed (sent ++ front_entry command note false ∷ []) (IsLegal-push sent command note false each asks kind)
+    (closing-push sent command note false (open_not_over sent each) asks)
 
 -- in a legal journal without plugins all entries are the front end's
 holds_front : (outcome : Outcome) (taken left : List ℕ) (entries : List Entry) → IsLegal 0 (entries ++ closing_entry ∷ []) →
@@ -212,7 +185,6 @@ module _ {K H : Type 0} (tell : Core K H → Outlets) (start : Start) where
       let At : List ℕ → Type 0 = λ bytes. HoldsLines (Err SourceFault) bytes left (commands (journal_of core)) in
       let many : ended_lines [] taken ≡ ended_lines [] (taken ++ []) = ap (ended_lines []) (sym (append-nil taken)) in
       record {
-        room = at.whole.serving.room;
         lines =
             holds_front (Err SourceFault) taken left (journal_of core) (legal_open (journal_of core) at.whole.serving.sent)
             (subst At (append-nil taken) (holds_first (Err SourceFault) taken [] left (commands (journal_of core)) at.asked (within_taken taken core begun at) many));
@@ -229,7 +201,6 @@ module _ {K H : Type 0} (tell : Core K H → Outlets) (start : Start) where
   stops_memory : (front extra left : List ℕ) (core : Core K H) → IsWhole tell start core → commands (journal_of core) ≡ map command_of (ended_lines [] front) →
       AreWithin (ended_lines [] front) → Stops tell start (front ++ extra) left core (Err NoMemory)
   stops_memory front extra left core whole asked within = record {
-    room = whole.serving.room;
     lines =
         holds_front (Err NoMemory) (front ++ extra) left (journal_of core) (legal_open (journal_of core) whole.serving.sent)
         (holds_first (Err NoMemory) front extra left (commands (journal_of core)) asked within tt);
@@ -273,7 +244,6 @@ module _ {K H : Type 0} (tell : Core K H → Outlets) (start : Start) where
       subst Legal (sym adds.entry)
       (legal_cut (journal_of old) command adds.note whole.serving.sent (IsOfLine-command_of line) adds.noted.kind) in
       record {
-        room = adds.room;
         lines = holds_front (Err SinkFault) taken left (journal_of new) legal lines;
         written = cut;
         saves =
@@ -358,7 +328,6 @@ module _ {K H : Type 0} (tell : Core K H → Outlets) (start : Start) where
         long = subst Long (ap (λ b. b ++ bytes) at.rest ∙ sym (unended-begin taken bytes none)) over;
       } in
       record {
-        room = at.whole.serving.room;
         lines =
             holds_front (Err TooLong) (taken ++ (bytes ++ more)) left (journal_of core) (legal_open (journal_of core) at.whole.serving.sent)
             (holds_first (Err TooLong) taken (bytes ++ more) left (commands (journal_of core)) at.asked (within_taken taken core begun at) next);
@@ -392,7 +361,6 @@ module _ {K H : Type 0} (tell : Core K H → Outlets) (start : Start) where
   stops_many taken left core begun at full =
       let At : List ℕ → Type 0 = λ bytes. HoldsLines (Err TooMany) bytes left (commands (journal_of core)) in
       record {
-        room = at.whole.serving.room;
         lines =
             holds_front (Err TooMany) taken left (journal_of core) (legal_open (journal_of core) at.whole.serving.sent)
             (subst At (append-nil taken) (holds_first (Err TooMany) taken [] left (commands (journal_of core)) at.asked (within_taken taken core begun at) (sym at.counted ∙ full)));
@@ -458,7 +426,6 @@ module _ {K H : Type 0} (tell : Core K H → Outlets) (start : Start) where
   stops_later taken later left core ending inside stops =
       let held = stops.lines in
       record {
-        room = stops.room;
         lines = record {
           lines = held.lines;
           later = held.later;
@@ -508,7 +475,6 @@ module _ {K H : Type 0} (tell : Core K H → Outlets) (start : Start) where
   stops_finished : (taken : List ℕ) (core : Core K H) → IsWhole tell start core → commands (journal_of core) ≡ map command_of (lines_of taken) →
       AreWithin (lines_of taken) → Stops tell start taken [] core (Ok tt)
   stops_finished taken core whole asked within = record {
-    room = whole.serving.room;
     lines =
         holds_front (Ok tt) taken [] (journal_of core) (legal_open (journal_of core) whole.serving.sent)
         (holds_all (Ok tt) taken (commands (journal_of core)) asked within (refl, refl));
@@ -593,15 +559,6 @@ at_first tell core begun serving empty none zero_of =
       counted = zero_of;
       few = omega (arith, zero_of);
     }
-
--- what fails to enter a line is not the source
-pub no_fault : {K H : Type 0} (tell : Core K H → Outlets) (old new : Core K H) (command : Command) (ending : Ending) →
-    FailsBy tell old new command ending → IsNoSourceFault (Err ending)
-no_fault tell old new command SinkFault fails = tt
-no_fault tell old new command NoMemory fails = tt
-no_fault tell old new command SourceFault fails = absurd fails
-no_fault tell old new command TooMany fails = tt
-no_fault tell old new command TooLong fails = tt
 
 pub no_failure : (outcome : Outcome) (before after : SourceState) → IsNoSourceFault outcome → HasFailedIf outcome before after
 no_failure (Ok done) before after inside = tt

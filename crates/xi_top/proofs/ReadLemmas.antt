@@ -16,7 +16,8 @@ use Rattle.xi_top.specs.declared.step.Stepped.{Stepped}
 use Rattle.xi_top.specs.declared.step.Stepped.TheVariants.{Goes, Ends}
 use Rattle.xi_top.specs.declared.ending.Ending.TheVariants.{NoMemory, SourceFault, SinkFault, TooMany, TooLong}
 use Rattle.xi_top.specs.Ending.{Outcome, status_of}
-use Rattle.core_session.specs.Core.{IsOpen, Outlets, journal_of, shelf_of, sink_of}
+use Rattle.core_session.specs.Kept.{IsOpen}
+use Rattle.core_session.specs.Core.{Outlets, journal_of, shelf_of, sink_of}
 use Rattle.core_session.specs.Shelves.{ShelfState}
 use Rattle.xi_top.specs.Run.{HasFailedIf, IsReadByCount, IsRun, Outside, passage_of}
 use Rattle.xi_top.specs.Step.{AsksOnce, HasAnswered, IsNoSourceFault, IsStep, IsWhole, Start, Stops, StepsBy, begun_of, most_read, run_journal, start_of}
@@ -227,7 +228,6 @@ so_far_first tell_source tell before run at = record {
 stops_first : {K H : Type 0} (tell : Core K H → Outlets) (first : Outlets) (entries : List Entry) (taken left : List ℕ) (core : Core K H)
     (outcome : Outcome) → Stops tell (start_with first entries) taken left core outcome → Stops tell (start_of first) taken left core outcome
 stops_first tell first entries taken left core outcome stops = record {
-  room = stops.room;
   lines = stops.lines;
   written = stops.written;
   saves = stops.saves;

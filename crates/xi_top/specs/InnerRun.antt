@@ -2,6 +2,8 @@
 use Rattle.std.specs.Prelude.{◌≡◌, ℕ, ◌+◌, ◌*◌, ◌<◌, ◌≤◌, List, [], ◌∷◌, ◌++◌, length, IfSome, Ok, Err, ⊤}
 use Rattle.std.specs.List.{AllByRecursion}
 use Rattle.xi_plain.specs.declared.command.Command.{Command}
+use Rattle.xi_plain.specs.declared.reply.Reply.{Reply}
+use Rattle.xi_plain.specs.declared.reply.Reply.TheVariants as reply
 use Rattle.outside.specs.Faults.{counted}
 use Rattle.outside.specs.Source.{SourceState, Gives}
 use Rattle.xi_plain.specs.declared.entry.Entry.{Entry}
@@ -56,6 +58,19 @@ FailsBy tell old new command ending = ⊥
 abbrev pub Enters : {K H : Type 0} → (Core K H → Outlets) → Core K H → Core K H → Command → Outcome → Type 0
 Enters tell old new command (Ok done) = AddsSentEntry tell old new command
 Enters tell old new command (Err ending) = FailsBy tell old new command ending
+
+-- what a session that takes lines answers one
+abbrev pub IsAnswer : Reply → Type 0
+IsAnswer (reply.Refused line) = ⊥
+IsAnswer reply.Closed = ⊥
+IsAnswer told = ⊤
+
+-- how a run ends by that, if it does
+abbrev pub IsToldBy : Reply → Outcome → Type 0
+IsToldBy (reply.Taken line) outcome = outcome ≡ Ok tt
+IsToldBy reply.SinkFault outcome = outcome ≡ Err SinkFault
+IsToldBy reply.NoMemory outcome = outcome ≡ Err NoMemory
+IsToldBy told outcome = ⊥
 
 -- why bytes were not kept
 abbrev pub KeepsNot : List ℕ → Ending → Type 0

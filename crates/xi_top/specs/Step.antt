@@ -1,5 +1,5 @@
 -- ONE STEP OF A RUN: one read of its source, and each line that is whole by then.
-use Rattle.std.specs.Prelude.{◌≡◌, ℕ, ◌<◌, ◌≤◌, List, [], ◌∷◌, ◌++◌, length, map, IfSome, Option, Ok, Err, ⊤}
+use Rattle.std.specs.Prelude.{◌≡◌, ℕ, ◌<◌, ◌≤◌, false, List, [], ◌∷◌, ◌++◌, length, map, IfSome, Option, Ok, Err, ⊤}
 use Rattle.std.specs.List.{AllByRecursion}
 use Rattle.plain_text.specs.InputLines.{ended_lines, unended}
 use Rattle.front_wire.specs.Front.{command_of}
@@ -17,7 +17,8 @@ use Rattle.xi_top.specs.declared.step.Stepped.{Stepped}
 use Rattle.xi_top.specs.declared.step.Stepped.TheVariants.{Goes, Ends}
 use Rattle.xi_top.specs.declared.ending.Ending.TheVariants.{SourceFault}
 use Rattle.session_step.specs.Session.{first_session, written}
-use Rattle.core_session.specs.Core.{HasRoom, IsServing, Outlets, journal_of, shelf_of, sink_of}
+use Rattle.core_session.specs.Kept.{has_closing}
+use Rattle.core_session.specs.Core.{IsServing, Outlets, journal_of, shelf_of, sink_of}
 use Rattle.core_session.specs.Shelves.{AreSavesAsked, HoldsSaves, ShelfState}
 use Rattle.xi_top.specs.Ending.{Outcome, most_lines, too_long}
 use Rattle.xi_top.specs.Lines.{IsShort, IsWithinLimit, HoldsLines}
@@ -75,7 +76,6 @@ IsNoSourceFault outcome = ⊤
 
 -- the run stopped after these bytes were taken, where those are left
 pub record Stops {K H : Type 0} (tell : Core K H → Outlets) (start : Start) (taken left : List ℕ) (core : Core K H) (outcome : Outcome) : Type 0 where
-  pub room : HasRoom core
   pub lines : HoldsLines outcome taken left (commands (front_entries (journal_of core)))
   pub written : IsWritten outcome start.sink (tell core).sink (journal_of core ++ closing_entry ∷ [])
   pub saves : HoldsSaves start.shelf (tell core).shelf (journal_of core ++ closing_entry ∷ [])
@@ -111,9 +111,9 @@ run_shelf run = shelf_of run.core
 abbrev pub run_journal : {K H : Type 0} → Run K H → List Entry
 run_journal run = journal_of run.core
 
--- it may be closed: there is room for the closing entry
+-- it may be closed: it was not closed yet
 abbrev pub MayClose : {K H : Type 0} → Run K H → Type 0
-MayClose run = HasRoom run.core
+MayClose run = has_closing (run_journal run) ≡ false
 
 -- ---- one read
 

@@ -39,7 +39,6 @@ impl Intake {
     /// Enters each line that LF ends in the chunk, and keeps what stands after the last one. After an `Err` the run ends so.
     pub fn feed<K: Sink, H: Shelf>(
         &mut self,
-        alloc: Global,
         core: &mut Core<K, H>,
         chunk: &[u8],
     ) -> Result<(), Ending>
@@ -53,7 +52,7 @@ impl Intake {
         let mut rest = chunk;
         while let Some(at) = memchr(b'\n', rest) {
             let (line, later) = rest.split_at(at + 1);
-            self.end_line(alloc, core, line)?;
+            self.end_line(core, line)?;
             rest = later;
         }
         self.begin(rest)
@@ -62,7 +61,6 @@ impl Intake {
     /// Enters the line that these bytes end, of which the last is its LF.
     fn end_line<K: Sink, H: Shelf>(
         &mut self,
-        alloc: Global,
         core: &mut Core<K, H>,
         ending: &[u8],
     ) -> Result<(), Ending>
@@ -79,7 +77,7 @@ impl Intake {
         if self.begun.extend_from_slice(ending).is_err() {
             return Err(Ending::NoMemory);
         }
-        enter(alloc, core, &self.begun)?;
+        enter(core, &self.begun)?;
         self.next_line()
     }
 
@@ -113,11 +111,7 @@ impl Intake {
     }
 
     /// Enters what stands after the last LF, where it is not empty, at the input's end.
-    pub fn finish<K: Sink, H: Shelf>(
-        &self,
-        alloc: Global,
-        core: &mut Core<K, H>,
-    ) -> Result<(), Ending>
+    pub fn finish<K: Sink, H: Shelf>(&self, core: &mut Core<K, H>) -> Result<(), Ending>
         requires serving { IsServing core.old }
         requires small { IsSmall (begun_of self.now) }
         ensures { (start : Start) (taken : List ℕ)
@@ -127,6 +121,6 @@ impl Intake {
         if self.begun.is_empty() {
             return Ok(());
         }
-        enter(alloc, core, &self.begun)
+        enter(core, &self.begun)
     }
 }

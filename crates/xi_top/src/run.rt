@@ -147,7 +147,7 @@ fn run<S: Source, K: Sink, H: Shelf>(
 {
     match Run::make(alloc, sink, shelf) {
         Ok(mut run) => {
-            let outcome = serve(alloc, source, &mut run);
+            let outcome = serve(source, &mut run);
             let (journal, sink, shelf) = run.close();
             Report {
                 status: status_of(outcome),

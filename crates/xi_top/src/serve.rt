@@ -7,11 +7,9 @@ ghost use Rattle.xi_top.specs.InnerRun.{IsServed};
 use crate::ending::Ending;
 use crate::step::{Run, Stepped};
 use outside::{Shelf, Sink, Source};
-use std::alloc::Global;
 
 /// Steps until one ends the run.
 pub fn serve<S: Source, K: Sink, H: Shelf>(
-    alloc: Global,
     source: &mut S,
     run: &mut Run<K, H>,
 ) -> Result<(), Ending>
@@ -22,7 +20,7 @@ pub fn serve<S: Source, K: Sink, H: Shelf>(
         (outlets_of K.held K.faults K.failures H.files H.faults) source.old source.new run.old.core run.new.core result }
 {
     loop {
-        match run.step(alloc, source) {
+        match run.step(source) {
             Stepped::Goes => {}
             Stepped::Ends(outcome) => return outcome,
         }

@@ -52,7 +52,7 @@ impl<K: Sink, H: Shelf> Run<K, H> {
     }
 
     /// Reads once from the source, which may wait, and enters each line that is whole by then. After `Ends` there is no next step.
-    pub fn step<S: Source>(&mut self, alloc: Global, source: &mut S) -> Stepped
+    pub fn step<S: Source>(&mut self, source: &mut S) -> Stepped
         requires { IsOngoing self.old }
         ensures ongoing { result ≡ Stepped.Goes → IsOngoing self.new }
         ensures heavier { result ≡ Stepped.Goes → IsHeavier self.old self.new }
@@ -65,8 +65,8 @@ impl<K: Sink, H: Shelf> Run<K, H> {
         let mut buffer = [0; MOST_READ];
         match source.read(&mut buffer) {
             Pulled::Failed => Stepped::Ends(Err(Ending::SourceFault)),
-            Pulled::End => Stepped::Ends(self.intake.finish(alloc, &mut self.core)),
-            Pulled::Got(n) => step_after(self.intake.feed(alloc, &mut self.core, &buffer[..n])),
+            Pulled::End => Stepped::Ends(self.intake.finish(&mut self.core)),
+            Pulled::Got(n) => step_after(self.intake.feed(&mut self.core, &buffer[..n])),
         }
     }
 
@@ -79,7 +79,7 @@ impl<K: Sink, H: Shelf> Run<K, H> {
     {
         let Run { mut core, intake } = self;
         drop(intake);
-        core.close_down();
+        let _closed = core.close_down();
         core.into_parts()
     }
 }

@@ -10,7 +10,6 @@ use Rattle.session_load.proofs.load.enter_lines.Goals as goal
 
 pub loop-line-init : goal.loop-line-init
 loop-line-init c = record {
-  serving = c.requires;
   table = table_of_none (sink_of c.args.core.now).counts (tallies_of c.in_ok-table.table) c.in_ok-table.ensures;
 }
 
@@ -20,11 +19,10 @@ loop-line-preserved c =
     let wrote = c.in_ok-written.written in
     let old = tallies_of c.loop-line.table in
     record {
-      serving = c.in_ok-written.ensures.serving;
       table =
           table_of_more (map now c.loop-line.yielded) c.in-Some.line.now (map now (c.loop-line.yielded ++ c.in-Some.line ∷ [])) (sink_of c.args.core.now).counts
           (sink_of c.loop-line.core).counts (sink_of c.enter.new.core).counts old (tallies_of c.take.new.self) wrote
-          (map-append now c.loop-line.yielded (c.in-Some.line ∷ [])) c.loop-line.invariant.table c.in_ok-written.ensures.written
+          (map-append now c.loop-line.yielded (c.in-Some.line ∷ [])) c.loop-line.invariant.table c.in_ok-written.ensures
           (c.in_ok-take.ensures ∙ ap (λ kind. table_with old (record { kind = kind; written = wrote })) c.in_ok-kind_of.ensures);
     }
 

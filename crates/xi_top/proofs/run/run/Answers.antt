@@ -2,8 +2,13 @@ use Rattle.std.proofs.Common.{inl}
 use Rattle.outside.specs.Source.{source_state}
 use Rattle.outside.specs.Sink.{sink_state}
 use Rattle.core_session.specs.Shelves.{shelf_state}
+use Rattle.core_session.proofs.ForCallers.{closing_last}
+use Rattle.xi_top.specs.Step.{run_journal}
 use Rattle.xi_top.proofs.ReadLemmas.{AnswersInTime-served, IsReadByCount-outcome, IsRun-served}
 use Rattle.xi_top.proofs.run.run.Goals as goal
+
+pub close-journal-requires : goal.close-journal-requires
+close-journal-requires g c = closing_last (run_journal c.serve-outcome.new.run) c.serve-outcome.ensures.stops.legal
 
 pub returns-in-Ok-clause-alone : goal.returns-in-Ok-clause-alone
 returns-in-Ok-clause-alone g c =

@@ -1,33 +1,75 @@
-use Rattle.std.proofs.Common.{◌≡◌, ◌++◌, ◌∷◌, [], ◌<◌, List, ℕ, true, false, length, refl, ap, ◌∙◌, subst, arith, eq-eqb, take}
+use Rattle.std.proofs.Common.{◌≡◌, ◌++◌, ◌∷◌, [], ◌<◌, List, ℕ, true, false, length, refl, ap, sym, ◌∙◌, subst, arith, take}
 use Rattle.std.specs.Prelude.{◌^◌}
-use Rattle.std.proofs.lemmas.Bool.{ne_eqb}
+use Rattle.std.proofs.Math.Logic.{∥∥₁_elim, ∥∥₁_map, ∥∥₁_prop}
+use Rattle.std.proofs.lemmas.Bool.{eqb-false, eqb-true}
 use Rattle.std.proofs.lemmas.List.{take_all}
 use Rattle.outside.specs.Sink.{Gains}
-use Rattle.core_session.specs.Core.{front_entry, piece_after}
+use Rattle.xi_plain.specs.Journal.{IsLegal}
+use Rattle.session_step.specs.Session.{session_of}
+use Rattle.core_session.specs.Kept.{StandsForSession, front_entry, is_over, stage_of}
+use Rattle.core_session.specs.Core.{piece_after}
+use Rattle.core_session.proofs.EnterLemmas.{PutsAs-by, unsent_of}
+use Rattle.core_session.proofs.KeptLemmas.{IsOfJournal-push, IsLegal-push, open_journal, reserved_if, showing_open, stage-push, stage_serves}
+use Rattle.core_session.proofs.SessionLemmas.{session_of-push}
 use Rattle.core_session.proofs.ShelfLemmas.{AreSavesAsked-push}
 use Rattle.core_session.proofs.ShowsLemmas.{serves_push}
 use Rattle.core_session.proofs.session.Core.put.Goals as goal
 
-pub returns-clause-sent : goal.returns-clause-sent
-returns-clause-sent g c = λ _.
+pub invariant_of-self : goal.invariant_of-self
+invariant_of-self g c =
+    let core = c.args.self.now in
+    let journal = core.journal in
+    let made = c.args.made in
+    let few : length journal.items < 2 ^ 63 = omega (arith, journal.ok.0, journal.ok.1, journal.small, c.requires.room) in
+    let goes : is_over journal.items ≡ false = stage_serves journal.items (sym c.requires.serves ∙ core.staged) in
+    let each = open_journal journal.items core.legal goes in
+    let items = c.push_reserved.ensures.items ∙ ap (λ e. journal.items ++ e ∷ []) c.front_entry.ensures in
+    record {
+      legal = subst (IsLegal 0) (sym items) (IsLegal-push journal.items made.command made.note _ each c.requires.asks c.requires.kind);
+      staged = c.stage_if-self.ensures ∙ stage-push journal.items made.command made.note _ goes c.requires.asks ∙ ap stage_of (sym items);
+      room =
+          omega (
+            arith,
+            c.push_reserved.ensures.len,
+            c.push_reserved.ensures.capacity,
+            c.requires.room,
+            reserved_if c.stage_if-self.result _ c.stage_if-self.ensures,
+          );
+      kept =
+          rw (items, c.put.ensures)
+          (∥∥₁_elim core.kept ∥∥₁_prop (λ kept.
+          ∥∥₁_map c.requires.prepared (λ prepared.
+          IsOfJournal-push journal.items made _ few each (showing_open journal.items each kept.showing) kept.saves_asked c.requires.asks c.requires.kind
+          c.requires.asked prepared)));
+    }
+
+pub returns-clause-replies : goal.returns-clause-replies
+returns-clause-replies g c = (_, c.reply_if.ensures)
+
+pub returns-clause-rose : goal.returns-clause-rose
+returns-clause-rose g c = λ fails.
+    let no = unsent_of _ c.reply_if.result c.reply_if.ensures fails in
+    c.write_piece-taken.ensures.failed (omega (arith, c.write_piece-taken.ensures.within, eqb-false _ _ no))
+
+pub returns-clause-puts : goal.returns-clause-puts
+returns-clause-puts g c = λ serving prepared.
+    PutsAs-by _ _ _ _ _ _ c.reply_if.result c.reply_if.ensures
+    (λ yes.
     let journal = c.args.self.now.journal in
     let made = c.args.made in
     let few : length journal.items < 2 ^ 63 = omega (arith, journal.ok.0, journal.ok.1, journal.small, c.requires.room) in
-    let parts = serves_push _ made.command made.note _ _ _ _ few c.requires.serving.sent c.requires.serving.showing c.requires.asks c.requires.kind
-    c.requires.prepared.lines c.requires.prepared.reads_back c.requires.prepared.stands in
-    let saves = AreSavesAsked-push journal.items (front_entry made.command made.note true) c.requires.serving.saves_asked c.requires.asked in
-    let entry : c.front_entry.result ≡ front_entry made.command made.note true =
-    c.front_entry.ensures ∙ ap (front_entry made.command made.note) (eq-eqb _ _ c.if-not-sent.false) in
+    let parts = serves_push _ made.command made.note _ _ _ _ few serving.sent serving.showing c.requires.asks c.requires.kind prepared.lines
+    prepared.reads_back prepared.stands in
+    let saves = AreSavesAsked-push journal.items (front_entry made.command made.note true) serving.saves_asked c.requires.asked in
     let items : c.push_reserved.new.self.items ≡ journal.items ++ front_entry made.command made.note true ∷ [] =
-    c.push_reserved.ensures.items ∙ ap (λ e. journal.items ++ e ∷ []) entry in
+    c.push_reserved.ensures.items ∙ ap (λ e. journal.items ++ e ∷ []) (c.front_entry.ensures ∙ ap (front_entry made.command made.note) yes) in
     let bytes = c.as_bytes-bytes.result.now in
+    let same : c.write_piece-taken.result ≡ length bytes = eqb-true _ _ yes in
     let whole : take c.write_piece-taken.result bytes ≡ piece_after journal.items (front_entry made.command made.note true) =
-    take_all c.write_piece-taken.result bytes (omega (arith, c.if-not-sent.false)) ∙ c.as_bytes-bytes.ensures.value ∙
-    c.as_str.ensures.utf8 ∙ c.requires.prepared.lines.joined in
+    take_all c.write_piece-taken.result bytes (omega (arith, same)) ∙ c.as_bytes-bytes.ensures.value ∙ c.as_str.ensures.utf8 ∙ prepared.lines.joined in
     let Gained : List ℕ → Type 0 = λ gained. Gains (g.K.Sink.held c.args.self.now.sink) (g.K.Sink.held c.write_piece-taken.new.sink) gained in
     record {
       serving = record {
-        room = omega (arith, c.push_reserved.ensures.len, c.push_reserved.ensures.capacity, c.requires.room);
         sent = rw items parts.0;
         saves_asked = rw items saves;
         showing = rw items parts.1;
@@ -37,26 +79,27 @@ returns-clause-sent g c = λ _.
       shelf = refl;
       gains = subst Gained whole c.write_piece-taken.ensures.gains;
       faults_stay = c.write_piece-taken.ensures.faults_stay;
-      failures_same = c.write_piece-taken.ensures.failures_same c.if-not-sent.false;
-    }
-
-pub returns-then-not-sent-clause-unsent : goal.returns-then-not-sent-clause-unsent
-returns-then-not-sent-clause-unsent g c = λ _.
+      failures_same = c.write_piece-taken.ensures.failures_same same;
+    })
+    (λ no.
     let journal = c.args.self.now.journal in
     let made = c.args.made in
     let bytes = c.as_bytes-bytes.result.now in
-    let short : c.write_piece-taken.result < length bytes = omega (arith, c.write_piece-taken.ensures.within, c.if-not-sent.true) in
-    let entry : c.front_entry.result ≡ front_entry made.command made.note false =
-    c.front_entry.ensures ∙ ap (front_entry made.command made.note) (ne_eqb _ _ c.if-not-sent.true) in
-    let whole : bytes ≡ piece_after journal.items (front_entry made.command made.note false) =
-    c.as_bytes-bytes.ensures.value ∙ c.as_str.ensures.utf8 ∙ c.requires.prepared.lines.joined in
+    let differs = eqb-false _ _ no in
+    let short : c.write_piece-taken.result < length bytes = omega (arith, differs, c.write_piece-taken.ensures.within) in
+    let entry = front_entry made.command made.note false in
+    let items : c.push_reserved.new.self.items ≡ journal.items ++ entry ∷ [] =
+    c.push_reserved.ensures.items ∙ ap (λ e. journal.items ++ e ∷ []) (c.front_entry.ensures ∙ ap (front_entry made.command made.note) no) in
+    let stands : StandsForSession made.held made.opened made.config (session_of (journal.items ++ entry ∷ [])) =
+    subst (StandsForSession made.held made.opened made.config) (sym (session_of-push journal.items entry)) prepared.stands in
+    let whole : bytes ≡ piece_after journal.items entry = c.as_bytes-bytes.ensures.value ∙ c.as_str.ensures.utf8 ∙ prepared.lines.joined in
     let Part : List ℕ → Type 0 = λ piece. c.write_piece-taken.result < length piece in
     let Gained : List ℕ → Type 0 = λ piece.
     Gains (g.K.Sink.held c.args.self.now.sink) (g.K.Sink.held c.write_piece-taken.new.sink) (take c.write_piece-taken.result piece) in (
       c.write_piece-taken.result,
       record {
-        room = omega (arith, c.push_reserved.ensures.len, c.push_reserved.ensures.capacity, c.requires.room);
-        entry = c.push_reserved.ensures.items ∙ ap (λ e. journal.items ++ e ∷ []) entry;
+        entry = items;
+        stands = rw (items, c.put.ensures) stands;
         shelf = refl;
         part = subst Part whole short;
         gains = subst Gained whole c.write_piece-taken.ensures.gains;
@@ -64,4 +107,4 @@ returns-then-not-sent-clause-unsent g c = λ _.
         rose = c.write_piece-taken.ensures.failed short;
         failures_counted = c.write_piece-taken.ensures.failures_counted short;
       },
-    )
+    ))

@@ -2,7 +2,8 @@ use Rattle.std.proofs.Common.{rules, ◌≡◌, ◌++◌, ◌≤◌, ℕ, length
 use Rattle.core_session.specs.Core.{outlets_of}
 use Rattle.xi_top.specs.Ending.{Outcome, too_long}
 use Rattle.xi_top.specs.InnerRun.{Begun, Counts, GoesOn, begun_of}
-use Rattle.xi_top.proofs.IntakeLemmas.{failed_with, stops_long_line, stops_no_room, stops_line, no_fault, takes_line, goes_next}
+use Rattle.xi_top.proofs.IntakeLemmas.{failed_with, stops_long_line, stops_no_room, stops_line, takes_line, goes_next}
+use Rattle.xi_top.proofs.EnterLemmas.{no_fault}
 use Rattle.xi_top.proofs.feed.Intake.end_line.Goals as goal
 
 pub returns-then-ending-len-clause-goes : goal.returns-then-ending-len-clause-goes

@@ -1,0 +1,350 @@
+-- How a session stands after one more entry, and what it keeps then.
+use Rattle.std.proofs.Common.{◌≡◌, inl, inr, ℕ, suc, ◌<◌, arith, Bool, true, false, not, List, [], ◌∷◌, ◌++◌, length, length-append, refl, ap, sym, ◌∙◌, subst, append-nil}
+use Rattle.std.specs.Prelude.{◌⊎◌, ◌&&◌, ◌||◌, ◌==◌, ◌^◌, if◌then◌else◌, nat_le}
+use Rattle.std.specs.List.{AllByRecursion, AllByRecursion-prop, list_all}
+use Rattle.std.proofs.Math.Bool.{or-false, or-true}
+use Rattle.std.proofs.Math.Logic.{∥∥₁_prop}
+use Rattle.std.proofs.Math.Nat.{ℕ_set}
+use Rattle.std.specs.Coded.{le_prop}
+use Rattle.std.proofs.lemmas.Bool.Decides.{nat_tests}
+use Rattle.std.proofs.lemmas.List.Folds.{list_all-append, list_any-append}
+use Rattle.xi_plain.specs.declared.command.Command.{Command}
+use Rattle.xi_plain.specs.declared.config.Config.{Config}
+use Rattle.xi_plain.specs.declared.entry.Entry.{Entry}
+use Rattle.xi_plain.specs.declared.entry.ShelfNote.{ShelfNote}
+use Rattle.xi_plain.specs.Journal.{IsLegal, closing_entry, has_own_note, is_closing, is_ordered, may_follow, may_have_note}
+use Rattle.session_step.specs.declared.opened.Opened.{Opened}
+use Rattle.core_session.specs.declared.prepare.Prepared.{Prepared}
+use Rattle.core_session.specs.declared.stage.Stage.{Stage}
+use Rattle.core_session.specs.declared.stage.Stage.TheVariants.{Broken, Closed, Serves}
+use Rattle.core_session.specs.InnerSession.{IsPrepared}
+use Rattle.core_session.specs.Kept.{IsOfJournal, IsOpen, IsShowing, StandsForSession, front_entry, has_closing, is_over, reserved, sent_front, stage_by, stage_if, stage_of}
+use Rattle.session_step.specs.Session.{session_of, views_of}
+use Rattle.core_session.specs.Shelves.{AreSavesAsked, asks_as}
+use Rattle.doc_session.specs.Document.{Document}
+use Rattle.doc_session.specs.Stands.{DocStandsFor}
+use Rattle.session_step.specs.Views.{IsOfLine, MayBeAsked, TakesEvents}
+use Rattle.core_session.proofs.SessionLemmas.{session_of-push}
+use Rattle.core_session.proofs.ShelfLemmas.{AreSavesAsked-closed, AreSavesAsked-push}
+use Rattle.core_session.proofs.ShowsLemmas.{no_lines, serves_push, shows_push}
+
+-- ---- truths
+
+first_of : (a b : Bool) → a && b ≡ true → a ≡ true
+first_of true b is = refl
+first_of false b is = absurd cc
+
+second_of : (a b : Bool) → a && b ≡ true → b ≡ true
+second_of true b is = is
+second_of false b is = absurd cc
+
+not_first : (a b : Bool) → a || b ≡ false → a ≡ false
+not_first true b is = absurd cc
+not_first false b is = refl
+
+not_second : (a b : Bool) → a || b ≡ false → b ≡ false
+not_second true b is = absurd cc
+not_second false b is = is
+
+of_not : (a : Bool) → not a ≡ false → a ≡ true
+of_not true is = refl
+of_not false is = absurd cc
+
+one_of : (a b : Bool) → a || b ≡ true → a ≡ false → b ≡ true
+one_of true b is none = absurd cc
+one_of false b is none = is
+
+or_same : (a b : Bool) → a ≡ false → a || b ≡ b
+or_same a b none = rw none refl
+
+-- what is not so gives anything
+pub absurd_of : {A : Type 0} → false ≡ true → A
+absurd_of is = absurd cc
+
+-- ---- legal journals
+
+may_stand : (is follows ordered : Bool) → is ≡ true → follows ≡ true → ordered ≡ true → is && (follows && ordered) ≡ true
+may_stand is follows ordered first may rest = rw (first, may, rest) refl
+
+is_front : (caller : ℕ) → caller ≡ 0 → nat_le caller 0 ≡ true
+is_front caller front = rw front refl
+
+none_less : (caller : ℕ) → nat_le caller 0 ≡ true → caller ≡ 0
+none_less caller is = grind (arith, nat_tests, is)
+
+ordered_front : (entries rest : List Entry) → AllByRecursion IsOpen entries → is_ordered 0 rest ≡ true → is_ordered 0 (entries ++ rest) ≡ true
+ordered_front [] rest each ordered = ordered
+ordered_front (entry ∷ entries) rest each ordered =
+    let follows : may_follow entry (entries ++ rest) ≡ true = rw (each.0.asks, each.0.sent) refl in
+    may_stand (nat_le entry.caller 0) (may_follow entry (entries ++ rest)) (is_ordered 0 (entries ++ rest))
+    (is_front entry.caller each.0.caller) follows (ordered_front entries rest each.1 ordered)
+
+noted_front : (entries rest : List Entry) → AllByRecursion IsOpen entries → list_all has_own_note rest ≡ true →
+    list_all has_own_note (entries ++ rest) ≡ true
+noted_front [] rest each noted = noted
+noted_front (entry ∷ entries) rest each noted = rw (each.0.note, noted_front entries rest each.1 noted) refl
+
+-- before a legal journal may stand entries of the front end that were sent
+pub IsLegal-front : (entries rest : List Entry) → AllByRecursion IsOpen entries → IsLegal 0 rest → IsLegal 0 (entries ++ rest)
+IsLegal-front entries rest each legal =
+    let ordered : is_ordered 0 (entries ++ rest) ≡ true =
+    ordered_front entries rest each (first_of (is_ordered 0 rest) (list_all has_own_note rest) legal) in
+    let noted : list_all has_own_note (entries ++ rest) ≡ true =
+    noted_front entries rest each (second_of (is_ordered 0 rest) (list_all has_own_note rest) legal) in
+    rw (ordered, noted) refl
+
+-- a line's entry alone, and with the closing one behind it
+legal_one : (command : Command) (note : ShelfNote) (sent : Bool) → IsOfLine command.act → may_have_note command.act note ≡ true →
+    IsLegal 0 (front_entry command note sent ∷ [])
+legal_one command note true asks kind = rw (asks, kind) refl
+legal_one command note false asks kind = rw (asks, kind) refl
+
+pub IsLegal-push : (journal : List Entry) (command : Command) (note : ShelfNote) (sent : Bool) → AllByRecursion IsOpen journal →
+    IsOfLine command.act → may_have_note command.act note ≡ true → IsLegal 0 (journal ++ front_entry command note sent ∷ [])
+IsLegal-push journal command note sent each asks kind =
+    IsLegal-front journal (front_entry command note sent ∷ []) each (legal_one command note sent asks kind)
+
+follows_by : (sent a b : Bool) → (a ≡ true → b ≡ true) → (if sent then true else a) ≡ true → (if sent then true else b) ≡ true
+follows_by true a b later is = refl
+follows_by false a b later is = later is
+
+all_more : (a : Bool) → a ≡ true → a && true ≡ true
+all_more a is = rw is refl
+
+ordered_closed : (journal : List Entry) → is_ordered 0 journal ≡ true → has_closing journal ≡ false →
+    is_ordered 0 (journal ++ closing_entry ∷ []) ≡ true
+ordered_closed [] ordered none = refl
+ordered_closed (entry ∷ entries) ordered none =
+    let mine : is_closing entry ≡ false = not_first (is_closing entry) (has_closing entries) none in
+    let front : nat_le entry.caller 0 ≡ true = first_of (nat_le entry.caller 0) (may_follow entry entries && is_ordered 0 entries) ordered in
+    let rest : may_follow entry entries && is_ordered 0 entries ≡ true =
+    second_of (nat_le entry.caller 0) (may_follow entry entries && is_ordered 0 entries) ordered in
+    let may : may_follow entry entries ≡ true = first_of (may_follow entry entries) (is_ordered 0 entries) rest in
+    let by_open : (if entry.sent then true else list_all is_closing entries) ≡ true =
+    subst (λ closes. (if closes then length entries == 0 else (if entry.sent then true else list_all is_closing entries)) ≡ true) mine may in
+    let more : (if entry.sent then true else list_all is_closing (entries ++ closing_entry ∷ [])) ≡ true =
+    follows_by entry.sent (list_all is_closing entries) (list_all is_closing (entries ++ closing_entry ∷ []))
+    (λ is. list_all-append is_closing entries (closing_entry ∷ []) ∙ all_more (list_all is_closing entries) is) by_open in
+    let follows : may_follow entry (entries ++ closing_entry ∷ []) ≡ true = rw mine more in
+    may_stand (nat_le entry.caller 0) (may_follow entry (entries ++ closing_entry ∷ [])) (is_ordered 0 (entries ++ closing_entry ∷ [])) front follows
+    (ordered_closed entries (second_of (may_follow entry entries) (is_ordered 0 entries) rest) (not_second (is_closing entry) (has_closing entries) none))
+
+-- the closing entry may stand behind a journal that has none
+pub IsLegal-closed : (journal : List Entry) → IsLegal 0 journal → has_closing journal ≡ false → IsLegal 0 (journal ++ closing_entry ∷ [])
+IsLegal-closed journal legal none =
+    let ordered = ordered_closed journal (first_of (is_ordered 0 journal) (list_all has_own_note journal) legal) none in
+    let noted : list_all has_own_note (journal ++ closing_entry ∷ []) ≡ true =
+    list_all-append has_own_note journal (closing_entry ∷ []) ∙
+    all_more (list_all has_own_note journal) (second_of (is_ordered 0 journal) (list_all has_own_note journal) legal) in
+    rw (ordered, noted) refl
+
+last_step : (closes : Bool) (many : ℕ) (rest : Bool) → (if closes then suc many == 0 else rest) ≡ true → closes ≡ false
+last_step true many rest is = absurd (grind (arith, nat_tests, is))
+last_step false many rest is = refl
+
+ordered_none : (journal : List Entry) → is_ordered 0 (journal ++ closing_entry ∷ []) ≡ true → has_closing journal ≡ false
+ordered_none [] ordered = refl
+ordered_none (entry ∷ entries) ordered =
+    let rest : may_follow entry (entries ++ closing_entry ∷ []) && is_ordered 0 (entries ++ closing_entry ∷ []) ≡ true =
+    second_of (nat_le entry.caller 0) (may_follow entry (entries ++ closing_entry ∷ []) && is_ordered 0 (entries ++ closing_entry ∷ [])) ordered in
+    let may : may_follow entry (entries ++ closing_entry ∷ []) ≡ true =
+    first_of (may_follow entry (entries ++ closing_entry ∷ [])) (is_ordered 0 (entries ++ closing_entry ∷ [])) rest in
+    let long : length (entries ++ closing_entry ∷ []) ≡ suc (length entries) = omega (arith, length-append entries (closing_entry ∷ [])) in
+    let mine : is_closing entry ≡ false =
+    last_step (is_closing entry) (length entries) (if entry.sent then true else list_all is_closing (entries ++ closing_entry ∷ []))
+    (subst (λ many. (if is_closing entry then many == 0 else (if entry.sent then true else list_all is_closing (entries ++ closing_entry ∷ []))) ≡ true) long may) in
+    rw mine (ordered_none entries (second_of (may_follow entry (entries ++ closing_entry ∷ [])) (is_ordered 0 (entries ++ closing_entry ∷ [])) rest))
+
+-- behind a closing entry stands none
+pub closing_last : (journal : List Entry) → IsLegal 0 (journal ++ closing_entry ∷ []) → has_closing journal ≡ false
+closing_last journal legal =
+    ordered_none journal (first_of (is_ordered 0 (journal ++ closing_entry ∷ [])) (list_all has_own_note (journal ++ closing_entry ∷ [])) legal)
+
+-- ---- whether a journal is over
+
+pub open_not_over : (journal : List Entry) → AllByRecursion IsOpen journal → is_over journal ≡ false
+open_not_over [] each = refl
+open_not_over (entry ∷ entries) each = rw (each.0.asks, each.0.sent) (open_not_over entries each.1)
+
+open_by : (journal : List Entry) → is_ordered 0 journal ≡ true → list_all has_own_note journal ≡ true → is_over journal ≡ false →
+    AllByRecursion IsOpen journal
+open_by [] ordered noted goes = tt
+open_by (entry ∷ entries) ordered noted goes =
+    let here : is_closing entry || not entry.sent ≡ false = not_first (is_closing entry || not entry.sent) (is_over entries) goes in
+    let rest : may_follow entry entries && is_ordered 0 entries ≡ true =
+    second_of (nat_le entry.caller 0) (may_follow entry entries && is_ordered 0 entries) ordered in (
+      record {
+        caller = none_less entry.caller (first_of (nat_le entry.caller 0) (may_follow entry entries && is_ordered 0 entries) ordered);
+        asks = not_first (is_closing entry) (not entry.sent) here;
+        note = first_of (has_own_note entry) (list_all has_own_note entries) noted;
+        sent = of_not entry.sent (not_second (is_closing entry) (not entry.sent) here);
+      },
+      open_by entries (second_of (may_follow entry entries) (is_ordered 0 entries) rest)
+          (second_of (has_own_note entry) (list_all has_own_note entries) noted) (not_second (is_closing entry || not entry.sent) (is_over entries) goes),
+    )
+
+-- the entries of a legal journal that is not over are the front end's, and were sent
+pub open_journal : (journal : List Entry) → IsLegal 0 journal → is_over journal ≡ false → AllByRecursion IsOpen journal
+open_journal journal legal goes =
+    open_by journal (first_of (is_ordered 0 journal) (list_all has_own_note journal) legal)
+    (second_of (is_ordered 0 journal) (list_all has_own_note journal) legal) goes
+
+over_step : (closing cut any over : Bool) → (any ≡ true → over ≡ true) → closing || any ≡ true → (closing || cut) || over ≡ true
+over_step true cut any over later is = refl
+over_step false true any over later is = refl
+over_step false false any over later is = later is
+
+-- one that is closed is over
+pub closed_over : (journal : List Entry) → has_closing journal ≡ true → is_over journal ≡ true
+closed_over [] is = absurd cc
+closed_over (entry ∷ entries) is =
+    over_step (is_closing entry) (not entry.sent) (has_closing entries) (is_over entries) (closed_over entries) is
+
+open_step : (closing cut any over : Bool) → (over ≡ false → any ≡ false) → (closing || cut) || over ≡ false → closing || any ≡ false
+open_step true cut any over later is = absurd cc
+open_step false true any over later is = absurd cc
+open_step false false any over later is = later is
+
+pub open_not_closed : (journal : List Entry) → is_over journal ≡ false → has_closing journal ≡ false
+open_not_closed [] goes = refl
+open_not_closed (entry ∷ entries) goes =
+    open_step (is_closing entry) (not entry.sent) (has_closing entries) (is_over entries) (open_not_closed entries) goes
+
+-- ---- how a session stands
+
+serves_by : (closed over : Bool) → Serves ≡ stage_by closed over → over ≡ false
+serves_by true over is = absurd cc
+serves_by false true is = absurd cc
+serves_by false false is = refl
+
+pub stage_serves : (journal : List Entry) → Serves ≡ stage_of journal → is_over journal ≡ false
+stage_serves journal is = serves_by (has_closing journal) (is_over journal) is
+
+broken_by : (closed over : Bool) → Broken ≡ stage_by closed over → (closed ≡ false) × (over ≡ true)
+broken_by true over is = absurd cc
+broken_by false true is = (refl, refl)
+broken_by false false is = absurd cc
+
+pub stage_broken : (journal : List Entry) → Broken ≡ stage_of journal → (has_closing journal ≡ false) × (is_over journal ≡ true)
+stage_broken journal is = broken_by (has_closing journal) (is_over journal) is
+
+closed_by : (closed over : Bool) → Closed ≡ stage_by closed over → closed ≡ true
+closed_by true over is = refl
+closed_by false true is = absurd cc
+closed_by false false is = absurd cc
+
+pub stage_closed : (journal : List Entry) → Closed ≡ stage_of journal → has_closing journal ≡ true
+stage_closed journal is = closed_by (has_closing journal) (is_over journal) is
+
+-- a session that is not closed has room for the closing entry
+pub reserved_if : (stage : Stage) (sent : Bool) → stage ≡ stage_if sent → reserved stage ≡ 1
+reserved_if stage true is = ap reserved is
+reserved_if stage false is = ap reserved is
+
+-- one that takes no lines is over, and one that is not closed has no closing entry
+pub over_of : (journal : List Entry) (stage : Stage) → stage ≡ stage_of journal → (stage ≡ Broken) ⊎ (stage ≡ Closed) → is_over journal ≡ true
+over_of journal stage is (inl broken) = (stage_broken journal (sym broken ∙ is)).1
+over_of journal stage is (inr closed) = closed_over journal (stage_closed journal (sym closed ∙ is))
+
+pub not_closed_of : (journal : List Entry) (stage : Stage) → stage ≡ stage_of journal → (stage ≡ Serves) ⊎ (stage ≡ Broken) → has_closing journal ≡ false
+not_closed_of journal stage is (inl serves) = open_not_closed journal (stage_serves journal (sym serves ∙ is))
+not_closed_of journal stage is (inr broken) = (stage_broken journal (sym broken ∙ is)).0
+
+sent_stage : (sent : Bool) → stage_if sent ≡ stage_by false (not sent)
+sent_stage true = refl
+sent_stage false = refl
+
+-- no line's entry closes
+pub closing-push : (journal : List Entry) (command : Command) (note : ShelfNote) (sent : Bool) → is_over journal ≡ false → IsOfLine command.act →
+    has_closing (journal ++ front_entry command note sent ∷ []) ≡ false
+closing-push journal command note sent goes asks =
+    list_any-append is_closing journal (front_entry command note sent ∷ []) ∙ rw (open_not_closed journal goes, asks) refl
+
+pub stage-push : (journal : List Entry) (command : Command) (note : ShelfNote) (sent : Bool) → is_over journal ≡ false → IsOfLine command.act →
+    stage_if sent ≡ stage_of (journal ++ front_entry command note sent ∷ [])
+stage-push journal command note sent goes asks =
+    let entry = front_entry command note sent in
+    let ends : Entry → Bool = λ entry. is_closing entry || not entry.sent in
+    let closed : has_closing (journal ++ entry ∷ []) ≡ false = closing-push journal command note sent goes asks in
+    let over : is_over (journal ++ entry ∷ []) ≡ not sent || false =
+    list_any-append ends journal (entry ∷ []) ∙ rw (goes, asks) refl in
+    sent_stage sent ∙ ap (stage_by false) (sym (over ∙ or-false (not sent))) ∙
+    ap (λ c. stage_by c (is_over (journal ++ entry ∷ []))) (sym closed)
+
+pub stage-closing : (journal : List Entry) → Closed ≡ stage_of (journal ++ closing_entry ∷ [])
+stage-closing journal =
+    ap (λ c. stage_by c (is_over (journal ++ closing_entry ∷ [])))
+    (sym (list_any-append is_closing journal (closing_entry ∷ []) ∙ or-true (has_closing journal)))
+
+-- ---- the entries before the first that was not sent
+
+pub sent_front-open : (journal rest : List Entry) → AllByRecursion IsOpen journal → sent_front (journal ++ rest) ≡ journal ++ sent_front rest
+sent_front-open [] rest each = refl
+sent_front-open (entry ∷ entries) rest each =
+    ap (λ sent. if sent then entry ∷ sent_front (entries ++ rest) else []) each.0.sent ∙
+    ap (λ later. entry ∷ later) (sent_front-open entries rest each.1)
+
+cut_step : (entry : Entry) (sent closing over : Bool) (front more : List Entry) → closing ≡ false → (closing || not sent) || over ≡ true →
+    (over ≡ true → more ≡ front) → (if sent then entry ∷ more else []) ≡ (if sent then entry ∷ front else [])
+cut_step entry false closing over front more none is later = refl
+cut_step entry true closing over front more none is later = ap (λ rest. entry ∷ rest) (later (one_of (closing || false) over is (or-false closing ∙ none)))
+
+sent_front-over : (journal rest : List Entry) → has_closing journal ≡ false → is_over journal ≡ true → sent_front (journal ++ rest) ≡ sent_front journal
+sent_front-over [] rest none is = absurd cc
+sent_front-over (entry ∷ entries) rest none is =
+    cut_step entry entry.sent (is_closing entry) (is_over entries) (sent_front entries) (sent_front (entries ++ rest))
+    (not_first (is_closing entry) (has_closing entries) none) is
+    (λ over. sent_front-over entries rest (not_second (is_closing entry) (has_closing entries) none) over)
+
+-- ---- what is kept
+
+-- one that is not closed has room for the closing entry
+pub reserved_open : (stage : Stage) → (stage ≡ Serves) ⊎ (stage ≡ Broken) → reserved stage ≡ 1
+reserved_open stage (inl is) = ap reserved is
+reserved_open stage (inr is) = ap reserved is
+
+pub MayBeAsked-prop : (held : List Opened) → IsProp (MayBeAsked held)
+MayBeAsked-prop held =
+    AllByRecursion-prop (λ (kept : Opened). TakesEvents kept.doc × ∥ ((plain : Document) × DocStandsFor kept.doc plain) ∥₁)
+    (λ kept. hlevel (ℕ_set, le_prop, ∥∥₁_prop)) held
+
+-- a session that takes lines shows its whole journal
+pub showing_open : (journal : List Entry) → AllByRecursion IsOpen journal → IsShowing (sent_front journal) → IsShowing journal
+showing_open journal each showing =
+    let same : sent_front journal ≡ journal =
+    ap sent_front (sym (append-nil journal)) ∙ sent_front-open journal [] each ∙ append-nil journal in
+    subst IsShowing same showing
+
+pub IsOfJournal-push : (journal : List Entry) (made : Prepared) (sent : Bool) → length journal < 2 ^ 63 → AllByRecursion IsOpen journal →
+    IsShowing journal → AreSavesAsked journal → IsOfLine made.command.act → may_have_note made.command.act made.note ≡ true →
+    asks_as (views_of journal) made.command.act made.note ≡ true → IsPrepared (session_of journal) made →
+    IsOfJournal made.held made.opened made.config (journal ++ front_entry made.command made.note sent ∷ [])
+IsOfJournal-push journal made sent few each showing saves asks kind asked prepared = record {
+  stands =
+      subst (StandsForSession made.held made.opened made.config) (sym (session_of-push journal (front_entry made.command made.note sent))) prepared.stands;
+  showing = shown sent;
+  saves_asked = AreSavesAsked-push journal (front_entry made.command made.note sent) saves asked;
+}
+  where
+    shown : (sent : Bool) → IsShowing (sent_front (journal ++ front_entry made.command made.note sent ∷ []))
+    shown false = subst IsShowing (sym (sent_front-open journal (front_entry made.command made.note false ∷ []) each ∙ append-nil journal)) showing
+    shown true =
+        let parts = serves_push journal made.command made.note made.held made.opened made.config _ few each showing asks kind prepared.lines
+        prepared.reads_back prepared.stands in
+        subst IsShowing (sym (sent_front-open journal (front_entry made.command made.note true ∷ []) each)) parts.1
+
+closed_showing : (journal : List Entry) (over : Bool) → is_over journal ≡ over → length journal < 2 ^ 63 → IsLegal 0 journal →
+    has_closing journal ≡ false → IsShowing (sent_front journal) → IsShowing (sent_front (journal ++ closing_entry ∷ []))
+closed_showing journal true is few legal none showing = subst IsShowing (sym (sent_front-over journal (closing_entry ∷ []) none is)) showing
+closed_showing journal false is few legal none showing =
+    let each = open_journal journal legal is in
+    subst IsShowing (sym (sent_front-open journal (closing_entry ∷ []) each))
+    (shows_push journal closing_entry few (showing_open journal each showing) no_lines tt)
+
+pub IsOfJournal-closed : (held : List Opened) (many : ℕ) (laid : Config) (journal : List Entry) → length journal < 2 ^ 63 → IsLegal 0 journal →
+    has_closing journal ≡ false → IsOfJournal held many laid journal → IsOfJournal held many laid (journal ++ closing_entry ∷ [])
+IsOfJournal-closed held many laid journal few legal none kept = record {
+  stands = subst (StandsForSession held many laid) (sym (session_of-push journal closing_entry)) kept.stands;
+  showing = closed_showing journal (is_over journal) refl few legal none kept.showing;
+  saves_asked = AreSavesAsked-closed journal kept.saves_asked;
+}

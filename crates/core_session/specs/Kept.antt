@@ -1,0 +1,96 @@
+-- What a session keeps of its journal, whatever becomes of it.
+use Rattle.std.specs.Prelude.{◌≡◌, ℕ, ◌<◌, ◌||◌, Bool, true, false, not, if◌then◌else◌, List, [], ◌∷◌, Some}
+use Rattle.std.specs.List.{AllByRecursion, list_any}
+use Rattle.xi_plain.specs.declared.command.Command.{Command}
+use Rattle.xi_plain.specs.declared.config.Config.{Config}
+use Rattle.xi_plain.specs.declared.entry.Entry.{Entry}
+use Rattle.xi_plain.specs.declared.entry.ShelfNote.{ShelfNote}
+use Rattle.xi_plain.specs.declared.reply.Reply.{Reply}
+use Rattle.xi_plain.specs.declared.reply.Reply.TheVariants.{SinkFault, Taken}
+use Rattle.xi_plain.specs.Journal.{is_closing, may_have_note}
+use Rattle.session_step.specs.declared.opened.Opened.{Opened}
+use Rattle.session_step.specs.Session.{OpenView, Session, first_session, session_of, views_of, written}
+use Rattle.session_step.specs.Views.{IsNotGiven, IsOfLine, Stands}
+use Rattle.core_session.specs.declared.stage.Stage.{Stage}
+use Rattle.core_session.specs.declared.stage.Stage.TheVariants.{Broken, Closed, Serves}
+use Rattle.core_session.specs.Shelves.{AreSavesAsked}
+use Rattle.core_session.specs.Shows.{Shows, rebuilt}
+
+-- ---- entries
+
+-- the entry of a command of the front end
+abbrev pub front_entry : Command → ShelfNote → Bool → Entry
+front_entry command note sent = record { caller = 0; command = command; shelf = note; sent = sent }
+
+-- the entry is one of the front end's lines, with a note of its own kind, and its piece was sent whole
+pub record IsOpen (entry : Entry) : Type 0 where
+  pub caller : entry.caller ≡ 0
+  pub asks : IsOfLine entry.command.act
+  pub note : may_have_note entry.command.act entry.shelf ≡ true
+  pub sent : entry.sent ≡ true
+
+-- whether there is a closing entry among these
+abbrev pub has_closing : List Entry → Bool
+has_closing journal = list_any is_closing journal
+
+-- whether no line comes after these: one of them closes the journal, or was not sent
+abbrev pub is_over : List Entry → Bool
+is_over journal = list_any (λ entry. is_closing entry || not entry.sent) journal
+
+-- the entries before the first that was not sent
+abbrev pub sent_front : List Entry → List Entry
+sent_front [] = []
+sent_front (entry ∷ entries) = if entry.sent then entry ∷ sent_front entries else []
+
+-- ---- how a session stands
+
+-- by whether its journal has a closing entry, and whether it is over
+abbrev pub stage_by : Bool → Bool → Stage
+stage_by true over = Closed
+stage_by false true = Broken
+stage_by false false = Serves
+
+-- HOW A SESSION STANDS that has this journal
+abbrev pub stage_of : List Entry → Stage
+stage_of journal = stage_by (has_closing journal) (is_over journal)
+
+-- how it stands after an entry of a line, which was sent or not, and what the line is answered
+abbrev pub stage_if : Bool → Stage
+stage_if true = Serves
+stage_if false = Broken
+
+abbrev pub reply_if : Bool → Reply
+reply_if true = Taken []
+reply_if false = SinkFault
+
+-- for how many entries there has to be room: for the closing one, until it stands
+abbrev pub reserved : Stage → ℕ
+reserved Closed = 0
+reserved stage = 1
+
+-- ---- what is kept
+
+-- the views, their number and the configuration in memory are those of the session, and a tab has columns
+pub record StandsForSession (held : List Opened) (many : ℕ) (laid : Config) (session : Session) : Type 0 where
+  pub views : Stands held session.views
+  pub opened : many ≡ session.opened
+  pub config : laid ≡ session.config
+  pub tab : 0 < laid.tab
+
+-- of each of the views the front end rebuilds the screen that the view's document says
+abbrev pub AreRebuilt : List ℕ → List OpenView → Type 0
+AreRebuilt bytes views = AllByRecursion (λ (view : OpenView). rebuilt view.id bytes ≡ Some view.document.screen) views
+
+-- what the entries write shows them, and by its updates the front end has, of each view that is open, the screen that the view's document
+-- says, and an empty one of an id that was not given yet
+pub record IsShowing (journal : List Entry) : Type 0 where
+  pub shows : Shows journal (written first_session journal)
+  pub screens : AreRebuilt (written first_session journal) (views_of journal)
+  pub fresh : (id : List ℕ) → IsNotGiven (session_of journal).opened id → rebuilt id (written first_session journal) ≡ Some []
+
+-- WHAT IS KEPT: the views, their number and the configuration in memory are those of the session that the journal defines; what the entries
+-- write that were sent before any was not shows them; and each saving asked the shelf exactly where its view was open
+pub record IsOfJournal (held : List Opened) (many : ℕ) (laid : Config) (journal : List Entry) : Type 0 where
+  pub stands : StandsForSession held many laid (session_of journal)
+  pub showing : IsShowing (sent_front journal)
+  pub saves_asked : AreSavesAsked journal
