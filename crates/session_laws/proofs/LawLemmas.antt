@@ -1,5 +1,5 @@
 -- What bytes show that no core writes, and what waits in a session to be collected.
-use Rattle.std.proofs.Common.{◌≡◌, ℕ, List, [], ◌∷◌, length, Option, Some, None, ap, sym, ◌∙◌, codes, append-nil}
+use Rattle.std.proofs.Common.{◌≡◌, ℕ, List, [], ◌∷◌, length, Option, Some, ap, sym, ◌∙◌, codes, append-nil}
 use Rattle.std.specs.Prelude.{if◌then◌else◌}
 use Rattle.plain_screen.specs.Screen.{screen_after}
 use Rattle.plain_screen.specs.declared.screen.Update.{Update}

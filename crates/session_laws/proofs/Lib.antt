@@ -1,3 +1,4 @@
 pub mod ConfigLemmas
 pub mod LawLemmas
 pub mod RowLemmas
+pub mod ToldLemmas

@@ -1,9 +1,14 @@
 -- Laws: what the definitions of a session come to, whatever its journal.
-use Rattle.std.specs.Prelude.{◌≡◌, ℕ, false, List, [], length, codes, Some, None}
+use Rattle.std.specs.Prelude.{◌≡◌, ◌↔◌, ℕ, true, false, List, [], length, codes, Some, None}
 use Rattle.std.specs.List.{AllByRecursion}
-use Rattle.std.specs.Str.{bytes_eq}
+use Rattle.std.specs.Str.{bytes_eq, is_utf8}
 use Rattle.serde_json.specs.Data.{Data}
+use Rattle.xi_plain.specs.declared.command.Act.{Act}
 use Rattle.xi_plain.specs.declared.entry.Entry.{Entry}
+use Rattle.xi_plain.specs.declared.entry.ShelfNote.{ShelfNote}
+use Rattle.xi_plain.specs.declared.entry.ShelfNote.TheVariants.{Failed, Held}
+use Rattle.xi_plain.specs.Journal.{may_have_note}
+use Rattle.entry_lines.specs.Answer.{not_text, shelf_failed}
 use Rattle.plain_screen.specs.declared.screen.Update.{Update}
 use Rattle.json_rpc.specs.Line.{line_of, IsLineOf}
 use Rattle.json_rpc.specs.Response.{note_data}
@@ -13,7 +18,8 @@ use Rattle.view_update.specs.Written.{update_data}
 use Rattle.doc_text.specs.Collecting.{HasNoneLeft}
 use Rattle.session_step.specs.declared.opened.Opened.{Opened}
 use Rattle.session_step.specs.Views.{Stands}
-use Rattle.session_step.specs.Session.{OpenView, HaveRevisions, session_of, views_of}
+use Rattle.session_step.specs.Session.{OpenView, HaveRevisions, Session, given_by, outcome, session_of, views_of}
+use Rattle.core_session.specs.Shelves.{asks_as}
 use Rattle.core_session.specs.Shows.{rebuilt}
 
 -- a document has at most as many revisions as its journal has entries
@@ -35,6 +41,21 @@ UnreadShowsNothing = (id : List ℕ) (params : Data) → IsLineOf (note_data (co
 abbrev pub OtherViewIsPassedOver : Type 0
 OtherViewIsPassedOver = (id view : List ℕ) (update : Update) → IsFairUpdate view update → bytes_eq view id ≡ false →
     rebuilt id (line_of (update_data view update)) ≡ Some []
+
+-- CODE 1, that the shelf failed, answers an entry exactly where its note says so
+abbrev pub ShelfFailureIsTold : Type 0
+ShelfFailureIsTold = (session : Session) (act : Act) (note : ShelfNote) → may_have_note act note ≡ true → asks_as session.views act note ≡ true →
+    ((outcome session act (given_by note)).reply ≡ shelf_failed) ↔ (note ≡ Failed)
+
+-- the note holds bytes that are no text in UTF-8
+abbrev pub HoldsNoText : ShelfNote → Type 0
+HoldsNoText (Held bytes) = is_utf8 bytes ≡ false
+HoldsNoText note = ⊥
+
+-- CODE 2, that a file is no text, answers an entry exactly where its note holds such bytes
+abbrev pub NoTextIsTold : Type 0
+NoTextIsTold = (session : Session) (act : Act) (note : ShelfNote) → may_have_note act note ≡ true → asks_as session.views act note ≡ true →
+    ((outcome session act (given_by note)).reply ≡ not_text) ↔ HoldsNoText note
 
 -- all views are laid out and edited as their session is
 abbrev pub AllAreConfigured : Type 0

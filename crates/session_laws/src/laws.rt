@@ -1,6 +1,6 @@
 //! Laws of the definitions, each the contract of a function: they hold of all journals and all bytes.
 
-ghost use Rattle.session_laws.specs.Laws.{AllAreConfigured, NothingWaits, OtherViewIsPassedOver, RevisionsAreFew, UnreadShowsNothing};
+ghost use Rattle.session_laws.specs.Laws.{AllAreConfigured, NoTextIsTold, NothingWaits, OtherViewIsPassedOver, RevisionsAreFew, ShelfFailureIsTold, UnreadShowsNothing};
 
 /// A document has at most as many revisions as its journal has entries.
 pub fn revisions_are_few()
@@ -25,4 +25,14 @@ pub fn unread_shows_nothing()
 /// An update of another view leaves a screen as it was.
 pub fn other_view_is_passed_over()
     ensures { OtherViewIsPassedOver }
+{}
+
+/// Code 1 answers an entry exactly where its note says that the shelf failed.
+pub fn shelf_failure_is_told()
+    ensures { ShelfFailureIsTold }
+{}
+
+/// Code 2 answers an entry exactly where its note holds bytes that are no text.
+pub fn no_text_is_told()
+    ensures { NoTextIsTold }
 {}
