@@ -424,8 +424,8 @@ MayBeAsked-few [] n views stands few small = tt
 MayBeAsked-few (kept ∷ held) n [] stands few small = absurd stands
 MayBeAsked-few (kept ∷ held) n (view ∷ views) stands few small =
     let plain = view.document in
-    let serves = stands.0.serves in (
-      ((serves.no_sessions, omega (arith, few.0, small, head-text kept.doc.text plain.text serves.stands.text.parts)), ∣ (plain, serves.stands) ∣₁),
+    let is = stands.0.stands in (
+      (omega (arith, few.0, small, head-text kept.doc.text plain.text is.text.parts), ∣ (plain, is) ∣₁),
       MayBeAsked-few held n views stands.1 few.1 small,
     )
 

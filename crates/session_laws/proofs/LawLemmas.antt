@@ -1,5 +1,5 @@
 -- What bytes show that no core writes, and what waits in a session to be collected.
-use Rattle.std.proofs.Common.{◌≡◌, ℕ, List, [], ◌∷◌, length, Option, Some, ap, sym, ◌∙◌, codes, append-nil}
+use Rattle.std.proofs.Common.{◌≡◌, ℕ, List, [], ◌∷◌, Option, Some, ap, sym, ◌∙◌, codes, append-nil}
 use Rattle.std.specs.Prelude.{if◌then◌else◌}
 use Rattle.plain_screen.specs.Screen.{screen_after}
 use Rattle.plain_screen.specs.declared.screen.Update.{Update}
@@ -11,7 +11,6 @@ use Rattle.view_update.specs.declared.note.ViewUpdate.{ViewUpdate}
 use Rattle.view_update.specs.Reading.{read_params, line_update}
 use Rattle.view_update.specs.Written.{update_data}
 use Rattle.view_update.proofs.ForCallers.{updates_are_read, updates_read_back}
-use Rattle.doc_text.specs.Collecting.{AreEnded}
 use Rattle.doc_text.proofs.ForCallers.{none-retired}
 use Rattle.core_session.specs.Shows.{updates_in, screen_with, rebuilt_from}
 use Rattle.session_laws.specs.Laws.{NothingWaits, UnreadShowsNothing, OtherViewIsPassedOver}
@@ -40,16 +39,10 @@ other_view_is_passed_over id view update fair other =
 
 -- ---- nothing waits
 
-ended_all : (sessions : List (Option ℕ)) → length sessions ≡ 0 → AreEnded sessions
-ended_all [] none = tt
-ended_all (session ∷ sessions) none = absurd cc
-
 pub nothing_waits : NothingWaits
 nothing_waits [] [] stands = tt
 nothing_waits [] (view ∷ views) stands = absurd stands
 nothing_waits (kept ∷ held) [] stands = absurd stands
 nothing_waits (kept ∷ held) (view ∷ views) stands =
-    let serves = stands.0.serves in
-    let is = serves.stands in
-    let ended = ended_all view.document.text.sessions (ap length (sym is.text.parts.sessions) ∙ serves.no_sessions) in
-    ((is.text.none_left, none-retired _ view.document.text is.text ended), nothing_waits held views stands.1)
+    let is = stands.0.stands in
+    ((is.text.none_left, λ ended. none-retired _ view.document.text is.text ended), nothing_waits held views stands.1)

@@ -15,7 +15,7 @@ use Rattle.json_rpc.specs.Response.{note_data}
 use Rattle.view_update.specs.Fair.{IsFairUpdate}
 use Rattle.view_update.specs.Reading.{read_params}
 use Rattle.view_update.specs.Written.{update_data}
-use Rattle.doc_text.specs.Collecting.{HasNoneLeft}
+use Rattle.doc_text.specs.Collecting.{AreEnded, HasNoneLeft}
 use Rattle.session_step.specs.declared.opened.Opened.{Opened}
 use Rattle.session_step.specs.Views.{Stands}
 use Rattle.session_step.specs.Session.{OpenView, HaveRevisions, Session, given_by, outcome, session_of, views_of}
@@ -26,11 +26,11 @@ use Rattle.core_session.specs.Shows.{rebuilt}
 abbrev pub RevisionsAreFew : Type 0
 RevisionsAreFew = (journal : List Entry) → HaveRevisions (length journal) (views_of journal)
 
--- NOTHING WAITS in a session that may be collected; as no plugin has a session in its documents, what no undo reaches any more is collected
--- at once
+-- NOTHING WAITS in a session that may be collected; and in a document where no plugin's session is open, what no undo reaches any more is
+-- collected at once
 abbrev pub NothingWaits : Type 0
 NothingWaits = (held : List Opened) (views : List OpenView) → Stands held views →
-    AllByRecursion (λ view. HasNoneLeft view.document.text × (view.document.text.groups.retired ≡ [])) views
+    AllByRecursion (λ view. HasNoneLeft view.document.text × (AreEnded view.document.text.sessions → view.document.text.groups.retired ≡ [])) views
 
 -- bytes with a note `update` that can't be read show no screen of any view, whatever stands in it
 abbrev pub UnreadShowsNothing : Type 0

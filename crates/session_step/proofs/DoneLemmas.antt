@@ -1,5 +1,5 @@
 -- What an event and a line come to in memory, by what the calls below them say.
-use Rattle.std.proofs.Common.{◌≡◌, ℕ, List, [], length, Option, None, Result, Ok, Err, IfOk, IfErr, ◌∙◌, subst}
+use Rattle.std.proofs.Common.{◌≡◌, ℕ, List, [], Option, None, Result, Ok, Err, IfOk, IfErr, subst}
 use Rattle.std.specs.Prelude.{OnOk}
 use Rattle.std.specs.Str.{encode_utf8_all}
 use Rattle.xi_plain.specs.declared.command.Command.{Command}
@@ -17,29 +17,25 @@ use Rattle.session_step.specs.declared.act.ActEffects.{ActEffects}
 use Rattle.entry_lines.specs.Answer.{Reply, reply_of}
 use Rattle.entry_lines.specs.Piece.{AreLinesOf, UpdatesReadBack, entry_messages}
 use Rattle.session_step.specs.declared.given.Given.{Given}
+use Rattle.session_step.specs.News.{front_news}
 use Rattle.session_step.specs.Session.{Session, outcome}
 use Rattle.session_step.specs.Views.{IsDone}
 use Rattle.session_step.specs.InnerStep.{IsMade, IsOutcome}
 
--- an event of a document in which no plugin has a session
-pub IsMade-after : (old : Doc) (event : Event) (result : Result (Doc × Effects) DocFault) → length old.text.sessions ≡ 0 →
+-- what an event made of a document
+pub IsMade-after : (old : Doc) (event : Event) (result : Result (Doc × Effects) DocFault) →
     ((plain : Document) → DocStandsFor old plain → IfOk result (λ made. DocStandsFor made.0 (event_step plain event).document)) →
     ((plain : Document) → DocStandsFor old plain → IfOk result (λ made. AreEffectsOf (event_step plain event) made.1)) →
     ((plain : Document) → DocStandsFor old plain → OnOk result (refusal_at plain event ≡ None)) →
-    ((plain : Document) → DocStandsFor old plain → IfErr result (DocRefuses (refusal_at plain event))) →
-    IfOk result (λ made. length made.0.text.sessions ≡ length old.text.sessions) → IsMade old event result
-IsMade-after old event (Err fault) none stands effects accepted refused kept =
+    ((plain : Document) → DocStandsFor old plain → IfErr result (DocRefuses (refusal_at plain event))) → IsMade old event result
+IsMade-after old event (Err fault) stands effects accepted refused =
     record { served = stands; effects = effects; accepted = accepted; refused = refused }
-IsMade-after old event (Ok made) none stands effects accepted refused kept = record {
-  served = λ plain here. record { stands = stands plain here; no_sessions = kept ∙ none };
-  effects = effects;
-  accepted = accepted;
-  refused = refused;
-}
+IsMade-after old event (Ok made) stands effects accepted refused =
+    record { served = stands; effects = effects; accepted = accepted; refused = refused }
 
 -- a command, by what its act came to and by the lines of that
 pub IsDone-by : (session : Session) (command : Command) (gave : Given) (effects : ActEffects) (piece : List ℕ) →
-    IsOutcome (outcome session command.act gave) effects → UpdatesReadBack effects.updates →
+    IsOutcome (outcome session command.act gave) (front_news session command.act gave) effects → UpdatesReadBack effects.updates →
     AreLinesOf (entry_messages command.id (reply_of effects.reply) [] effects.updates effects.scroll) (encode_utf8_all piece) →
     IsDone session command gave piece effects.held
 IsDone-by session command gave effects piece is reads lines =

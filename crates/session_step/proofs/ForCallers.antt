@@ -1,6 +1,6 @@
 -- What other crates may cite of the proofs of `session_step`.
 pub use Rattle.session_step.proofs.ViewLemmas.{same_id, id_is, other_way, view_of-found, only_own}
-unfoldable pub use Rattle.session_step.proofs.ViewLemmas.{OnlyOwn}
+unfoldable pub use Rattle.session_step.proofs.ViewLemmas.{AreOthers, OnlyOwn}
 pub use Rattle.session_step.proofs.ViewLemmas.{AreNumbered, numbered_none, numbered_push, numbered_without, numbered_stepped, apart-numbered}
 pub use Rattle.session_step.proofs.ViewLemmas.{next_not_given, not_given-before, not_given-others}
-pub use Rattle.session_step.proofs.OpenLemmas.{first_inside, named_at, none_named, serves_found}
+pub use Rattle.session_step.proofs.OpenLemmas.{AreBeside, asked_at, beside, first_inside, named_at, none_named, serves_found}

@@ -2,4 +2,5 @@ pub mod ViewLemmas
 pub mod OpenLemmas
 pub mod FaultLemmas
 pub mod DoneLemmas
+pub mod SessionsLemmas
 pub mod ForCallers

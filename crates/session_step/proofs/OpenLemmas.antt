@@ -1,5 +1,5 @@
 -- What views in memory come to that take their steps one after the other, and what an act comes to by them.
-use Rattle.std.proofs.Common.{take_all, length-drop, ◌-◌, ◌≡◌, ℕ, zero, suc, add-one, ◌+◌, ◌<◌, ◌≤◌, false, true, List, [], ◌∷◌, ◌++◌, length, take, drop, get_or, not, Option, Some, None, refl, sym, ◌∙◌, ap, subst, arith, append-nil, append_assoc, length-append, length-take-le}
+use Rattle.std.proofs.Common.{take_all, length-drop, ◌-◌, ◌≡◌, ℕ, zero, suc, add-one, ◌+◌, ◌<◌, ◌≤◌, false, true, List, [], ◌∷◌, ◌++◌, length, map, take, drop, get_or, not, Option, Some, None, refl, sym, ◌∙◌, ap, subst, arith, append-nil, append_assoc, length-append, length-take-le}
 use Rattle.std.proofs.Math.Seq.{drop-cons, split_at}
 use Rattle.std.proofs.lemmas.List.{map-append, drop_all}
 use Rattle.std.specs.Prelude.{if◌then◌else◌, option_map, Result, Ok, Err, OnOk}
@@ -20,21 +20,24 @@ use Rattle.session_step.specs.declared.stepped.ToEach.TheVariants as to
 use Rattle.session_step.specs.declared.act.ActEffects.{ActEffects}
 use Rattle.entry_lines.specs.declared.reply.FrontReply.{FrontReply}
 use Rattle.entry_lines.specs.declared.reply.FrontReply.TheVariants as reply_to
+use Rattle.entry_lines.specs.declared.notice.PluginNews.{PluginNews}
+use Rattle.entry_lines.specs.Notices.{told_of}
+use Rattle.session_step.specs.News.{closed_news, edit_news, news_for, opened_news}
 use Rattle.entry_lines.specs.Answer.{accepted, reply_of}
 use Rattle.entry_lines.specs.ViewId.{view_id_of}
 use Rattle.serde_json.specs.Data.{null}
 use Rattle.json_rpc.specs.Response.{text_data}
 use Rattle.view_update.specs.declared.note.Scroll.{Scroll}
 use Rattle.doc_session.specs.PositionView.{position_view}
-use Rattle.session_step.specs.Views.{ServesDocument, ServesView, Stands, AreThere, HasApart, HaveOtherNames, IsFirstNamed, IsFoundAt, MayBeAsked, TakesEvents}
-use Rattle.session_step.specs.InnerStep.{HasTab, IsEdited, IsOutcome, TakesSteps, each_event, each_step}
+use Rattle.session_step.specs.Views.{ServesView, Stands, AreThere, HasApart, HaveOtherNames, IsFirstNamed, IsFoundAt, MayBeAsked, TakesEvents}
+use Rattle.session_step.specs.InnerStep.{IsEdited, IsOutcome, MayTell, TakesSteps, each_event, each_step}
 use Rattle.session_step.specs.Session.{OpenView, close_outcome, edit_came, keeping, named_view, next_view, opened_document, opening_outcome, other_step, own_step, result_of, scroll_for, stepped, taking, text_limit, told, updates_for, without}
 use Rattle.session_step.proofs.ViewLemmas.{same_id, other_way, AreOthers}
 
 -- a document that was just loaded takes events
 pub TakesEvents-loaded : (doc : Doc) (text : List ℕ) (config : Config) → DocStandsFor doc (loaded_document text 0 text_limit config) →
     TakesEvents doc
-TakesEvents-loaded doc text config stands = (ap length stands.text.parts.sessions, omega (arith, head-text doc.text (loaded_text text 0 text_limit) stands.text.parts))
+TakesEvents-loaded doc text config stands = omega (arith, head-text doc.text (loaded_text text 0 text_limit) stands.text.parts)
 
 -- ---- what stands for views
 
@@ -149,7 +152,7 @@ IsTakingTo-all event old held i now taking end front views first stands =
 
 -- one view took its step
 pub TakesSteps-one : (event : ToEach) (old new : Stepped) (id : List ℕ) (doc next : Doc) (effects : Effects) →
-    ((plain : Document) → DocStandsFor doc plain → ServesDocument next (event_step plain (each_event event)).document) →
+    ((plain : Document) → DocStandsFor doc plain → DocStandsFor next (event_step plain (each_event event)).document) →
     ((plain : Document) → DocStandsFor doc plain → AreEffectsOf (event_step plain (each_event event)) effects) →
     new.held ≡ old.held ++ record { id = id; doc = next } ∷ [] → new.updates ≡ old.updates ++ updates_for id effects.update →
     TakesSteps event old (record { id = id; doc = doc } ∷ []) new
@@ -157,11 +160,11 @@ TakesSteps-one event old new id doc next effects serves tells held updates front
 TakesSteps-one event old new id doc next effects serves tells held updates front (view ∷ other ∷ views) first stands = absurd stands.1
 TakesSteps-one event old new id doc next effects serves tells held updates front (view ∷ []) first stands =
     let plain = view.document in
-    let here = stands.0.serves.stands in
+    let here = stands.0.stands in
     let step = each_step event view in (
       subst (λ all. Stands all (front ++ record view { document = step.document } ∷ [])) (sym held)
           (Stands-append old.held (record { id = id; doc = next } ∷ []) front (record view { document = step.document } ∷ []) first
-          (record { id = stands.0.id; serves = serves plain here }, tt)),
+          (record { id = stands.0.id; stands = serves plain here }, tt)),
       updates ∙ ap (λ more. old.updates ++ more)
           (ap (λ update. updates_for id update) (tells plain here).update ∙ ap (λ own. updates_for own step.update) stands.0.id ∙
           sym (append-nil (updates_for view.id step.update))),
@@ -352,67 +355,69 @@ abbrev pub unstepped : Stepped
 unstepped = record { held = []; updates = [] }
 
 pub IsOutcome-each : (event : ToEach) (held : List Opened) (new : Stepped) (reply : FrontReply) (came : ActEffects) (views : List OpenView) →
-    TakesSteps event unstepped held new → came ≡ record { reply = reply; held = new.held; updates = new.updates; scroll = None } → Stands held views →
-    IsOutcome (taking (reply_of reply) None (each_step event) views) came
+    TakesSteps event unstepped held new → came ≡ record { reply = reply; held = new.held; updates = new.updates; scroll = None; news = [] } → Stands held views →
+    IsOutcome (taking (reply_of reply) None (each_step event) views) [] came
 IsOutcome-each event held new reply came views takes is stands =
     let done = takes [] views tt stands in
-    rw is (record { reply = refl; updates = done.1; scroll = refl; stands = done.0 })
+    rw is (record { reply = refl; updates = done.1; scroll = refl; stands = done.0; told = refl })
 
 -- a view is opened behind the others
-pub IsOutcome-opening : (config : Config) (opened : ℕ) (id text : List ℕ) (doc : Doc) (held : List Opened) (middle new : Stepped) (came : ActEffects)
-    (views : List OpenView) → id ≡ view_id_of (opened + 1) → DocStandsFor doc (opened_document config text) →
+pub IsOutcome-opening : (config : Config) (opened : ℕ) (id text : List ℕ) (doc : Doc) (held : List Opened) (middle new : Stepped) (news : List PluginNews)
+    (came : ActEffects) (views : List OpenView) → id ≡ view_id_of (opened + 1) → DocStandsFor doc (opened_document config text) →
     TakesSteps to.Other unstepped held middle → TakesSteps to.Other middle (record { id = id; doc = doc } ∷ []) new →
-    came ≡ record { reply = reply_to.Opened id; held = new.held; updates = new.updates; scroll = None } → Stands held views →
-    IsOutcome (opening_outcome config opened views text) came
-IsOutcome-opening config opened id text doc held middle new came views numbered loads first last is stands =
+    came ≡ record { reply = reply_to.Opened id; held = new.held; updates = new.updates; scroll = None; news = news } → Stands held views →
+    map told_of news ≡ opened_news opened text → IsOutcome (opening_outcome config opened views text) (opened_news opened text) came
+IsOutcome-opening config opened id text doc held middle new news came views numbered loads first last is stands tells =
     let next = next_view config opened text in
     let serves : ServesView (record { id = id; doc = doc }) next =
-    record { id = numbered; serves = record { stands = loads; no_sessions = (TakesEvents-loaded doc text config loads).0 } } in
+    record { id = numbered; stands = loads } in
     let done = TakesSteps-append to.Other unstepped middle new held (record { id = id; doc = doc } ∷ []) first last [] views (next ∷ []) tt stands (serves, tt) in
-    rw is (record { reply = ap (λ n. accepted (text_data n)) numbered; updates = done.1; scroll = refl; stands = done.0 })
+    rw is (record { reply = ap (λ n. accepted (text_data n)) numbered; updates = done.1; scroll = refl; stands = done.0; told = tells })
 
 -- a view is closed
-close_cut : (held : List Opened) (front : List OpenView) (view : OpenView) (back : List OpenView) (middle new : Stepped) (came : ActEffects) →
-    AreThere held (front ++ view ∷ back) → TakesSteps to.Other unstepped (take (length front) held) middle →
+close_cut : (held : List Opened) (front : List OpenView) (view : OpenView) (back : List OpenView) (middle new : Stepped) (news : List PluginNews)
+    (came : ActEffects) → AreThere held (front ++ view ∷ back) → TakesSteps to.Other unstepped (take (length front) held) middle →
     TakesSteps to.Other middle (drop (length front + 1) held) new →
-    came ≡ record { reply = reply_to.Accepted; held = new.held; updates = new.updates; scroll = None } →
-    IsOutcome (close_outcome (front ++ view ∷ back) (Some view)) came
-close_cut held front view back middle new came there first last is =
+    came ≡ record { reply = reply_to.Accepted; held = new.held; updates = new.updates; scroll = None; news = news } →
+    map told_of news ≡ closed_news (Some view) → IsOutcome (close_outcome (front ++ view ∷ back) (Some view)) (closed_news (Some view)) came
+close_cut held front view back middle new news came there first last is tells =
     let done =
     TakesSteps-append to.Other unstepped middle new (take (length front) held) (drop (length front + 1) held) first last [] front back tt
     (stands_before held front view back there.0) (stands_after held front view back there.0) in
-    let At : List OpenView → Type 0 = λ views. IsOutcome (keeping views (accepted null)) came in
+    let At : List OpenView → Type 0 = λ views. IsOutcome (keeping views (accepted null)) (closed_news (Some view)) came in
     subst At (sym (without_beside front view back (beside front view back there.1)))
-    (rw is (record { reply = refl; updates = done.1; scroll = refl; stands = done.0 }))
+    (rw is (record { reply = refl; updates = done.1; scroll = refl; stands = done.0; told = tells }))
 
-pub IsOutcome-closed : (held : List Opened) (views : List OpenView) (at : ℕ) (view : OpenView) (middle new : Stepped) (came : ActEffects) →
-    AreThere held views → IsFoundAt views at view → TakesSteps to.Other unstepped (take at held) middle →
+pub IsOutcome-closed : (held : List Opened) (views : List OpenView) (at : ℕ) (view : OpenView) (middle new : Stepped) (news : List PluginNews)
+    (came : ActEffects) → AreThere held views → IsFoundAt views at view → TakesSteps to.Other unstepped (take at held) middle →
     TakesSteps to.Other middle (drop (at + 1) held) new →
-    came ≡ record { reply = reply_to.Accepted; held = new.held; updates = new.updates; scroll = None } → IsOutcome (close_outcome views (Some view)) came
-IsOutcome-closed held views at view middle new came there found first last is =
+    came ≡ record { reply = reply_to.Accepted; held = new.held; updates = new.updates; scroll = None; news = news } →
+    map told_of news ≡ closed_news (Some view) → IsOutcome (close_outcome views (Some view)) (closed_news (Some view)) came
+IsOutcome-closed held views at view middle new news came there found first last is tells =
     let First : ℕ → Type 0 = λ n. TakesSteps to.Other unstepped (take n held) middle in
     let Last : ℕ → Type 0 = λ n. TakesSteps to.Other middle (drop (n + 1) held) new in
-    let At : List OpenView → Type 0 = λ all. IsOutcome (close_outcome all (Some view)) came in
+    let At : List OpenView → Type 0 = λ all. IsOutcome (close_outcome all (Some view)) (closed_news (Some view)) came in
     subst At (sym found.cut)
-    (close_cut held found.front view found.back middle new came (subst (AreThere held) found.cut there) (subst First (sym found.place) first)
-    (subst Last (sym found.place) last) is)
+    (close_cut held found.front view found.back middle new news came (subst (AreThere held) found.cut there) (subst First (sym found.place) first)
+    (subst Last (sym found.place) last) is tells)
 
 -- a view is edited
 edited_cut : (held : List Opened) (front : List OpenView) (view : OpenView) (back : List OpenView) (step : EventStep) (next : Doc) (effects : Effects)
-    (first second third : Stepped) (reply : FrontReply) (scroll : Option Scroll) (came : ActEffects) → AreThere held (front ++ view ∷ back) →
+    (first second third : Stepped) (reply : FrontReply) (scroll : Option Scroll) (news : List PluginNews) (came : ActEffects) →
+    AreThere held (front ++ view ∷ back) →
     IsEdited step next effects → TakesSteps to.Other unstepped (take (length front) held) first →
     second.held ≡ first.held ++ record { id = view.id; doc = next } ∷ [] → second.updates ≡ first.updates ++ updates_for view.id effects.update →
     TakesSteps to.Other second (drop (length front + 1) held) third → reply_of reply ≡ accepted (result_of effects.body) →
     scroll ≡ scroll_for view.id (option_map position_view effects.scroll) →
-    came ≡ record { reply = reply; held = third.held; updates = third.updates; scroll = scroll } →
-    IsOutcome (edit_came (front ++ view ∷ back) view None step) came
-edited_cut held front view back step next effects first second third reply scroll came there made one held_is updates_is last reply_is scroll_is is =
+    came ≡ record { reply = reply; held = third.held; updates = third.updates; scroll = scroll; news = news } →
+    map told_of news ≡ news_for view.id effects.notice → IsOutcome (edit_came (front ++ view ∷ back) view None step) (edit_news view None step) came
+edited_cut held front view back step next effects first second third reply scroll news came there made one held_is updates_is last reply_is scroll_is is tells =
     let after : OpenView = record view { document = step.document } in
     let before = one [] front tt (stands_before held front view back there.0) in
     let own : Stands second.held (stepped other_step front ++ after ∷ []) =
     subst (λ all. Stands all (stepped other_step front ++ after ∷ [])) (sym held_is)
     (Stands-append first.held (record { id = view.id; doc = next } ∷ []) (stepped other_step front) (after ∷ []) before.0
-    (record { id = refl; serves = made.0 }, tt)) in
+    (record { id = refl; stands = made.0 }, tt)) in
     let done = last (stepped other_step front ++ after ∷ []) back own (stands_after held front view back there.0) in
     let all = steps_beside front view back step (beside front view back there.1) in
     let updates : third.updates ≡ told (own_step view step) (front ++ view ∷ back) =
@@ -425,25 +430,27 @@ edited_cut held front view back step next effects first second third reply scrol
       updates = updates;
       scroll = scroll_is ∙ ap (scroll_for view.id) made.1.scroll;
       stands = subst (Stands third.held) (sym all.0) done.0;
+      told = tells ∙ ap (news_for view.id) made.1.notice;
     })
 
 pub IsOutcome-edited : (held : List Opened) (views : List OpenView) (at : ℕ) (view : OpenView) (step : EventStep) (next : Doc) (effects : Effects)
-    (id : List ℕ) (first second third : Stepped) (reply : FrontReply) (scroll : Option Scroll) (came : ActEffects) → AreThere held views →
+    (id : List ℕ) (first second third : Stepped) (reply : FrontReply) (scroll : Option Scroll) (news : List PluginNews) (came : ActEffects) →
+    AreThere held views →
     IsFoundAt views at view → id ≡ view.id → IsEdited step next effects → TakesSteps to.Other unstepped (take at held) first →
     second.held ≡ first.held ++ record { id = id; doc = next } ∷ [] → second.updates ≡ first.updates ++ updates_for id effects.update →
     TakesSteps to.Other second (drop (at + 1) held) third → reply_of reply ≡ accepted (result_of effects.body) →
     scroll ≡ scroll_for id (option_map position_view effects.scroll) →
-    came ≡ record { reply = reply; held = third.held; updates = third.updates; scroll = scroll } →
-    IsOutcome (edit_came views view None step) came
-IsOutcome-edited held views at view step next effects id first second third reply scroll came there found own made one held_is updates_is last reply_is scroll_is is =
+    came ≡ record { reply = reply; held = third.held; updates = third.updates; scroll = scroll; news = news } →
+    map told_of news ≡ news_for id effects.notice → IsOutcome (edit_came views view None step) (edit_news view None step) came
+IsOutcome-edited held views at view step next effects id first second third reply scroll news came there found own made one held_is updates_is last reply_is scroll_is is tells =
     let First : ℕ → Type 0 = λ n. TakesSteps to.Other unstepped (take n held) first in
     let Last : ℕ → Type 0 = λ n. TakesSteps to.Other second (drop (n + 1) held) third in
-    let At : List OpenView → Type 0 = λ all. IsOutcome (edit_came all view None step) came in
+    let At : List OpenView → Type 0 = λ all. IsOutcome (edit_came all view None step) (edit_news view None step) came in
     subst At (sym found.cut)
-    (edited_cut held found.front view found.back step next effects first second third reply scroll came (subst (AreThere held) found.cut there) made
+    (edited_cut held found.front view found.back step next effects first second third reply scroll news came (subst (AreThere held) found.cut there) made
     (subst First (sym found.place) one) (held_is ∙ ap (λ own. first.held ++ record { id = own; doc = next } ∷ []) own)
     (updates_is ∙ ap (λ own. first.updates ++ updates_for own effects.update) own) (subst Last (sym found.place) last) reply_is
-    (scroll_is ∙ ap (λ own. scroll_for own (option_map position_view effects.scroll)) own) is)
+    (scroll_is ∙ ap (λ own. scroll_for own (option_map position_view effects.scroll)) own) is (tells ∙ ap (λ own. news_for own effects.notice) own))
 
 -- what is held there is of the view that was found there
 pub serves_found : (held : List Opened) (views : List OpenView) (at : ℕ) (view : OpenView) (none : Opened) → Stands held views → IsFoundAt views at view →
@@ -455,10 +462,18 @@ serves_found held views at view none stands found =
 pub first_inside : (held : List Opened) (name : List ℕ) (at : ℕ) → IsFirstNamed held name at → at < length held
 first_inside held name at is = omega (arith, is.place, ap length is.cut, length-append is.front (is.kept ∷ is.back))
 
--- what each document is told is an event that it may be told, without plugins
-pub event_for : (told : ToEach) → HasTab told → IsEventFor 0 (each_event told)
-event_for to.Other tab = tt
-event_for (to.Config config) tab = tab
+-- what each document is told is an event that may come to it
+may_first : (told : ToEach) (kept : Opened) (held : List Opened) → MayTell told (kept ∷ held) →
+    IsEventFor (length kept.doc.text.sessions) (each_event told) × MayTell told held
+may_first to.Other kept held may = (tt, tt)
+may_first (to.Config config) kept held may = (may, may)
+may_first (to.Ended caller) kept held may = may
+
+pub may_at : (told : ToEach) (held : List Opened) (i : ℕ) (none : Opened) → MayTell told held → i < length held →
+    IsEventFor (length (get_or held i none).doc.text.sessions) (each_event told)
+may_at told [] i none may below = absurd (omega (arith, below))
+may_at told (kept ∷ held) zero none may below = (may_first told kept held may).0
+may_at told (kept ∷ held) (suc i) none may below = may_at told held i none (may_first told kept held may).1 (omega (arith, below))
 
 -- two facts of what was done
 pub OnOk-both : {T E P Q R : Type 0} (result : Result T E) → (P → Q → R) → OnOk result P → OnOk result Q → OnOk result R

@@ -1,3 +1,5 @@
 pub mod Session
+pub mod News
+pub mod PluginStep
 pub mod Views
 pub mod InnerStep

@@ -9,7 +9,7 @@ use Rattle.session_step.specs.Session.{OpenView, Session, messages, outcome}
 use Rattle.session_step.specs.declared.given.Given.{Given}
 use Rattle.session_step.specs.declared.opened.Opened.{Opened}
 use Rattle.std.specs.List.{AllByRecursion}
-use Rattle.std.specs.Prelude.{◌≡◌, ℕ, ◌+◌, ◌<◌, true, false, List, [], ◌∷◌, ◌++◌, length, Option, Some, ⊤, ◌^◌, ◌-◌, None}
+use Rattle.std.specs.Prelude.{◌≡◌, ℕ, ◌+◌, ◌<◌, ◌≤◌, true, false, List, [], ◌∷◌, ◌++◌, length, Option, Some, ⊤, ◌^◌, ◌-◌, None}
 use Rattle.std.specs.Str.{bytes_eq, encode_utf8_all}
 use Rattle.xi_plain.specs.Journal.{closes}
 use Rattle.xi_plain.specs.declared.command.Act.{Act}
@@ -19,23 +19,26 @@ use Rattle.xi_plain.specs.declared.command.Command.{Command}
 abbrev pub IsOfLine : Act → Type 0
 IsOfLine act = closes act ≡ false
 
--- the document in memory stands for the plain one, and no plugin has a session in it
-pub record ServesDocument (doc : Doc) (plain : Document) : Type 0 where
-  pub stands : DocStandsFor doc plain
-  pub no_sessions : length doc.text.sessions ≡ 0
-
--- no plugin has a session in the document, and it may take one more edit
+-- the document may take one more edit
 abbrev pub TakesEvents : Doc → Type 0
-TakesEvents doc = (length doc.text.sessions ≡ 0) × (head doc.text.engine.revisions < 2 ^ 63 - 1)
+TakesEvents doc = head doc.text.engine.revisions < 2 ^ 63 - 1
 
 -- each document takes events, and stands for a plain one
 abbrev pub MayBeAsked : List Opened → Type 0
 MayBeAsked held = AllByRecursion (λ (kept : Opened). TakesEvents kept.doc × ∥ ((plain : Document) × DocStandsFor kept.doc plain) ∥₁) held
 
+-- the plugin with this number has a session in the document, which may have ended
+abbrev pub HasSession : ℕ → Doc → Type 0
+HasSession caller doc = (1 ≤ caller) × (caller ≤ length doc.text.sessions)
+
+-- and in each document
+abbrev pub HaveSessions : ℕ → List Opened → Type 0
+HaveSessions caller held = AllByRecursion (λ (kept : Opened). HasSession caller kept.doc) held
+
 -- what is held of a view is its id, and a document that stands for its own
 pub record ServesView (held : Opened) (view : OpenView) : Type 0 where
   pub id : held.id ≡ view.id
-  pub serves : ServesDocument held.doc view.document
+  pub stands : DocStandsFor held.doc view.document
 
 -- what is held is of the views that are open, in their order
 abbrev pub Stands : List Opened → List OpenView → Type 0

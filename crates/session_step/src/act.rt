@@ -1,21 +1,25 @@
-ghost use Rattle.std.specs.Prelude.{◌≡◌, ◌+◌, ◌<◌, ◌^◌, ℕ, List, Option, Some, None, IfOk, length, option_map};
+ghost use Rattle.std.specs.Prelude.{◌≡◌, ◌+◌, ◌<◌, ◌^◌, ℕ, [], List, Option, Some, None, IfOk, length, map, option_map};
+ghost use Rattle.plain_text.specs.Text.{byte_len};
 ghost use Rattle.doc_text.specs.Fault.{DocRefuses};
 ghost use Rattle.doc_text.specs.Refusal.{DocRefusal};
 ghost use Rattle.doc_session.specs.PositionView.{position_view};
 ghost use Rattle.doc_session.specs.Step.{EventStep};
+ghost use Rattle.entry_lines.specs.Notices.{told_of};
 ghost use Rattle.entry_lines.specs.Answer.{accepted, reply_of};
 ghost use Rattle.entry_lines.specs.ViewId.{view_id_of};
 ghost use Rattle.session_step.specs.Views.{IsOfLine, Stands};
 ghost use Rattle.session_step.specs.Views.{AreThere, IsFoundAt, MayBeAsked};
-ghost use Rattle.session_step.specs.InnerStep.{HasTab, IsEdited, IsOutcome, IsSpentOrLack, each_step};
+ghost use Rattle.session_step.specs.InnerStep.{IsEdited, IsOutcome, IsSpentOrLack, MayTell, each_step};
+ghost use Rattle.session_step.specs.News.{closed_news, edit_news, edited_news, file_news, front_news, open_news, opened_news};
 ghost use Rattle.session_step.specs.Session.{OpenView, Session, close_outcome, config_after, edit_came, edit_outcome, front_outcome, keeping, named_view, file_outcome, open_outcome, opening_outcome, outcome, refusing, refusing_view, result_of, save_outcome, saved_outcome, scroll_for, spent_total, stored_outcome, taking};
 
 use crate::after::after_alone;
 use crate::given::Given;
+use crate::news::{news_of, one};
 use crate::opened::{Opened, place_of};
 use crate::stepped::{Stepped, ToEach};
 use doc_session::{Body, Doc, DocFault, Effects, Event};
-use entry_lines::{FrontReply, view_id_of};
+use entry_lines::{FrontReply, PluginNews, view_id_of};
 use plain_text::{List, NoMemory, Text, TryClone};
 use std::alloc::Global;
 use view_update::{Scroll, ViewUpdate};
@@ -27,13 +31,14 @@ const VIEW_MEMBER: &str = "view_id";
 /// The most characters that may be inserted into a document.
 const TEXT_LIMIT: u64 = 1 << 40;
 
-/// What an act came to: what it is answered, the views that are open then, and what else the front end is told.
+/// What an act came to: what it is answered, the views that are open then, what else the front end is told, and what plugins are.
 #[derive(Drop)]
 pub struct ActEffects {
     pub reply: FrontReply,
     pub held: List<Opened>,
     pub updates: List<ViewUpdate>,
     pub scroll: Option<Scroll>,
+    pub news: List<PluginNews>,
 }
 
 /// Does what a command asks that was given this, beside the views that are open. `opened` is how many were opened before, and `config` how
@@ -51,7 +56,7 @@ pub fn act_on(
     requires tab { 0 < config.tab }
     requires line { IsOfLine act.now }
     ensures { (session : Session) → AreThere held.now session.views → opened ≡ session.opened
-        → config ≡ config_after session.config act.now → IfOk result (IsOutcome (outcome session act.now given)) }
+        → config ≡ config_after session.config act.now → IfOk result (IsOutcome (outcome session act.now given) (front_news session act.now given)) }
 {
     match act {
         Act::Bad(fault) => refused(alloc, held, fault),
@@ -75,26 +80,37 @@ fn each(
     reply: FrontReply,
 ) -> Result<ActEffects, NoMemory>
     requires asked { MayBeAsked held.now }
-    requires tab { HasTab told }
+    requires may { MayTell told held.now }
     ensures { (views : List OpenView) → Stands held.now views
-        → IfOk result (IsOutcome (taking (reply_of reply) None (each_step told) views)) }
+        → IfOk result (IsOutcome (taking (reply_of reply) None (each_step told) views) []) }
 {
     let mut stepped = Stepped::new(alloc);
     stepped.take(alloc, held, told)?;
-    Ok(effects_of(stepped, reply, None))
+    Ok(effects_of(stepped, reply, None, List::new(alloc)))
 }
 
 /// A line that is none of a document's own: it ends the runs of typing.
 fn others(alloc: Global, held: &[Opened], reply: FrontReply) -> Result<ActEffects, NoMemory>
     requires { MayBeAsked held.now }
     ensures { (views : List OpenView) → Stands held.now views
-        → IfOk result (IsOutcome (keeping views (reply_of reply))) }
+        → IfOk result (IsOutcome (keeping views (reply_of reply)) []) }
 {
     each(alloc, held, ToEach::Other, reply)
 }
 
-fn effects_of(stepped: Stepped, reply: FrontReply, scroll: Option<Scroll>) -> ActEffects
-    ensures { result ≡ record { reply = reply; held = stepped.held; updates = stepped.updates; scroll = scroll } }
+fn effects_of(
+    stepped: Stepped,
+    reply: FrontReply,
+    scroll: Option<Scroll>,
+    news: List<PluginNews>,
+) -> ActEffects
+    ensures { result ≡ record {
+      reply = reply;
+      held = stepped.held;
+      updates = stepped.updates;
+      scroll = scroll;
+      news = news;
+    } }
 {
     let Stepped { held, updates } = stepped;
     ActEffects {
@@ -102,12 +118,13 @@ fn effects_of(stepped: Stepped, reply: FrontReply, scroll: Option<Scroll>) -> Ac
         held,
         updates,
         scroll,
+        news,
     }
 }
 
 fn refused(alloc: Global, held: &[Opened], fault: &Fault) -> Result<ActEffects, NoMemory>
     requires { MayBeAsked held.now }
-    ensures { (views : List OpenView) → Stands held.now views → IfOk result (IsOutcome (refusing views fault.now)) }
+    ensures { (views : List OpenView) → Stands held.now views → IfOk result (IsOutcome (refusing views fault.now) []) }
 {
     others(alloc, held, FrontReply::Refused(fault.copy(alloc)?))
 }
@@ -115,7 +132,7 @@ fn refused(alloc: Global, held: &[Opened], fault: &Fault) -> Result<ActEffects, 
 /// The refusal of a view that is not there.
 fn refused_view(alloc: Global, held: &[Opened]) -> Result<ActEffects, NoMemory>
     requires { MayBeAsked held.now }
-    ensures { (views : List OpenView) → Stands held.now views → IfOk result (IsOutcome (refusing_view views)) }
+    ensures { (views : List OpenView) → Stands held.now views → IfOk result (IsOutcome (refusing_view views) []) }
 {
     let member = Text::from_ascii(alloc, VIEW_MEMBER)?;
     others(alloc, held, FrontReply::Refused(Fault::BadParams(member)))
@@ -134,7 +151,7 @@ fn open(
     requires few { opened < 2 ^ 63 }
     requires tab { 0 < config.tab }
     ensures { (views : List OpenView) → Stands held.now views
-        → IfOk result (IsOutcome (open_outcome config opened views path.now given)) }
+        → IfOk result (IsOutcome (open_outcome config opened views path.now given) (open_news opened path.now given)) }
 {
     match path {
         Some(_) => open_file(alloc, held, opened, config, given),
@@ -159,7 +176,7 @@ fn open_file(
     requires few { opened < 2 ^ 63 }
     requires tab { 0 < config.tab }
     ensures { (views : List OpenView) → Stands held.now views
-        → IfOk result (IsOutcome (file_outcome config opened views given)) }
+        → IfOk result (IsOutcome (file_outcome config opened views given) (file_news opened given)) }
 {
     match given {
         Given::Found(text) => open_text(alloc, held, view_id_of(alloc, opened + 1)?, text, config),
@@ -183,21 +200,31 @@ fn open_text(
     requires asked { MayBeAsked held.now }
     requires tab { 0 < config.tab }
     ensures { (opened : ℕ) (views : List OpenView) → id ≡ view_id_of (opened + 1) → Stands held.now views
-        → IfOk result (IsOutcome (opening_outcome config opened views text)) }
+        → IfOk result (IsOutcome (opening_outcome config opened views text) (opened_news opened text)) }
 {
+    let news = opened_news(alloc, &id, text.byte_len())?;
     let doc = Doc::of_text(alloc, text, 0, TEXT_LIMIT, config)?;
     let mut stepped = Stepped::new(alloc);
     stepped.take(alloc, held, ToEach::Other)?;
     stepped.take_one(alloc, &id, &doc, ToEach::Other)?;
     drop(doc);
-    Ok(effects_of(stepped, FrontReply::Opened(id), None))
+    Ok(effects_of(stepped, FrontReply::Opened(id), None, news))
+}
+
+/// What plugins are told of a view that is opened on so many bytes.
+fn opened_news(alloc: Global, id: &Text, len: u64) -> Result<List<PluginNews>, NoMemory>
+    ensures { (opened : ℕ) (text : List ℕ) → id.now ≡ view_id_of (opened + 1) → len ≡ byte_len text
+        → IfOk result (λ news. map told_of news ≡ opened_news opened text) }
+{
+    let view = id.copy(alloc)?;
+    one(alloc, PluginNews::Opened { view, len })
 }
 
 /// Closes a view and its document.
 fn close(alloc: Global, held: &[Opened], name: &Text) -> Result<ActEffects, NoMemory>
     requires { MayBeAsked held.now }
     ensures { (views : List OpenView) → AreThere held.now views
-        → IfOk result (IsOutcome (close_outcome views (named_view views name.now))) }
+        → IfOk result (IsOutcome (close_outcome views (named_view views name.now)) (closed_news (named_view views name.now))) }
 {
     match place_of(held, name) {
         Some(at) => close_at(alloc, held, at),
@@ -210,19 +237,28 @@ fn close_at(alloc: Global, held: &[Opened], at: usize) -> Result<ActEffects, NoM
     requires asked { MayBeAsked held.now }
     requires inside { at < length held.now }
     ensures { (views : List OpenView) (view : OpenView) → AreThere held.now views → IsFoundAt views at view
-        → IfOk result (IsOutcome (close_outcome views (Some view))) }
+        → IfOk result (IsOutcome (close_outcome views (Some view)) (closed_news (Some view))) }
 {
+    let news = closed_news(alloc, &held[at].id)?;
     let mut stepped = Stepped::new(alloc);
     stepped.take(alloc, &held[..at], ToEach::Other)?;
     stepped.take(alloc, &held[at + 1..], ToEach::Other)?;
-    Ok(effects_of(stepped, FrontReply::Accepted, None))
+    Ok(effects_of(stepped, FrontReply::Accepted, None, news))
+}
+
+/// What plugins are told of a view that is closed.
+fn closed_news(alloc: Global, id: &Text) -> Result<List<PluginNews>, NoMemory>
+    ensures { (view : OpenView) → id.now ≡ view.id → IfOk result (λ news. map told_of news ≡ closed_news (Some view)) }
+{
+    let view = id.copy(alloc)?;
+    one(alloc, PluginNews::Closed { view })
 }
 
 /// Saves a view, where its file was written.
 fn save(alloc: Global, held: &[Opened], name: &Text, given: &Given) -> Result<ActEffects, NoMemory>
     requires { MayBeAsked held.now }
     ensures { (views : List OpenView) → AreThere held.now views
-        → IfOk result (IsOutcome (save_outcome views (named_view views name.now) given.now)) }
+        → IfOk result (IsOutcome (save_outcome views (named_view views name.now) given.now) []) }
 {
     match place_of(held, name) {
         Some(at) => save_at(alloc, held, at, given),
@@ -235,7 +271,7 @@ fn save_at(alloc: Global, held: &[Opened], at: usize, given: &Given) -> Result<A
     requires asked { MayBeAsked held.now }
     requires inside { at < length held.now }
     ensures { (views : List OpenView) (view : OpenView) → AreThere held.now views → IsFoundAt views at view
-        → IfOk result (IsOutcome (stored_outcome views view given.now)) }
+        → IfOk result (IsOutcome (stored_outcome views view given.now) []) }
 {
     match given {
         Given::Done => saved(alloc, held, at),
@@ -250,7 +286,7 @@ fn saved(alloc: Global, held: &[Opened], at: usize) -> Result<ActEffects, NoMemo
     requires asked { MayBeAsked held.now }
     requires inside { at < length held.now }
     ensures { (views : List OpenView) (view : OpenView) → AreThere held.now views → IsFoundAt views at view
-        → IfOk result (IsOutcome (saved_outcome views view)) }
+        → IfOk result (IsOutcome (saved_outcome views view) []) }
 {
     match after_alone(alloc, &held[at].doc, Event::Saved) {
         Ok((next, effects)) => edited(alloc, held, at, next, effects),
@@ -261,7 +297,8 @@ fn saved(alloc: Global, held: &[Opened], at: usize) -> Result<ActEffects, NoMemo
 fn edit(alloc: Global, held: &[Opened], name: &Text, act: &EditAct) -> Result<ActEffects, NoMemory>
     requires { MayBeAsked held.now }
     ensures { (views : List OpenView) → AreThere held.now views
-        → IfOk result (IsOutcome (edit_outcome views (named_view views name.now) act.now)) }
+        → IfOk result (IsOutcome
+        (edit_outcome views (named_view views name.now) act.now) (edited_news (named_view views name.now) act.now)) }
 {
     match place_of(held, name) {
         Some(at) => edit_at(alloc, held, at, act),
@@ -274,7 +311,7 @@ fn edit_at(alloc: Global, held: &[Opened], at: usize, act: &EditAct) -> Result<A
     requires asked { MayBeAsked held.now }
     requires inside { at < length held.now }
     ensures { (views : List OpenView) (view : OpenView) → AreThere held.now views → IsFoundAt views at view
-        → IfOk result (IsOutcome (front_outcome views view act.now)) }
+        → IfOk result (IsOutcome (front_outcome views view act.now) (edited_news (Some view) act.now)) }
 {
     match after_alone(alloc, &held[at].doc, Event::Front(act.copy(alloc)?)) {
         Ok((next, effects)) => edited(alloc, held, at, next, effects),
@@ -288,7 +325,7 @@ fn not_edited(alloc: Global, held: &[Opened], fault: DocFault) -> Result<ActEffe
     requires asked { MayBeAsked held.now }
     ensures { (views : List OpenView) (view : OpenView) (refusal : Option DocRefusal) (step : EventStep)
         → Stands held.now views → DocRefuses refusal fault
-        → IfOk result (IsOutcome (edit_came views view (spent_total refusal) step)) }
+        → IfOk result (IsOutcome (edit_came views view (spent_total refusal) step) (edit_news view (spent_total refusal) step)) }
 {
     match fault {
         DocFault::Spent(_) => others(alloc, held, FrontReply::Spent),
@@ -312,7 +349,7 @@ fn edited(
     requires inside { at < length held.now }
     ensures { (views : List OpenView) (view : OpenView) (step : EventStep) → AreThere held.now views
         → IsFoundAt views at view → IsEdited step next effects
-        → IfOk result (IsOutcome (edit_came views view None step)) }
+        → IfOk result (IsOutcome (edit_came views view None step) (edit_news view None step)) }
 {
     let Effects {
         body,
@@ -320,14 +357,14 @@ fn edited(
         scroll,
         notice,
     } = effects;
-    drop(notice);
     let id = &held[at].id;
+    let news = news_of(alloc, id, notice)?;
     let mut stepped = Stepped::new(alloc);
     stepped.take(alloc, &held[..at], ToEach::Other)?;
     stepped.push(alloc, id, next, update)?;
     stepped.take(alloc, &held[at + 1..], ToEach::Other)?;
     let scroll = scroll_of(alloc, id, scroll)?;
-    Ok(effects_of(stepped, answer_of(body), scroll))
+    Ok(effects_of(stepped, answer_of(body), scroll, news))
 }
 
 fn scroll_of(

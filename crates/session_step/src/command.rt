@@ -37,7 +37,9 @@ pub fn done(
         held,
         updates,
         scroll,
+        news: told,
     } = effects;
+    drop(told);
     let news = FrontNews {
         reply,
         styles: List::new(alloc),

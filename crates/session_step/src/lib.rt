@@ -11,11 +11,15 @@ mod command;
 mod config;
 mod given;
 mod made;
+mod news;
 mod opened;
 mod stepped;
 
+pub use after::after_alone;
 pub use command::done;
 pub use config::{FIRST_CONFIG, config_after, opened_after};
 pub use given::Given;
 pub use made::both;
+pub use news::news_of;
 pub use opened::{Opened, place_of};
+pub use stepped::{Stepped, ToEach, updates_of};

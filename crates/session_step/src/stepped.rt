@@ -1,5 +1,6 @@
-ghost use Rattle.std.specs.Prelude.{◌≡◌, ◌++◌, ◌∷◌, [], OnOk};
-ghost use Rattle.session_step.specs.InnerStep.{HasTab, TakesSteps, each_event};
+ghost use Rattle.std.specs.Prelude.{◌≡◌, ◌++◌, ◌∷◌, [], IfOk, OnOk, length};
+ghost use Rattle.doc_session.specs.Step.{IsEventFor};
+ghost use Rattle.session_step.specs.InnerStep.{MayTell, TakesSteps, each_event};
 ghost use Rattle.session_step.specs.Views.{MayBeAsked, TakesEvents};
 ghost use Rattle.session_step.specs.Session.{updates_for};
 
@@ -12,11 +13,15 @@ use std::alloc::Global;
 use view_update::ViewUpdate;
 use xi_plain::Config;
 
-/// What each document is told of a line that is none of its own.
+/// What each document is told that is none of its own.
 #[derive(Clone, Copy)]
 pub enum ToEach {
+    /// A line of the front end.
     Other,
+    /// Texts are laid out and edited so from then on.
     Config(Config),
+    /// The session of the plugin with this number has ended.
+    Ended(u32),
 }
 
 /// The views after their steps, in their order, and the updates that these tell the front end.
@@ -55,7 +60,7 @@ impl Stepped {
     /// Each of these views takes its step at an event that no document refuses.
     pub fn take(&mut self, alloc: Global, held: &[Opened], told: ToEach) -> Result<(), NoMemory>
         requires asked { MayBeAsked held.now }
-        requires tab { HasTab told }
+        requires may { MayTell told held.now }
         ensures { OnOk result (TakesSteps told self.old held.now self.new) }
     {
         for kept in held {
@@ -72,8 +77,8 @@ impl Stepped {
         doc: &Doc,
         told: ToEach,
     ) -> Result<(), NoMemory>
-        requires alone { TakesEvents doc.now }
-        requires tab { HasTab told }
+        requires takes { TakesEvents doc.now }
+        requires may { IsEventFor (length doc.now.text.sessions) (each_event told) }
         ensures { OnOk result (TakesSteps told self.old (record { id = id.now; doc = doc.now } ∷ []) self.new) }
     {
         match after_alone(alloc, doc, event_of(told)) {
@@ -81,6 +86,19 @@ impl Stepped {
             Err(_) => Err(NoMemory),
         }
     }
+}
+
+/// The update of the view with this id, where there is one.
+pub fn updates_of(
+    alloc: Global,
+    id: &Text,
+    update: Option<Update>,
+) -> Result<List<ViewUpdate>, NoMemory>
+    ensures { IfOk result (λ updates. updates ≡ updates_for id.now update) }
+{
+    let mut updates = List::new(alloc);
+    tell(&mut updates, alloc, id, update)?;
+    Ok(updates)
 }
 
 /// Puts an update of the view with this id behind those that are there, where there is one.
@@ -120,5 +138,6 @@ fn event_of(told: ToEach) -> Event
     match told {
         ToEach::Other => Event::Other,
         ToEach::Config(config) => Event::Config(config),
+        ToEach::Ended(caller) => Event::Ended { caller },
     }
 }

@@ -15,7 +15,7 @@ pub returns-clause-noted : goal.returns-clause-noted
 returns-clause-noted g c = λ session view name there found named act.
     let before = shelf_state g.H.Shelf.files g.H.Shelf.faults c.args.shelf.now in
     let after = shelf_state g.H.Shelf.files g.H.Shelf.faults c.write.new.self in
-    let stands = (serves_found c.args.held.now session.views c.args.at view c.index-held-at.result there.0 found).serves.stands in
+    let stands = (serves_found c.args.held.now session.views c.args.at view c.index-held-at.result there.0 found).stands in
     let is : c.as_bytes.result.now ≡ encode_utf8_all (head_text view.document.text) =
     c.as_bytes.ensures.value ∙ c.as_str.ensures.utf8 ∙ ap encode_utf8_all (c.in_ok-text.ensures view.document stands) in
     let done = c.in_ok-done-2.done in

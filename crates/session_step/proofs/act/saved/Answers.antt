@@ -3,13 +3,13 @@ use Rattle.doc_session.specs.declared.event.Event.TheVariants.{Saved}
 use Rattle.session_step.proofs.OpenLemmas.{asked_at, serves_found}
 use Rattle.session_step.proofs.act.saved.Goals as goal
 
-pub after_alone-requires-clause-alone : goal.after_alone-requires-clause-alone
-after_alone-requires-clause-alone c =
+pub after_alone-requires-clause-takes : goal.after_alone-requires-clause-takes
+after_alone-requires-clause-takes c =
     (asked_at c.args.held.now c.args.at c.index-held-at.result c.requires.asked c.requires.inside).0
 
 pub returns-in-Ok : goal.returns-in-Ok
 returns-in-Ok c = λ views view there found.
     let step = event_step view.document Saved in
     let serves = serves_found c.args.held.now views c.args.at view c.index-held-at.result there.0 found in
-    let stands = serves.serves.stands in
+    let stands = serves.stands in
     c.edited.ensures views view step there found (c.in-Ok.ensures.served view.document stands, c.in-Ok.ensures.effects view.document stands)

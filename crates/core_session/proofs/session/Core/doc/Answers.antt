@@ -25,7 +25,7 @@ returns-in-Some-clause-stands g c =
     let found = named_at held views name c.in-Some.at (stands, apart_of journal.items few) is in
     let doc = (get_or held c.in-Some.at c.index-held-at.result).doc in
     let At : Option OpenView → Type 0 = λ named. IsDocOf doc named in
-    subst At (sym found.named) (serves_found held views c.in-Some.at found.view c.index-held-at.result stands found.found).serves.stands)
+    subst At (sym found.named) (serves_found held views c.in-Some.at found.view c.index-held-at.result stands found.found).stands)
 
 pub returns-in-Some-clause-absent : goal.returns-in-Some-clause-absent
 returns-in-Some-clause-absent g c =
