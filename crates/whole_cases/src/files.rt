@@ -1,5 +1,6 @@
 //! Runs over files: what is opened, refused and saved, and what the shelf has in the end.
 
+use core_session::ShelfNote;
 use outside::{CalmShelf, MemShelf, MemSink, MemSource};
 use plain_text::{List, NoMemory, Text};
 use std::alloc::Global;
@@ -64,6 +65,42 @@ fn has(files: &CalmShelf, path: &Text, bytes: &[u8]) -> bool {
     match files.get(path) {
         Some(found) => found.as_slice() == bytes,
         None => false,
+    }
+}
+
+// What the shelf answered an entry, as far as the rows say it.
+#[derive(Clone, Copy, PartialEq, Eq)]
+enum Noted {
+    Nothing,
+    Held(&'static [u8]),
+    Absent,
+    Failed,
+    Done,
+}
+
+fn is_noted(note: &ShelfNote, noted: Noted) -> bool {
+    match (note, noted) {
+        (ShelfNote::NoCall, Noted::Nothing) => true,
+        (ShelfNote::Held(bytes), Noted::Held(had)) => bytes.as_slice() == had,
+        (ShelfNote::Absent, Noted::Absent) => true,
+        (ShelfNote::Failed, Noted::Failed) => true,
+        (ShelfNote::Done, Noted::Done) => true,
+        _ => false,
+    }
+}
+
+// Whether the entries of the run have these notes, the closing one too.
+fn notes(alloc: Global, play: Play, noted: &[Noted]) -> bool {
+    match played(alloc, play) {
+        Ok(report) => {
+            report.journal.len() == noted.len()
+                && report
+                    .journal
+                    .iter()
+                    .zip(noted)
+                    .all(|(entry, noted)| is_noted(&entry.shelf, *noted))
+        }
+        Err(_) => false,
     }
 }
 
@@ -243,6 +280,13 @@ fn what_the_shelf_refuses_is_told(rt: HostRuntime) {
             strange
         )
     );
+    assert!(rt;
+        notes(
+            alloc,
+            calm(&[("ff", b"\xFF")], NO_TEXT),
+            &[Noted::Held(b"\xFF"), Noted::Absent, Noted::Nothing]
+        )
+    );
     let file: File = ("a", b"x");
     let refused = Play {
         files: &[("a", b"x")],
@@ -251,6 +295,13 @@ fn what_the_shelf_refuses_is_told(rt: HostRuntime) {
         lines: REFUSED,
     };
     assert!(rt; ends(alloc, refused, 0, REFUSED_WRITES, file));
+    assert!(rt;
+        notes(
+            alloc,
+            refused,
+            &[Noted::Failed, Noted::Held(b"x"), Noted::Nothing]
+        )
+    );
     let not_saved = Play {
         files: &[("a", b"x")],
         refused: &[2],
@@ -258,6 +309,19 @@ fn what_the_shelf_refuses_is_told(rt: HostRuntime) {
         lines: NOT_SAVED,
     };
     assert!(rt; ends(alloc, not_saved, 0, NOT_SAVED_WRITES, file));
+    assert!(rt;
+        notes(
+            alloc,
+            not_saved,
+            &[
+                Noted::Held(b"x"),
+                Noted::Nothing,
+                Noted::Failed,
+                Noted::Nothing,
+                Noted::Nothing,
+            ]
+        )
+    );
 }
 
 // The file was written before the sink failed, and the entry was not sent.

@@ -1,8 +1,11 @@
-//! Tables of tests of whole runs, each proved once. Single runs are scripts of `protocol_cases`; here a run fails at each of its calls.
+//! Tables of tests of whole runs and sessions, each proved once. Single runs are scripts of `protocol_cases`; here a run fails at each of its
+//! calls, and a session is closed before each of its lines.
 #![tactic(auto)]
 
 #[cfg(test)]
 mod awaiting;
+#[cfg(test)]
+mod closing;
 #[cfg(test)]
 mod files;
 #[cfg(test)]
