@@ -3,4 +3,4 @@ pub use Rattle.doc_layout.proofs.AskedLemmas.{covered-each}
 pub use Rattle.doc_layout.proofs.LayoutLemmas.{length-byte_len}
 pub use Rattle.doc_layout.proofs.SameLemmas.{apart, empty-is, one-differs-at, one-more-at}
 pub use Rattle.doc_layout.proofs.TellLemmas.{layouts-tell}
-pub use Rattle.doc_layout.proofs.ReadLemmas.{regions-read, styles-read}
+pub use Rattle.doc_layout.proofs.ReadLemmas.{lines-read, regions-read, slice-alike, styles-read}

@@ -6,5 +6,6 @@ pub mod PlanLemmas
 pub mod TellLemmas
 pub mod SameLemmas
 pub mod FoundLemmas
+pub mod CutLemmas
 pub mod ReadLemmas
 pub mod ForCallers

@@ -1,8 +1,9 @@
 -- What a line reads: lines before that of a gap are made of what stands left of the gap.
-use Rattle.std.proofs.Common.{◌≡◌, ℕ, zero, suc, ◌+◌, ◌-◌, ◌<◌, ◌≤◌, Bool, true, false, List, [], ◌∷◌, ◌++◌, length, take, map, cond, Some, None, refl, ap, ap₂, arith, inl, inr}
-use Rattle.std.specs.Prelude.{slice_get, if◌then◌else◌}
+use Rattle.std.proofs.Common.{◌≡◌, ℕ, zero, suc, ◌+◌, ◌-◌, ◌<◌, ◌≤◌, Bool, true, false, List, [], ◌∷◌, ◌++◌, length, take, drop, map, cond, Some, None, refl, ap, ap₂, sym, ◌∙◌, arith, inl, inr}
+use Rattle.std.specs.Prelude.{slice_get, slice_range, if◌then◌else◌, ◌==◌, ◌&&◌, not}
 use Rattle.std.specs.List.{filter, range_with_len}
 use Rattle.std.proofs.lemmas.Bool.{cases_lt}
+use Rattle.std.proofs.lemmas.List.{drop-take, take-map, take-take}
 use Rattle.plain_text.specs.declared.run.Run.{Run}
 use Rattle.plain_text.specs.declared.selection.Region.{Region}
 use Rattle.plain_text.specs.Numbers.{has}
@@ -16,10 +17,12 @@ use Rattle.plain_screen.proofs.callers.OwnLemmas.{get_piece, starts-rise}
 use Rattle.plain_screen.proofs.callers.ViewLemmas.{ArePieces-starts, IsLayoutLineOf-layout_line_of}
 use Rattle.span_runs.specs.Spans.{spans_from, spans_of}
 use Rattle.span_runs.specs.Triples.{triples_of}
-use Rattle.line_render.specs.Rendered.{carets_of, cut_spans, is_last_piece, is_selected, own_gaps, rendered, selected_layer, text_of_piece}
+use Rattle.line_render.specs.Rendered.{carets_of, cursor_of, cut_spans, ends_in_feed, is_last_piece, is_selected, own_gaps, rendered, rendered_piece, selected_layer, selected_spans, text_of_piece}
 use Rattle.line_render.proofs.ForCallers.{length-text_of_piece, own-layout_line_of, piece-inside}
 use Rattle.doc_layout.specs.Found.{found_spans}
+use Rattle.doc_layout.specs.Laws.{AreShownAlike}
 use Rattle.doc_layout.specs.Layout.{layout, layout_line, styled_spans}
+use Rattle.doc_layout.proofs.CutLemmas.{cut_spans-append, found-cut}
 
 -- the first so many items are made alike
 take-alike : {X Y : Type 0} (f g : X → Y) (xs : List X) (n : ℕ) → ((i : ℕ) (x : X) → i < n → slice_get xs i ≡ Some x → f x ≡ g x) →
@@ -132,3 +135,67 @@ regions-read text pieces regions others results layers at are carets selected =
     let ends = ends-before text pieces at index piece are before is in
     rendered-alike text regions others (found_spans results (length text) ++ styled_spans layers piece) piece at ends.0 (piece-inside text pieces index piece are is).1
     ends.1 carets selected)
+
+-- ---- two texts
+
+-- what stands between two gaps is the same where the fronts are
+pub slice-alike : {X : Type 0} (at start end : ℕ) (xs ys : List X) → take at xs ≡ take at ys → end ≤ at → slice_range xs start end ≡ slice_range ys start end
+slice-alike {X} at start end xs ys same before = elim (cases_lt end start) [
+  | inl none ↦
+      let few : end - start ≡ 0 = omega (arith, none) in
+      ap (λ (n : ℕ). take n (drop start xs)) few ∙ sym (ap (λ (n : ℕ). take n (drop start ys)) few)
+  | inr ordered ↦ sym (front xs ordered) ∙ ap (drop start) (sym (take-take end at xs before) ∙ ap (take end) same ∙ take-take end at ys before) ∙ front ys ordered
+]
+  where
+    front : (zs : List X) → start ≤ end → drop start (take end zs) ≡ slice_range zs start end
+    front zs ordered =
+        let sum : start + (end - start) ≡ end = omega (arith, ordered) in
+        ap (λ (n : ℕ). drop start (take n zs)) (sym sum) ∙ drop-take start (end - start) zs
+
+-- a line rendered, by its characters and the length of the text
+abbrev rendered_by : Piece → List Region → List Span → List ℕ → ℕ → Line
+rendered_by piece regions spans line len = rendered_piece line piece (piece.end == len && not (ends_in_feed line)) regions spans
+
+-- a line rendered, by its cut spans
+abbrev rendered_with : List ℕ → Piece → List Region → List Span → Line
+rendered_with text piece regions cuts =
+    record {
+      text = text_of_piece text piece;
+      ln = piece.ln;
+      cursor =
+          cursor_of (carets_of regions) piece.start (own_gaps (is_last_piece text piece) (length (text_of_piece text piece))) (text_of_piece text piece);
+      styles = triples_of (text_of_piece text piece) (selected_spans regions piece.start (length (text_of_piece text piece)) ++ cuts);
+    }
+
+line-alike : (text other : List ℕ) (regions others : List Region) (results founds : List Run) (layers styles : List Layer) (at : ℕ) (piece : Piece) →
+    AreShownAlike at text other regions others results founds layers styles → piece.start ≤ piece.end → piece.end ≤ length text → piece.end ≤ at →
+    layout_line text regions results layers piece ≡ layout_line other others founds styles piece
+line-alike text other regions others results founds layers styles at piece alike ordered inside before =
+    rendered-alike text regions others (found_spans results (length text) ++ styled_spans layers piece) piece at ordered inside before alike.carets alike.selected ∙
+    ap (rendered_with text piece others) cuts ∙
+    ap₂ (rendered_by piece others (found_spans founds (length other) ++ styled_spans styles piece))
+    (slice-alike at piece.start piece.end text other alike.characters before) alike.long
+  where
+    cut : List Span → List Span
+    cut = cut_spans piece.start piece.end
+
+    cuts : cut (found_spans results (length text) ++ styled_spans layers piece) ≡ cut (found_spans founds (length other) ++ styled_spans styles piece)
+    cuts =
+        cut_spans-append piece.start piece.end (found_spans results (length text)) (styled_spans layers piece) ∙
+        ap₂ (λ (xs ys : List Span). xs ++ ys)
+        (found-cut piece.start piece.end results founds (length text) (length other) inside (omega (arith, inside, alike.long))
+        (λ index low high. alike.found index (omega (arith, high, before))))
+        (ap cut (alike.styled (record { start = piece.start; end = piece.end }) before)) ∙
+        sym (cut_spans-append piece.start piece.end (found_spans founds (length other)) (styled_spans styles piece))
+
+pub lines-read : (text other : List ℕ) (pieces parts : List Piece) (regions others : List Region) (results founds : List Run) (layers styles : List Layer) (at line : ℕ) →
+    ArePieces text pieces → AreShownAlike at text other regions others results founds layers styles → take line pieces ≡ take line parts →
+    line ≤ layout_line_of pieces at →
+    take line (layout text pieces regions results layers) ≡ take line (layout other parts others founds styles)
+lines-read text other pieces parts regions others results founds layers styles at line are alike same low =
+    take-alike (layout_line text regions results layers) (layout_line other others founds styles) pieces line
+    (λ index piece before is.
+    let ends = ends-before text pieces at index piece are (omega (arith, before, low)) is in
+    line-alike text other regions others results founds layers styles at piece alike ends.0 (piece-inside text pieces index piece are is).1 ends.1) ∙
+    take-map (layout_line other others founds styles) line pieces ∙ ap (map (layout_line other others founds styles)) same ∙
+    sym (take-map (layout_line other others founds styles) line parts)
