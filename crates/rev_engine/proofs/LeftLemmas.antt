@@ -1,7 +1,7 @@
 -- What is left of a history: its edits are the history's, it may be collected where the history may, and a change of it is one of the history.
-use Rattle.std.proofs.Common.{◌≡◌, ℕ, zero, suc, ◌+◌, ◌<◌, ◌≤◌, Bool, true, false, not, ◌&&◌, ◌||◌, ◌==◌, if◌then◌else◌, inl, inr, ◌⊎◌, cond, List, [], ◌∷◌, length, map, filter, take, drop, slice_get, refl, ap, ap₂, sym, ◌∙◌, arith}
+use Rattle.std.proofs.Common.{◌≡◌, ℕ, zero, suc, ◌+◌, ◌<◌, ◌≤◌, Bool, true, false, not, ◌&&◌, ◌||◌, ◌==◌, if◌then◌else◌, inl, inr, ◌⊎◌, cond, List, [], ◌∷◌, length, map, filter, take, drop, slice_get, Some, refl, ap, ap₂, sym, ◌∙◌, arith}
 use Rattle.std.specs.List.{list_any, range_with_len}
-use Rattle.std.proofs.lemmas.Bool.{both_ways, eqb-true, eq-eqb, or_cases, or_left, or_right}
+use Rattle.std.proofs.lemmas.Bool.{both_ways, cases_lt, eqb-true, eq-eqb, or_cases, or_left, or_right}
 use Rattle.std.proofs.lemmas.List.Folds.{list_any-append}
 use Rattle.subset_runs.specs.Subset.{items_outside}
 use Rattle.plain_text.specs.Numbers.{has}
@@ -15,7 +15,7 @@ use Rattle.plain_edits.specs.Collection.{is_collected, is_dropped, IsAtRest, May
 use Rattle.delta_core.specs.Units.{text_after}
 use Rattle.collection_laws.specs.MayForget.{MayForget}
 use Rattle.collection_laws.specs.Left.{is_kept, left_of, settled, settled_rev, settled_revision}
-use Rattle.collection_laws.proofs.ForCallers.{IsForgotten, StaysAs, change_adds-left, change_keeps-left, drop-left, head-left, is_clean-left, settled_rev-none, settles, text_at-left, undone-left}
+use Rattle.collection_laws.proofs.ForCallers.{IsForgotten, StaysAs, change_adds-left, change_keeps-left, drop-left, head-left, is_clean-left, revision_at-after, revision_at-before, settled_rev-none, settles, text_at-left, undone-left}
 use Rattle.rev_list.specs.WithoutText.{without_character, without_text}
 use Rattle.rev_rebase.specs.Rebase.{characters_of}
 use Rattle.rev_engine.specs.declared.edit.Change.{Change}
@@ -36,21 +36,24 @@ module _ (h : History) (group : ℕ) where
   edit_in g zero some is own = absurd (omega (arith, some))
   edit_in g (suc n) some is own = there g.revisions n is own
 
+  -- what stands up to the floor as an edit of itself is one
+  an_edit : (rev : ℕ) → 0 < rev → rev ≤ h.floor → settled_rev h rev ≡ rev → is_edit (revision_at h.revisions rev) ≡ true
+  an_edit rev some below same = by (is_edit (revision_at h.revisions rev)) refl
+    where
+      by : (b : Bool) → is_edit (revision_at h.revisions rev) ≡ b → is_edit (revision_at h.revisions rev) ≡ true
+      by true is = is
+      by false is =
+          absurd (omega (arith, some, same, settled_rev-none h rev below (ap (λ b. b && not (is_collected h rev)) is)))
+
   -- a revision up to the floor that says the group is an edit of it
   settled_there : (rev : ℕ) → 0 < rev → rev ≤ h.floor → is_edit_of group (settled_revision h rev) ≡ true → list_any (is_edit_of group) h.revisions ≡ true
   settled_there rev some below = by (settled_rev h rev == rev) refl
     where
-      an_edit : (b : Bool) → is_edit (revision_at h.revisions rev) ≡ b → settled_rev h rev ≡ rev → is_edit (revision_at h.revisions rev) ≡ true
-      an_edit true is same = is
-      an_edit false is same =
-          absurd (omega (arith, some, same, settled_rev-none h rev below (ap (λ b. b && not (is_collected h rev)) is)))
-
       by : (b : Bool) → (settled_rev h rev == rev) ≡ b →
           is_edit_of group (if b then edit 0 (group_of h.revisions rev) 0 0 else undo (undone h.revisions h.floor)) ≡ true →
           list_any (is_edit_of group) h.revisions ≡ true
       by true same own =
-          edit_in h rev some (an_edit (is_edit (revision_at h.revisions rev)) refl (eqb-true (settled_rev h rev) rev same))
-          (eqb-true (group_of h.revisions rev) group own)
+          edit_in h rev some (an_edit rev some below (eqb-true (settled_rev h rev) rev same)) (eqb-true (group_of h.revisions rev) group own)
       by false same own = absurd (both_ways false refl own)
 
   range_there : (from n : ℕ) → 0 < from → from + n ≤ h.floor + 1 →
@@ -125,6 +128,37 @@ module _ (h : History) (group : ℕ) where
       list_any (is_edit_of group) (take rev g.revisions) ≡ true
   edit_by g zero rev some within is own = absurd (omega (arith, some))
   edit_by g (suc n) rev some within is own = there_by g.revisions n rev (omega (arith, within)) is own
+
+  -- an edit of what is left is the history's
+  own_edit : IsWellFormed h → (at : ℕ) → 0 < at → is_edit (revision_at (left_of h).revisions at) ≡ true →
+      (is_edit (revision_at h.revisions at) ≡ true) × (group_of (left_of h).revisions at ≡ group_of h.revisions at)
+  own_edit formed at some is =
+      elim (cases_lt h.floor at) [
+        | inl past ↦
+            let same = revision_at-after h formed.floor at past in
+            (ap is_edit (sym same) ∙ is, ap edit_group same)
+        | inr below ↦ by below (settled_rev h at == at) refl
+      ]
+    where
+      says : (b : Bool) → (settled_rev h at == at) ≡ b → at ≤ h.floor →
+          revision_at (left_of h).revisions at ≡ Some (if b then edit 0 (group_of h.revisions at) 0 0 else undo (undone h.revisions h.floor))
+      says b same below =
+          revision_at-before h formed.floor at some below ∙
+          ap (λ b. Some (if b then edit 0 (group_of h.revisions at) 0 0 else undo (undone h.revisions h.floor))) same
+
+      by : at ≤ h.floor → (b : Bool) → (settled_rev h at == at) ≡ b →
+          (is_edit (revision_at h.revisions at) ≡ true) × (group_of (left_of h).revisions at ≡ group_of h.revisions at)
+      by below true same =
+          (an_edit at some below (eqb-true (settled_rev h at) at same), ap edit_group (says true same below))
+      by below false same = absurd (both_ways false refl (sym (ap is_edit (says false same below)) ∙ is))
+
+  -- a group that has an edit in what is left by a revision has one by then
+  pub has_edit_by-left : IsWellFormed h → (rev : ℕ) → list_any (is_edit_of group) (take rev (left_of h).revisions) ≡ true →
+      list_any (is_edit_of group) (take rev h.revisions) ≡ true
+  has_edit_by-left formed rev some =
+      let at = found_by (left_of h).revisions rev some in
+      let own = own_edit formed (suc at.0) (omega arith) at.1.1.0 in
+      edit_by h (suc at.0) rev (omega arith) (omega (arith, at.1.0)) own.0 (sym own.1 ∙ at.1.1.1)
 
   -- one that is not collected, and has none in what is left by a revision from the floor on, has none by then
   pub none_by-left : IsWellFormed h → has h.collected group ≡ false → (rev : ℕ) → h.floor ≤ rev →

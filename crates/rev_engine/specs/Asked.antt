@@ -1,5 +1,5 @@
 -- The steps that are asked of an engine, when each may come, and which histories they give.
-use Rattle.std.specs.Prelude.{◌≡◌, ◌≢◌, ℕ, ◌-◌, ◌^◌, ◌<◌, ◌≤◌, true, ◌||◌, List, [], ◌∷◌, ⊤}
+use Rattle.std.specs.Prelude.{◌≡◌, ◌≢◌, ℕ, ◌-◌, ◌^◌, ◌<◌, ◌≤◌, true, false, ◌||◌, List, [], ◌∷◌, take, ⊤}
 use Rattle.std.specs.List.{fold, list_any, AllByRecursion}
 use Rattle.plain_text.specs.Numbers.{has}
 use Rattle.plain_edits.specs.History.{History, head, loaded}
@@ -29,6 +29,12 @@ after_all_asked history steps = fold after_asked history steps
 -- the group counts from 1 and has an edit; the edits of a collected one may be forgotten
 abbrev pub IsKnown : History → ℕ → Type 0
 IsKnown history group = (0 < group) × ((list_any (is_edit_of group) history.revisions || has history.collected group) ≡ true)
+
+-- the group counts from 1 and has its first edit after the revision: it has one, and none by then
+pub record BeginsAfter (history : History) (group rev : ℕ) : Type 0 where
+  pub counts : 0 < group
+  pub some : list_any (is_edit_of group) history.revisions ≡ true
+  pub none : list_any (is_edit_of group) (take rev history.revisions) ≡ false
 
 -- the undo may be asked for: each group of its set is known, and the next revision has a number
 pub record MayAskUndo (history : History) (groups : List ℕ) : Type 0 where

@@ -1,12 +1,12 @@
-ghost use Rattle.std.specs.List.{flat_map, list_any};
-ghost use Rattle.std.specs.Prelude.{◌≡◌, ◌≢◌, ◌+◌, ◌^◌, ◌<◌, ◌≤◌, ◌↔◌, ℕ, false, None, length, take, IfOk, IfErr, IfSome, IsTrue, OnErr, OnOk};
+ghost use Rattle.std.specs.List.{flat_map};
+ghost use Rattle.std.specs.Prelude.{◌≡◌, ◌≢◌, ◌+◌, ◌^◌, ◌<◌, ◌≤◌, ◌↔◌, ℕ, false, None, length, IfOk, IfErr, IfSome, IsTrue, OnErr, OnOk};
 ghost use Rattle.plain_text.specs.Numbers.{has, IsRising};
 ghost use Rattle.plain_text.specs.Text.{byte_len};
 ghost use Rattle.plain_edits.specs.UnitDelta.{IsCanonical, IsUnitDelta};
 ghost use Rattle.plain_edits.specs.History.{History, head, loaded, text_at};
 ghost use Rattle.plain_edits.specs.Collection.{collected_at, collection_of, kept};
 ghost use Rattle.rev_collect.specs.Choice.{collection_said};
-ghost use Rattle.plain_edits.specs.Edits.{edit_refusal, edited, is_edit_of, undid};
+ghost use Rattle.plain_edits.specs.Edits.{edit_refusal, edited, undid};
 ghost use Rattle.plain_edits.specs.Undo.{undone_now};
 ghost use Rattle.rev_list.specs.Edit.{undone_by};
 ghost use Rattle.rev_undo.specs.Under.{AgreesOnCollected};
@@ -16,7 +16,7 @@ ghost use Rattle.rev_rebase.specs.Rebase.{added_text};
 ghost use Rattle.rev_engine.specs.Engine.{IsChange, IsChangeBy, IsSaidBy, IsSince, StandsFor, asked_by, in_characters};
 ghost use Rattle.plain_edits.specs.EditFault.{Refuses};
 ghost use Rattle.rev_engine.specs.Given.{AskedEdit, MayAsk, after};
-ghost use Rattle.rev_engine.specs.Asked.{IsCollectionTaken, IsFrozenAt, MayAskUndo};
+ghost use Rattle.rev_engine.specs.Asked.{BeginsAfter, IsCollectionTaken, IsFrozenAt, MayAskUndo};
 ghost use Rattle.rev_engine.specs.State.{IsHistoryOf, shown_at};
 ghost use Rattle.rev_engine.specs.Inner.{IsAnswered, IsFitting, IsNext, IsNextLeft, IsPutIn, IsUnitsFor};
 
@@ -125,8 +125,8 @@ impl Engine {
     /// groups. So it is false of a group that has no edit.
     pub fn begins_after(&self, group: u64, rev: u64) -> bool
         requires { self.now.revisions.floor ≤ rev }
-        ensures { (history : History) → StandsFor self.now history → has history.collected group ≡ false → IsTrue result
-            → list_any (is_edit_of group) (take rev history.revisions) ≡ false }
+        ensures { (history : History) → StandsFor self.now history → has history.collected group ≡ false
+            → IsTrue result ↔ BeginsAfter history group rev }
     {
         match self.revs.first_edit(group) {
             Some(first) => rev < first,

@@ -15,8 +15,8 @@ returns-in-Some c = λ plain stands later.
     let first : slice_get plain.groups.retired 0 ≡ Some oldest =
     ap (λ (s : Groups). slice_get s.retired 0) (sym was.groups) ∙ sym c.retired.ensures.group ∙ c.in-Some.is in
     let kept = retired-kept h plain.groups plain.typing was.agree oldest (first_there plain.groups.retired oldest first) in
-    let none = c.begins_after.ensures h (subst (λ (e : State). StandsFor e h) (sym c.deref.ensures) was.state.stands) kept later in
-    none_begun h plain.groups plain.typing was.agree oldest c.args.rev first none
+    let begins = (c.begins_after.ensures h (subst (λ (e : State). StandsFor e h) (sym c.deref.ensures) was.state.stands) kept).0 later in
+    none_begun h plain.groups plain.typing was.agree oldest c.args.rev first begins.none
 
 pub returns-in-None : goal.returns-in-None
 returns-in-None c = λ plain stands later floor within. absurd cc
