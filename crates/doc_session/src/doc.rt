@@ -17,7 +17,8 @@ ghost use Rattle.doc_text.specs.Refusal.{edit_refused};
 ghost use Rattle.doc_text.specs.Revised.{IsRevised, IsRevisionOf, IsTurnOf};
 ghost use Rattle.doc_text.specs.Stands.{IsTextOf};
 ghost use Rattle.doc_text.specs.Writing.{Writing, head_text};
-ghost use Rattle.doc_view.specs.Told.{IsTextLeft, settled_view, told};
+ghost use Rattle.doc_view.specs.Front.{KeepsFront};
+ghost use Rattle.doc_view.specs.Told.{IsKeptLeftOf, IsTextLeft, settled_view, told};
 ghost use Rattle.doc_view.specs.View.{point_in};
 ghost use Rattle.doc_session.specs.Asking.{front_edit};
 ghost use Rattle.doc_session.specs.Document.{Document, layout_of, loaded_document};
@@ -34,7 +35,7 @@ use crate::looking::{Viewing, copies, scrolls, viewing_of};
 use crate::said::{NO_REQUEST, Said, Scrolling};
 use doc_layout::scroll_of;
 use doc_text::{DocFault, Revised, TextState};
-use doc_view::{Goals, Pristine, TextLeft, ViewState, does_nothing};
+use doc_view::{Goals, Pristine, TextLeft, ViewState, does_nothing, kept_front};
 use edit_groups::kind_of;
 use plain_edits::UnitDelta;
 use plain_screen::Update;
@@ -398,9 +399,10 @@ impl Doc {
             units,
             notice,
         } = revised;
+        let from = kept_front(&units);
         let next = self.with_revision(alloc, text, &units, sel)?;
         let said = Said {
-            text: TextLeft::Edited,
+            text: TextLeft::Edited { from },
             request: NO_REQUEST,
             body,
             scrolling,
@@ -430,6 +432,8 @@ impl Doc {
           };
         }) }
         ensures over { IfOk result (λ made. AreOver (length self.now.view.text) self.now.view.layers) }
+        ensures left { (from : ℕ) → KeepsFront units.now from
+            → IfOk result (λ made. IsKeptLeftOf from self.now.view made.view) }
     {
         let view = self.view.edited(alloc, text.head_rope(), units, sel)?;
         Ok(Doc { text, view })

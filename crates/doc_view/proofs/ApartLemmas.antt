@@ -2,7 +2,7 @@
 use Rattle.std.proofs.Common.{◌≡◌, ℕ, ◌-◌, ◌≤◌, Bool, true, false, List, [], ◌∷◌, Some, length, refl, ap, ap₂, sym, subst, ◌∙◌, arith}
 use Rattle.std.specs.Prelude.{max, not, ◌||◌, ◌==◌, slice_get}
 use Rattle.std.specs.Str.{all_scalars}
-use Rattle.std.proofs.lemmas.Bool.{eq-eqb, or_right}
+use Rattle.std.proofs.lemmas.Bool.{eq-eqb, eqb-true, or_right}
 use Rattle.plain_text.specs.declared.selection.Region.{Region}
 use Rattle.plain_text.specs.Numbers.{has}
 use Rattle.plain_screen.specs.SameLayout.{is_same_layout}
@@ -67,3 +67,13 @@ told-apart before after characters others inside within apart = by (is_same_layo
     by false is = refl
     by true is =
         absurd (let both = sym apart ∙ alike before after characters others inside within ((is_same_layout-Decides (layout_in before) (layout_in after)).0 is) in cc)
+
+-- what is not told apart has one length
+pub same-length : (before after : View) → is_told_apart before after ≡ false → length before.text ≡ length after.text
+same-length before after none = by (length before.text == length after.text) refl none
+  where
+    by : (b : Bool) → (length before.text == length after.text) ≡ b →
+        (not b || (not (has_last_caret before.regions after.regions) || not (has_last_caret after.regions before.regions))) ≡ false →
+        length before.text ≡ length after.text
+    by true is none = eqb-true (length before.text) (length after.text) is
+    by false is none = absurd cc

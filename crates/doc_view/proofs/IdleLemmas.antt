@@ -40,7 +40,7 @@ all-false p from (suc count) at low high is = elim (cases_lt from at) [
 
 -- ---- what is kept
 
-runs-reach : (base from : ℕ) (runs : List Run) → AreRuns base from runs → from ≤ base
+pub runs-reach : (base from : ℕ) (runs : List Run) → AreRuns base from runs → from ≤ base
 runs-reach base from [] are = are
 runs-reach base from (run ∷ runs) are = omega (arith, are.0, are.1, runs-reach base run.end runs are.2)
 
@@ -53,7 +53,7 @@ none_left from index (run ∷ runs) apart less =
     none_left (run.end + 1) index runs apart.2 (omega (arith, apart.0, apart.1, less))
 
 -- a run has what is in it
-first_has : (run : Run) (runs : List Run) (index : ℕ) → run.start ≤ index → index < run.end → is_in_runs (run ∷ runs) index ≡ true
+pub first_has : (run : Run) (runs : List Run) (index : ℕ) → run.start ≤ index → index < run.end → is_in_runs (run ∷ runs) index ≡ true
 first_has run runs index low high =
     ap₂ (λ a b. (a && b) || is_in_runs runs index) (le-leb run.start index low) (lt-ltb index run.end high)
 

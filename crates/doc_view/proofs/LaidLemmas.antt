@@ -120,6 +120,11 @@ results-same text query other same =
     by false some chars true false either = absurd cc
     by false some chars false true either = absurd cc
 
+pub same-search : (before after : View) → is_cut_alike before after ≡ true → is_same_search before.query after.query ≡ true
+same-search before after alike =
+    let tabs = and_parts (before.config.tab == after.config.tab) _ alike in
+    (and_parts (before.config.width == after.config.width) (is_same_search before.query after.query) tabs.1).1
+
 -- ---- one text that is cut alike
 
 pub is_same_layout-alike : (before after : View) → after.text ≡ before.text → is_cut_alike before after ≡ true → IsShownApart None before after →

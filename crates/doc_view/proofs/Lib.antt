@@ -6,4 +6,6 @@ pub mod WrappedLemmas
 pub mod IdleLemmas
 pub mod PointLemmas
 pub mod ApartLemmas
+pub mod FrontLemmas
+pub mod LineLemmas
 pub mod ForCallers

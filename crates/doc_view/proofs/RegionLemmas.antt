@@ -2,6 +2,7 @@
 use Rattle.std.proofs.Common.{◌≡◌, ℕ, zero, suc, ◌<◌, ◌≤◌, Bool, true, false, List, [], ◌∷◌, length, take, drop, Option, None, Some, refl, ap, ap₂, sym, subst, ◌∙◌, arith}
 use Rattle.std.specs.Prelude.{min, max, ◌&&◌, ◌||◌, ◌==◌, nat_le, nat_lt}
 use Rattle.std.specs.List.{AllByRecursion, flat_map}
+use Rattle.std.specs.Option.{unwrap_or}
 use Rattle.std.proofs.lemmas.Bool.{and_parts, eq-eqb, eqb-true, lt-leb, ne_eqb}
 use Rattle.plain_text.specs.declared.selection.Region.{Region}
 use Rattle.plain_text.specs.Numbers.{has}
@@ -155,6 +156,13 @@ all_alike at (region ∷ regions) (other ∷ others) same =
           ap (λ b. nat_le (lesser_end region) index && nat_lt index (greater_end region) || b) (rest.selected index left) ∙
           ap₂ (λ (a c : ℕ). nat_le (min a c) index && nat_lt index (max a c) || is_selected others index) anchors carets;
     }
+
+-- up to another gap, where that is less
+pub AreAlikeLeftOf-up_to : (ends : Option ℕ) (from gap less : ℕ) (regions others : List Region) → AreEndsApart ends regions others →
+    gap ≡ unwrap_or (earlier ends (Some from)) from → less ≤ gap → (gap ≤ from) × AreAlikeLeftOf less regions others
+AreAlikeLeftOf-up_to None from gap less regions others same is le = (omega (arith, is), all_alike less regions others same)
+AreAlikeLeftOf-up_to (Some at) from gap less regions others alike is le =
+    (omega (arith, is), less_left at less regions others (omega (arith, is, le)) alike)
 
 pub IsShownApart-both : (result ends styles : Option ℕ) (before after : View) → AreEndsApart ends before.regions after.regions →
     AreApartFrom styles before.layers after.layers → result ≡ earlier ends styles → IsShownApart result before after

@@ -1,18 +1,20 @@
 -- What private functions say: what a view keeps.
-use Rattle.std.specs.Prelude.{◌≡◌, ℕ, zero, suc, ◌<◌, ◌≤◌, min, Bool, true, not, ◌&&◌, ◌||◌, ◌==◌, List, [], ◌∷◌, length, Option, None, Some, option_map, slice_get}
+use Rattle.std.specs.Prelude.{◌≡◌, ℕ, zero, suc, ◌<◌, ◌≤◌, min, Bool, true, not, ◌&&◌, ◌||◌, ◌==◌, if◌then◌else◌, List, [], ◌∷◌, length, take, Option, None, Some, option_map, slice_get}
 use Rattle.std.specs.List.{flat_map, list_any}
 use Rattle.std.specs.Option.{is_some}
 use Rattle.std.specs.Str.{all_scalars}
 use Rattle.plain_text.specs.declared.run.Run.{Run}
 use Rattle.plain_text.specs.declared.selection.Region.{Region}
 use Rattle.plain_text.specs.Numbers.{has}
+use Rattle.plain_edits.specs.declared.delta.Added.{Added}
 use Rattle.xi_plain.specs.declared.config.Config.{Config}
-use Rattle.plain_screen.specs.View.{layout_line_of}
+use Rattle.plain_screen.specs.View.{layout_line_of, line_under}
 use Rattle.line_index.specs.Index.{Index}
 use Rattle.span_runs.specs.Spans.{spans_in}
 use Rattle.line_render.specs.Rendered.{carets_of, is_selected}
 use Rattle.selection_core.specs.Mapped.{AreWithin}
 use Rattle.selection_core.specs.Selection.{IsSelection, last_caret, lesser_end}
+use Rattle.doc_layout.specs.Found.{is_found}
 use Rattle.doc_view.specs.declared.search.Search.{Search}
 use Rattle.doc_view.specs.Search.{results}
 use Rattle.doc_view.specs.Told.{are_same_ends}
@@ -85,6 +87,30 @@ IsShownApart (Some at) before after =
 abbrev pub line_left_of : View → ℕ → ℕ
 line_left_of view zero = 0
 line_left_of view (suc gap) = layout_line_of (pieces_in view) gap
+
+-- ---- where two texts begin to be shown otherwise
+
+-- left of a gap two views show the same
+pub record AreAlikeViews (gap : ℕ) (before after : View) : Type 0 where
+  pub characters : take gap before.text ≡ take gap after.text
+  pub regions : AreAlikeLeftOf gap before.regions after.regions
+  pub found : (index : ℕ) → index < gap → is_found (results before.text before.query) index ≡ is_found (results after.text after.query) index
+  pub styled : (range : Run) → range.end ≤ gap → flat_map (spans_in range) before.layers ≡ flat_map (spans_in range) after.layers
+
+-- the first line of the logical line that has the character left of a gap; the first of all where there is none
+abbrev pub first_line_left_of : View → ℕ → ℕ
+first_line_left_of view zero = 0
+first_line_left_of view (suc gap) =
+    layout_line_of (pieces_in view) (line_under view.text (pieces_in view) (layout_line_of (pieces_in view) gap)).start
+
+-- where the first of some runs ends, if it starts at the start, and the gap of the first addition, if there is one
+abbrev pub first_end : List Run → ℕ
+first_end [] = 0
+first_end (run ∷ runs) = if run.start == 0 then run.end else 0
+
+abbrev pub first_gap : ℕ → List Added → ℕ
+first_gap base [] = base
+first_gap base (added ∷ adds) = added.gap
 
 -- ---- edits that do nothing
 

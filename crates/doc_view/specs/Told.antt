@@ -1,12 +1,14 @@
 -- What the front end lacks after an event.
-use Rattle.std.specs.Prelude.{◌≡◌, ℕ, Bool, true, false, not, ◌&&◌, ◌||◌, ◌==◌, if◌then◌else◌, List, length, Option, Some, None, ⊤}
+use Rattle.std.specs.Prelude.{◌≡◌, ℕ, ◌≤◌, Bool, true, false, not, ◌&&◌, ◌||◌, ◌==◌, if◌then◌else◌, List, length, take, Option, Some, None}
 use Rattle.std.specs.Bool.{beq}
+use Rattle.std.specs.List.{flat_map}
 use Rattle.std.specs.Str.{bytes_eq}
 use Rattle.std.specs.Cmp.Lexicographic.{pointwise}
 use Rattle.plain_text.specs.declared.run.Run.{Run}
 use Rattle.plain_text.specs.declared.selection.Region.{Region}
 use Rattle.plain_screen.specs.declared.screen.Update.{Update}
 use Rattle.plain_screen.specs.SameLayout.{is_same_layout}
+use Rattle.span_runs.specs.Spans.{spans_in}
 use Rattle.doc_layout.specs.declared.asked.Asked.{Asked}
 use Rattle.doc_layout.specs.Told.{is_covered, planned}
 use Rattle.doc_view.specs.declared.search.Search.{Search}
@@ -34,11 +36,17 @@ abbrev pub is_lacking : View → View → Run → Pristine → Bool
 is_lacking before after request pristine =
     not (has_asked after request) || (differ pristine.before pristine.after || not (is_same_layout (layout_in before) (layout_in after)))
 
+-- left of a gap of the text both views have the same characters, and the same styles
+pub record IsKeptLeftOf (gap : ℕ) (before after : View) : Type 0 where
+  pub inside : gap ≤ length before.text
+  pub characters : take gap before.text ≡ take gap after.text
+  pub styled : (range : Run) → range.end ≤ gap → flat_map (spans_in range) before.layers ≡ flat_map (spans_in range) after.layers
+
 -- the text and its styles are left so: where they are said to be the same they are
 abbrev pub IsTextLeft : TextLeft → View → View → Type 0
 IsTextLeft Same before after = (after.text ≡ before.text) × (after.layers ≡ before.layers)
 IsTextLeft Styled before after = after.text ≡ before.text
-IsTextLeft Edited before after = ⊤
+IsTextLeft (Edited from) before after = IsKeptLeftOf from before after
 
 -- what it is told
 abbrev pub told : View → View → Run → Pristine → Option Update

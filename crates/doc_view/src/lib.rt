@@ -5,6 +5,7 @@
 //! lines the front end has; pieces and layout are those of `specs/View.antt`, and `specs/Search.antt` has which match a command selects.
 #![tactic(auto)]
 
+mod front;
 mod idle;
 mod indexed;
 mod moved;
@@ -13,6 +14,7 @@ mod search;
 mod told;
 mod view;
 
+pub use front::kept_front;
 pub use idle::does_nothing;
 pub use moved::Goals;
 pub use search::Search;

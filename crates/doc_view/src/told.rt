@@ -5,10 +5,10 @@ pub struct Pristine {
     pub after: bool,
 }
 
-/// What an event left of the text of a view and of its styles: both are the same, the text is, or maybe neither.
+/// What an event left of the text of a view and of its styles: both are the same, the text is, or both are left of a gap.
 #[derive(Clone, Copy, PartialEq, Eq)]
 pub enum TextLeft {
     Same,
     Styled,
-    Edited,
+    Edited { from: u64 },
 }

@@ -14,8 +14,8 @@ ghost use Rattle.doc_layout.specs.PositionView.{position_view};
 ghost use Rattle.doc_layout.specs.Told.{planned};
 ghost use Rattle.doc_view.specs.Moved.{AreMoved};
 ghost use Rattle.doc_view.specs.Search.{next_found, no_search, previous_found, results, search_for, with_match};
-ghost use Rattle.doc_view.specs.Inner.{IsShownApart, has_last_caret, index_at, is_told_apart, line_left_of};
-ghost use Rattle.doc_view.specs.Told.{IsTextLeft, has_asked, is_cut_alike, is_lacking, settled_view, told};
+ghost use Rattle.doc_view.specs.Inner.{AreAlikeViews, IsShownApart, first_line_left_of, has_last_caret, index_at, is_told_apart, line_left_of};
+ghost use Rattle.doc_view.specs.Told.{IsKeptLeftOf, IsTextLeft, has_asked, is_cut_alike, is_lacking, settled_view, told};
 ghost use Rattle.doc_view.specs.View.{asked_in, layout_in, pieces_in, point_in};
 
 use crate::indexed::{edited_index, index_of};
@@ -26,6 +26,7 @@ use crate::told::{Pristine, TextLeft};
 use doc_layout::{Asked, Shown, is_same_layout, update_of};
 use edit_ops::{copied, edit_of};
 use line_index::LineIndex;
+use match_index::laws::fronts_stay;
 use plain_edits::UnitDelta;
 use plain_screen::{TextView, Update};
 use plain_text::{NoMemory, Region, Regions, Run, Runs, Sel, Text};
@@ -444,7 +445,8 @@ impl ViewState {
     /// This renders the lines that are told. Whether the layout is another it tells without a line where the length of the text is another, where
     /// the last caret is no caret of the other view, and where the text is the same and no style, end of a region, search, width or tab width is
     /// another; else it renders lines of both, up to the first that differs. Of one text that is cut alike it begins where regions or styles are
-    /// another, which it finds in their time; styles that the event left are not looked at.
+    /// another, which it finds in their time; styles that the event left are not looked at. Of an edited text it begins at the logical line of
+    /// the character left of the first change, or of the first end of a region that is another, if that is left of it.
     pub fn settled(
         &self,
         alloc: Global,
@@ -521,7 +523,7 @@ impl ViewState {
         match text {
             TextLeft::Same => self.has_layout_on_text(alloc, next, text),
             TextLeft::Styled => self.has_layout_on_text(alloc, next, text),
-            TextLeft::Edited => self.has_lines_from(alloc, next, 0),
+            TextLeft::Edited { from } => self.has_layout_from(alloc, next, from),
         }
     }
 
@@ -543,6 +545,54 @@ impl ViewState {
             None => Ok(true),
             Some(gap) => self.has_lines_past(alloc, next, gap),
         }
+    }
+
+    // The same, of two texts that are one left of a gap, as their styles are. Where neither length nor caret tells them apart no line is read
+    // left of the logical line where the first change is, or an end of a region is another.
+    fn has_layout_from(&self, alloc: Global, next: &ViewState, from: u64) -> Result<bool, NoMemory>
+        requires { IsKeptLeftOf from self.now next.now }
+        ensures { IfOk result (λ same. same ≡ is_same_layout (layout_in self.now) (layout_in next.now)) }
+    {
+        // Both are texts of characters in which their regions lie.
+        let _shown = self.shown_text();
+        let _other = next.shown_text();
+        if self.is_told_apart(next) {
+            return Ok(false);
+        }
+        if !self.is_cut_as(next) {
+            return self.has_lines_from(alloc, next, 0);
+        }
+        let gap = self.alike_to(next, from);
+        let line = self.line_before(gap);
+        self.has_lines_from(alloc, next, line)
+    }
+
+    // A gap left of which both show the same. A match that is cut by the first change may have begun left of it.
+    fn alike_to(&self, next: &ViewState, from: u64) -> u64
+        requires kept { IsKeptLeftOf from self.now next.now }
+        requires cut { is_cut_alike self.now next.now ≡ true }
+        ensures { AreAlikeViews result self.now next.now }
+    {
+        fronts_stay();
+        let regions = self.selection().regions.as_slice();
+        let ends = ends_apart(regions, next.selection().regions.as_slice());
+        let gap = earlier(ends, Some(from)).unwrap_or(from);
+        let len = self.sought().chars.char_count();
+        gap.saturating_sub(len.saturating_sub(1))
+    }
+
+    // The first line of the logical line that has the character left of a gap; the first of all where there is none.
+    fn line_before(&self, gap: u64) -> u64
+        ensures line { result ≡ first_line_left_of self.now gap }
+        ensures inside { result ≤ length (pieces_in self.now) }
+        ensures characters { all_scalars self.now.text ≡ true }
+    {
+        let index = self.line_index();
+        if gap == 0 {
+            return 0;
+        }
+        let logical = index.logical_of(index.line_of(gap - 1));
+        index.line_of(logical.start)
     }
 
     // Whether one text is cut alike in both, and the same is looked for.
@@ -573,7 +623,7 @@ impl ViewState {
         match text {
             TextLeft::Same => None,
             TextLeft::Styled => self.layers().apart_from(next.layers()),
-            TextLeft::Edited => self.layers().apart_from(next.layers()),
+            TextLeft::Edited { from: _ } => self.layers().apart_from(next.layers()),
         }
     }
 

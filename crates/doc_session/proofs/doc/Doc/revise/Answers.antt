@@ -15,6 +15,9 @@ with_revision-requires-clause-changes c = c.requires.made.changes
 pub with_revision-requires-clause-sessions : goal.with_revision-requires-clause-sessions
 with_revision-requires-clause-sessions c = c.requires.made.sessions
 
+pub told-requires : goal.told-requires
+told-requires c = record { text = c.in_ok-next.ensures.left c.kept_front-from.result c.kept_front-from.ensures }
+
 pub returns-clause-stepped : goal.returns-clause-stepped
 returns-clause-stepped c = λ plain next author stands is some.
     let later = revised_document plain next c.args.sel.regions in

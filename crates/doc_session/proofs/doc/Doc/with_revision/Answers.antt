@@ -1,9 +1,11 @@
-use Rattle.std.proofs.Common.{ℕ, List, length, refl, ap, ap₂, sym, ◌∙◌, subst}
+use Rattle.std.proofs.Common.{◌≡◌, ℕ, List, length, refl, ap, ap₂, sym, ◌∙◌, subst}
 use Rattle.selection_core.specs.Mapped.{AreWithin}
 use Rattle.span_styles.specs.Layers.{AreOver, mapped_layers}
 use Rattle.doc_layout.specs.Changed.{IsChangeOf}
 use Rattle.doc_text.specs.InMemory.{text_in}
+use Rattle.doc_view.specs.Told.{IsKeptLeftOf}
 use Rattle.doc_view.specs.View.{View}
+use Rattle.doc_view.proofs.ForCallers.{IsKeptLeftOf-edited}
 use Rattle.doc_session.specs.InMemory.{Doc}
 use Rattle.doc_session.proofs.LayerLemmas.{as_many-changed, over-changed, over-kept}
 use Rattle.doc_session.proofs.doc.Doc.with_revision.Goals as goal
@@ -49,3 +51,17 @@ returns-clause-made c =
 
 pub returns-clause-over : goal.returns-clause-over
 returns-clause-over c = over-kept _ c.args.self.now c.args.self.now.view.layers c.self.invariant c.self.view_is refl
+
+pub returns-clause-left : goal.returns-clause-left
+returns-clause-left c = λ from keeps.
+    let now = c.args.self.now.view in
+    let units = c.args.units.now in
+    let made = text_in c.args.text in
+    let shown_is = subst (λ (d : Doc). d.view.text ≡ text_in d.text) c.self.view_is c.self.invariant.shown_is in
+    let view_is =
+    c.in_ok-view.ensures ∙
+    ap₂ (λ (d : Doc) (t : List ℕ). record d.view { text = t; regions = c.args.sel.regions; layers = mapped_layers units d.view.layers })
+    c.self.view_is c.head_rope.ensures.shown in
+    subst (λ (v : View). IsKeptLeftOf from now v) (sym view_is)
+    (IsKeptLeftOf-edited now made units c.args.sel.regions from (subst (λ (t : List ℕ). IsChangeOf t made units) (sym shown_is) c.requires.changes)
+    (over-kept _ c.args.self.now now.layers c.self.invariant c.self.view_is refl) keeps)
