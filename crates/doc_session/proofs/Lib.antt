@@ -12,4 +12,5 @@ pub mod FitLemmas
 pub mod ScreenLemmas
 pub mod ShowLemmas
 pub mod ConfigLemmas
+pub mod RestLemmas
 pub mod ForCallers

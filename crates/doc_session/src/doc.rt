@@ -1,4 +1,4 @@
-ghost use Rattle.std.specs.Prelude.{◌≡◌, ◌≢◌, ◌-◌, ◌^◌, ◌<◌, ◌≤◌, ℕ, [], length, if◌then◌else◌, Some, None, IfOk, IfErr, OnOk, OnErr, option_map, unwrap_or, IfSome, Option};
+ghost use Rattle.std.specs.Prelude.{◌≡◌, ◌≢◌, ◌-◌, ◌^◌, ◌<◌, ◌≤◌, ℕ, [], length, if◌then◌else◌, Some, None, IfOk, IfErr, OnOk, OnErr, option_map, unwrap_or, IfSome, IsTrue, Option};
 ghost use Rattle.plain_edits.specs.Collection.{kept};
 ghost use Rattle.plain_edits.specs.History.{History, head};
 ghost use Rattle.delta_core.specs.Units.{text_after};
@@ -21,7 +21,9 @@ ghost use Rattle.doc_view.specs.Front.{KeepsFront};
 ghost use Rattle.doc_view.specs.Told.{IsKeptLeftOf, IsTextLeft, settled_view, told};
 ghost use Rattle.doc_view.specs.View.{point_in};
 ghost use Rattle.doc_session.specs.Asking.{front_edit};
+ghost use Rattle.doc_session.specs.declared.event.Event.TheVariants.{Other};
 ghost use Rattle.doc_session.specs.Document.{Document, layout_of, loaded_document};
+ghost use Rattle.doc_session.specs.InMemory.{is_resting};
 ghost use Rattle.doc_session.specs.Inner.{IsStepOf, IsStepped, IsUncollected, IsUntold, is_scrolling, pristine_to};
 ghost use Rattle.doc_session.specs.Looking.{viewing_of};
 ghost use Rattle.doc_session.specs.PositionView.{position_view};
@@ -618,6 +620,23 @@ impl Doc {
         ensures { (plain : Document) → DocStandsFor self.now plain → result ≡ length (layout_of plain) }
     {
         self.view.lines()
+    }
+
+    /// Whether it rests: an event that is no command of this document changes nothing in it then, and nobody is told anything. So it is where no
+    /// run of typing is open and the front end has the lines of the window. It takes O(1).
+    pub fn rests(&self) -> bool
+        ensures is { result ≡ is_resting self.now }
+        ensures rests { IsTrue result → (plain : Document) → DocStandsFor self.now plain
+            → event_step plain Other ≡ silent_step plain }
+    {
+        self.is_resting()
+    }
+
+    // Whether no run of typing is open, and the front end has the lines of the window.
+    fn is_resting(&self) -> bool
+        ensures { result ≡ is_resting self.now }
+    {
+        !self.text.is_typing() && self.view.has_asked(NO_REQUEST)
     }
 
     /// A second document that stands for the same: it shares text, revisions and layout with this one, and copies groups and sessions.

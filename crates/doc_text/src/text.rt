@@ -1,4 +1,5 @@
 ghost use Rattle.std.specs.Prelude.{◌≡◌, ◌-◌, ◌^◌, ◌<◌, ◌≤◌, false, length, None, IfOk, IfErr, IfSome, OnOk};
+ghost use Rattle.std.specs.Option.{is_some};
 ghost use Rattle.std.specs.Arc.{arc_value};
 ghost use Rattle.plain_edits.specs.Collection.{kept};
 ghost use Rattle.plain_edits.specs.History.{History, head};
@@ -357,6 +358,13 @@ impl TextState {
             saved: self.saved,
             sessions,
         })
+    }
+
+    /// Whether a run of typing is open.
+    pub fn is_typing(&self) -> bool
+        ensures { result ≡ is_some self.now.typing }
+    {
+        self.typing.is_some()
     }
 
     /// The same text after a command of this kind that made no revision, or after another event: its run goes on, or ends.

@@ -690,8 +690,8 @@ impl ViewState {
         }
     }
 
-    // Whether the front end has the lines that are asked for.
-    fn has_asked(&self, request: Run) -> bool
+    /// Whether the front end has the lines of the window and those that are requested, in O(1).
+    pub fn has_asked(&self, request: Run) -> bool
         ensures { result ≡ has_asked self.now request }
     {
         match self.shown {
