@@ -1,4 +1,5 @@
 -- What a line comes to in a session, by what was put in for it and what the shelf was asked.
+use Rattle.session_step.specs.declared.terms.Terms.{Terms}
 use Rattle.std.proofs.Common.{◌≡◌, ◌≢◌, inl, refl, Bool, true, false, ℕ, ◌<◌, ◌≤◌, List, [], ◌∷◌, ◌++◌, length, take, Option, Some, None, ap, sym, ◌∙◌, subst}
 use Rattle.std.specs.Prelude.{◌⊎◌}
 use Rattle.std.proofs.Math.Bool.{Bool-set}
@@ -17,24 +18,24 @@ use Rattle.core_session.specs.InnerSession.{PutsAs, PutsSent, PutsUnsent}
 use Rattle.session_step.specs.Session.{views_of}
 use Rattle.core_session.specs.Shelves.{Files, IsNoted, shelf_state}
 
-module _ {K H : Type 0} (held : K → Option (List ℕ)) (faults failures : K → ℕ) (files : H → Option Files) (shelf_faults : H → ℕ)
+module _ (terms : Terms) {K H : Type 0} (held : K → Option (List ℕ)) (faults failures : K → ℕ) (files : H → Option Files) (shelf_faults : H → ℕ)
     (old middle new : Core K H) (command : Command) (note : ShelfNote) (journal : journal_of middle ≡ journal_of old)
     (sink : sink_of middle ≡ sink_of old)
     (noted : IsNoted (shelf_state files shelf_faults (shelf_of old)) (shelf_state files shelf_faults (shelf_of middle))
-    (views_of (journal_of old)) command.act note) where
+    (views_of terms (journal_of old)) command.act note) where
   noted_new : shelf_of new ≡ shelf_of middle →
-      IsNoted (shelf_state files shelf_faults (shelf_of old)) (shelf_state files shelf_faults (shelf_of new)) (views_of (journal_of old)) command.act note
+      IsNoted (shelf_state files shelf_faults (shelf_of old)) (shelf_state files shelf_faults (shelf_of new)) (views_of terms (journal_of old)) command.act note
   noted_new same =
       let At : H → Type 0 =
-      λ shelf. IsNoted (shelf_state files shelf_faults (shelf_of old)) (shelf_state files shelf_faults shelf) (views_of (journal_of old)) command.act note in
+      λ shelf. IsNoted (shelf_state files shelf_faults (shelf_of old)) (shelf_state files shelf_faults shelf) (views_of terms (journal_of old)) command.act note in
       subst At (sym same) noted
 
-  pub AddsSent-by : PutsSent (sink_state held faults failures) middle new command note →
-      AddsSentEntry (outlets_of held faults failures files shelf_faults) old new command
+  pub AddsSent-by : PutsSent terms (sink_state held faults failures) middle new command note →
+      AddsSentEntry terms (outlets_of held faults failures files shelf_faults) old new command
   AddsSent-by puts =
       let entry = front_entry command note true in
-      let Gained : List Entry → Type 0 = λ before. Gains (held (sink_of middle)) (held (sink_of new)) (piece_after before entry) in
-      let From : K → Type 0 = λ first. Gains (held first) (held (sink_of new)) (piece_after (journal_of old) entry) in
+      let Gained : List Entry → Type 0 = λ before. Gains (held (sink_of middle)) (held (sink_of new)) (piece_after terms before entry) in
+      let From : K → Type 0 = λ first. Gains (held first) (held (sink_of new)) (piece_after terms (journal_of old) entry) in
       let Stays : K → Type 0 = λ first. faults first ≤ faults (sink_of new) in
       record {
         note = note;
@@ -46,13 +47,13 @@ module _ {K H : Type 0} (held : K → Option (List ℕ)) (faults failures : K �
         failures_same = puts.failures_same ∙ ap failures sink;
       }
 
-  pub AddsUnsent-by : (n : ℕ) → PutsUnsent (sink_state held faults failures) middle new command note n →
-      AddsUnsentEntry (outlets_of held faults failures files shelf_faults) old new command n
+  pub AddsUnsent-by : (n : ℕ) → PutsUnsent terms (sink_state held faults failures) middle new command note n →
+      AddsUnsentEntry terms (outlets_of held faults failures files shelf_faults) old new command n
   AddsUnsent-by n puts =
       let entry = front_entry command note false in
-      let Part : List Entry → Type 0 = λ before. n < length (piece_after before entry) in
-      let Gained : List Entry → Type 0 = λ before. Gains (held (sink_of middle)) (held (sink_of new)) (take n (piece_after before entry)) in
-      let From : K → Type 0 = λ first. Gains (held first) (held (sink_of new)) (take n (piece_after (journal_of old) entry)) in
+      let Part : List Entry → Type 0 = λ before. n < length (piece_after terms before entry) in
+      let Gained : List Entry → Type 0 = λ before. Gains (held (sink_of middle)) (held (sink_of new)) (take n (piece_after terms before entry)) in
+      let From : K → Type 0 = λ first. Gains (held first) (held (sink_of new)) (take n (piece_after terms (journal_of old) entry)) in
       let Stays : K → Type 0 = λ first. faults first ≤ faults (sink_of new) in
       let Risen : K → Type 0 = λ first. Rose (faults first) (faults (sink_of new)) in
       record {
@@ -67,8 +68,8 @@ module _ {K H : Type 0} (held : K → Option (List ℕ)) (faults failures : K �
         failures_counted = puts.failures_counted ∙ ap (λ first. counted (failures first)) sink;
       }
 
-  pub ComesTo-by : (reply : Reply) → PutsAs (sink_state held faults failures) middle new command note reply →
-      ComesTo (outlets_of held faults failures files shelf_faults) old new command reply
+  pub ComesTo-by : (reply : Reply) → PutsAs terms (sink_state held faults failures) middle new command note reply →
+      ComesTo terms (outlets_of held faults failures files shelf_faults) old new command reply
   ComesTo-by (Taken line) puts = (puts.0, AddsSent-by puts.1)
   ComesTo-by SinkFault puts = (puts.0, AddsUnsent-by puts.0 puts.1)
   ComesTo-by (Refused line) puts = absurd puts
@@ -76,11 +77,11 @@ module _ {K H : Type 0} (held : K → Option (List ℕ)) (faults failures : K �
   ComesTo-by NoMemory puts = absurd puts
 
 -- what was put in, by whether it was sent
-pub PutsAs-by : {K H : Type 0} (tell : K → SinkState) (old new : Core K H) (command : Command) (note : ShelfNote) (sent : Bool) (reply : Reply) →
-    reply ≡ reply_if sent → (sent ≡ true → PutsSent tell old new command note) →
-    (sent ≡ false → (n : ℕ) × PutsUnsent tell old new command note n) → PutsAs tell old new command note reply
-PutsAs-by tell old new command note true reply is whole part = subst (PutsAs tell old new command note) (sym is) (refl, whole refl)
-PutsAs-by tell old new command note false reply is whole part = subst (PutsAs tell old new command note) (sym is) (part refl)
+pub PutsAs-by : (terms : Terms) {K H : Type 0} (tell : K → SinkState) (old new : Core K H) (command : Command) (note : ShelfNote) (sent : Bool) (reply : Reply) →
+    reply ≡ reply_if sent → (sent ≡ true → PutsSent terms tell old new command note) →
+    (sent ≡ false → (n : ℕ) × PutsUnsent terms tell old new command note n) → PutsAs terms tell old new command note reply
+PutsAs-by terms tell old new command note true reply is whole part = subst (PutsAs terms tell old new command note) (sym is) (refl, whole refl)
+PutsAs-by terms tell old new command note false reply is whole part = subst (PutsAs terms tell old new command note) (sym is) (part refl)
 
 -- a line that was put in is answered as one that was sent, or the sink failed
 pub unsent_of : (sent : Bool) (reply : Reply) → reply ≡ reply_if sent → reply ≡ SinkFault → sent ≡ false

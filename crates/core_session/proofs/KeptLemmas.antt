@@ -1,4 +1,5 @@
 -- How a session stands after one more entry, and what it keeps then.
+use Rattle.session_step.specs.declared.terms.Terms.{Terms}
 use Rattle.std.proofs.Common.{◌≡◌, inl, inr, ℕ, suc, ◌<◌, arith, Bool, true, false, not, List, [], ◌∷◌, ◌++◌, length, length-append, refl, ap, sym, ◌∙◌, subst, append-nil}
 use Rattle.std.specs.Prelude.{◌⊎◌, ◌&&◌, ◌||◌, ◌==◌, ◌^◌, if◌then◌else◌, nat_le}
 use Rattle.std.specs.List.{AllByRecursion, AllByRecursion-prop, list_all}
@@ -309,42 +310,42 @@ MayBeAsked-prop held =
     (λ kept. hlevel (ℕ_set, le_prop, ∥∥₁_prop)) held
 
 -- a session that takes lines shows its whole journal
-pub showing_open : (journal : List Entry) → AllByRecursion IsOpen journal → IsShowing (sent_front journal) → IsShowing journal
-showing_open journal each showing =
+pub showing_open : (terms : Terms) (journal : List Entry) → AllByRecursion IsOpen journal → IsShowing terms (sent_front journal) → IsShowing terms journal
+showing_open terms journal each showing =
     let same : sent_front journal ≡ journal =
     ap sent_front (sym (append-nil journal)) ∙ sent_front-open journal [] each ∙ append-nil journal in
-    subst IsShowing same showing
+    subst (IsShowing terms) same showing
 
-pub IsOfJournal-push : (journal : List Entry) (made : Prepared) (sent : Bool) → length journal < 2 ^ 63 → AllByRecursion IsOpen journal →
-    IsShowing journal → AreSavesAsked journal → IsOfLine made.command.act → may_have_note made.command.act made.note ≡ true →
-    asks_as (views_of journal) made.command.act made.note ≡ true → IsPrepared (session_of journal) made →
-    IsOfJournal made.held made.opened made.config (journal ++ front_entry made.command made.note sent ∷ [])
-IsOfJournal-push journal made sent few each showing saves asks kind asked prepared = record {
+pub IsOfJournal-push : (terms : Terms) (journal : List Entry) (made : Prepared) (sent : Bool) → length journal < 2 ^ 63 → AllByRecursion IsOpen journal →
+    IsShowing terms journal → AreSavesAsked terms journal → IsOfLine made.command.act → may_have_note made.command.act made.note ≡ true →
+    asks_as (views_of terms journal) made.command.act made.note ≡ true → IsPrepared (session_of terms journal) made →
+    IsOfJournal terms made.held made.opened made.config (journal ++ front_entry made.command made.note sent ∷ [])
+IsOfJournal-push terms journal made sent few each showing saves asks kind asked prepared = record {
   stands =
-      subst (StandsForSession made.held made.opened made.config) (sym (session_of-push journal (front_entry made.command made.note sent))) prepared.stands;
+      subst (StandsForSession made.held made.opened made.config) (sym (session_of-push terms journal (front_entry made.command made.note sent))) prepared.stands;
   showing = shown sent;
-  saves_asked = AreSavesAsked-push journal (front_entry made.command made.note sent) saves asked;
+  saves_asked = AreSavesAsked-push terms journal (front_entry made.command made.note sent) saves asked;
 }
   where
-    shown : (sent : Bool) → IsShowing (sent_front (journal ++ front_entry made.command made.note sent ∷ []))
-    shown false = subst IsShowing (sym (sent_front-open journal (front_entry made.command made.note false ∷ []) each ∙ append-nil journal)) showing
+    shown : (sent : Bool) → IsShowing terms (sent_front (journal ++ front_entry made.command made.note sent ∷ []))
+    shown false = subst (IsShowing terms) (sym (sent_front-open journal (front_entry made.command made.note false ∷ []) each ∙ append-nil journal)) showing
     shown true =
-        let parts = serves_push journal made.command made.note made.held made.opened made.config _ few each showing asks kind prepared.lines
+        let parts = serves_push terms journal made.command made.note made.held made.opened made.config _ few each showing asks kind prepared.lines
         prepared.reads_back prepared.stands in
-        subst IsShowing (sym (sent_front-open journal (front_entry made.command made.note true ∷ []) each)) parts.1
+        subst (IsShowing terms) (sym (sent_front-open journal (front_entry made.command made.note true ∷ []) each)) parts.1
 
-closed_showing : (journal : List Entry) (over : Bool) → is_over journal ≡ over → length journal < 2 ^ 63 → IsLegal 0 journal →
-    has_closing journal ≡ false → IsShowing (sent_front journal) → IsShowing (sent_front (journal ++ closing_entry ∷ []))
-closed_showing journal true is few legal none showing = subst IsShowing (sym (sent_front-over journal (closing_entry ∷ []) none is)) showing
-closed_showing journal false is few legal none showing =
+closed_showing : (terms : Terms) (journal : List Entry) (over : Bool) → is_over journal ≡ over → length journal < 2 ^ 63 → IsLegal 0 journal →
+    has_closing journal ≡ false → IsShowing terms (sent_front journal) → IsShowing terms (sent_front (journal ++ closing_entry ∷ []))
+closed_showing terms journal true is few legal none showing = subst (IsShowing terms) (sym (sent_front-over journal (closing_entry ∷ []) none is)) showing
+closed_showing terms journal false is few legal none showing =
     let each = open_journal journal legal is in
-    subst IsShowing (sym (sent_front-open journal (closing_entry ∷ []) each))
-    (shows_push journal closing_entry few (showing_open journal each showing) no_lines tt)
+    subst (IsShowing terms) (sym (sent_front-open journal (closing_entry ∷ []) each))
+    (shows_push terms journal closing_entry few (showing_open terms journal each showing) no_lines tt)
 
-pub IsOfJournal-closed : (held : List Opened) (many : ℕ) (laid : Config) (journal : List Entry) → length journal < 2 ^ 63 → IsLegal 0 journal →
-    has_closing journal ≡ false → IsOfJournal held many laid journal → IsOfJournal held many laid (journal ++ closing_entry ∷ [])
-IsOfJournal-closed held many laid journal few legal none kept = record {
-  stands = subst (StandsForSession held many laid) (sym (session_of-push journal closing_entry)) kept.stands;
-  showing = closed_showing journal (is_over journal) refl few legal none kept.showing;
-  saves_asked = AreSavesAsked-closed journal kept.saves_asked;
+pub IsOfJournal-closed : (terms : Terms) (held : List Opened) (many : ℕ) (laid : Config) (journal : List Entry) → length journal < 2 ^ 63 → IsLegal 0 journal →
+    has_closing journal ≡ false → IsOfJournal terms held many laid journal → IsOfJournal terms held many laid (journal ++ closing_entry ∷ [])
+IsOfJournal-closed terms held many laid journal few legal none kept = record {
+  stands = subst (StandsForSession held many laid) (sym (session_of-push terms journal closing_entry)) kept.stands;
+  showing = closed_showing terms journal (is_over journal) refl few legal none kept.showing;
+  saves_asked = AreSavesAsked-closed terms journal kept.saves_asked;
 }

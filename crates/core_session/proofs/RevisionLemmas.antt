@@ -1,4 +1,5 @@
 -- A document has at most as many revisions as its journal has entries.
+use Rattle.session_step.specs.declared.terms.Terms.{Terms}
 use Rattle.std.proofs.Common.{◌≡◌, ℕ, ◌+◌, ◌≤◌, List, [], ◌∷◌, length, arith, subst}
 use Rattle.xi_plain.specs.declared.command.Act.{Act}
 use Rattle.xi_plain.specs.declared.entry.Entry.{Entry}
@@ -39,8 +40,8 @@ few_after n session (entry ∷ entries) few =
     let same : n + 1 + length entries ≡ n + length (entry ∷ entries) = omega arith in
     subst At same (few_after (n + 1) (step session entry) entries (few_step n session entry.command.act (given_by entry.shelf) few))
 
-pub revisions_few : (journal : List Entry) → HaveRevisions (length journal) (views_of journal)
-revisions_few journal =
-    let At : ℕ → Type 0 = λ most. HaveRevisions most (views_of journal) in
+pub revisions_few : (terms : Terms) (journal : List Entry) → HaveRevisions (length journal) (views_of terms journal)
+revisions_few terms journal =
+    let At : ℕ → Type 0 = λ most. HaveRevisions most (views_of terms journal) in
     let same : 0 + length journal ≡ length journal = omega arith in
-    subst At same (few_after 0 first_session journal tt)
+    subst At same (few_after 0 (first_session terms) journal tt)

@@ -1,4 +1,5 @@
 -- Lemmas on the plain session: one more entry.
+use Rattle.session_step.specs.declared.terms.Terms.{Terms}
 use Rattle.std.proofs.Common.{take_all, length-drop, length, ◌-◌, ◌≡◌, ℕ, zero, suc, ◌+◌, arith, zero-add, take, drop, List, [], ◌∷◌, ◌++◌, refl, ap, sym, ◌∙◌, append_assoc, append-nil}
 use Rattle.std.specs.List.{AllByRecursion}
 use Rattle.serde_json.specs.Data.{Data}
@@ -36,25 +37,33 @@ all_messages-append session (entry ∷ front) back =
     sym (append_assoc (messages session entry.command (given_by entry.shelf)) (all_messages (step session entry) front)
     (all_messages (session_after (step session entry) front) back))
 
--- one more entry
-pub session_of-push : (journal : List Entry) (entry : Entry) →
-    session_of (journal ++ entry ∷ []) ≡ step (session_of journal) entry
-session_of-push journal entry = session_after-append first_session journal (entry ∷ [])
+-- a session keeps what it was made with
+terms-session_after : (session : Session) (entries : List Entry) → session.terms ≡ (session_after session entries).terms
+terms-session_after session [] = refl
+terms-session_after session (entry ∷ entries) = terms-session_after (step session entry) entries
 
-pub views_of-push : (journal : List Entry) (entry : Entry) →
-    views_of (journal ++ entry ∷ []) ≡ (outcome (session_of journal) entry.command.act (given_by entry.shelf)).views
-views_of-push journal entry = ap (λ (session : Session). session.views) (session_of-push journal entry)
+pub terms-session_of : (terms : Terms) (journal : List Entry) → terms ≡ (session_of terms journal).terms
+terms-session_of terms journal = terms-session_after (first_session terms) journal
+
+-- one more entry
+pub session_of-push : (terms : Terms) (journal : List Entry) (entry : Entry) →
+    session_of terms (journal ++ entry ∷ []) ≡ step (session_of terms journal) entry
+session_of-push terms journal entry = session_after-append (first_session terms) journal (entry ∷ [])
+
+pub views_of-push : (terms : Terms) (journal : List Entry) (entry : Entry) →
+    views_of terms (journal ++ entry ∷ []) ≡ (outcome (session_of terms journal) entry.command.act (given_by entry.shelf)).views
+views_of-push terms journal entry = ap (λ (session : Session). session.views) (session_of-push terms journal entry)
 
 -- the messages of a journal
-pub messages_of : List Entry → List Data
-messages_of journal = all_messages first_session journal
+pub messages_of : Terms → List Entry → List Data
+messages_of terms journal = all_messages (first_session terms) journal
 
-pub messages_of-push : (journal : List Entry) (entry : Entry) →
-    messages_of (journal ++ entry ∷ []) ≡ messages_of journal ++ messages (session_of journal) entry.command (given_by entry.shelf)
+pub messages_of-push : (terms : Terms) (journal : List Entry) (entry : Entry) →
+    messages_of terms (journal ++ entry ∷ []) ≡ messages_of terms journal ++ messages (session_of terms journal) entry.command (given_by entry.shelf)
 unfolding all_messages messages_of
-messages_of-push journal entry =
-    all_messages-append first_session journal (entry ∷ []) ∙
-    ap (λ rest. messages_of journal ++ rest) (append-nil (messages (session_of journal) entry.command (given_by entry.shelf)))
+messages_of-push terms journal entry =
+    all_messages-append (first_session terms) journal (entry ∷ []) ∙
+    ap (λ rest. messages_of terms journal ++ rest) (append-nil (messages (session_of terms journal) entry.command (given_by entry.shelf)))
 
 -- what entries write is the lines of their messages
 written-all : (session : Session) (entries : List Entry) → written session entries ≡ lines_written (all_messages session entries)
@@ -64,17 +73,17 @@ written-all session (entry ∷ entries) =
     ap (λ rest. piece_of session entry ++ rest) (written-all (step session entry) entries) ∙
     sym (lines_written-append (messages session entry.command (given_by entry.shelf)) (all_messages (step session entry) entries))
 
-pub written-messages : (journal : List Entry) → written first_session journal ≡ lines_written (messages_of journal)
+pub written-messages : (terms : Terms) (journal : List Entry) → written (first_session terms) journal ≡ lines_written (messages_of terms journal)
 unfolding messages_of
-written-messages journal = written-all first_session journal
+written-messages terms journal = written-all (first_session terms) journal
 
 -- one more entry writes its piece
-pub written-push : (journal : List Entry) (entry : Entry) →
-    written first_session (journal ++ entry ∷ []) ≡ written first_session journal ++ piece_of (session_of journal) entry
-written-push journal entry =
-    let said = messages (session_of journal) entry.command (given_by entry.shelf) in
-    written-messages (journal ++ entry ∷ []) ∙ ap lines_written (messages_of-push journal entry) ∙
-    lines_written-append (messages_of journal) said ∙ ap (λ front. front ++ lines_written said) (sym (written-messages journal))
+pub written-push : (terms : Terms) (journal : List Entry) (entry : Entry) →
+    written (first_session terms) (journal ++ entry ∷ []) ≡ written (first_session terms) journal ++ piece_of (session_of terms journal) entry
+written-push terms journal entry =
+    let said = messages (session_of terms journal) entry.command (given_by entry.shelf) in
+    written-messages terms (journal ++ entry ∷ []) ∙ ap lines_written (messages_of-push terms journal entry) ∙
+    lines_written-append (messages_of terms journal) said ∙ ap (λ front. front ++ lines_written said) (sym (written-messages terms journal))
 
 -- no line closes the session
 pub IsOfLine-command_of : (line : List ℕ) → IsOfLine (command_of line).act

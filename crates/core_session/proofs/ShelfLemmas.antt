@@ -1,4 +1,5 @@
 -- What one more entry is to a shelf, and what becomes of its files.
+use Rattle.session_step.specs.declared.terms.Terms.{Terms}
 use Rattle.std.proofs.Common.{◌≡◌, ℕ, ◌+◌, ◌-◌, ◌<◌, ◌≤◌, arith, true, false, List, [], ◌∷◌, ◌++◌, Option, Some, None, refl, ap, sym, ◌∙◌, subst, inl, inr}
 use Rattle.std.specs.Prelude.{IfSome, ◌^◌, if◌then◌else◌, option_map}
 use Rattle.std.specs.Str.{IsUtf8, chars, encode_utf8_all, is_utf8}
@@ -28,9 +29,9 @@ asked_from : (session : Session) (entries : List Entry) (last : Entry) → AreSa
 asked_from session [] last each here = (here, tt)
 asked_from session (entry ∷ entries) last each here = (each.0, asked_from (step session entry) entries last each.1 here)
 
-pub AreSavesAsked-push : (journal : List Entry) (entry : Entry) → AreSavesAsked journal →
-    asks_as (views_of journal) entry.command.act entry.shelf ≡ true → AreSavesAsked (journal ++ entry ∷ [])
-AreSavesAsked-push journal entry each here = asked_from first_session journal entry each here
+pub AreSavesAsked-push : (terms : Terms) (journal : List Entry) (entry : Entry) → AreSavesAsked terms journal →
+    asks_as (views_of terms journal) entry.command.act entry.shelf ≡ true → AreSavesAsked terms (journal ++ entry ∷ [])
+AreSavesAsked-push terms journal entry each here = asked_from (first_session terms) journal entry each here
 
 shelved_from : (session : Session) (files : Files) (entries : List Entry) (last : Entry) →
     files_after_all session files (entries ++ last ∷ []) ≡
@@ -39,9 +40,9 @@ shelved_from session files [] last = refl
 shelved_from session files (entry ∷ entries) last =
     shelved_from (step session entry) (files_with files session.views entry.command.act entry.shelf) entries last
 
-shelved-push : (files : Files) (journal : List Entry) (entry : Entry) →
-    shelved files (journal ++ entry ∷ []) ≡ files_with (shelved files journal) (views_of journal) entry.command.act entry.shelf
-shelved-push files journal entry = shelved_from first_session files journal entry
+shelved-push : (terms : Terms) (files : Files) (journal : List Entry) (entry : Entry) →
+    shelved terms files (journal ++ entry ∷ []) ≡ files_with (shelved terms files journal) (views_of terms journal) entry.command.act entry.shelf
+shelved-push terms files journal entry = shelved_from (first_session terms) files journal entry
 
 tells_from : (session : Session) (files : Files) (entries : List Entry) (last : Entry) → NotesTellFrom session files entries →
     NoteTells (files_after_all session files entries) last.command.act last.shelf → NotesTellFrom session files (entries ++ last ∷ [])
@@ -49,9 +50,9 @@ tells_from session files [] last each here = (here, tt)
 tells_from session files (entry ∷ entries) last each here =
     (each.0, tells_from (step session entry) (files_with files session.views entry.command.act entry.shelf) entries last each.1 here)
 
-tells-push : (files : Files) (journal : List Entry) (entry : Entry) → NotesTell files journal →
-    NoteTells (shelved files journal) entry.command.act entry.shelf → NotesTell files (journal ++ entry ∷ [])
-tells-push files journal entry each here = tells_from first_session files journal entry each here
+tells-push : (terms : Terms) (files : Files) (journal : List Entry) (entry : Entry) → NotesTell terms files journal →
+    NoteTells (shelved terms files journal) entry.command.act entry.shelf → NotesTell terms files (journal ++ entry ∷ [])
+tells-push terms files journal entry each here = tells_from (first_session terms) files journal entry each here
 
 failed_notes-push : (journal : List Entry) (entry : Entry) → failed_notes (journal ++ entry ∷ []) ≡ failed_notes journal + failed_count entry.shelf
 failed_notes-push [] entry = omega arith
@@ -76,36 +77,36 @@ option_map-same : {A : Type 0} (x : Option A) → option_map (λ y. y) x ≡ x
 option_map-same None = refl
 option_map-same (Some y) = refl
 
-none_told : (had : Option Files) → IfSome had (λ files. NotesTell files [])
-none_told None = tt
-none_told (Some files) = tt
+none_told : (terms : Terms) (had : Option Files) → IfSome had (λ files. NotesTell terms files [])
+none_told terms None = tt
+none_told terms (Some files) = tt
 
-pub HoldsSaves-none : (shelf : ShelfState) → HoldsSaves shelf shelf []
-HoldsSaves-none shelf = record {
+pub HoldsSaves-none : (terms : Terms) (shelf : ShelfState) → HoldsSaves terms shelf shelf []
+HoldsSaves-none terms shelf = record {
   files = sym (option_map-same shelf.files);
-  tells = none_told shelf.files;
+  tells = none_told terms shelf.files;
   stays = omega arith;
   failed = λ low. omega arith;
 }
 
-module _ (journal : List Entry) (entry : Entry) where
-  files_more : (before middle after : Option Files) → middle ≡ option_map (λ files. shelved files journal) before →
-      after ≡ option_map (λ files. files_with files (views_of journal) entry.command.act entry.shelf) middle →
-      after ≡ option_map (λ files. shelved files (journal ++ entry ∷ [])) before
-  files_more None middle after first last = last ∙ ap (option_map (λ files. files_with files (views_of journal) entry.command.act entry.shelf)) first
+module _ (terms : Terms) (journal : List Entry) (entry : Entry) where
+  files_more : (before middle after : Option Files) → middle ≡ option_map (λ files. shelved terms files journal) before →
+      after ≡ option_map (λ files. files_with files (views_of terms journal) entry.command.act entry.shelf) middle →
+      after ≡ option_map (λ files. shelved terms files (journal ++ entry ∷ [])) before
+  files_more None middle after first last = last ∙ ap (option_map (λ files. files_with files (views_of terms journal) entry.command.act entry.shelf)) first
   files_more (Some files) middle after first last =
-      last ∙ ap (option_map (λ files. files_with files (views_of journal) entry.command.act entry.shelf)) first ∙
-      ap Some (sym (shelved-push files journal entry))
+      last ∙ ap (option_map (λ files. files_with files (views_of terms journal) entry.command.act entry.shelf)) first ∙
+      ap Some (sym (shelved-push terms files journal entry))
 
-  tells_more : (before middle : Option Files) → middle ≡ option_map (λ files. shelved files journal) before →
-      IfSome before (λ files. NotesTell files journal) → IfSome middle (λ files. NoteTells files entry.command.act entry.shelf) →
-      IfSome before (λ files. NotesTell files (journal ++ entry ∷ []))
+  tells_more : (before middle : Option Files) → middle ≡ option_map (λ files. shelved terms files journal) before →
+      IfSome before (λ files. NotesTell terms files journal) → IfSome middle (λ files. NoteTells files entry.command.act entry.shelf) →
+      IfSome before (λ files. NotesTell terms files (journal ++ entry ∷ []))
   tells_more None middle is each here = tt
   tells_more (Some files) middle is each here =
-      tells-push files journal entry each (subst (λ told. IfSome told (λ files. NoteTells files entry.command.act entry.shelf)) is here)
+      tells-push terms files journal entry each (subst (λ told. IfSome told (λ files. NoteTells files entry.command.act entry.shelf)) is here)
 
-  pub HoldsSaves-push : (before middle after : ShelfState) → HoldsSaves before middle journal →
-      IsNoted middle after (views_of journal) entry.command.act entry.shelf → HoldsSaves before after (journal ++ entry ∷ [])
+  pub HoldsSaves-push : (before middle after : ShelfState) → HoldsSaves terms before middle journal →
+      IsNoted middle after (views_of terms journal) entry.command.act entry.shelf → HoldsSaves terms before after (journal ++ entry ∷ [])
   HoldsSaves-push before middle after holds noted =
       let At : ℕ → Type 0 = λ notes. before.faults + notes ≤ after.faults in
       record {
@@ -118,9 +119,9 @@ module _ (journal : List Entry) (entry : Entry) where
       }
 
 -- where the files stay, they are as before
-pub HoldsSaves-keeps : (before middle after : ShelfState) (journal : List Entry) → HoldsSaves before middle journal → KeepsFiles middle after →
-    HoldsSaves before after journal
-HoldsSaves-keeps before middle after journal holds keeps = record {
+pub HoldsSaves-keeps : (terms : Terms) (before middle after : ShelfState) (journal : List Entry) → HoldsSaves terms before middle journal → KeepsFiles middle after →
+    HoldsSaves terms before after journal
+HoldsSaves-keeps terms before middle after journal holds keeps = record {
   files = keeps.files ∙ holds.files;
   tells = holds.tells;
   stays = omega (arith, holds.stays, keeps.stays);
@@ -145,13 +146,13 @@ noted_closing shelf views = record {
   failed = λ is. absurd cc;
 }
 
-pub HoldsSaves-closed : (before after : ShelfState) (journal : List Entry) → HoldsSaves before after journal →
-    HoldsSaves before after (journal ++ closing_entry ∷ [])
-HoldsSaves-closed before after journal holds =
-    HoldsSaves-push journal closing_entry before after after holds (noted_closing after (views_of journal))
+pub HoldsSaves-closed : (terms : Terms) (before after : ShelfState) (journal : List Entry) → HoldsSaves terms before after journal →
+    HoldsSaves terms before after (journal ++ closing_entry ∷ [])
+HoldsSaves-closed terms before after journal holds =
+    HoldsSaves-push terms journal closing_entry before after after holds (noted_closing after (views_of terms journal))
 
-pub AreSavesAsked-closed : (journal : List Entry) → AreSavesAsked journal → AreSavesAsked (journal ++ closing_entry ∷ [])
-AreSavesAsked-closed journal each = AreSavesAsked-push journal closing_entry each refl
+pub AreSavesAsked-closed : (terms : Terms) (journal : List Entry) → AreSavesAsked terms journal → AreSavesAsked terms (journal ++ closing_entry ∷ [])
+AreSavesAsked-closed terms journal each = AreSavesAsked-push terms journal closing_entry each refl
 
 -- it was asked what a path has
 pub noted_opening : (before after : ShelfState) (views : List OpenView) (path : List ℕ) (note : ShelfNote) → may_open note ≡ true →

@@ -1,4 +1,5 @@
 -- One more entry is shown, where those before it are.
+use Rattle.session_step.specs.declared.terms.Terms.{Terms}
 use Rattle.std.proofs.Common.{◌≡◌, ℕ, ◌+◌, ◌-◌, ◌<◌, ◌≤◌, length, arith, true, false, List, [], ◌∷◌, ◌++◌, map, Option, Some, None, refl, ap, sym, ◌∙◌, subst, append-nil, ◌⊎◌, inl, inr}
 use Rattle.std.specs.Prelude.{if◌then◌else◌, ◌^◌}
 use Rattle.std.specs.Str.{bytes_eq}
@@ -318,23 +319,23 @@ stays_up_to_date session act gave apart last lasts before =
 -- ---- one more entry is shown
 
 -- the updates in what is written are those in the pieces
-pub updates_in-push : (journal : List Entry) (entry : Entry) →
-    updates_in (written first_session (journal ++ entry ∷ [])) ≡
-    updates_in (written first_session journal) ++ updates_in (piece_of (session_of journal) entry)
-updates_in-push journal entry =
-    let said = messages (session_of journal) entry.command (given_by entry.shelf) in
-    ap updates_in (written-messages (journal ++ entry ∷ [])) ∙ updates_in-lines (messages_of (journal ++ entry ∷ [])) ∙
-    ap updates_of (messages_of-push journal entry) ∙ updates_of-append (messages_of journal) said ∙
-    ap (λ xs. xs ++ updates_of said) (sym (ap updates_in (written-messages journal) ∙ updates_in-lines (messages_of journal))) ∙
-    ap (λ ys. updates_in (written first_session journal) ++ ys) (sym (updates_in-lines said))
+pub updates_in-push : (terms : Terms) (journal : List Entry) (entry : Entry) →
+    updates_in (written (first_session terms) (journal ++ entry ∷ [])) ≡
+    updates_in (written (first_session terms) journal) ++ updates_in (piece_of (session_of terms journal) entry)
+updates_in-push terms journal entry =
+    let said = messages (session_of terms journal) entry.command (given_by entry.shelf) in
+    ap updates_in (written-messages terms (journal ++ entry ∷ [])) ∙ updates_in-lines (messages_of terms (journal ++ entry ∷ [])) ∙
+    ap updates_of (messages_of-push terms journal entry) ∙ updates_of-append (messages_of terms journal) said ∙
+    ap (λ xs. xs ++ updates_of said) (sym (ap updates_in (written-messages terms journal) ∙ updates_in-lines (messages_of terms journal))) ∙
+    ap (λ ys. updates_in (written (first_session terms) journal) ++ ys) (sym (updates_in-lines said))
 
 -- what was written shows each of the views, and an id that was not given an empty screen
 pub record ScreensAre (bytes : List ℕ) (opened : ℕ) (views : List OpenView) : Type 0 where
   pub kept : AreRebuilt bytes views
   pub fresh : (id : List ℕ) → IsNotGiven opened id → rebuilt id bytes ≡ Some []
 
-screens_of : (journal : List Entry) → IsShowing journal → ScreensAre (written first_session journal) (session_of journal).opened (views_of journal)
-screens_of journal showing = record { kept = showing.screens; fresh = showing.fresh }
+screens_of : (terms : Terms) (journal : List Entry) → IsShowing terms journal → ScreensAre (written (first_session terms) journal) (session_of terms journal).opened (views_of terms journal)
+screens_of terms journal showing = record { kept = showing.screens; fresh = showing.fresh }
 
 -- the views whose steps an outcome is are rebuilt, the next one too
 rebuilt_base : (bytes : List ℕ) (session : Session) (opened : ℕ) (base : List OpenView) → session.opened + 1 < 2 ^ 64 → IsBase session opened base →
@@ -392,16 +393,16 @@ screens_after session act gave before after small are is was =
     act gave (apart-numbered 0 session.opened session.views (omega (arith, small)) are) (opened_more session.opened act gave)
     (omega (arith, small, opened_few session.opened act gave)) is
 
-rebuilt_push : (journal : List Entry) (entry : Entry) → length journal < 2 ^ 63 → IsShowing journal →
-    updates_in (piece_of (session_of journal) entry) ≡ note_list (outcome (session_of journal) entry.command.act (given_by entry.shelf)).updates →
-    ScreensAre (written first_session (journal ++ entry ∷ [])) (session_of (journal ++ entry ∷ [])).opened (views_of (journal ++ entry ∷ []))
-rebuilt_push journal entry small showing said =
-    let session = session_of journal in
-    let At : Session → Type 0 = λ next. ScreensAre (written first_session (journal ++ entry ∷ [])) next.opened next.views in
-    subst At (sym (session_of-push journal entry))
-    (screens_after session entry.command.act (given_by entry.shelf) (written first_session journal) (written first_session (journal ++ entry ∷ []))
-    (omega (arith, small, opened_of journal)) (numbered_of journal)
-    (updates_in-push journal entry ∙ ap (λ notes. updates_in (written first_session journal) ++ notes) said) (screens_of journal showing))
+rebuilt_push : (terms : Terms) (journal : List Entry) (entry : Entry) → length journal < 2 ^ 63 → IsShowing terms journal →
+    updates_in (piece_of (session_of terms journal) entry) ≡ note_list (outcome (session_of terms journal) entry.command.act (given_by entry.shelf)).updates →
+    ScreensAre (written (first_session terms) (journal ++ entry ∷ [])) (session_of terms (journal ++ entry ∷ [])).opened (views_of terms (journal ++ entry ∷ []))
+rebuilt_push terms journal entry small showing said =
+    let session = session_of terms journal in
+    let At : Session → Type 0 = λ next. ScreensAre (written (first_session terms) (journal ++ entry ∷ [])) next.opened next.views in
+    subst At (sym (session_of-push terms journal entry))
+    (screens_after session entry.command.act (given_by entry.shelf) (written (first_session terms) journal) (written (first_session terms) (journal ++ entry ∷ []))
+    (omega (arith, small, opened_of terms journal)) (numbered_of terms journal)
+    (updates_in-push terms journal entry ∙ ap (λ notes. updates_in (written (first_session terms) journal) ++ notes) said) (screens_of terms journal showing))
 
 -- views are shown where their documents' screens show them
 AreShown-up_to_date : (requests : List ℕ → Run) (views : List OpenView) (bytes : List ℕ) → AreRebuilt bytes views → AreUpToDate requests views →
@@ -429,8 +430,8 @@ MayBeAsked-few (kept ∷ held) n (view ∷ views) stands few small =
       MayBeAsked-few held n views stands.1 few.1 small,
     )
 
-pub MayBeAsked-stands : (held : List Opened) (journal : List Entry) → Stands held (views_of journal) → length journal < 2 ^ 63 - 1 → MayBeAsked held
-MayBeAsked-stands held journal stands small = MayBeAsked-few held (length journal) (views_of journal) stands (revisions_few journal) small
+pub MayBeAsked-stands : (terms : Terms) (held : List Opened) (journal : List Entry) → Stands held (views_of terms journal) → length journal < 2 ^ 63 - 1 → MayBeAsked held
+MayBeAsked-stands terms held journal stands small = MayBeAsked-few held (length journal) (views_of terms journal) stands (revisions_few terms journal) small
 
 -- the last of the entries is the one that was added
 last_requested-push : (journal : List Entry) (entry : Entry) (id : List ℕ) →
@@ -448,91 +449,91 @@ AreUpToDate-same requests others (view ∷ views) same told =
     (subst At (same view.id) told.0, AreUpToDate-same requests others views same told.1)
 
 -- what a journal shows after the entry that was added
-shown_push : (journal : List Entry) (entry : Entry) → length journal < 2 ^ 63 → IsShowing journal →
-    AreRebuilt (written first_session (journal ++ entry ∷ [])) (views_of (journal ++ entry ∷ [])) →
-    AreShown (last_requested (journal ++ entry ∷ [])) (views_of (journal ++ entry ∷ [])) (written first_session (journal ++ entry ∷ []))
-shown_push journal entry small showing screens =
-    let session = session_of journal in
+shown_push : (terms : Terms) (journal : List Entry) (entry : Entry) → length journal < 2 ^ 63 → IsShowing terms journal →
+    AreRebuilt (written (first_session terms) (journal ++ entry ∷ [])) (views_of terms (journal ++ entry ∷ [])) →
+    AreShown (last_requested (journal ++ entry ∷ [])) (views_of terms (journal ++ entry ∷ [])) (written (first_session terms) (journal ++ entry ∷ []))
+shown_push terms journal entry small showing screens =
+    let session = session_of terms journal in
     let before : AreUpToDate (last_requested journal) session.views =
-    up_to_date-AreShown (last_requested journal) session.views (written first_session journal) showing.screens
+    up_to_date-AreShown (last_requested journal) session.views (written (first_session terms) journal) showing.screens
     (showing.shows.screens journal [] (sym (append-nil journal))) in
     let after : AreUpToDate (requested entry.command.act) (outcome session entry.command.act (given_by entry.shelf)).views =
-    stays_up_to_date session entry.command.act (given_by entry.shelf) (apart_of journal small) (last_of journal small) (last_requested journal) before in
-    let put = subst (AreUpToDate (requested entry.command.act)) (sym (views_of-push journal entry)) after in
-    AreShown-up_to_date (last_requested (journal ++ entry ∷ [])) (views_of (journal ++ entry ∷ [])) (written first_session (journal ++ entry ∷ []))
+    stays_up_to_date session entry.command.act (given_by entry.shelf) (apart_of terms journal small) (last_of terms journal small) (last_requested journal) before in
+    let put = subst (AreUpToDate (requested entry.command.act)) (sym (views_of-push terms journal entry)) after in
+    AreShown-up_to_date (last_requested (journal ++ entry ∷ [])) (views_of terms (journal ++ entry ∷ [])) (written (first_session terms) (journal ++ entry ∷ []))
     screens
-    (AreUpToDate-same (requested entry.command.act) (last_requested (journal ++ entry ∷ [])) (views_of (journal ++ entry ∷ []))
+    (AreUpToDate-same (requested entry.command.act) (last_requested (journal ++ entry ∷ [])) (views_of terms (journal ++ entry ∷ []))
     (λ id. sym (last_requested-push journal entry id)) put)
 
-screens_push : (journal : List Entry) (entry : Entry) → length journal < 2 ^ 63 → IsShowing journal →
-    AreRebuilt (written first_session (journal ++ entry ∷ [])) (views_of (journal ++ entry ∷ [])) →
-    (front back : List Entry) → SplitsPush journal entry front back → AreShown (last_requested front) (views_of front) (written first_session front)
+screens_push : (terms : Terms) (journal : List Entry) (entry : Entry) → length journal < 2 ^ 63 → IsShowing terms journal →
+    AreRebuilt (written (first_session terms) (journal ++ entry ∷ [])) (views_of terms (journal ++ entry ∷ [])) →
+    (front back : List Entry) → SplitsPush journal entry front back → AreShown (last_requested front) (views_of terms front) (written (first_session terms) front)
 unfolding SplitsPush
-screens_push journal entry small showing screens front back (inl (none, all)) =
-    let At : List Entry → Type 0 = λ entries. AreShown (last_requested entries) (views_of entries) (written first_session entries) in
-    subst At (sym all) (shown_push journal entry small showing screens)
-screens_push journal entry small showing screens front back (inr (rest, is, last)) = showing.shows.screens front rest is
+screens_push terms journal entry small showing screens front back (inl (none, all)) =
+    let At : List Entry → Type 0 = λ entries. AreShown (last_requested entries) (views_of terms entries) (written (first_session terms) entries) in
+    subst At (sym all) (shown_push terms journal entry small showing screens)
+screens_push terms journal entry small showing screens front back (inr (rest, is, last)) = showing.shows.screens front rest is
 
 -- the entry at hand is the one that was added, or one before
-sends_push : (journal : List Entry) (entry : Entry) → length journal < 2 ^ 63 → Shows journal (written first_session journal) →
-    updates_in (piece_of (session_of journal) entry) ≡ note_list (outcome (session_of journal) entry.command.act (given_by entry.shelf)).updates →
+sends_push : (terms : Terms) (journal : List Entry) (entry : Entry) → length journal < 2 ^ 63 → Shows terms journal (written (first_session terms) journal) →
+    updates_in (piece_of (session_of terms journal) entry) ≡ note_list (outcome (session_of terms journal) entry.command.act (given_by entry.shelf)).updates →
     (front : List Entry) (last : Entry) (back : List Entry) → SplitsPush journal entry front (last ∷ back) →
-    NotesSendTo (requested last.command.act) (views_of (front ++ last ∷ [])) (updates_in (piece_of (session_of front) last))
+    NotesSendTo (requested last.command.act) (views_of terms (front ++ last ∷ [])) (updates_in (piece_of (session_of terms front) last))
 unfolding SplitsPush Sends
-sends_push journal entry small each said front last back (inl (none, all)) = absurd cc
-sends_push journal entry small each said front last back (inr ([], is, only)) =
+sends_push terms journal entry small each said front last back (inl (none, all)) = absurd cc
+sends_push terms journal entry small each said front last back (inr ([], is, only)) =
     let At : List Entry → Entry → Type 0 =
     λ entries e.
-    NotesSendTo (requested e.command.act) (views_of (entries ++ e ∷ [])) (updates_in (piece_of (session_of entries) e)) in
+    NotesSendTo (requested e.command.act) (views_of terms (entries ++ e ∷ [])) (updates_in (piece_of (session_of terms entries) e)) in
     let added : last ≡ entry = cc in
     let whole : journal ≡ front = is ∙ append-nil front in
     let To : List OpenView → List (Option ViewUpdate) → Type 0 = NotesSendTo (requested entry.command.act) in
-    let session = session_of journal in
+    let session = session_of terms journal in
     let Of : List OpenView → Type 0 = λ views. To views (updates_in (piece_of session entry)) in
     let Notes : List (Option ViewUpdate) → Type 0 = λ notes. To (outcome session entry.command.act (given_by entry.shelf)).views notes in
     let here : At journal entry =
-    subst Of (sym (views_of-push journal entry)) (subst Notes (sym said) (sends session entry.command.act (given_by entry.shelf) (omega (arith, small, opened_of journal)) (numbered_of journal))) in
+    subst Of (sym (views_of-push terms journal entry)) (subst Notes (sym said) (sends session entry.command.act (given_by entry.shelf) (omega (arith, small, opened_of terms journal)) (numbered_of terms journal))) in
     let Last : Entry → Type 0 = λ e. At front e in
     let Before : List Entry → Type 0 = λ entries. At entries entry in
     subst Last (sym added) (subst Before whole here)
-sends_push journal entry small each said front last back (inr (r ∷ rest, is, only)) =
+sends_push terms journal entry small each said front last back (inr (r ∷ rest, is, only)) =
     let same : r ≡ last = cc in
     let At : Entry → Type 0 =
-    λ e. NotesSendTo (requested e.command.act) (views_of (front ++ e ∷ [])) (updates_in (piece_of (session_of front) e)) in
+    λ e. NotesSendTo (requested e.command.act) (views_of terms (front ++ e ∷ [])) (updates_in (piece_of (session_of terms front) e)) in
     subst At same (each.sends front r rest is)
 
 -- what one more entry of a served session comes to
-pub shows_push : (journal : List Entry) (entry : Entry) → length journal < 2 ^ 63 → IsShowing journal →
-    AreLines (messages (session_of journal) entry.command (given_by entry.shelf)) → UpdatesReadBack (outcome (session_of journal) entry.command.act (given_by entry.shelf)).updates →
-    IsShowing (journal ++ entry ∷ [])
+pub shows_push : (terms : Terms) (journal : List Entry) (entry : Entry) → length journal < 2 ^ 63 → IsShowing terms journal →
+    AreLines (messages (session_of terms journal) entry.command (given_by entry.shelf)) → UpdatesReadBack (outcome (session_of terms journal) entry.command.act (given_by entry.shelf)).updates →
+    IsShowing terms (journal ++ entry ∷ [])
 unfolding AreLines
-shows_push journal entry small showing lines reads =
-    let session = session_of journal in
+shows_push terms journal entry small showing lines reads =
+    let session = session_of terms journal in
     let said : updates_in (piece_of session entry) ≡ note_list (outcome session entry.command.act (given_by entry.shelf)).updates =
     updates_in-lines (messages session entry.command (given_by entry.shelf)) ∙ updates_of-outcome entry.command.id (outcome session entry.command.act (given_by entry.shelf)) lines reads in
-    let screens = rebuilt_push journal entry small showing said in
+    let screens = rebuilt_push terms journal entry small showing said in
     record {
       shows = record {
         pieces = refl;
-        screens = λ front back split. screens_push journal entry small showing screens.kept front back (splits_push journal front back entry split);
+        screens = λ front back split. screens_push terms journal entry small showing screens.kept front back (splits_push journal front back entry split);
         sends = λ front last back split.
-            sends_push journal entry small showing.shows said front last back (splits_push journal front (last ∷ back) entry split);
+            sends_push terms journal entry small showing.shows said front last back (splits_push journal front (last ∷ back) entry split);
       };
       screens = screens.kept;
       fresh = screens.fresh;
     }
 
 -- a command that was prepared is an entry that is served, with the views that it leaves and the configuration after it
-pub serves_push : (journal : List Entry) (command : Command) (note : ShelfNote) (held : List Opened) (opened : ℕ) (config : Config) (piece : List ℕ) →
-    length journal < 2 ^ 63 → AllByRecursion IsOpen journal → IsShowing journal → IsOfLine command.act → may_have_note command.act note ≡ true →
-    AreLinesOf (messages (session_of journal) command (given_by note)) piece →
-    UpdatesReadBack (outcome (session_of journal) command.act (given_by note)).updates →
-    StandsForSession held opened config (act_step (session_of journal) command.act (given_by note)) →
-    AllByRecursion IsOpen (journal ++ front_entry command note true ∷ []) × IsShowing (journal ++ front_entry command note true ∷ []) ×
-    StandsForSession held opened config (session_of (journal ++ front_entry command note true ∷ []))
+pub serves_push : (terms : Terms) (journal : List Entry) (command : Command) (note : ShelfNote) (held : List Opened) (opened : ℕ) (config : Config) (piece : List ℕ) →
+    length journal < 2 ^ 63 → AllByRecursion IsOpen journal → IsShowing terms journal → IsOfLine command.act → may_have_note command.act note ≡ true →
+    AreLinesOf (messages (session_of terms journal) command (given_by note)) piece →
+    UpdatesReadBack (outcome (session_of terms journal) command.act (given_by note)).updates →
+    StandsForSession held opened config (act_step (session_of terms journal) command.act (given_by note)) →
+    AllByRecursion IsOpen (journal ++ front_entry command note true ∷ []) × IsShowing terms (journal ++ front_entry command note true ∷ []) ×
+    StandsForSession held opened config (session_of terms (journal ++ front_entry command note true ∷ []))
 unfolding AreLines
-serves_push journal command note held opened config piece small sent showing asks kind lines reads stands = (
+serves_push terms journal command note held opened config piece small sent showing asks kind lines reads stands = (
   IsOpen-push journal command note sent asks kind,
-  shows_push journal (front_entry command note true) small showing lines.each reads,
-  subst (StandsForSession held opened config) (sym (session_of-push journal (front_entry command note true))) stands,
+  shows_push terms journal (front_entry command note true) small showing lines.each reads,
+  subst (StandsForSession held opened config) (sym (session_of-push terms journal (front_entry command note true))) stands,
 )

@@ -1,5 +1,6 @@
 -- What every step of an open view keeps, and what every outcome is: steps of the views that were open, of one more or of all but one, or
 -- the closing.
+use Rattle.session_step.specs.declared.terms.Terms.{Terms}
 use Rattle.std.proofs.Common.{◌≡◌, ℕ, ◌+◌, ◌≤◌, arith, Bool, true, false, List, [], ◌∷◌, Option, Some, None, not, refl, ap, sym, ◌∙◌, subst, inl, inr, ◌++◌}
 use Rattle.std.specs.Prelude.{if◌then◌else◌, IfSome, ◌^◌, ◌<◌, ◌⊎◌, length, ⊤}
 use Rattle.std.specs.List.{AllByRecursion}
@@ -250,7 +251,7 @@ keep_saved views name own apart found =
 unfoldable pub IsBase : Session → ℕ → List OpenView → Type 0
 IsBase session opened base =
     ((opened ≡ session.opened) × (base ≡ session.views)) ⊎
-    (((text : List ℕ) × (opened ≡ session.opened + 1) × (base ≡ session.views ++ next_view session.config session.opened text ∷ [])) ⊎
+    (((text : List ℕ) × (opened ≡ session.opened + 1) × (base ≡ session.views ++ next_view session.terms session.config session.opened text ∷ [])) ⊎
     ((id : List ℕ) × (opened ≡ session.opened) × (base ≡ without id session.views)))
 
 base_same : (session : Session) → IsBase session session.opened session.views
@@ -258,7 +259,7 @@ unfolding IsBase
 base_same session = inl (refl, refl)
 
 base_next : (session : Session) (text : List ℕ) →
-    IsBase session (session.opened + 1) (session.views ++ next_view session.config session.opened text ∷ [])
+    IsBase session (session.opened + 1) (session.views ++ next_view session.terms session.config session.opened text ∷ [])
 unfolding IsBase
 base_next session text = inr (inl (text, refl, refl))
 
@@ -312,7 +313,7 @@ module _ (session : Session) (P : (List ℕ → Run) → ℕ → Outcome → Typ
 
   opens : (path : Option (List ℕ)) (gave : Given) →
       P (requested (NewView path)) (opened_after session.opened (NewView path) gave)
-      (open_outcome session.config session.opened session.views path gave)
+      (open_outcome session.terms session.config session.opened session.views path gave)
   opens None gave = idle (NewView None) (session.opened + 1) _ _ (base_next session []) (λ id. refl)
   opens (Some path) (given.Found text) = idle (NewView (Some path)) (session.opened + 1) _ _ (base_next session text) (λ id. refl)
   opens (Some path) given.NotText = stays (NewView (Some path)) _ (λ id. refl)
@@ -420,7 +421,7 @@ module _ (session : Session) (P : ℕ → List OpenView → Type 0)
   views_saved name (Some own) given.Failed is = views_same
 
   views_opened : (path : Option (List ℕ)) (gave : Given) →
-      P (opened_after session.opened (NewView path) gave) (open_outcome session.config session.opened session.views path gave).views
+      P (opened_after session.opened (NewView path) gave) (open_outcome session.terms session.config session.opened session.views path gave).views
   views_opened None gave = views_still (session.opened + 1) _ (base_next session [])
   views_opened (Some path) (given.Found text) = views_still (session.opened + 1) _ (base_next session text)
   views_opened (Some path) given.NotText = views_same
@@ -452,7 +453,7 @@ pub numbered_base : (session : Session) (opened : ℕ) (base : List OpenView) �
 unfolding IsBase
 numbered_base session opened base (inl (many, is)) are = rw (many, is) are
 numbered_base session opened base (inr (inl (text, many, is))) are =
-    rw (many, is) (numbered_push 0 session.opened session.views (next_view session.config session.opened text) (omega arith) refl are)
+    rw (many, is) (numbered_push 0 session.opened session.views (next_view session.terms session.config session.opened text) (omega arith) refl are)
 numbered_base session opened base (inr (inr (id, many, is))) are = rw (many, is) (numbered_without id 0 session.opened session.views are)
 
 pub numbered_step : (session : Session) (act : Act) (gave : Given) → AreNumbered 0 session.opened session.views →
@@ -465,8 +466,8 @@ numbered_after : (session : Session) (entries : List Entry) → AreNumbered 0 se
 numbered_after session [] are = are
 numbered_after session (entry ∷ entries) are = numbered_after (step session entry) entries (numbered_step session entry.command.act (given_by entry.shelf) are)
 
-pub numbered_of : (journal : List Entry) → AreNumbered 0 (session_of journal).opened (views_of journal)
-numbered_of journal = numbered_after first_session journal (numbered_none 0 0)
+pub numbered_of : (terms : Terms) (journal : List Entry) → AreNumbered 0 (session_of terms journal).opened (views_of terms journal)
+numbered_of terms journal = numbered_after (first_session terms) journal (numbered_none 0 0)
 
 -- no more were opened than there are entries
 pub opened_few : (opened : ℕ) (act : Act) (gave : Given) → opened_after opened act gave ≤ opened + 1
@@ -492,13 +493,13 @@ opened_by session [] = omega arith
 opened_by session (entry ∷ entries) =
     omega (arith, opened_few session.opened entry.command.act (given_by entry.shelf), opened_by (step session entry) entries)
 
-pub opened_of : (journal : List Entry) → (session_of journal).opened ≤ length journal
-opened_of journal = omega (arith, opened_by first_session journal)
+pub opened_of : (terms : Terms) (journal : List Entry) → (session_of terms journal).opened ≤ length journal
+opened_of terms journal = omega (arith, opened_by (first_session terms) journal)
 
 -- so the ids tell the views of a journal apart that has no more entries than there are numbers
-pub apart_of : (journal : List Entry) → length journal < 2 ^ 63 → HasApart (views_of journal)
-apart_of journal small =
-    apart-numbered 0 (session_of journal).opened (views_of journal) (omega (arith, small, opened_of journal)) (numbered_of journal)
+pub apart_of : (terms : Terms) (journal : List Entry) → length journal < 2 ^ 63 → HasApart (views_of terms journal)
+apart_of terms journal small =
+    apart-numbered 0 (session_of terms journal).opened (views_of terms journal) (omega (arith, small, opened_of terms journal)) (numbered_of terms journal)
 
 -- ---- screens are as the last updates left them
 
@@ -521,11 +522,11 @@ module _ (P : OpenView → Type 0) where
       by false rest = (all.0, rest)
 
   pub all_base : (session : Session) (opened : ℕ) (base : List OpenView) → IsBase session opened base →
-      ((text : List ℕ) → P (next_view session.config session.opened text)) → AllByRecursion P session.views → AllByRecursion P base
+      ((text : List ℕ) → P (next_view session.terms session.config session.opened text)) → AllByRecursion P session.views → AllByRecursion P base
   unfolding IsBase
   all_base session opened base (inl (many, is)) next all = rw (is) all
   all_base session opened base (inr (inl (text, many, is))) next all =
-      rw (is) (all_push session.views (next_view session.config session.opened text) (next text) all)
+      rw (is) (all_push session.views (next_view session.terms session.config session.opened text) (next text) all)
   all_base session opened base (inr (inr (id, many, is))) next all = rw (is) (all_without id session.views all)
 
 pub last_base : (session : Session) (opened : ℕ) (base : List OpenView) → IsBase session opened base → AreLastTold session.views → AreLastTold base
@@ -555,6 +556,6 @@ last_after session (entry ∷ entries) small are last =
     last_after (step session entry) entries (omega (arith, small, opened_few session.opened act gave)) (numbered_step session act gave are)
     (last_step session act gave apart last)
 
-pub last_of : (journal : List Entry) → length journal < 2 ^ 63 → AreLastTold (views_of journal)
+pub last_of : (terms : Terms) (journal : List Entry) → length journal < 2 ^ 63 → AreLastTold (views_of terms journal)
 unfolding AreLastTold
-last_of journal small = last_after first_session journal (omega (arith, small)) (numbered_none 0 0) tt
+last_of terms journal small = last_after (first_session terms) journal (omega (arith, small)) (numbered_none 0 0) tt

@@ -1,4 +1,5 @@
 -- What a session in memory keeps, and what a call does to it.
+use Rattle.session_step.specs.declared.terms.Terms.{Terms}
 use Rattle.std.specs.Prelude.{◌≡◌, ℕ, ◌<◌, ◌≤◌, true, false, List, [], ◌∷◌, ◌++◌, length, take, Option, Some, None}
 use Rattle.std.specs.List.{AllByRecursion}
 use Rattle.xi_plain.specs.declared.command.Command.{Command}
@@ -27,6 +28,10 @@ sink_of core = core.sink
 abbrev pub shelf_of : {K H : Type 0} → Core K H → H
 shelf_of core = core.shelf
 
+-- what it was made with
+abbrev pub terms_of : {K H : Type 0} → Core K H → Terms
+terms_of core = core.terms
+
 -- what its sink and its shelf tell of themselves
 pub record Outlets : Type 0 where
   pub sink : SinkState
@@ -40,59 +45,60 @@ outlets_of held faults failures files shelf_faults core = record {
 }
 
 -- the documents and the configuration in memory are those of the session that these entries define
-abbrev pub HasSessionAfter : {K H : Type 0} → Core K H → List Entry → Type 0
-HasSessionAfter core journal = StandsForSession core.views core.opened core.config (session_of journal)
+abbrev pub HasSessionAfter : (terms : Terms) {K H : Type 0} → Core K H → List Entry → Type 0
+HasSessionAfter terms core journal = StandsForSession core.views core.opened core.config (session_of terms journal)
 
--- THE SESSION TAKES LINES: all its entries were sent, each saving asked the shelf exactly where its view was open, what they wrote shows
+-- THE SESSION, which was made with these terms, TAKES LINES: all its entries were sent, each saving asked the shelf exactly where its view was open, what they wrote shows
 -- them, and its documents and its configuration are those that they define
-pub record IsServing {K H : Type 0} (core : Core K H) : Type 0 where
+pub record IsServing (terms : Terms) {K H : Type 0} (core : Core K H) : Type 0 where
+  pub made_with : terms_of core ≡ terms
   pub sent : AllByRecursion IsOpen (journal_of core)
-  pub saves_asked : AreSavesAsked (journal_of core)
-  pub showing : IsShowing (journal_of core)
-  pub stands : HasSessionAfter core (journal_of core)
+  pub saves_asked : AreSavesAsked terms (journal_of core)
+  pub showing : IsShowing terms (journal_of core)
+  pub stands : HasSessionAfter terms core (journal_of core)
 
 -- the piece that an entry writes after these entries
-abbrev pub piece_after : List Entry → Entry → List ℕ
-piece_after journal entry = piece_of (session_of journal) entry
+abbrev pub piece_after : Terms → List Entry → Entry → List ℕ
+piece_after terms journal entry = piece_of (session_of terms journal) entry
 
 -- the command is one more entry, which was sent: the shelf was asked for it, the sink gained its piece, and no call of that failed
-pub record AddsSentEntry {K H : Type 0} (tell : Core K H → Outlets) (old new : Core K H) (command : Command) : Type 0 where
+pub record AddsSentEntry (terms : Terms) {K H : Type 0} (tell : Core K H → Outlets) (old new : Core K H) (command : Command) : Type 0 where
   pub note : ShelfNote
-  pub serving : IsServing new
+  pub serving : IsServing terms new
   pub entry : journal_of new ≡ journal_of old ++ front_entry command note true ∷ []
-  pub noted : IsNoted (tell old).shelf (tell new).shelf (views_of (journal_of old)) command.act note
-  pub gains : Gains (tell old).sink.held (tell new).sink.held (piece_after (journal_of old) (front_entry command note true))
+  pub noted : IsNoted (tell old).shelf (tell new).shelf (views_of terms (journal_of old)) command.act note
+  pub gains : Gains (tell old).sink.held (tell new).sink.held (piece_after terms (journal_of old) (front_entry command note true))
   pub faults_stay : (tell old).sink.faults ≤ (tell new).sink.faults
   pub failures_same : (tell new).sink.failures ≡ (tell old).sink.failures
 
 -- the command is one more entry, which was not sent: the shelf was asked for it, and then one call of the sink failed after it had gained the
 -- first n bytes of the piece, and not all. The documents and the configuration are those of the journal with it
-pub record AddsUnsentEntry {K H : Type 0} (tell : Core K H → Outlets) (old new : Core K H) (command : Command) (n : ℕ) : Type 0 where
+pub record AddsUnsentEntry (terms : Terms) {K H : Type 0} (tell : Core K H → Outlets) (old new : Core K H) (command : Command) (n : ℕ) : Type 0 where
   pub note : ShelfNote
   pub entry : journal_of new ≡ journal_of old ++ front_entry command note false ∷ []
-  pub stands : HasSessionAfter new (journal_of new)
-  pub noted : IsNoted (tell old).shelf (tell new).shelf (views_of (journal_of old)) command.act note
-  pub part : n < length (piece_after (journal_of old) (front_entry command note false))
-  pub gains : Gains (tell old).sink.held (tell new).sink.held (take n (piece_after (journal_of old) (front_entry command note false)))
+  pub stands : HasSessionAfter terms new (journal_of new)
+  pub noted : IsNoted (tell old).shelf (tell new).shelf (views_of terms (journal_of old)) command.act note
+  pub part : n < length (piece_after terms (journal_of old) (front_entry command note false))
+  pub gains : Gains (tell old).sink.held (tell new).sink.held (take n (piece_after terms (journal_of old) (front_entry command note false)))
   pub faults_stay : (tell old).sink.faults ≤ (tell new).sink.faults
   pub rose : Rose (tell old).sink.faults (tell new).sink.faults
   pub failures_counted : (tell new).sink.failures ≡ counted (tell old).sink.failures
 
 -- no entry is added, the session takes lines as before, and the shelf has the files that it had
-pub record ChangesNothing {K H : Type 0} (tell : Core K H → Outlets) (old new : Core K H) : Type 0 where
-  pub serving : IsServing new
+pub record ChangesNothing (terms : Terms) {K H : Type 0} (tell : Core K H → Outlets) (old new : Core K H) : Type 0 where
+  pub serving : IsServing terms new
   pub journal : journal_of new ≡ journal_of old
   pub sink : sink_of new ≡ sink_of old
   pub shelf : KeepsFiles (tell old).shelf (tell new).shelf
 
 -- WHAT A LINE COMES TO in a session that takes lines, by the reply: an entry that was sent, which answers nothing else; one that was not
 -- sent; or nothing, for want of memory
-abbrev pub ComesTo : {K H : Type 0} → (Core K H → Outlets) → Core K H → Core K H → Command → Reply → Type 0
-ComesTo tell old new command (Taken line) = (line ≡ []) × AddsSentEntry tell old new command
-ComesTo tell old new command SinkFault = (n : ℕ) × AddsUnsentEntry tell old new command n
-ComesTo tell old new command NoMemory = ChangesNothing tell old new
-ComesTo tell old new command (Refused line) = ⊥
-ComesTo tell old new command Closed = ⊥
+abbrev pub ComesTo : (terms : Terms) {K H : Type 0} → (Core K H → Outlets) → Core K H → Core K H → Command → Reply → Type 0
+ComesTo terms tell old new command (Taken line) = (line ≡ []) × AddsSentEntry terms tell old new command
+ComesTo terms tell old new command SinkFault = (n : ℕ) × AddsUnsentEntry terms tell old new command n
+ComesTo terms tell old new command NoMemory = ChangesNothing terms tell old new
+ComesTo terms tell old new command (Refused line) = ⊥
+ComesTo terms tell old new command Closed = ⊥
 
 -- the document in memory stands for that of the view
 abbrev pub IsDocOf : Doc → Option OpenView → Type 0

@@ -1,4 +1,5 @@
 -- What private functions say: what an act and a command come to in memory.
+use Rattle.session_step.specs.declared.terms.Terms.{Terms}
 use Rattle.std.specs.Prelude.{◌≡◌, ℕ, ◌<◌, ◌≤◌, true, false, [], ◌∷◌, ◌++◌, length, take}
 use Rattle.std.specs.Str.{encode_utf8_all}
 use Rattle.outside.specs.declared.shelf.Stored.{Stored}
@@ -30,30 +31,30 @@ pub record IsPrepared (session : Session) (made : Prepared) : Type 0 where
   pub stands : StandsForSession made.held made.opened made.config (act_step session made.command.act (given_by made.note))
 
 -- a command with this note was put in as an entry that was sent, and the shelf was not asked again
-pub record PutsSent {K H : Type 0} (tell : K → SinkState) (old new : Core K H) (command : Command) (note : ShelfNote) : Type 0 where
-  pub serving : IsServing new
+pub record PutsSent (terms : Terms) {K H : Type 0} (tell : K → SinkState) (old new : Core K H) (command : Command) (note : ShelfNote) : Type 0 where
+  pub serving : IsServing terms new
   pub entry : journal_of new ≡ journal_of old ++ front_entry command note true ∷ []
   pub shelf : shelf_of new ≡ shelf_of old
-  pub gains : Gains (tell (sink_of old)).held (tell (sink_of new)).held (piece_after (journal_of old) (front_entry command note true))
+  pub gains : Gains (tell (sink_of old)).held (tell (sink_of new)).held (piece_after terms (journal_of old) (front_entry command note true))
   pub faults_stay : (tell (sink_of old)).faults ≤ (tell (sink_of new)).faults
   pub failures_same : (tell (sink_of new)).failures ≡ (tell (sink_of old)).failures
 
 -- the same as an entry that was not sent, whose first n bytes the sink gained
-pub record PutsUnsent {K H : Type 0} (tell : K → SinkState) (old new : Core K H) (command : Command) (note : ShelfNote) (n : ℕ) : Type 0 where
+pub record PutsUnsent (terms : Terms) {K H : Type 0} (tell : K → SinkState) (old new : Core K H) (command : Command) (note : ShelfNote) (n : ℕ) : Type 0 where
   pub entry : journal_of new ≡ journal_of old ++ front_entry command note false ∷ []
-  pub stands : HasSessionAfter new (journal_of new)
+  pub stands : HasSessionAfter terms new (journal_of new)
   pub shelf : shelf_of new ≡ shelf_of old
-  pub part : n < length (piece_after (journal_of old) (front_entry command note false))
-  pub gains : Gains (tell (sink_of old)).held (tell (sink_of new)).held (take n (piece_after (journal_of old) (front_entry command note false)))
+  pub part : n < length (piece_after terms (journal_of old) (front_entry command note false))
+  pub gains : Gains (tell (sink_of old)).held (tell (sink_of new)).held (take n (piece_after terms (journal_of old) (front_entry command note false)))
   pub faults_stay : (tell (sink_of old)).faults ≤ (tell (sink_of new)).faults
   pub rose : Rose (tell (sink_of old)).faults (tell (sink_of new)).faults
   pub failures_counted : (tell (sink_of new)).failures ≡ counted (tell (sink_of old)).failures
 
 -- what came of it, by the reply
-abbrev pub PutsAs : {K H : Type 0} → (K → SinkState) → Core K H → Core K H → Command → ShelfNote → Reply → Type 0
-PutsAs tell old new command note (Taken line) = (line ≡ []) × PutsSent tell old new command note
-PutsAs tell old new command note SinkFault = (n : ℕ) × PutsUnsent tell old new command note n
-PutsAs tell old new command note reply = ⊥
+abbrev pub PutsAs : (terms : Terms) {K H : Type 0} → (K → SinkState) → Core K H → Core K H → Command → ShelfNote → Reply → Type 0
+PutsAs terms tell old new command note (Taken line) = (line ≡ []) × PutsSent terms tell old new command note
+PutsAs terms tell old new command note SinkFault = (n : ℕ) × PutsUnsent terms tell old new command note n
+PutsAs terms tell old new command note reply = ⊥
 
 -- what was made for a file that was written is kept, or what was made for one that could not be
 abbrev pub IsChosenBy : {A : Type 0} → Stored → A → A → A → Type 0

@@ -1,4 +1,5 @@
 -- What a session keeps of its journal, whatever becomes of it.
+use Rattle.session_step.specs.declared.terms.Terms.{Terms}
 use Rattle.std.specs.Prelude.{◌≡◌, ℕ, ◌<◌, ◌||◌, Bool, true, false, not, if◌then◌else◌, List, [], ◌∷◌, Some}
 use Rattle.std.specs.List.{AllByRecursion, list_any}
 use Rattle.xi_plain.specs.declared.command.Command.{Command}
@@ -83,14 +84,14 @@ AreRebuilt bytes views = AllByRecursion (λ (view : OpenView). rebuilt view.id b
 
 -- what the entries write shows them, and by its updates the front end has, of each view that is open, the screen that the view's document
 -- says, and an empty one of an id that was not given yet
-pub record IsShowing (journal : List Entry) : Type 0 where
-  pub shows : Shows journal (written first_session journal)
-  pub screens : AreRebuilt (written first_session journal) (views_of journal)
-  pub fresh : (id : List ℕ) → IsNotGiven (session_of journal).opened id → rebuilt id (written first_session journal) ≡ Some []
+pub record IsShowing (terms : Terms) (journal : List Entry) : Type 0 where
+  pub shows : Shows terms journal (written (first_session terms) journal)
+  pub screens : AreRebuilt (written (first_session terms) journal) (views_of terms journal)
+  pub fresh : (id : List ℕ) → IsNotGiven (session_of terms journal).opened id → rebuilt id (written (first_session terms) journal) ≡ Some []
 
 -- WHAT IS KEPT: the views, their number and the configuration in memory are those of the session that the journal defines; what the entries
 -- write that were sent before any was not shows them; and each saving asked the shelf exactly where its view was open
-pub record IsOfJournal (held : List Opened) (many : ℕ) (laid : Config) (journal : List Entry) : Type 0 where
-  pub stands : StandsForSession held many laid (session_of journal)
-  pub showing : IsShowing (sent_front journal)
-  pub saves_asked : AreSavesAsked journal
+pub record IsOfJournal (terms : Terms) (held : List Opened) (many : ℕ) (laid : Config) (journal : List Entry) : Type 0 where
+  pub stands : StandsForSession held many laid (session_of terms journal)
+  pub showing : IsShowing terms (sent_front journal)
+  pub saves_asked : AreSavesAsked terms journal

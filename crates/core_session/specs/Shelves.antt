@@ -1,4 +1,5 @@
 -- THE SHELF HOLDS THE SAVES: what the entries of a journal ask of a shelf, what they leave in it, and what their notes tell of it.
+use Rattle.session_step.specs.declared.terms.Terms.{Terms}
 use Rattle.std.specs.Prelude.{◌≡◌, ℕ, ◌+◌, ◌-◌, ◌^◌, ◌<◌, ◌≤◌, Bool, true, not, List, [], ◌∷◌, Option, Some, None, option_map, IfSome, ⊤}
 use Rattle.std.specs.Str.{encode_utf8_all}
 use Rattle.xi_plain.specs.declared.command.Act.{Act}
@@ -44,8 +45,8 @@ AreSavesAskedFrom session (entry ∷ entries) =
     (asks_as session.views entry.command.act entry.shelf ≡ true) × AreSavesAskedFrom (step session entry) entries
 
 -- the same from the start of a session
-abbrev pub AreSavesAsked : List Entry → Type 0
-AreSavesAsked journal = AreSavesAskedFrom first_session journal
+abbrev pub AreSavesAsked : Terms → List Entry → Type 0
+AreSavesAsked terms journal = AreSavesAskedFrom (first_session terms) journal
 
 -- ---- what they leave in it
 
@@ -66,8 +67,8 @@ files_after_all session files (entry ∷ entries) =
     files_after_all (step session entry) (files_with files session.views entry.command.act entry.shelf) entries
 
 -- those of a journal
-abbrev pub shelved : Files → List Entry → Files
-shelved files journal = files_after_all first_session files journal
+abbrev pub shelved : Terms → Files → List Entry → Files
+shelved terms files journal = files_after_all (first_session terms) files journal
 
 -- ---- what their notes tell of it
 
@@ -85,8 +86,8 @@ NotesTellFrom session files (entry ∷ entries) =
     NotesTellFrom (step session entry) (files_with files session.views entry.command.act entry.shelf) entries
 
 -- the same from the start of a session
-abbrev pub NotesTell : Files → List Entry → Type 0
-NotesTell files journal = NotesTellFrom first_session files journal
+abbrev pub NotesTell : Terms → Files → List Entry → Type 0
+NotesTell terms files journal = NotesTellFrom (first_session terms) files journal
 
 -- how many of the notes say that the shelf failed
 abbrev pub failed_count : ShelfNote → ℕ
@@ -99,9 +100,9 @@ failed_notes (entry ∷ entries) = failed_count entry.shelf + failed_notes entri
 
 -- THE SHELF HOLDS THE SAVES: where it tells its files, they are those that it had before with each save of the journal, and each note tells
 -- what they were at its entry. As many notes at most say that it failed as its count of faults rose, where that ends below its last value
-pub record HoldsSaves (before after : ShelfState) (journal : List Entry) : Type 0 where
-  pub files : after.files ≡ option_map (λ files. shelved files journal) before.files
-  pub tells : IfSome before.files (λ files. NotesTell files journal)
+pub record HoldsSaves (terms : Terms) (before after : ShelfState) (journal : List Entry) : Type 0 where
+  pub files : after.files ≡ option_map (λ files. shelved terms files journal) before.files
+  pub tells : IfSome before.files (λ files. NotesTell terms files journal)
   pub stays : before.faults ≤ after.faults
   pub failed : after.faults < 2 ^ 64 - 1 → before.faults + failed_notes journal ≤ after.faults
 

@@ -1,4 +1,5 @@
 -- THE WRITTEN BYTES SHOW THE JOURNAL: what a front end makes of the bytes that the core wrote, by the updates in them alone.
+use Rattle.session_step.specs.declared.terms.Terms.{Terms}
 use Rattle.std.specs.Prelude.{◌≡◌, ℕ, ◌+◌, ◌<◌, ◌≤◌, ◌||◌, true, if◌then◌else◌, List, [], ◌∷◌, ◌++◌, length, Option, Some, None, ⊤}
 use Rattle.std.specs.List.{filter_map, AllByRecursion}
 use Rattle.std.specs.Str.{bytes_eq, encode_utf8_all}
@@ -90,9 +91,9 @@ NotesSendTo requests views notes = AllByRecursion (NoteSendsTo requests views) n
 -- THE BYTES SHOW THE JOURNAL: they are the pieces of its entries. After each entry the views that are open are shown by what was
 -- written by then, with the lines that this entry requested; and each update that it wrote is of one of them and sends lines of its
 -- window, or that the entry requested, alone
-pub record Shows (journal : List Entry) (bytes : List ℕ) : Type 0 where
-  pub pieces : bytes ≡ written first_session journal
-  pub screens : (front back : List Entry) → journal ≡ front ++ back → AreShown (last_requested front) (views_of front) (written first_session front)
+pub record Shows (terms : Terms) (journal : List Entry) (bytes : List ℕ) : Type 0 where
+  pub pieces : bytes ≡ written (first_session terms) journal
+  pub screens : (front back : List Entry) → journal ≡ front ++ back → AreShown (last_requested front) (views_of terms front) (written (first_session terms) front)
   pub sends : (front : List Entry) (entry : Entry) (back : List Entry) → journal ≡ front ++ (entry ∷ back) →
-      NotesSendTo (requested entry.command.act) (views_of (front ++ entry ∷ []))
-      (updates_in (piece_of (session_of front) entry))
+      NotesSendTo (requested entry.command.act) (views_of terms (front ++ entry ∷ []))
+      (updates_in (piece_of (session_of terms front) entry))

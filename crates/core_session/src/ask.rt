@@ -12,7 +12,7 @@ ghost use Rattle.core_session.specs.Shelves.{IsNoted, KeepsFiles, NoteTells, she
 use crate::made::by_answer;
 use outside::{Shelf, Shelved};
 use plain_text::{Bytes, List, NoMemory, Text};
-use session_step::{Given, Opened, both, done, opened_after, place_of};
+use session_step::{Given, Opened, Terms, both, done, opened_after, place_of};
 use std::alloc::Global;
 use xi_plain::{Act, Command, Config, ShelfNote};
 
@@ -32,6 +32,7 @@ pub fn ask<H: Shelf>(
     alloc: Global,
     shelf: &mut H,
     held: &[Opened],
+    terms: Terms,
     opened: u64,
     config: Config,
     command: &Command,
@@ -39,9 +40,10 @@ pub fn ask<H: Shelf>(
     requires asked { MayBeAsked held.now }
     requires few { opened < 2 ^ 63 }
     requires tab { 0 < config.tab }
+    requires limit { terms.limit ≤ 2 ^ 60 }
     requires id { IsWireId command.now.id }
     requires line { IsOfLine command.now.act }
-    ensures made { (session : Session) → AreThere held.now session.views → opened ≡ session.opened
+    ensures made { (session : Session) → AreThere held.now session.views → terms ≡ session.terms → opened ≡ session.opened
         → config ≡ config_after session.config command.now.act → IfOk result (IsAsked session command.now) }
     ensures noted { (session : Session) → AreThere held.now session.views → IfOk result (λ asked.
         IsNoted (shelf_state H.files H.faults shelf.old) (shelf_state H.files H.faults shelf.new)
@@ -51,12 +53,15 @@ pub fn ask<H: Shelf>(
 {
     match &command.act {
         Act::NewView { path: Some(path) } => opening(
-            alloc, shelf, held, opened, config, command, path,
+            alloc, shelf, held, terms, opened, config, command, path,
         ),
-        Act::Save { view, path } => saving(alloc, shelf, held, opened, config, command, view, path),
+        Act::Save { view, path } => saving(
+            alloc, shelf, held, terms, opened, config, command, view, path,
+        ),
         _ => noted(
             alloc,
             held,
+            terms,
             opened,
             config,
             command,
@@ -70,6 +75,7 @@ pub fn ask<H: Shelf>(
 fn noted(
     alloc: Global,
     held: &[Opened],
+    terms: Terms,
     opened: u64,
     config: Config,
     command: &Command,
@@ -79,15 +85,16 @@ fn noted(
     requires asked { MayBeAsked held.now }
     requires few { opened < 2 ^ 63 }
     requires tab { 0 < config.tab }
+    requires limit { terms.limit ≤ 2 ^ 60 }
     requires id { IsWireId command.now.id }
     requires line { IsOfLine command.now.act }
     requires given { given ≡ given_by note }
-    ensures made { (session : Session) → AreThere held.now session.views → opened ≡ session.opened
+    ensures made { (session : Session) → AreThere held.now session.views → terms ≡ session.terms → opened ≡ session.opened
         → config ≡ config_after session.config command.now.act → IfOk result (IsAsked session command.now) }
     ensures note { IfOk result (λ asked. asked.note ≡ note) }
 {
     let then = opened_after(opened, &command.act, &given);
-    let done = done(alloc, held, opened, config, command, given);
+    let done = done(alloc, held, terms, opened, config, command, given);
     let (note, (piece, held)) = both(note, done)?;
     Ok(Asked {
         note,
@@ -102,6 +109,7 @@ fn opening<H: Shelf>(
     alloc: Global,
     shelf: &mut H,
     held: &[Opened],
+    terms: Terms,
     opened: u64,
     config: Config,
     command: &Command,
@@ -110,9 +118,10 @@ fn opening<H: Shelf>(
     requires asked { MayBeAsked held.now }
     requires few { opened < 2 ^ 63 }
     requires tab { 0 < config.tab }
+    requires limit { terms.limit ≤ 2 ^ 60 }
     requires id { IsWireId command.now.id }
     requires act { command.now.act ≡ NewView (Some path.now) }
-    ensures made { (session : Session) → AreThere held.now session.views → opened ≡ session.opened
+    ensures made { (session : Session) → AreThere held.now session.views → terms ≡ session.terms → opened ≡ session.opened
         → config ≡ config_after session.config command.now.act → IfOk result (IsAsked session command.now) }
     ensures noted { (session : Session) → IfOk result (λ asked.
         IsNoted (shelf_state H.files H.faults shelf.old) (shelf_state H.files H.faults shelf.new)
@@ -121,7 +130,7 @@ fn opening<H: Shelf>(
         KeepsFiles (shelf_state H.files H.faults shelf.old) (shelf_state H.files H.faults shelf.new)) }
 {
     let (note, given) = read(alloc, shelf, path)?;
-    noted(alloc, held, opened, config, command, note, given)
+    noted(alloc, held, terms, opened, config, command, note, given)
 }
 
 /// What the shelf has under a path: its note, and what it gave.
@@ -158,6 +167,7 @@ fn saving<H: Shelf>(
     alloc: Global,
     shelf: &mut H,
     held: &[Opened],
+    terms: Terms,
     opened: u64,
     config: Config,
     command: &Command,
@@ -167,9 +177,10 @@ fn saving<H: Shelf>(
     requires asked { MayBeAsked held.now }
     requires few { opened < 2 ^ 63 }
     requires tab { 0 < config.tab }
+    requires limit { terms.limit ≤ 2 ^ 60 }
     requires id { IsWireId command.now.id }
     requires act { command.now.act ≡ Save name.now path.now }
-    ensures made { (session : Session) → AreThere held.now session.views → opened ≡ session.opened
+    ensures made { (session : Session) → AreThere held.now session.views → terms ≡ session.terms → opened ≡ session.opened
         → config ≡ config_after session.config command.now.act → IfOk result (IsAsked session command.now) }
     ensures noted { (session : Session) → AreThere held.now session.views → IfOk result (λ asked.
         IsNoted (shelf_state H.files H.faults shelf.old) (shelf_state H.files H.faults shelf.new)
@@ -178,10 +189,11 @@ fn saving<H: Shelf>(
         KeepsFiles (shelf_state H.files H.faults shelf.old) (shelf_state H.files H.faults shelf.new)) }
 {
     match place_of(held, name) {
-        Some(at) => saving_at(alloc, shelf, held, opened, config, command, at, path),
+        Some(at) => saving_at(alloc, shelf, held, terms, opened, config, command, at, path),
         None => noted(
             alloc,
             held,
+            terms,
             opened,
             config,
             command,
@@ -197,6 +209,7 @@ fn saving_at<H: Shelf>(
     alloc: Global,
     shelf: &mut H,
     held: &[Opened],
+    terms: Terms,
     opened: u64,
     config: Config,
     command: &Command,
@@ -206,10 +219,11 @@ fn saving_at<H: Shelf>(
     requires asked { MayBeAsked held.now }
     requires few { opened < 2 ^ 63 }
     requires tab { 0 < config.tab }
+    requires limit { terms.limit ≤ 2 ^ 60 }
     requires id { IsWireId command.now.id }
     requires line { IsOfLine command.now.act }
     requires inside { at < length held.now }
-    ensures made { (session : Session) → AreThere held.now session.views → opened ≡ session.opened
+    ensures made { (session : Session) → AreThere held.now session.views → terms ≡ session.terms → opened ≡ session.opened
         → config ≡ config_after session.config command.now.act → IfOk result (IsAsked session command.now) }
     ensures noted { (session : Session) (view : OpenView) (name : List ℕ) → AreThere held.now session.views
         → IsFoundAt session.views at view → named_view session.views name ≡ Some view
@@ -223,6 +237,7 @@ fn saving_at<H: Shelf>(
     let done = noted(
         alloc,
         held,
+        terms,
         opened,
         config,
         command,
@@ -232,6 +247,7 @@ fn saving_at<H: Shelf>(
     let failed = noted(
         alloc,
         held,
+        terms,
         opened,
         config,
         command,

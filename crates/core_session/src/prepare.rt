@@ -1,4 +1,4 @@
-ghost use Rattle.std.specs.Prelude.{◌≡◌, ◌<◌, ◌^◌, IfErr, IfOk};
+ghost use Rattle.std.specs.Prelude.{◌≡◌, ◌<◌, ◌≤◌, ◌^◌, IfErr, IfOk};
 ghost use Rattle.front_wire.specs.Front.{command_of};
 ghost use Rattle.session_step.specs.Session.{Session, config_after};
 ghost use Rattle.session_step.specs.Views.{IsOfLine, AreThere, HasApart, MayBeAsked};
@@ -10,7 +10,7 @@ use crate::ask::{Asked, ask};
 use front_wire::command_of;
 use outside::Shelf;
 use plain_text::{List, NoMemory, Text};
-use session_step::{Opened, both, config_after};
+use session_step::{Opened, Terms, both, config_after};
 use std::alloc::Global;
 use xi_plain::{Command, Config, ShelfNote};
 
@@ -33,6 +33,7 @@ pub fn prepare<H: Shelf>(
     alloc: Global,
     shelf: &mut H,
     held: &[Opened],
+    terms: Terms,
     opened: u64,
     config: Config,
     line: &[u8],
@@ -40,9 +41,10 @@ pub fn prepare<H: Shelf>(
     requires asked { MayBeAsked held.now }
     requires few { opened < 2 ^ 63 }
     requires tab { 0 < config.tab }
+    requires limit { terms.limit ≤ 2 ^ 60 }
     ensures command { IfOk result (λ made. made.command ≡ command_of line.now) }
     ensures asks { IfOk result (λ made. IsOfLine made.command.act) }
-    ensures prepared { (session : Session) → HasApart session.views → StandsForSession held.now opened config session
+    ensures prepared { (session : Session) → HasApart session.views → terms ≡ session.terms → StandsForSession held.now opened config session
         → IfOk result (IsPrepared session) }
     ensures noted { (session : Session) → AreThere held.now session.views → IfOk result (λ made.
         IsNoted (shelf_state H.files H.faults shelf.old) (shelf_state H.files H.faults shelf.new)
@@ -52,7 +54,7 @@ pub fn prepare<H: Shelf>(
 {
     let command = command_of(alloc, line)?;
     let config = config_after(config, &command.act);
-    let asked = ask(alloc, shelf, held, opened, config, &command);
+    let asked = ask(alloc, shelf, held, terms, opened, config, &command);
     let (command, asked) = both(command, asked)?;
     let Asked {
         note,

@@ -1,4 +1,4 @@
-ghost use Rattle.std.specs.Prelude.{◌≡◌, ◌≢◌, ◌+◌, ◌≤◌, ◌++◌, ◌∷◌, ◌⊎◌, ◌↔◌, [], Bool, None, IfOk, IfErr, IfSome, true, false, vec_len, vec_capacity};
+ghost use Rattle.std.specs.Prelude.{◌≡◌, ◌≢◌, ◌+◌, ◌≤◌, ◌^◌, ◌++◌, ◌∷◌, ◌⊎◌, ◌↔◌, [], Bool, None, IfOk, IfErr, IfSome, true, false, vec_len, vec_capacity};
 ghost use Rattle.outside.specs.Faults.{Rose};
 ghost use Rattle.outside.specs.Sink.{sink_state};
 ghost use Rattle.xi_plain.specs.declared.command.Command.{Command};
@@ -16,7 +16,7 @@ use crate::write::write_piece;
 use doc_session::Doc;
 use outside::{Shelf, Sink};
 use plain_text::{List, Text};
-use session_step::{FIRST_CONFIG, Opened, place_of};
+use session_step::{FIRST_CONFIG, Opened, Terms, place_of};
 use std::alloc::Global;
 use xi_plain::{Act, Command, Config, Entry, Id, Reply, ShelfNote};
 
@@ -29,22 +29,33 @@ pub struct Core<K, H> {
     opened: u64,
     config: Config,
     stage: Stage,
+    terms: Terms,
     shelf: H,
     sink: K,
     alloc: Global,
     ghost legal: { IsLegal 0 journal.items },
     ghost staged: { stage ≡ stage_of journal.items },
     ghost room: { vec_len journal + reserved stage ≤ vec_capacity journal },
-    ghost kept: { ∥ IsOfJournal views opened config journal.items ∥₁ },
+    ghost limit: { terms.limit ≤ 2 ^ 60 },
+    ghost kept: { ∥ IsOfJournal terms views opened config journal.items ∥₁ },
 }
 
 impl<K: Sink, H: Shelf> Core<K, H> {
-    ghost use Rattle.core_session.specs.Core.{ComesTo, IsDocOf, IsServing, journal_of, outlets_of, shelf_of, sink_of};
+    ghost use Rattle.core_session.specs.Core.{ComesTo, IsDocOf, IsServing, journal_of, outlets_of, shelf_of, sink_of, terms_of};
+    ghost use Rattle.session_step.specs.declared.terms.Terms.{Terms};
     ghost use Rattle.core_session.specs.InnerSession.{IsPrepared, PutsAs};
 
-    /// A session without entries. For want of memory the sink and the shelf are given back.
-    pub fn make(alloc: Global, sink: K, shelf: H) -> Result<Core<K, H>, (K, H)>
-        ensures serving { IfOk result IsServing }
+    /// A session without entries, with so many plugins, and a limit of characters that may be inserted into each document. For want of memory
+    /// the sink and the shelf are given back.
+    pub fn make(
+        alloc: Global,
+        sink: K,
+        shelf: H,
+        plugins: u32,
+        limit: u64,
+    ) -> Result<Core<K, H>, (K, H)>
+        requires limit { limit ≤ 2 ^ 60 }
+        ensures serving { IfOk result (IsServing (record { plugins = plugins; limit = limit })) }
         ensures empty { IfOk result (λ core. journal_of core ≡ []) }
         ensures sink { IfOk result (λ core. sink_of core ≡ sink) }
         ensures shelf { IfOk result (λ core. shelf_of core ≡ shelf) }
@@ -57,6 +68,7 @@ impl<K: Sink, H: Shelf> Core<K, H> {
                 opened: 0,
                 config: FIRST_CONFIG,
                 stage: Stage::Serves,
+                terms: Terms { plugins, limit },
                 shelf,
                 sink,
                 alloc,
@@ -70,8 +82,9 @@ impl<K: Sink, H: Shelf> Core<K, H> {
     pub fn front_line(&mut self, line: &[u8]) -> Reply
         ensures closed { (result ≡ Reply.Closed) ↔ (is_over (journal_of self.old) ≡ true) }
         ensures stays { result ≡ Reply.Closed → self.new ≡ self.old }
-        ensures served { IsServing self.old
-            → ComesTo (outlets_of K.held K.faults K.failures H.files H.faults) self.old self.new (command_of line.now) result }
+        ensures served { (terms : Terms) → IsServing terms self.old
+            → ComesTo terms (outlets_of K.held K.faults K.failures H.files H.faults) self.old self.new (command_of line.now) result }
+        ensures terms { terms_of self.new ≡ terms_of self.old }
         ensures complete { (Rose (K.faults (sink_of self.old)) (K.faults (sink_of self.new)) → ⊥) → is_over (journal_of self.old) ≡ false
             → (result ≡ Reply.Taken []) ⊎ (result ≡ Reply.NoMemory) }
     {
@@ -85,8 +98,10 @@ impl<K: Sink, H: Shelf> Core<K, H> {
     fn take_line(&mut self, line: &[u8]) -> Reply
         requires { self.old.stage ≡ Stage.Serves }
         ensures answers { result ≢ Reply.Closed }
-        ensures served { IsServing self.old
-            → ComesTo (outlets_of K.held K.faults K.failures H.files H.faults) self.old self.new (command_of line.now) result }
+        ensures served { IsServing (terms_of self.old) self.old
+            → ComesTo (terms_of self.old) (outlets_of K.held K.faults K.failures H.files H.faults) self.old self.new
+            (command_of line.now) result }
+        ensures terms { terms_of self.new ≡ terms_of self.old }
         ensures complete { (Rose (K.faults (sink_of self.old)) (K.faults (sink_of self.new)) → ⊥)
             → (result ≡ Reply.Taken []) ⊎ (result ≡ Reply.NoMemory) }
     {
@@ -97,6 +112,7 @@ impl<K: Sink, H: Shelf> Core<K, H> {
             self.alloc,
             &mut self.shelf,
             self.views.as_slice(),
+            self.terms,
             self.opened,
             self.config,
             line,
@@ -112,11 +128,12 @@ impl<K: Sink, H: Shelf> Core<K, H> {
         requires room { vec_len self.old.journal + 2 ≤ vec_capacity self.old.journal }
         requires asks { IsOfLine made.command.act }
         requires kind { may_have_note made.command.act made.note ≡ true }
-        requires asked { asks_as (views_of (journal_of self.old)) made.command.act made.note ≡ true }
-        requires prepared { ∥ IsPrepared (session_of (journal_of self.old)) made ∥₁ }
+        requires asked { asks_as (views_of (terms_of self.old) (journal_of self.old)) made.command.act made.note ≡ true }
+        requires prepared { ∥ IsPrepared (session_of (terms_of self.old) (journal_of self.old)) made ∥₁ }
         ensures replies { (sent : Bool) × (result ≡ reply_if sent) }
-        ensures puts { IsServing self.old → IsPrepared (session_of (journal_of self.old)) made
-            → PutsAs (sink_state K.held K.faults K.failures) self.old self.new made.command made.note result }
+        ensures puts { IsServing (terms_of self.old) self.old → IsPrepared (session_of (terms_of self.old) (journal_of self.old)) made
+            → PutsAs (terms_of self.old) (sink_state K.held K.faults K.failures) self.old self.new made.command made.note result }
+        ensures terms { terms_of self.new ≡ terms_of self.old }
         ensures rose { result ≡ Reply.SinkFault → Rose (K.faults (sink_of self.old)) (K.faults (sink_of self.new)) }
     {
         let Prepared {
@@ -147,8 +164,8 @@ impl<K: Sink, H: Shelf> Core<K, H> {
 
     /// The document of the view with this id, to look at, where it is open: it is that of the journal so far.
     pub fn doc(&self, view: &Text) -> Option<&Doc>
-        ensures absent { (result ≡ None) ↔ (named_view (views_of (journal_of self.now)) view.now ≡ None) }
-        ensures stands { IfSome result (λ doc. ∥ IsDocOf doc.now (named_view (views_of (journal_of self.now)) view.now) ∥₁) }
+        ensures absent { (result ≡ None) ↔ (named_view (views_of (terms_of self.now) (journal_of self.now)) view.now ≡ None) }
+        ensures stands { IfSome result (λ doc. ∥ IsDocOf doc.now (named_view (views_of (terms_of self.now) (journal_of self.now)) view.now) ∥₁) }
     {
         let held = self.views.as_slice();
         match place_of(held, view) {
@@ -188,6 +205,7 @@ impl<K: Sink, H: Shelf> Core<K, H> {
             opened: _,
             config: _,
             stage: _,
+            terms: _,
             shelf,
             sink,
             alloc: _,

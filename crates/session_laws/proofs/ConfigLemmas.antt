@@ -11,6 +11,7 @@ use Rattle.xi_plain.specs.declared.entry.Entry.{Entry}
 use Rattle.doc_session.specs.declared.event.Event.TheVariants.{Config as Configured, Front, Other, Saved}
 use Rattle.doc_session.specs.Step.{EventStep, event_step, refusal_at}
 use Rattle.doc_session.proofs.ForCallers.{config-event_step}
+use Rattle.session_step.specs.declared.terms.Terms.{Terms}
 use Rattle.session_step.specs.declared.given.Given.{Given}
 use Rattle.session_step.specs.declared.given.Given.TheVariants as given
 use Rattle.session_step.specs.Session.{OpenView, Session, first_session, close_outcome, config_with, config_after, config_step, edit_came, edit_outcome, given_by, named_view, next_view, open_outcome, other_step, outcome, own_step, save_outcome, session_after, spent_total, step, stepped, view_of, without}
@@ -89,19 +90,19 @@ unfolding AreConfigured
 configured_push config [] next is all = (is, tt)
 configured_push config (view ∷ views) next is all = (all.0, configured_push config views next is all.1)
 
-configured_on : (config : Config) (opened : ℕ) (views : List OpenView) (text : List ℕ) → AreConfigured config views →
-    AreConfigured config (stepped other_step (views ++ next_view config opened text ∷ []))
-configured_on config opened views text all =
-    configured_others config (views ++ next_view config opened text ∷ []) (configured_push config views (next_view config opened text) refl all)
+configured_on : (terms : Terms) (config : Config) (opened : ℕ) (views : List OpenView) (text : List ℕ) → AreConfigured config views →
+    AreConfigured config (stepped other_step (views ++ next_view terms config opened text ∷ []))
+configured_on terms config opened views text all =
+    configured_others config (views ++ next_view terms config opened text ∷ []) (configured_push config views (next_view terms config opened text) refl all)
 
-configured_open : (config : Config) (opened : ℕ) (views : List OpenView) (path : Option (List ℕ)) (gave : Given) → AreConfigured config views →
-    AreConfigured config (open_outcome config opened views path gave).views
-configured_open config opened views None gave all = configured_on config opened views [] all
-configured_open config opened views (Some path) (given.Found text) all = configured_on config opened views text all
-configured_open config opened views (Some path) given.NotText all = configured_others config views all
-configured_open config opened views (Some path) given.Nothing all = configured_others config views all
-configured_open config opened views (Some path) given.Failed all = configured_others config views all
-configured_open config opened views (Some path) given.Done all = configured_others config views all
+configured_open : (terms : Terms) (config : Config) (opened : ℕ) (views : List OpenView) (path : Option (List ℕ)) (gave : Given) → AreConfigured config views →
+    AreConfigured config (open_outcome terms config opened views path gave).views
+configured_open terms config opened views None gave all = configured_on terms config opened views [] all
+configured_open terms config opened views (Some path) (given.Found text) all = configured_on terms config opened views text all
+configured_open terms config opened views (Some path) given.NotText all = configured_others config views all
+configured_open terms config opened views (Some path) given.Nothing all = configured_others config views all
+configured_open terms config opened views (Some path) given.Failed all = configured_others config views all
+configured_open terms config opened views (Some path) given.Done all = configured_others config views all
 
 configured_without : (config : Config) (id : List ℕ) (views : List OpenView) → AreConfigured config views → AreConfigured config (without id views)
 unfolding AreConfigured
@@ -119,7 +120,7 @@ configured_outcome session (CloseView name) gave all = configured_close session.
 configured_outcome session (Save name path) gave all =
     configured_save session.config session.views name (named_view session.views name) gave refl all
 configured_outcome session Closing gave all = all
-configured_outcome session (NewView path) gave all = configured_open session.config session.opened session.views path gave all
+configured_outcome session (NewView path) gave all = configured_open session.terms session.config session.opened session.views path gave all
 configured_outcome session (Configure changes) gave all =
     let next = config_with session.config changes in
     configured_steps session.config next (config_step next) session.views (λ view at. config-event_step view.document (Configured next)) all
@@ -133,4 +134,4 @@ configured_after session (entry ∷ entries) all =
 
 pub all_are_configured : AllAreConfigured
 unfolding AreConfigured
-all_are_configured journal = configured_after first_session journal tt
+all_are_configured terms journal = configured_after (first_session terms) journal tt

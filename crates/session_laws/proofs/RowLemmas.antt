@@ -1,4 +1,5 @@
 -- Worked rows of sessions, computed, and of runs.
+use Rattle.xi_top.specs.Alone.{alone_terms}
 use Rattle.std.proofs.Common.{◌≡◌, ℕ, ◌+◌, ◌<◌, ◌≤◌, true, inl, inr, List, [], ◌∷◌, ◌++◌, length, map, drop, codes, Option, Some, Ok, Err, refl, ap, sym, ◌∙◌, subst, length-append, arith}
 use Rattle.std.proofs.lemmas.List.{length-map, nil_from_length}
 use Rattle.std.specs.Fmt.{digits}
@@ -95,10 +96,10 @@ two_before a b c d (x ∷ y ∷ z ∷ sent) last is =
 pub third_write_fails : ThirdWriteFails
 third_write_fails before after gained none some cut =
     let parts = two_before opening (insertion (97 ∷ [])) unsent_insertion closing_entry cut.sent cut.last cut.cut in
-    let bytes : cut.bytes ≡ opening_bytes ++ first_bytes = cut.shows.pieces ∙ ap (written first_session) parts.0 ∙ first_insertion in
+    let bytes : cut.bytes ≡ opening_bytes ++ first_bytes = cut.shows.pieces ∙ ap (written (first_session alone_terms)) parts.0 ∙ first_insertion in
     let At : Option (List ℕ) → Option (List ℕ) → Type 0 = λ from to. Gains from to (cut.bytes ++ cut.part) in
     let all : gained ≡ cut.bytes ++ cut.part = subst (At (Some [])) some (subst (λ from. At from after.held) none cut.gains) in
-    let Proper : List Entry → Entry → Type 0 = λ sent last. IsProperPart cut.part (piece_after sent last) in (
+    let Proper : List Entry → Entry → Type 0 = λ sent last. IsProperPart cut.part (piece_after alone_terms sent last) in (
       cut.part,
       all ∙ ap (λ b. b ++ cut.part) bytes,
       subst (Proper (opening ∷ insertion (97 ∷ []) ∷ [])) parts.1 (subst (λ sent. Proper sent cut.last) parts.0 cut.proper),

@@ -1,4 +1,5 @@
 -- Laws: what the definitions of a session come to, whatever its journal.
+use Rattle.session_step.specs.declared.terms.Terms.{Terms}
 use Rattle.std.specs.Prelude.{◌≡◌, ◌↔◌, ℕ, true, false, List, [], length, codes, Some, None}
 use Rattle.std.specs.List.{AllByRecursion}
 use Rattle.std.specs.Str.{bytes_eq, is_utf8}
@@ -24,7 +25,7 @@ use Rattle.core_session.specs.Shows.{rebuilt}
 
 -- a document has at most as many revisions as its journal has entries
 abbrev pub RevisionsAreFew : Type 0
-RevisionsAreFew = (journal : List Entry) → HaveRevisions (length journal) (views_of journal)
+RevisionsAreFew = (terms : Terms) (journal : List Entry) → HaveRevisions (length journal) (views_of terms journal)
 
 -- NOTHING WAITS in a session that may be collected; and in a document where no plugin's session is open, what no undo reaches any more is
 -- collected at once
@@ -59,5 +60,5 @@ NoTextIsTold = (session : Session) (act : Act) (note : ShelfNote) → may_have_n
 
 -- all views are laid out and edited as their session is
 abbrev pub AllAreConfigured : Type 0
-AllAreConfigured = (journal : List Entry) →
-    AllByRecursion (λ (view : OpenView). view.document.view.config ≡ (session_of journal).config) (views_of journal)
+AllAreConfigured = (terms : Terms) (journal : List Entry) →
+    AllByRecursion (λ (view : OpenView). view.document.view.config ≡ (session_of terms journal).config) (views_of terms journal)

@@ -1,4 +1,5 @@
 -- Worked rows: what a session writes, what a run comes to, and what is none.
+use Rattle.xi_top.specs.Alone.{alone_terms}
 use Rattle.std.specs.Prelude.{◌≡◌, ℕ, pos, List, [], ◌∷◌, ◌++◌, drop, codes, true, false, Some, None}
 use Rattle.xi_plain.specs.declared.command.Id.{Id}
 use Rattle.xi_plain.specs.declared.command.Id.TheVariants.{NoId, Num}
@@ -58,11 +59,11 @@ third_bytes =
 
 -- the first view is answered, and has one empty line with the caret; the closing entry writes nothing
 abbrev pub FirstView : Type 0
-FirstView = written first_session (opening ∷ closing_entry ∷ []) ≡ opening_bytes
+FirstView = written (first_session alone_terms) (opening ∷ closing_entry ∷ []) ≡ opening_bytes
 
 -- an insertion after it tells its line, and where the caret is
 abbrev pub FirstInsertion : Type 0
-FirstInsertion = written first_session (opening ∷ insertion (97 ∷ []) ∷ []) ≡ opening_bytes ++ first_bytes
+FirstInsertion = written (first_session alone_terms) (opening ∷ insertion (97 ∷ []) ∷ []) ≡ opening_bytes ++ first_bytes
 
 -- an update of a second view
 abbrev pub second_view_bytes : List ℕ
@@ -75,7 +76,7 @@ pub record StrangeNotes : Type 0 where
 
 -- each of three insertions tells its line and where the caret is; the last begins a line
 abbrev pub ThreeInsertions : Type 0
-ThreeInsertions = written (session_of (opening ∷ [])) (insertion (97 ∷ []) ∷ insertion (233 ∷ []) ∷ insertion (10 ∷ []) ∷ []) ≡
+ThreeInsertions = written (session_of alone_terms (opening ∷ [])) (insertion (97 ∷ []) ∷ insertion (233 ∷ []) ∷ insertion (10 ∷ []) ∷ []) ≡
     first_bytes ++ (second_bytes ++ third_bytes)
 
 -- a run whose first read fails has the closing entry alone
@@ -92,7 +93,7 @@ abbrev pub ThirdWriteFails : Type 0
 ThirdWriteFails = (before after : SinkState) (gained : List ℕ) → before.held ≡ Some [] → after.held ≡ Some gained →
     IsCutOff before after (opening ∷ (insertion (97 ∷ []) ∷ (unsent_insertion ∷ (closing_entry ∷ [])))) →
     (part : List ℕ) × (gained ≡ (opening_bytes ++ first_bytes) ++ part) ×
-    IsProperPart part (piece_after (opening ∷ insertion (97 ∷ []) ∷ []) unsent_insertion)
+    IsProperPart part (piece_after alone_terms (opening ∷ insertion (97 ∷ []) ∷ []) unsent_insertion)
 
 -- a line of the input
 abbrev pub opening_line : List ℕ

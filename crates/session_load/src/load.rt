@@ -13,13 +13,22 @@ use core_session::{Core, Reply};
 use outside::CalmShelf;
 use std::alloc::Global;
 
+/// The most characters that may be inserted into a document.
+const TEXT_LIMIT: u64 = 1 << 40;
+
 const OPENING: &[u8] = b"{\"id\":0,\"method\":\"new_view\",\"params\":{}}";
 
 /// Enters the lines of a script into a session with a text of this size, and counts what they write.
 pub fn run_script(alloc: Global, size: Size, script: &str) -> anyhow::Result<Table>
     ensures { IfOk result (λ table. IsTable script.now (tallies_of table)) }
 {
-    let Ok(mut core) = Core::make(alloc, CountSink::new(), CalmShelf::new(alloc)) else {
+    let Ok(mut core) = Core::make(
+        alloc,
+        CountSink::new(),
+        CalmShelf::new(alloc),
+        0,
+        TEXT_LIMIT,
+    ) else {
         bail!("no memory");
     };
     enter(&mut core, OPENING)?;

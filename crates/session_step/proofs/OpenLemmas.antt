@@ -13,6 +13,7 @@ use Rattle.doc_session.specs.Step.{AreEffectsOf, EventStep, IsEventFor, event_st
 use Rattle.doc_text.specs.Writing.{loaded_text}
 use Rattle.doc_text.proofs.ForCallers.{head-text}
 use Rattle.xi_plain.specs.declared.config.Config.{Config}
+use Rattle.session_step.specs.declared.terms.Terms.{Terms}
 use Rattle.session_step.specs.declared.opened.Opened.{Opened}
 use Rattle.session_step.specs.declared.stepped.Stepped.{Stepped}
 use Rattle.session_step.specs.declared.stepped.ToEach.{ToEach}
@@ -31,13 +32,13 @@ use Rattle.view_update.specs.declared.note.Scroll.{Scroll}
 use Rattle.doc_session.specs.PositionView.{position_view}
 use Rattle.session_step.specs.Views.{ServesView, Stands, AreThere, HasApart, HaveOtherNames, IsFirstNamed, IsFoundAt, MayBeAsked, TakesEvents}
 use Rattle.session_step.specs.InnerStep.{IsEdited, IsOutcome, MayTell, TakesSteps, each_event, each_step}
-use Rattle.session_step.specs.Session.{OpenView, close_outcome, edit_came, keeping, named_view, next_view, opened_document, opening_outcome, other_step, own_step, result_of, scroll_for, stepped, taking, text_limit, told, updates_for, without}
+use Rattle.session_step.specs.Session.{OpenView, close_outcome, edit_came, keeping, named_view, next_view, opened_document, opening_outcome, other_step, own_step, result_of, scroll_for, stepped, taking, told, updates_for, without}
 use Rattle.session_step.proofs.ViewLemmas.{same_id, other_way, AreOthers}
 
 -- a document that was just loaded takes events
-pub TakesEvents-loaded : (doc : Doc) (text : List ℕ) (config : Config) → DocStandsFor doc (loaded_document text 0 text_limit config) →
+pub TakesEvents-loaded : (terms : Terms) (doc : Doc) (text : List ℕ) (config : Config) → DocStandsFor doc (loaded_document text terms.plugins terms.limit config) →
     TakesEvents doc
-TakesEvents-loaded doc text config stands = omega (arith, head-text doc.text (loaded_text text 0 text_limit) stands.text.parts)
+TakesEvents-loaded terms doc text config stands = omega (arith, head-text doc.text (loaded_text text terms.plugins terms.limit) stands.text.parts)
 
 -- ---- what stands for views
 
@@ -362,13 +363,13 @@ IsOutcome-each event held new reply came views takes is stands =
     rw is (record { reply = refl; updates = done.1; scroll = refl; stands = done.0; told = refl })
 
 -- a view is opened behind the others
-pub IsOutcome-opening : (config : Config) (opened : ℕ) (id text : List ℕ) (doc : Doc) (held : List Opened) (middle new : Stepped) (news : List PluginNews)
-    (came : ActEffects) (views : List OpenView) → id ≡ view_id_of (opened + 1) → DocStandsFor doc (opened_document config text) →
+pub IsOutcome-opening : (terms : Terms) (config : Config) (opened : ℕ) (id text : List ℕ) (doc : Doc) (held : List Opened) (middle new : Stepped) (news : List PluginNews)
+    (came : ActEffects) (views : List OpenView) → id ≡ view_id_of (opened + 1) → DocStandsFor doc (opened_document terms config text) →
     TakesSteps to.Other unstepped held middle → TakesSteps to.Other middle (record { id = id; doc = doc } ∷ []) new →
     came ≡ record { reply = reply_to.Opened id; held = new.held; updates = new.updates; scroll = None; news = news } → Stands held views →
-    map told_of news ≡ opened_news opened text → IsOutcome (opening_outcome config opened views text) (opened_news opened text) came
-IsOutcome-opening config opened id text doc held middle new news came views numbered loads first last is stands tells =
-    let next = next_view config opened text in
+    map told_of news ≡ opened_news opened text → IsOutcome (opening_outcome terms config opened views text) (opened_news opened text) came
+IsOutcome-opening terms config opened id text doc held middle new news came views numbered loads first last is stands tells =
+    let next = next_view terms config opened text in
     let serves : ServesView (record { id = id; doc = doc }) next =
     record { id = numbered; stands = loads } in
     let done = TakesSteps-append to.Other unstepped middle new held (record { id = id; doc = doc } ∷ []) first last [] views (next ∷ []) tt stands (serves, tt) in

@@ -31,6 +31,7 @@ use Rattle.doc_session.specs.declared.event.Event.TheVariants.{Config as Configu
 use Rattle.doc_session.specs.Document.{Document, loaded_document}
 use Rattle.doc_text.specs.Refusal.{DocRefusal, of_edit}
 use Rattle.doc_session.specs.Step.{EventStep, event_step, refusal_at}
+use Rattle.session_step.specs.declared.terms.Terms.{Terms}
 use Rattle.session_step.specs.declared.given.Given.{Given}
 use Rattle.session_step.specs.declared.given.Given.TheVariants as given
 
@@ -48,8 +49,10 @@ view_of (view ∷ views) id = if bytes_eq id view.id then Some view else view_of
 abbrev pub named_view : List OpenView → List ℕ → Option OpenView
 named_view views name = view_of views (encode_utf8_all name)
 
--- A SESSION: how all its texts are laid out and edited, the views that are open in the order of their openings, and how many were opened
+-- A SESSION: what it was made with, how all its texts are laid out and edited, the views that are open in the order of their openings, and
+-- how many were opened
 pub record Session : Type 0 where
+  pub terms : Terms
   pub config : Config
   pub views : List OpenView
   pub opened : ℕ
@@ -107,17 +110,13 @@ refusing_view views = refusing views (BadParams (codes "view_id"))
 abbrev pub leaving : List OpenView → Outcome
 leaving views = record { reply = silent; views = views; updates = []; scroll = None }
 
--- the most characters that may be inserted into a document
-abbrev pub text_limit : ℕ
-text_limit = 2 ^ 40
-
 -- how texts are laid out and edited at first: tabs of four columns, which are typed as such, and lines that are not wrapped
 abbrev pub first_config : Config
 first_config = record { tab = 4; width = 0; spaces = false }
 
 -- a session without entries
-abbrev pub first_session : Session
-first_session = record { config = first_config; views = []; opened = 0 }
+abbrev pub first_session : Terms → Session
+first_session terms = record { terms = terms; config = first_config; views = []; opened = 0 }
 
 -- the configuration after a change: a member of which nothing is said stays
 abbrev pub config_with : Config → Changes → Config
@@ -132,18 +131,18 @@ abbrev pub config_after : Config → Act → Config
 config_after config (Configure changes) = config_with config changes
 config_after config act = config
 
--- the document of a view that is opened on this text, without plugins
-abbrev pub opened_document : Config → List ℕ → Document
-opened_document config text = loaded_document text 0 text_limit config
+-- the document of a view that is opened on this text
+abbrev pub opened_document : Terms → Config → List ℕ → Document
+opened_document terms config text = loaded_document text terms.plugins terms.limit config
 
 -- the view that is opened after so many, before its front end was told anything
-abbrev pub next_view : Config → ℕ → List ℕ → OpenView
-next_view config opened text = record { id = view_id_of (opened + 1); document = opened_document config text }
+abbrev pub next_view : Terms → Config → ℕ → List ℕ → OpenView
+next_view terms config opened text = record { id = view_id_of (opened + 1); document = opened_document terms config text }
 
 -- a view is opened behind those that are open, and its id is the answer
-abbrev pub opening_outcome : Config → ℕ → List OpenView → List ℕ → Outcome
-opening_outcome config opened views text =
-    taking (accepted (text_data (view_id_of (opened + 1)))) None other_step (views ++ next_view config opened text ∷ [])
+abbrev pub opening_outcome : Terms → Config → ℕ → List OpenView → List ℕ → Outcome
+opening_outcome terms config opened views text =
+    taking (accepted (text_data (view_id_of (opened + 1)))) None other_step (views ++ next_view terms config opened text ∷ [])
 
 -- the step of a view that is told a configuration
 abbrev pub config_step : Config → OpenView → EventStep
@@ -192,15 +191,15 @@ given_by Failed = given.Failed
 given_by NoCall = given.Nothing
 
 -- a view is opened on the text of a file; where there is none, no view is
-abbrev pub file_outcome : Config → ℕ → List OpenView → Given → Outcome
-file_outcome config opened views (given.Found text) = opening_outcome config opened views text
-file_outcome config opened views given.NotText = keeping views not_text
-file_outcome config opened views gave = keeping views shelf_failed
+abbrev pub file_outcome : Terms → Config → ℕ → List OpenView → Given → Outcome
+file_outcome terms config opened views (given.Found text) = opening_outcome terms config opened views text
+file_outcome terms config opened views given.NotText = keeping views not_text
+file_outcome terms config opened views gave = keeping views shelf_failed
 
 -- a view is opened on an empty text, or on what the shelf gave of its file
-abbrev pub open_outcome : Config → ℕ → List OpenView → Option (List ℕ) → Given → Outcome
-open_outcome config opened views None gave = opening_outcome config opened views []
-open_outcome config opened views (Some path) gave = file_outcome config opened views gave
+abbrev pub open_outcome : Terms → Config → ℕ → List OpenView → Option (List ℕ) → Given → Outcome
+open_outcome terms config opened views None gave = opening_outcome terms config opened views []
+open_outcome terms config opened views (Some path) gave = file_outcome terms config opened views gave
 
 -- how many were opened after an act: one more where a view is opened, and an id is never given again
 abbrev pub opened_after : ℕ → Act → Given → ℕ
@@ -236,7 +235,7 @@ abbrev pub outcome : Session → Act → Given → Outcome
 outcome session (Bad fault) gave = refusing session.views fault
 outcome session Nothing gave = keeping session.views (accepted null)
 outcome session (Configure changes) gave = config_outcome session.views (config_with session.config changes)
-outcome session (NewView path) gave = open_outcome session.config session.opened session.views path gave
+outcome session (NewView path) gave = open_outcome session.terms session.config session.opened session.views path gave
 outcome session (CloseView name) gave = close_outcome session.views (named_view session.views name)
 outcome session (Save name path) gave = save_outcome session.views (named_view session.views name) gave
 outcome session (Edit name act) gave = edit_outcome session.views (named_view session.views name) act
@@ -258,6 +257,7 @@ piece_of session entry = lines_written (messages session entry.command (given_by
 -- the session after an act
 abbrev pub act_step : Session → Act → Given → Session
 act_step session act gave = record {
+  terms = session.terms;
   config = config_after session.config act;
   views = (outcome session act gave).views;
   opened = opened_after session.opened act gave;
@@ -272,11 +272,11 @@ session_after session [] = session
 session_after session (entry ∷ entries) = session_after (step session entry) entries
 
 -- the session that the entries of a journal define, and its views
-abbrev pub session_of : List Entry → Session
-session_of journal = session_after first_session journal
+abbrev pub session_of : Terms → List Entry → Session
+session_of terms journal = session_after (first_session terms) journal
 
-abbrev pub views_of : List Entry → List OpenView
-views_of journal = (session_of journal).views
+abbrev pub views_of : Terms → List Entry → List OpenView
+views_of terms journal = (session_of terms journal).views
 
 -- WHAT ENTRIES WRITE: the pieces of each, one after the other
 abbrev pub written : Session → List Entry → List ℕ

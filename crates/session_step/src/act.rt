@@ -1,4 +1,4 @@
-ghost use Rattle.std.specs.Prelude.{◌≡◌, ◌+◌, ◌<◌, ◌^◌, ℕ, [], List, Option, Some, None, IfOk, length, map, option_map};
+ghost use Rattle.std.specs.Prelude.{◌≡◌, ◌+◌, ◌<◌, ◌≤◌, ◌^◌, ℕ, [], List, Option, Some, None, IfOk, length, map, option_map};
 ghost use Rattle.plain_text.specs.Text.{byte_len};
 ghost use Rattle.doc_text.specs.Fault.{DocRefuses};
 ghost use Rattle.doc_text.specs.Refusal.{DocRefusal};
@@ -18,6 +18,7 @@ use crate::given::Given;
 use crate::news::{news_of, one};
 use crate::opened::{Opened, place_of};
 use crate::stepped::{Stepped, ToEach};
+use crate::terms::Terms;
 use doc_session::{Body, Doc, DocFault, Effects, Event};
 use entry_lines::{FrontReply, PluginNews, view_id_of};
 use plain_text::{List, NoMemory, Text, TryClone};
@@ -27,9 +28,6 @@ use xi_plain::{Act, Config, EditAct, Fault};
 
 /// The member of a line that names its view.
 const VIEW_MEMBER: &str = "view_id";
-
-/// The most characters that may be inserted into a document.
-const TEXT_LIMIT: u64 = 1 << 40;
 
 /// What an act came to: what it is answered, the views that are open then, what else the front end is told, and what plugins are.
 #[derive(Drop)]
@@ -46,6 +44,7 @@ pub struct ActEffects {
 pub fn act_on(
     alloc: Global,
     held: &[Opened],
+    terms: Terms,
     opened: u64,
     config: Config,
     act: &Act,
@@ -54,15 +53,16 @@ pub fn act_on(
     requires asked { MayBeAsked held.now }
     requires few { opened < 2 ^ 63 }
     requires tab { 0 < config.tab }
+    requires limit { terms.limit ≤ 2 ^ 60 }
     requires line { IsOfLine act.now }
-    ensures { (session : Session) → AreThere held.now session.views → opened ≡ session.opened
+    ensures { (session : Session) → AreThere held.now session.views → terms ≡ session.terms → opened ≡ session.opened
         → config ≡ config_after session.config act.now → IfOk result (IsOutcome (outcome session act.now given) (front_news session act.now given)) }
 {
     match act {
         Act::Bad(fault) => refused(alloc, held, fault),
         Act::Nothing => others(alloc, held, FrontReply::Accepted),
         Act::Configure(_) => each(alloc, held, ToEach::Config(config), FrontReply::Accepted),
-        Act::NewView { path } => open(alloc, held, opened, config, path, given),
+        Act::NewView { path } => open(alloc, held, terms, opened, config, path, given),
         Act::CloseView { view } => close(alloc, held, view),
         Act::Save { view, path: _ } => save(alloc, held, view, &given),
         Act::Edit { view, act } => edit(alloc, held, view, act),
@@ -142,6 +142,7 @@ fn refused_view(alloc: Global, held: &[Opened]) -> Result<ActEffects, NoMemory>
 fn open(
     alloc: Global,
     held: &[Opened],
+    terms: Terms,
     opened: u64,
     config: Config,
     path: &Option<Text>,
@@ -150,16 +151,18 @@ fn open(
     requires asked { MayBeAsked held.now }
     requires few { opened < 2 ^ 63 }
     requires tab { 0 < config.tab }
+    requires limit { terms.limit ≤ 2 ^ 60 }
     ensures { (views : List OpenView) → Stands held.now views
-        → IfOk result (IsOutcome (open_outcome config opened views path.now given) (open_news opened path.now given)) }
+        → IfOk result (IsOutcome (open_outcome terms config opened views path.now given) (open_news opened path.now given)) }
 {
     match path {
-        Some(_) => open_file(alloc, held, opened, config, given),
+        Some(_) => open_file(alloc, held, terms, opened, config, given),
         None => open_text(
             alloc,
             held,
             view_id_of(alloc, opened + 1)?,
             Text::new(alloc),
+            terms,
             config,
         ),
     }
@@ -168,6 +171,7 @@ fn open(
 fn open_file(
     alloc: Global,
     held: &[Opened],
+    terms: Terms,
     opened: u64,
     config: Config,
     given: Given,
@@ -175,11 +179,19 @@ fn open_file(
     requires asked { MayBeAsked held.now }
     requires few { opened < 2 ^ 63 }
     requires tab { 0 < config.tab }
+    requires limit { terms.limit ≤ 2 ^ 60 }
     ensures { (views : List OpenView) → Stands held.now views
-        → IfOk result (IsOutcome (file_outcome config opened views given) (file_news opened given)) }
+        → IfOk result (IsOutcome (file_outcome terms config opened views given) (file_news opened given)) }
 {
     match given {
-        Given::Found(text) => open_text(alloc, held, view_id_of(alloc, opened + 1)?, text, config),
+        Given::Found(text) => open_text(
+            alloc,
+            held,
+            view_id_of(alloc, opened + 1)?,
+            text,
+            terms,
+            config,
+        ),
         Given::NotText => others(alloc, held, FrontReply::NotText),
         Given::Nothing | Given::Failed | Given::Done => others(
             alloc,
@@ -195,15 +207,17 @@ fn open_text(
     held: &[Opened],
     id: Text,
     text: Text,
+    terms: Terms,
     config: Config,
 ) -> Result<ActEffects, NoMemory>
     requires asked { MayBeAsked held.now }
     requires tab { 0 < config.tab }
+    requires limit { terms.limit ≤ 2 ^ 60 }
     ensures { (opened : ℕ) (views : List OpenView) → id ≡ view_id_of (opened + 1) → Stands held.now views
-        → IfOk result (IsOutcome (opening_outcome config opened views text) (opened_news opened text)) }
+        → IfOk result (IsOutcome (opening_outcome terms config opened views text) (opened_news opened text)) }
 {
     let news = opened_news(alloc, &id, text.byte_len())?;
-    let doc = Doc::of_text(alloc, text, 0, TEXT_LIMIT, config)?;
+    let doc = Doc::of_text(alloc, text, terms.plugins, terms.limit, config)?;
     let mut stepped = Stepped::new(alloc);
     stepped.take(alloc, held, ToEach::Other)?;
     stepped.take_one(alloc, &id, &doc, ToEach::Other)?;

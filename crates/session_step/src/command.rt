@@ -1,4 +1,4 @@
-ghost use Rattle.std.specs.Prelude.{◌≡◌, ◌<◌, ◌^◌, IfOk};
+ghost use Rattle.std.specs.Prelude.{◌≡◌, ◌<◌, ◌≤◌, ◌^◌, IfOk};
 ghost use Rattle.json_rpc.specs.Request.{IsWireId};
 ghost use Rattle.session_step.specs.Session.{Session, config_after};
 ghost use Rattle.session_step.specs.Views.{IsOfLine, AreThere, IsDone, MayBeAsked};
@@ -7,6 +7,7 @@ use crate::act::{ActEffects, act_on};
 use crate::given::Given;
 use crate::made::both;
 use crate::opened::Opened;
+use crate::terms::Terms;
 use entry_lines::{FrontNews, piece_of};
 use plain_text::{List, NoMemory, Text};
 use std::alloc::Global;
@@ -17,6 +18,7 @@ use xi_plain::{Command, Config};
 pub fn done(
     alloc: Global,
     held: &[Opened],
+    terms: Terms,
     opened: u64,
     config: Config,
     command: &Command,
@@ -25,13 +27,14 @@ pub fn done(
     requires asked { MayBeAsked held.now }
     requires few { opened < 2 ^ 63 }
     requires tab { 0 < config.tab }
+    requires limit { terms.limit ≤ 2 ^ 60 }
     requires id { IsWireId command.now.id }
     requires line { IsOfLine command.now.act }
-    ensures { (session : Session) → AreThere held.now session.views → opened ≡ session.opened
+    ensures { (session : Session) → AreThere held.now session.views → terms ≡ session.terms → opened ≡ session.opened
         → config ≡ config_after session.config command.now.act
         → IfOk result (λ made. IsDone session command.now given made.0 made.1) }
 {
-    let effects = act_on(alloc, held, opened, config, &command.act, given)?;
+    let effects = act_on(alloc, held, terms, opened, config, &command.act, given)?;
     let ActEffects {
         reply,
         held,

@@ -14,6 +14,7 @@ mod made;
 mod news;
 mod opened;
 mod stepped;
+mod terms;
 
 pub use after::after_alone;
 pub use command::done;
@@ -23,3 +24,4 @@ pub use made::both;
 pub use news::news_of;
 pub use opened::{Opened, place_of};
 pub use stepped::{Stepped, ToEach, updates_of};
+pub use terms::Terms;

@@ -12,7 +12,7 @@ type Session = Core<MemSink, CalmShelf>;
 fn session(alloc: Global, write: u64) -> Option<Session> {
     let writes = Vec::from_slice(alloc, &[write]).ok()?;
     let sink = MemSink::new(alloc, 4096, writes);
-    Core::make(alloc, sink, CalmShelf::new(alloc)).ok()
+    Core::make(alloc, sink, CalmShelf::new(alloc), 0, 100).ok()
 }
 
 // How many of these of the five lines the session takes, and how many it does not, since it is over.

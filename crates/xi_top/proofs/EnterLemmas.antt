@@ -1,4 +1,5 @@
 -- What a line that was entered comes to, by how it was answered.
+use Rattle.xi_top.specs.Alone.{alone_terms}
 use Rattle.std.proofs.Common.{◌≡◌, Err, sym, subst}
 use Rattle.xi_plain.specs.declared.command.Command.{Command}
 use Rattle.xi_plain.specs.declared.reply.Reply.{Reply}
@@ -12,7 +13,7 @@ use Rattle.xi_top.specs.InnerRun.{Enters, FailsBy, IsAnswer, IsNoSourceFault, Is
 
 -- a session that takes lines answers one so
 pub answer_of : {K H : Type 0} (tell : Core K H → Outlets) (old new : Core K H) (command : Command) (told : Reply) →
-    ComesTo tell old new command told → IsAnswer told
+    ComesTo alone_terms tell old new command told → IsAnswer told
 answer_of tell old new command (reply.Taken line) came = tt
 answer_of tell old new command reply.SinkFault came = tt
 answer_of tell old new command reply.NoMemory came = tt
@@ -20,7 +21,7 @@ answer_of tell old new command (reply.Refused line) came = came
 answer_of tell old new command reply.Closed came = came
 
 pub enters_by : {K H : Type 0} (tell : Core K H → Outlets) (old new : Core K H) (command : Command) (told : Reply) (outcome : Outcome) →
-    (sink_of new ≡ sink_of old → (tell new).sink ≡ (tell old).sink) → ComesTo tell old new command told → IsToldBy told outcome →
+    (sink_of new ≡ sink_of old → (tell new).sink ≡ (tell old).sink) → ComesTo alone_terms tell old new command told → IsToldBy told outcome →
     Enters tell old new command outcome
 enters_by tell old new command (reply.Taken line) outcome kept came is = subst (Enters tell old new command) (sym is) came.1
 enters_by tell old new command reply.SinkFault outcome kept came is = subst (Enters tell old new command) (sym is) came

@@ -1,4 +1,5 @@
 -- Lemmas on a run between two bytes: how each step goes on or stops.
+use Rattle.xi_top.specs.Alone.{alone_terms}
 use Rattle.std.proofs.Common.{◌≡◌, ◌≢◌, ℕ, ◌+◌, ◌<◌, ◌≤◌, inl, inr, true, false, List, [], ◌∷◌, ◌++◌, length, take, map, Option, Some, None, Ok, Err, refl, ap, sym, ◌∙◌, subst, append_assoc, append-nil, length-append, arith}
 use Rattle.std.proofs.lemmas.List.{map-append}
 use Rattle.std.specs.Prelude.{IfSome, Bool, ◌&&◌, unwrap_or}
@@ -82,9 +83,9 @@ sent_whole : {K H : Type 0} (tell : Core K H → Outlets) (start : Start) (core 
 sent_whole tell start core whole = record {
   each = sent_front (journal_of core) (closing_entry ∷ []) whole.serving.sent (refl, tt);
   failures = whole.failures;
-  bytes = written first_session (journal_of core);
+  bytes = written (first_session alone_terms) (journal_of core);
   gains = whole.gains;
-  shows = shows_closed core whole.serving;
+  shows = shows_closed alone_terms core whole.serving;
 }
 
 -- entries that were there are the first ones of more
@@ -135,32 +136,32 @@ module _ {K H : Type 0} (tell : Core K H → Outlets) (start : Start) where
   unfolding AreWithin
   within_taken taken core begun at = (at.within, omega (arith, at.few, at.counted))
 
-  whole_sent : (old new : Core K H) (command : Command) → IsWhole tell start old → AddsSentEntry tell old new command → IsWhole tell start new
+  whole_sent : (old new : Core K H) (command : Command) → IsWhole tell start old → AddsSentEntry alone_terms tell old new command → IsWhole tell start new
   whole_sent old new command whole adds =
       let entry = front_entry command adds.note true in
       let At : List ℕ → Type 0 = λ gained. Gains start.sink.held (tell new).sink.held gained in
-      let Saves : List Entry → Type 0 = λ entries. HoldsSaves start.shelf (tell new).shelf entries in
+      let Saves : List Entry → Type 0 = λ entries. HoldsSaves alone_terms start.shelf (tell new).shelf entries in
       record {
         serving = adds.serving;
         gains =
-            subst At (sym (ap (written first_session) adds.entry ∙ written-push (journal_of old) entry))
-            (Gains-append start.sink.held (tell old).sink.held (tell new).sink.held (written first_session (journal_of old))
-            (piece_after (journal_of old) entry) whole.gains adds.gains);
+            subst At (sym (ap (written (first_session alone_terms)) adds.entry ∙ written-push alone_terms (journal_of old) entry))
+            (Gains-append start.sink.held (tell old).sink.held (tell new).sink.held (written (first_session alone_terms) (journal_of old))
+            (piece_after alone_terms (journal_of old) entry) whole.gains adds.gains);
         stays = omega (arith, whole.stays, adds.faults_stay);
         failures = adds.failures_same ∙ whole.failures;
         saves =
             subst Saves (sym adds.entry)
-            (HoldsSaves-push (journal_of old) entry start.shelf (tell old).shelf (tell new).shelf whole.saves adds.noted);
+            (HoldsSaves-push alone_terms (journal_of old) entry start.shelf (tell old).shelf (tell new).shelf whole.saves adds.noted);
         later = whole.later ++ entry ∷ [];
         goes_on = goes_further start.entries (journal_of old) (journal_of new) whole.later entry whole.goes_on adds.entry;
       }
 
   whole_same : (old new : Core K H) → IsWhole tell start old → KeepsAll tell old new → IsWhole tell start new
   whole_same old new whole (same, kept) =
-      let At : List Entry → Type 0 = λ entries. Gains start.sink.held (tell new).sink.held (written first_session entries) in
-      let Gained : SinkState → Type 0 = λ sink. Gains start.sink.held sink.held (written first_session (journal_of old)) in
+      let At : List Entry → Type 0 = λ entries. Gains start.sink.held (tell new).sink.held (written (first_session alone_terms) entries) in
+      let Gained : SinkState → Type 0 = λ sink. Gains start.sink.held sink.held (written (first_session alone_terms) (journal_of old)) in
       let Stays : SinkState → Type 0 = λ sink. start.sink.faults ≤ sink.faults in
-      let Saves : List Entry → Type 0 = λ entries. HoldsSaves start.shelf (tell new).shelf entries in
+      let Saves : List Entry → Type 0 = λ entries. HoldsSaves alone_terms start.shelf (tell new).shelf entries in
       record {
         serving = same.serving;
         gains = subst At (sym same.journal) (subst Gained (sym kept) whole.gains);
@@ -168,15 +169,15 @@ module _ {K H : Type 0} (tell : Core K H → Outlets) (start : Start) where
         failures = ap (λ (sink : SinkState). sink.failures) kept ∙ whole.failures;
         saves =
             subst Saves (sym same.journal)
-            (HoldsSaves-keeps start.shelf (tell old).shelf (tell new).shelf (journal_of old) whole.saves same.shelf);
+            (HoldsSaves-keeps alone_terms start.shelf (tell old).shelf (tell new).shelf (journal_of old) whole.saves same.shelf);
         later = whole.later;
         goes_on = same.journal ∙ whole.goes_on;
       }
 
   -- ---- stops
 
-  saves_closed : (core : Core K H) → IsWhole tell start core → HoldsSaves start.shelf (tell core).shelf (journal_of core ++ closing_entry ∷ [])
-  saves_closed core whole = HoldsSaves-closed start.shelf (tell core).shelf (journal_of core) whole.saves
+  saves_closed : (core : Core K H) → IsWhole tell start core → HoldsSaves alone_terms start.shelf (tell core).shelf (journal_of core ++ closing_entry ∷ [])
+  saves_closed core whole = HoldsSaves-closed alone_terms start.shelf (tell core).shelf (journal_of core) whole.saves
 
   -- the source failed
   pub stops_source : (taken left : List ℕ) (core : Core K H) (begun : Begun) → HasTaken tell start taken core begun →
@@ -191,7 +192,7 @@ module _ {K H : Type 0} (tell : Core K H → Outlets) (start : Start) where
         written = sent_whole tell start core at.whole;
         saves = saves_closed core at.whole;
         legal = legal_open (journal_of core) at.whole.serving.sent;
-        saves_asked = AreSavesAsked-closed (journal_of core) at.whole.serving.saves_asked;
+        saves_asked = AreSavesAsked-closed alone_terms (journal_of core) at.whole.serving.saves_asked;
         stays = at.whole.stays;
         later = at.whole.later;
         goes_on = at.whole.goes_on;
@@ -207,7 +208,7 @@ module _ {K H : Type 0} (tell : Core K H → Outlets) (start : Start) where
     written = sent_whole tell start core whole;
     saves = saves_closed core whole;
     legal = legal_open (journal_of core) whole.serving.sent;
-    saves_asked = AreSavesAsked-closed (journal_of core) whole.serving.saves_asked;
+    saves_asked = AreSavesAsked-closed alone_terms (journal_of core) whole.serving.saves_asked;
     stays = whole.stays;
     later = whole.later;
     goes_on = whole.goes_on;
@@ -215,15 +216,15 @@ module _ {K H : Type 0} (tell : Core K H → Outlets) (start : Start) where
 
   -- where the sink failed, its last entry is cut off
   stops_sink : (taken left line : List ℕ) (old new : Core K H) (n : ℕ) → IsWhole tell start old →
-      AddsUnsentEntry tell old new (command_of line) n → HoldsLines (Err SinkFault) taken left (commands (journal_of new)) →
+      AddsUnsentEntry alone_terms tell old new (command_of line) n → HoldsLines (Err SinkFault) taken left (commands (journal_of new)) →
       Stops tell start taken left new (Err SinkFault)
   stops_sink taken left line old new n whole adds lines =
       let command = command_of line in
       let last = front_entry command adds.note false in
-      let piece = piece_after (journal_of old) last in
+      let piece = piece_after alone_terms (journal_of old) last in
       let Legal : List Entry → Type 0 = λ entries. IsLegal 0 (entries ++ closing_entry ∷ []) in
-      let Asked : List Entry → Type 0 = λ entries. AreSavesAsked (entries ++ closing_entry ∷ []) in
-      let Saves : List Entry → Type 0 = λ entries. HoldsSaves start.shelf (tell new).shelf (entries ++ closing_entry ∷ []) in
+      let Asked : List Entry → Type 0 = λ entries. AreSavesAsked alone_terms (entries ++ closing_entry ∷ []) in
+      let Saves : List Entry → Type 0 = λ entries. HoldsSaves alone_terms start.shelf (tell new).shelf (entries ++ closing_entry ∷ []) in
       let cut : IsCutOff start.sink (tell new).sink (journal_of new ++ closing_entry ∷ []) = record {
         sent = journal_of old;
         last = last;
@@ -232,10 +233,10 @@ module _ {K H : Type 0} (tell : Core K H → Outlets) (start : Start) where
         unsent = refl;
         failures = subst (λ (n : ℕ). (tell new).sink.failures ≡ counted n) whole.failures adds.failures_counted;
         rose = Rose-earlier start.sink.faults (tell old).sink.faults (tell new).sink.faults whole.stays adds.rose;
-        bytes = written first_session (journal_of old);
+        bytes = written (first_session alone_terms) (journal_of old);
         part = take n piece;
         gains =
-            Gains-append start.sink.held (tell old).sink.held (tell new).sink.held (written first_session (journal_of old)) (take n piece)
+            Gains-append start.sink.held (tell old).sink.held (tell new).sink.held (written (first_session alone_terms) (journal_of old)) (take n piece)
             whole.gains adds.gains;
         shows = whole.serving.showing.shows;
         proper = (n, adds.part, refl);
@@ -248,12 +249,12 @@ module _ {K H : Type 0} (tell : Core K H → Outlets) (start : Start) where
         written = cut;
         saves =
             subst Saves (sym adds.entry)
-            (HoldsSaves-closed start.shelf (tell new).shelf (journal_of old ++ last ∷ [])
-            (HoldsSaves-push (journal_of old) last start.shelf (tell old).shelf (tell new).shelf whole.saves adds.noted));
+            (HoldsSaves-closed alone_terms start.shelf (tell new).shelf (journal_of old ++ last ∷ [])
+            (HoldsSaves-push alone_terms (journal_of old) last start.shelf (tell old).shelf (tell new).shelf whole.saves adds.noted));
         legal = legal;
         saves_asked =
             subst Asked (sym adds.entry)
-            (AreSavesAsked-closed (journal_of old ++ last ∷ []) (AreSavesAsked-push (journal_of old) last whole.serving.saves_asked adds.noted.asked));
+            (AreSavesAsked-closed alone_terms (journal_of old ++ last ∷ []) (AreSavesAsked-push alone_terms (journal_of old) last whole.serving.saves_asked adds.noted.asked));
         stays = omega (arith, whole.stays, adds.faults_stay);
         later = whole.later ++ last ∷ [];
         goes_on = goes_further start.entries (journal_of old) (journal_of new) whole.later last whole.goes_on adds.entry;
@@ -292,7 +293,7 @@ module _ {K H : Type 0} (tell : Core K H → Outlets) (start : Start) where
     stops_line TooLong fits fewer fails left = absurd fails
 
     -- or it was
-    pub takes_line : (next : Begun) → length line ≤ too_long → begun.count < most_lines → AddsSentEntry tell old new (command_of line) →
+    pub takes_line : (next : Begun) → length line ≤ too_long → begun.count < most_lines → AddsSentEntry alone_terms tell old new (command_of line) →
         next.bytes ≡ [] → next.count ≡ begun.count + 1 → HasTaken tell start (taken ++ bytes) new next
     takes_line next fits fewer adds none one =
         let count : length (ended_lines [] (taken ++ bytes)) ≡ length (ended_lines [] taken) + 1 =
@@ -334,7 +335,7 @@ module _ {K H : Type 0} (tell : Core K H → Outlets) (start : Start) where
         written = sent_whole tell start core at.whole;
         saves = saves_closed core at.whole;
         legal = legal_open (journal_of core) at.whole.serving.sent;
-        saves_asked = AreSavesAsked-closed (journal_of core) at.whole.serving.saves_asked;
+        saves_asked = AreSavesAsked-closed alone_terms (journal_of core) at.whole.serving.saves_asked;
         stays = at.whole.stays;
         later = at.whole.later;
         goes_on = at.whole.goes_on;
@@ -367,7 +368,7 @@ module _ {K H : Type 0} (tell : Core K H → Outlets) (start : Start) where
         written = sent_whole tell start core at.whole;
         saves = saves_closed core at.whole;
         legal = legal_open (journal_of core) at.whole.serving.sent;
-        saves_asked = AreSavesAsked-closed (journal_of core) at.whole.serving.saves_asked;
+        saves_asked = AreSavesAsked-closed alone_terms (journal_of core) at.whole.serving.saves_asked;
         stays = at.whole.stays;
         later = at.whole.later;
         goes_on = at.whole.goes_on;
@@ -481,7 +482,7 @@ module _ {K H : Type 0} (tell : Core K H → Outlets) (start : Start) where
     written = sent_whole tell start core whole;
     saves = saves_closed core whole;
     legal = legal_open (journal_of core) whole.serving.sent;
-    saves_asked = AreSavesAsked-closed (journal_of core) whole.serving.saves_asked;
+    saves_asked = AreSavesAsked-closed alone_terms (journal_of core) whole.serving.saves_asked;
     stays = whole.stays;
     later = whole.later;
     goes_on = whole.goes_on;
@@ -537,18 +538,18 @@ module _ {K H : Type 0} (tell : Core K H → Outlets) (start : Start) where
 -- ---- the run's start and its source
 
 -- before the first byte
-pub at_first : {K H : Type 0} (tell : Core K H → Outlets) (core : Core K H) (begun : Begun) → IsServing core → journal_of core ≡ [] →
+pub at_first : {K H : Type 0} (tell : Core K H → Outlets) (core : Core K H) (begun : Begun) → IsServing alone_terms core → journal_of core ≡ [] →
     begun.bytes ≡ [] → begun.count ≡ 0 → HasTaken tell (start_of (tell core)) [] core begun
 at_first tell core begun serving empty none zero_of =
-    let At : List Entry → Type 0 = λ entries. Gains (tell core).sink.held (tell core).sink.held (written first_session entries) in
-    let Saves : List Entry → Type 0 = λ entries. HoldsSaves (tell core).shelf (tell core).shelf entries in
+    let At : List Entry → Type 0 = λ entries. Gains (tell core).sink.held (tell core).sink.held (written (first_session alone_terms) entries) in
+    let Saves : List Entry → Type 0 = λ entries. HoldsSaves alone_terms (tell core).shelf (tell core).shelf entries in
     record {
       whole = record {
         serving = serving;
         gains = subst At (sym empty) (Gains-none (tell core).sink.held);
         stays = omega arith;
         failures = refl;
-        saves = subst Saves (sym empty) (HoldsSaves-none (tell core).shelf);
+        saves = subst Saves (sym empty) (HoldsSaves-none alone_terms (tell core).shelf);
         later = [];
         goes_on = empty;
       };

@@ -1,4 +1,5 @@
 -- What a run comes to, by its status and by the count of failed writes.
+use Rattle.xi_top.specs.Alone.{alone_terms}
 use Rattle.std.proofs.Common.{◌≡◌, ℕ, ◌+◌, ◌-◌, ◌<◌, inl, inr, List, [], ◌∷◌, ◌++◌, length, map, Ok, Err, refl, ap, sym, ◌∙◌, subst, length-append, arith}
 use Rattle.std.proofs.lemmas.List.{length-map}
 use Rattle.std.specs.Prelude.{IfSome, ◌^◌, ◌⊎◌}
@@ -117,7 +118,7 @@ none_failed before after journal (Err TooMany) written is = absurd (omega (arith
 none_failed before after journal (Err TooLong) written is = absurd (omega (arith, is))
 
 nothing_sent : (sink : SinkState) → IsSent sink sink []
-nothing_sent sink = record { each = tt; failures = refl; bytes = []; gains = Gains-none sink.held; shows = shows_none }
+nothing_sent sink = record { each = tt; failures = refl; bytes = []; gains = Gains-none sink.held; shows = shows_none alone_terms }
 
 pub IsWrittenByCount-run : (passage : Passage) (journal : List Entry) (status : ℕ) → RunsAlone passage journal status →
     IsWrittenByCount passage.before.sink passage.after.sink journal status
@@ -138,10 +139,10 @@ IsWrittenByCount-run passage journal status (inr (same, none)) =
 -- ---- what the shelf holds
 
 pub HoldsSaves-run : (passage : Passage) (journal : List Entry) (status : ℕ) → RunsAlone passage journal status →
-    HoldsSaves passage.before.shelf passage.after.shelf journal
+    HoldsSaves alone_terms passage.before.shelf passage.after.shelf journal
 HoldsSaves-run passage journal status (inl (outcome, same, run)) = run.saves
 HoldsSaves-run passage journal status (inr (same, none)) =
     let shelf : passage.after.shelf ≡ passage.before.shelf = ap (λ (o : Outside). o.shelf) none.same in
-    let At : ShelfState → Type 0 = λ after. HoldsSaves passage.before.shelf after journal in
-    let Of : List Entry → Type 0 = λ entries. HoldsSaves passage.before.shelf passage.before.shelf entries in
-    subst At (sym shelf) (subst Of (sym none.empty) (HoldsSaves-none passage.before.shelf))
+    let At : ShelfState → Type 0 = λ after. HoldsSaves alone_terms passage.before.shelf after journal in
+    let Of : List Entry → Type 0 = λ entries. HoldsSaves alone_terms passage.before.shelf passage.before.shelf entries in
+    subst At (sym shelf) (subst Of (sym none.empty) (HoldsSaves-none alone_terms passage.before.shelf))

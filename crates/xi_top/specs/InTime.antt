@@ -1,4 +1,5 @@
 -- EACH LINE IS ANSWERED BEFORE THE NEXT READ: the moments of a run, one before each read of its source.
+use Rattle.xi_top.specs.Alone.{alone_terms}
 use Rattle.std.specs.Prelude.{◌≡◌, ℕ, List, [], ◌∷◌, ◌++◌, length, map, ⊤}
 use Rattle.std.specs.List.{AllByRecursion}
 use Rattle.plain_text.specs.InputLines.{ended_lines}
@@ -30,8 +31,8 @@ pub record IsAnswered (start : Outside) (journal : List Entry) (moment : Moment)
   pub asked : commands entries ≡ map command_of (ended_lines [] moment.taken)
   pub sent : AreSent entries
   pub gives : Gives start.source.left moment.outside.source.left moment.taken
-  pub gains : Gains start.sink.held moment.outside.sink.held (written first_session entries)
-  pub saves : HoldsSaves start.shelf moment.outside.shelf entries
+  pub gains : Gains start.sink.held moment.outside.sink.held (written (first_session alone_terms) entries)
+  pub saves : HoldsSaves alone_terms start.shelf moment.outside.shelf entries
   pub no_read_failed : moment.outside.source.failures ≡ start.source.failures
   pub no_write_failed : moment.outside.sink.failures ≡ start.sink.failures
 

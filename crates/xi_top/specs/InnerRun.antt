@@ -1,4 +1,5 @@
 -- What private functions say: how a run goes on within the bytes of a read, and how it stops.
+use Rattle.xi_top.specs.Alone.{alone_terms}
 use Rattle.std.specs.Prelude.{◌≡◌, ℕ, ◌+◌, ◌*◌, ◌<◌, ◌≤◌, List, [], ◌∷◌, ◌++◌, length, IfSome, Ok, Err, ⊤}
 use Rattle.std.specs.List.{AllByRecursion}
 use Rattle.xi_plain.specs.declared.command.Command.{Command}
@@ -31,7 +32,7 @@ GoesOn tell start taken core begun (Err ending) =
 
 -- a run that goes on takes lines, has room for the line that it began, and weighs more by the bytes that it took
 pub record IsFed {K H : Type 0} (core : Core K H) (old new : Begun) (bytes : List ℕ) : Type 0 where
-  pub serving : IsServing core
+  pub serving : IsServing alone_terms core
   pub small : IsSmall new
   pub heavier : weight old + length bytes ≤ weight new
 
@@ -46,17 +47,17 @@ step_after (Err ending) = Ends (Err ending)
 
 -- nothing was changed, and the sink tells what it told
 abbrev pub KeepsAll : {K H : Type 0} → (Core K H → Outlets) → Core K H → Core K H → Type 0
-KeepsAll tell old new = ChangesNothing tell old new × ((tell new).sink ≡ (tell old).sink)
+KeepsAll tell old new = ChangesNothing alone_terms tell old new × ((tell new).sink ≡ (tell old).sink)
 
 -- why a line was not taken
 abbrev pub FailsBy : {K H : Type 0} → (Core K H → Outlets) → Core K H → Core K H → Command → Ending → Type 0
-FailsBy tell old new command SinkFault = (n : ℕ) × AddsUnsentEntry tell old new command n
+FailsBy tell old new command SinkFault = (n : ℕ) × AddsUnsentEntry alone_terms tell old new command n
 FailsBy tell old new command NoMemory = KeepsAll tell old new
 FailsBy tell old new command ending = ⊥
 
 -- the command was taken, or it was not
 abbrev pub Enters : {K H : Type 0} → (Core K H → Outlets) → Core K H → Core K H → Command → Outcome → Type 0
-Enters tell old new command (Ok done) = AddsSentEntry tell old new command
+Enters tell old new command (Ok done) = AddsSentEntry alone_terms tell old new command
 Enters tell old new command (Err ending) = FailsBy tell old new command ending
 
 -- what a session that takes lines answers one

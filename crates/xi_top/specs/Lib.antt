@@ -1,3 +1,4 @@
+pub mod Alone
 pub mod Ending
 pub mod Lines
 pub mod Written

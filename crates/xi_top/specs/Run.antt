@@ -1,4 +1,5 @@
 -- THE RUN: what a run of the core with a source and a sink comes to.
+use Rattle.xi_top.specs.Alone.{alone_terms}
 use Rattle.std.specs.Prelude.{◌≡◌, ℕ, ◌+◌, ◌-◌, ◌^◌, ◌<◌, ◌≤◌, codes, List, [], ◌∷◌, ◌++◌, length, Err, IfSome, ⊤, ◌⊎◌}
 use Rattle.xi_plain.specs.declared.entry.Entry.{Entry}
 use Rattle.outside.specs.Faults.{Rose}
@@ -45,10 +46,10 @@ pub record IsRun (passage : Passage) (journal : List Entry) (outcome : Outcome) 
   pub entries : List Entry
   pub closed : journal ≡ entries ++ closing_entry ∷ []
   pub legal : IsLegal 0 journal
-  pub saves_asked : AreSavesAsked journal
+  pub saves_asked : AreSavesAsked alone_terms journal
   pub lines : HoldsLines outcome taken left (commands (front_entries entries))
   pub written : IsWritten outcome passage.before.sink passage.after.sink journal
-  pub saves : HoldsSaves passage.before.shelf passage.after.shelf journal
+  pub saves : HoldsSaves alone_terms passage.before.shelf passage.after.shelf journal
   pub source_failed : HasFailedIf outcome passage.before.source passage.after.source
   pub source_stays : passage.before.source.faults ≤ passage.after.source.faults
   pub sink_stays : passage.before.sink.faults ≤ passage.after.sink.faults

@@ -1,4 +1,5 @@
 -- ONE STEP OF A RUN: one read of its source, and each line that is whole by then.
+use Rattle.xi_top.specs.Alone.{alone_terms}
 use Rattle.std.specs.Prelude.{◌≡◌, ℕ, ◌<◌, ◌≤◌, false, List, [], ◌∷◌, ◌++◌, length, map, IfSome, Option, Ok, Err, ⊤}
 use Rattle.std.specs.List.{AllByRecursion}
 use Rattle.plain_text.specs.InputLines.{ended_lines, unended}
@@ -51,11 +52,11 @@ start_of outlets = record { sink = outlets.sink; shelf = outlets.shelf; entries 
 
 -- all entries were sent, the sink gained their pieces, and the shelf holds the saves; those that were there by then are the first of them
 pub record IsWhole {K H : Type 0} (tell : Core K H → Outlets) (start : Start) (core : Core K H) : Type 0 where
-  pub serving : IsServing core
-  pub gains : Gains start.sink.held (tell core).sink.held (written first_session (journal_of core))
+  pub serving : IsServing alone_terms core
+  pub gains : Gains start.sink.held (tell core).sink.held (written (first_session alone_terms) (journal_of core))
   pub stays : start.sink.faults ≤ (tell core).sink.faults
   pub failures : (tell core).sink.failures ≡ start.sink.failures
-  pub saves : HoldsSaves start.shelf (tell core).shelf (journal_of core)
+  pub saves : HoldsSaves alone_terms start.shelf (tell core).shelf (journal_of core)
   pub later : List Entry
   pub goes_on : journal_of core ≡ start.entries ++ later
 
@@ -78,9 +79,9 @@ IsNoSourceFault outcome = ⊤
 pub record Stops {K H : Type 0} (tell : Core K H → Outlets) (start : Start) (taken left : List ℕ) (core : Core K H) (outcome : Outcome) : Type 0 where
   pub lines : HoldsLines outcome taken left (commands (front_entries (journal_of core)))
   pub written : IsWritten outcome start.sink (tell core).sink (journal_of core ++ closing_entry ∷ [])
-  pub saves : HoldsSaves start.shelf (tell core).shelf (journal_of core ++ closing_entry ∷ [])
+  pub saves : HoldsSaves alone_terms start.shelf (tell core).shelf (journal_of core ++ closing_entry ∷ [])
   pub legal : IsLegal 0 (journal_of core ++ closing_entry ∷ [])
-  pub saves_asked : AreSavesAsked (journal_of core ++ closing_entry ∷ [])
+  pub saves_asked : AreSavesAsked alone_terms (journal_of core ++ closing_entry ∷ [])
   pub stays : start.sink.faults ≤ (tell core).sink.faults
   pub later : List Entry
   pub goes_on : journal_of core ≡ start.entries ++ later
@@ -96,7 +97,7 @@ HasAnswered tell start taken run = HasTaken tell start taken run.core (begun_of 
 
 -- the run has not ended
 pub record IsOngoing {K H : Type 0} (run : Run K H) : Type 0 where
-  pub serving : IsServing run.core
+  pub serving : IsServing alone_terms run.core
   pub small : IsSmall (begun_of run.intake)
 
 -- the sink of a run

@@ -1,4 +1,5 @@
 -- What a run wrote, where no write failed and where one did.
+use Rattle.xi_top.specs.Alone.{alone_terms}
 use Rattle.std.specs.Prelude.{◌≡◌, ℕ, ◌+◌, ◌-◌, ◌^◌, ◌<◌, true, false, List, [], ◌∷◌, ◌++◌, length, take, Err, ◌⊎◌}
 use Rattle.std.specs.List.{AllByRecursion}
 use Rattle.xi_plain.specs.declared.entry.Entry.{Entry}
@@ -20,7 +21,7 @@ pub record IsSent (before after : SinkState) (journal : List Entry) : Type 0 whe
   pub failures : after.failures ≡ before.failures
   pub bytes : List ℕ
   pub gains : Gains before.held after.held bytes
-  pub shows : Shows journal bytes
+  pub shows : Shows alone_terms journal bytes
 
 -- these bytes are the first ones of those, and not all
 abbrev pub IsProperPart : List ℕ → List ℕ → Type 0
@@ -39,8 +40,8 @@ pub record IsCutOff (before after : SinkState) (journal : List Entry) : Type 0 w
   pub bytes : List ℕ
   pub part : List ℕ
   pub gains : Gains before.held after.held (bytes ++ part)
-  pub shows : Shows sent bytes
-  pub proper : IsProperPart part (piece_after sent last)
+  pub shows : Shows alone_terms sent bytes
+  pub proper : IsProperPart part (piece_after alone_terms sent last)
 
 -- WHAT WAS WRITTEN, by how the run ended
 abbrev pub IsWritten : Outcome → SinkState → SinkState → List Entry → Type 0

@@ -1,3 +1,4 @@
+ghost use Rattle.xi_top.specs.Alone.{alone_terms};
 ghost use Rattle.front_wire.specs.Front.{command_of};
 ghost use Rattle.core_session.specs.Core.{IsServing, outlets_of};
 ghost use Rattle.xi_top.specs.InnerRun.{Enters, IsAnswer, IsToldBy};
@@ -8,7 +9,7 @@ use outside::{Shelf, Sink};
 
 /// Enters a line. After an `Err` it was not taken, or not answered whole, and the run ends so.
 pub fn enter<K: Sink, H: Shelf>(core: &mut Core<K, H>, line: &[u8]) -> Result<(), Ending>
-    requires { IsServing core.old }
+    requires { IsServing alone_terms core.old }
     ensures { Enters (outlets_of K.held K.faults K.failures H.files H.faults) core.old core.new (command_of line.now) result }
 {
     let reply = core.front_line(line);

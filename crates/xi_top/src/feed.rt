@@ -1,3 +1,4 @@
+ghost use Rattle.xi_top.specs.Alone.{alone_terms};
 ghost use Rattle.std.specs.Prelude.{◌≡◌, ℕ, ◌+◌, ◌<◌, ◌≤◌, ◌++◌, List, [], length, OnOk};
 ghost use Rattle.core_session.specs.Core.{IsServing, outlets_of};
 ghost use Rattle.xi_top.specs.Ending.{most_lines};
@@ -42,7 +43,7 @@ impl Intake {
         core: &mut Core<K, H>,
         chunk: &[u8],
     ) -> Result<(), Ending>
-        requires serving { IsServing core.old }
+        requires serving { IsServing alone_terms core.old }
         requires small { IsSmall (begun_of self.old) }
         ensures fed { OnOk result (IsFed core.new (begun_of self.old) (begun_of self.new) chunk.now) }
         ensures goes { (start : Start) (taken : List ℕ)
@@ -64,7 +65,7 @@ impl Intake {
         core: &mut Core<K, H>,
         ending: &[u8],
     ) -> Result<(), Ending>
-        requires serving { IsServing core.old }
+        requires serving { IsServing alone_terms core.old }
         requires small { IsSmall (begun_of self.old) }
         ensures fed { OnOk result (IsFed core.new (begun_of self.old) (begun_of self.new) ending.now) }
         ensures goes { (start : Start) (taken : List ℕ) → EndsLine ending.now
@@ -112,7 +113,7 @@ impl Intake {
 
     /// Enters what stands after the last LF, where it is not empty, at the input's end.
     pub fn finish<K: Sink, H: Shelf>(&self, core: &mut Core<K, H>) -> Result<(), Ending>
-        requires serving { IsServing core.old }
+        requires serving { IsServing alone_terms core.old }
         requires small { IsSmall (begun_of self.now) }
         ensures { (start : Start) (taken : List ℕ)
             → HasTaken (outlets_of K.held K.faults K.failures H.files H.faults) start taken core.old (begun_of self.now)

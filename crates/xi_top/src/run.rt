@@ -1,3 +1,4 @@
+ghost use Rattle.xi_top.specs.Alone.{alone_terms};
 ghost use Rattle.std.specs.Prelude.{◌≡◌, ◌↔◌, [], IsTrue, codes};
 ghost use Rattle.outside.specs.Source.{source_state};
 ghost use Rattle.outside.specs.Sink.{sink_state};
@@ -45,7 +46,7 @@ pub fn xi_main<S: Source, K: Sink, H: Shelf>(
         (passage_of (source_state S.left S.faults S.failures) (sink_state K.held K.faults K.failures)
         (shelf_state H.files H.faults) source.old source.new sink result.sink shelf result.shelf)
         result.journal.items result.status }
-    ensures saves { IsAlone words.now → HoldsSaves
+    ensures saves { IsAlone words.now → HoldsSaves alone_terms
         (shelf_state H.files H.faults shelf) (shelf_state H.files H.faults result.shelf) result.journal.items }
     ensures writes { IsAlone words.now → IsWrittenByCount
         (sink_state K.held K.faults K.failures sink) (sink_state K.held K.faults K.failures result.sink)
@@ -107,7 +108,7 @@ pub fn run_alone<S: Source, K: Sink, H: Shelf>(
         (passage_of (source_state S.left S.faults S.failures) (sink_state K.held K.faults K.failures)
         (shelf_state H.files H.faults) source.old source.new sink result.sink shelf result.shelf)
         result.journal.items result.status }
-    ensures saves { HoldsSaves
+    ensures saves { HoldsSaves alone_terms
         (shelf_state H.files H.faults shelf) (shelf_state H.files H.faults result.shelf) result.journal.items }
     ensures writes { IsWrittenByCount
         (sink_state K.held K.faults K.failures sink) (sink_state K.held K.faults K.failures result.sink)

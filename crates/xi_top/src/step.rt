@@ -15,6 +15,12 @@ use xi_plain::Entry;
 /// How many bytes one read may give.
 const MOST_READ: usize = 4096;
 
+/// A front end is served alone.
+const NO_PLUGINS: u32 = 0;
+
+/// The most characters that may be inserted into a document.
+const TEXT_LIMIT: u64 = 1 << 40;
+
 /// What a step of a run came to.
 #[derive(Clone, Copy)]
 pub enum Stepped {
@@ -42,7 +48,7 @@ impl<K: Sink, H: Shelf> Run<K, H> {
             (start_of (outlets_of K.held K.faults K.failures H.files H.faults run.core)) [] run) }
         ensures back { IfErr result (λ back. (back.0 ≡ sink) × (back.1 ≡ shelf)) }
     {
-        match Core::make(alloc, sink, shelf) {
+        match Core::make(alloc, sink, shelf, NO_PLUGINS, TEXT_LIMIT) {
             Ok(core) => Ok(Run {
                 core,
                 intake: Intake::new(alloc),

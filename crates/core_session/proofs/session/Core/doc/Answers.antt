@@ -17,12 +17,12 @@ returns-in-Some-clause-stands g c =
     let few : length journal.items < 2 ^ 63 = omega (arith, journal.ok.0, journal.ok.1, journal.small, core.room) in
     let held = c.as_slice-held.result.now in
     let name = c.args.view.now in
-    let views = views_of journal.items in
+    let views = views_of c.args.self.now.terms journal.items in
     let Held : List Opened → Type 0 = λ held. Stands held views in
     let is = subst (IsPlaceOf held name) c.in-Some.is c.place_of.ensures in
     ∥∥₁_map core.kept (λ kept.
     let stands : Stands held views = subst Held (sym c.as_slice-held.ensures) kept.stands.views in
-    let found = named_at held views name c.in-Some.at (stands, apart_of journal.items few) is in
+    let found = named_at held views name c.in-Some.at (stands, apart_of c.args.self.now.terms journal.items few) is in
     let doc = (get_or held c.in-Some.at c.index-held-at.result).doc in
     let At : Option OpenView → Type 0 = λ named. IsDocOf doc named in
     subst At (sym found.named) (serves_found held views c.in-Some.at found.view c.index-held-at.result stands found.found).stands)
@@ -34,13 +34,13 @@ returns-in-Some-clause-absent g c =
     let few : length journal.items < 2 ^ 63 = omega (arith, journal.ok.0, journal.ok.1, journal.small, core.room) in
     let held = c.as_slice-held.result.now in
     let name = c.args.view.now in
-    let views = views_of journal.items in
+    let views = views_of c.args.self.now.terms journal.items in
     let Held : List Opened → Type 0 = λ held. Stands held views in
     let is = subst (IsPlaceOf held name) c.in-Some.is c.place_of.ensures in (
       λ none. absurd cc,
       λ none.
           absurd (∥∥₁_elim core.kept never_prop (λ kept.
-          let found = named_at held views name c.in-Some.at (subst Held (sym c.as_slice-held.ensures) kept.stands.views, apart_of journal.items few) is in
+          let found = named_at held views name c.in-Some.at (subst Held (sym c.as_slice-held.ensures) kept.stands.views, apart_of c.args.self.now.terms journal.items few) is in
           not_none (sym found.named ∙ none))),
     )
 
@@ -51,12 +51,12 @@ returns-in-None-clause-absent g c =
     let few : length journal.items < 2 ^ 63 = omega (arith, journal.ok.0, journal.ok.1, journal.small, core.room) in
     let held = c.as_slice-held.result.now in
     let name = c.args.view.now in
-    let views = views_of journal.items in
+    let views = views_of c.args.self.now.terms journal.items in
     let Held : List Opened → Type 0 = λ held. Stands held views in
     let is = subst (IsPlaceOf held name) c.in-None.is c.place_of.ensures in (
       λ none.
           none_by (named_view views name)
           (∥∥₁_map core.kept (λ kept.
-          none_named held views name (subst Held (sym c.as_slice-held.ensures) kept.stands.views, apart_of journal.items few) is)),
+          none_named held views name (subst Held (sym c.as_slice-held.ensures) kept.stands.views, apart_of c.args.self.now.terms journal.items few) is)),
       λ none. refl,
     )

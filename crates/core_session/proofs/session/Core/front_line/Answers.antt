@@ -1,4 +1,7 @@
-use Rattle.std.proofs.Common.{refl, sym, ◌∙◌}
+use Rattle.std.proofs.Common.{refl, sym, ◌∙◌, subst}
+use Rattle.front_wire.specs.Front.{command_of}
+use Rattle.session_step.specs.declared.terms.Terms.{Terms}
+use Rattle.core_session.specs.Core.{ComesTo, IsServing, outlets_of}
 use Rattle.core_session.proofs.KeptLemmas.{absurd_of, open_not_over, over_of}
 use Rattle.core_session.proofs.session.Core.front_line.Goals as goal
 
@@ -8,7 +11,7 @@ returns-in-Broken-clause-closed g c =
     ((λ is. over), λ is. refl)
 
 pub returns-in-Broken-clause-served : goal.returns-in-Broken-clause-served
-returns-in-Broken-clause-served g c = λ serving.
+returns-in-Broken-clause-served g c = λ terms serving.
     let journal = c.args.self.now.journal.items in
     let over = over_of journal c.args.self.now.stage c.args.self.now.staged c.in-Broken.is in
     absurd_of (sym (open_not_over journal serving.sent) ∙ over)
@@ -16,3 +19,11 @@ returns-in-Broken-clause-served g c = λ serving.
 pub returns-in-Broken-clause-complete : goal.returns-in-Broken-clause-complete
 returns-in-Broken-clause-complete g c = λ calm goes.
     absurd_of (sym goes ∙ over_of c.args.self.now.journal.items c.args.self.now.stage c.args.self.now.staged c.in-Broken.is)
+
+pub returns-in-Serves-clause-served : goal.returns-in-Serves-clause-served
+returns-in-Serves-clause-served g c = λ terms serving.
+    let core = c.args.self.now in
+    let tell = outlets_of g.K.Sink.held g.K.Sink.faults g.K.Sink.failures g.H.Shelf.files g.H.Shelf.faults in
+    let At : Terms → Type 0 = λ t. ComesTo t tell core c.take_line.new.self (command_of c.args.line.now) c.take_line.result in
+    let Serving : Terms → Type 0 = λ t. IsServing t core in
+    subst At serving.made_with (c.take_line.ensures.served (subst Serving (sym serving.made_with) serving))

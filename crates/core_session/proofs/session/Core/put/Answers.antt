@@ -35,11 +35,12 @@ invariant_of-self g c =
             c.requires.room,
             reserved_if c.stage_if-self.result _ c.stage_if-self.ensures,
           );
+      limit = core.limit;
       kept =
           rw (items, c.put.ensures)
           (∥∥₁_elim core.kept ∥∥₁_prop (λ kept.
           ∥∥₁_map c.requires.prepared (λ prepared.
-          IsOfJournal-push journal.items made _ few each (showing_open journal.items each kept.showing) kept.saves_asked c.requires.asks c.requires.kind
+          IsOfJournal-push c.args.self.now.terms journal.items made _ few each (showing_open c.args.self.now.terms journal.items each kept.showing) kept.saves_asked c.requires.asks c.requires.kind
           c.requires.asked prepared)));
     }
 
@@ -53,23 +54,24 @@ returns-clause-rose g c = λ fails.
 
 pub returns-clause-puts : goal.returns-clause-puts
 returns-clause-puts g c = λ serving prepared.
-    PutsAs-by _ _ _ _ _ _ c.reply_if.result c.reply_if.ensures
+    PutsAs-by c.args.self.now.terms _ _ _ _ _ _ c.reply_if.result c.reply_if.ensures
     (λ yes.
     let journal = c.args.self.now.journal in
     let made = c.args.made in
     let few : length journal.items < 2 ^ 63 = omega (arith, journal.ok.0, journal.ok.1, journal.small, c.requires.room) in
-    let parts = serves_push _ made.command made.note _ _ _ _ few serving.sent serving.showing c.requires.asks c.requires.kind prepared.lines
+    let parts = serves_push c.args.self.now.terms _ made.command made.note _ _ _ _ few serving.sent serving.showing c.requires.asks c.requires.kind prepared.lines
     prepared.reads_back prepared.stands in
-    let saves = AreSavesAsked-push journal.items (front_entry made.command made.note true) serving.saves_asked c.requires.asked in
+    let saves = AreSavesAsked-push c.args.self.now.terms journal.items (front_entry made.command made.note true) serving.saves_asked c.requires.asked in
     let items : c.push_reserved.new.self.items ≡ journal.items ++ front_entry made.command made.note true ∷ [] =
     c.push_reserved.ensures.items ∙ ap (λ e. journal.items ++ e ∷ []) (c.front_entry.ensures ∙ ap (front_entry made.command made.note) yes) in
     let bytes = c.as_bytes-bytes.result.now in
     let same : c.write_piece-taken.result ≡ length bytes = eqb-true _ _ yes in
-    let whole : take c.write_piece-taken.result bytes ≡ piece_after journal.items (front_entry made.command made.note true) =
+    let whole : take c.write_piece-taken.result bytes ≡ piece_after c.args.self.now.terms journal.items (front_entry made.command made.note true) =
     take_all c.write_piece-taken.result bytes (omega (arith, same)) ∙ c.as_bytes-bytes.ensures.value ∙ c.as_str.ensures.utf8 ∙ prepared.lines.joined in
     let Gained : List ℕ → Type 0 = λ gained. Gains (g.K.Sink.held c.args.self.now.sink) (g.K.Sink.held c.write_piece-taken.new.sink) gained in
     record {
       serving = record {
+        made_with = refl;
         sent = rw items parts.0;
         saves_asked = rw items saves;
         showing = rw items parts.1;
@@ -90,9 +92,9 @@ returns-clause-puts g c = λ serving prepared.
     let entry = front_entry made.command made.note false in
     let items : c.push_reserved.new.self.items ≡ journal.items ++ entry ∷ [] =
     c.push_reserved.ensures.items ∙ ap (λ e. journal.items ++ e ∷ []) (c.front_entry.ensures ∙ ap (front_entry made.command made.note) no) in
-    let stands : StandsForSession made.held made.opened made.config (session_of (journal.items ++ entry ∷ [])) =
-    subst (StandsForSession made.held made.opened made.config) (sym (session_of-push journal.items entry)) prepared.stands in
-    let whole : bytes ≡ piece_after journal.items entry = c.as_bytes-bytes.ensures.value ∙ c.as_str.ensures.utf8 ∙ prepared.lines.joined in
+    let stands : StandsForSession made.held made.opened made.config (session_of c.args.self.now.terms (journal.items ++ entry ∷ [])) =
+    subst (StandsForSession made.held made.opened made.config) (sym (session_of-push c.args.self.now.terms journal.items entry)) prepared.stands in
+    let whole : bytes ≡ piece_after c.args.self.now.terms journal.items entry = c.as_bytes-bytes.ensures.value ∙ c.as_str.ensures.utf8 ∙ prepared.lines.joined in
     let Part : List ℕ → Type 0 = λ piece. c.write_piece-taken.result < length piece in
     let Gained : List ℕ → Type 0 = λ piece.
     Gains (g.K.Sink.held c.args.self.now.sink) (g.K.Sink.held c.write_piece-taken.new.sink) (take c.write_piece-taken.result piece) in (

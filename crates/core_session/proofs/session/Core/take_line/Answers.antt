@@ -14,6 +14,7 @@ use Rattle.core_session.specs.Shelves.{asks_as}
 use Rattle.core_session.specs.InnerSession.{IsPrepared}
 use Rattle.core_session.proofs.EnterLemmas.{ComesTo-by, not_closed, replies_by}
 use Rattle.core_session.proofs.KeptLemmas.{MayBeAsked-prop}
+use Rattle.core_session.proofs.SessionLemmas.{terms-session_of}
 use Rattle.core_session.proofs.ShowsLemmas.{MayBeAsked-stands}
 use Rattle.core_session.proofs.StepLemmas.{apart_of, opened_of}
 use Rattle.core_session.proofs.session.Core.take_line.Goals as goal
@@ -25,14 +26,14 @@ prepare-requires-clause-asked g c =
     let journal = core.journal in
     let few : length journal.items < 2 ^ 63 - 1 = omega (arith, journal.ok.0, journal.ok.1, journal.small, core.room, ap reserved c.requires) in
     subst MayBeAsked (sym c.as_slice.ensures)
-    (∥∥₁_elim core.kept (MayBeAsked-prop core.views) (λ kept. MayBeAsked-stands core.views journal.items kept.stands.views few))
+    (∥∥₁_elim core.kept (MayBeAsked-prop core.views) (λ kept. MayBeAsked-stands c.args.self.now.terms core.views journal.items kept.stands.views few))
 
 pub prepare-requires-clause-few : goal.prepare-requires-clause-few
 prepare-requires-clause-few g c =
     let core = c.args.self.now in
     let journal = core.journal in
     ∥∥₁_elim core.kept le_prop (λ kept.
-    omega (arith, journal.ok.0, journal.ok.1, journal.small, core.room, ap reserved c.requires, kept.stands.opened, opened_of journal.items))
+    omega (arith, journal.ok.0, journal.ok.1, journal.small, core.room, ap reserved c.requires, kept.stands.opened, opened_of c.args.self.now.terms journal.items))
 
 pub prepare-requires-clause-tab : goal.prepare-requires-clause-tab
 prepare-requires-clause-tab g c = ∥∥₁_elim c.args.self.now.kept le_prop (λ kept. kept.stands.tab)
@@ -40,6 +41,7 @@ prepare-requires-clause-tab g c = ∥∥₁_elim c.args.self.now.kept le_prop (�
 pub returns-then-is_err-clause-served : goal.returns-then-is_err-clause-served
 returns-then-is_err-clause-served g c = λ serving. record {
   serving = record {
+    made_with = refl;
     sent = rw c.reserve.ensures.items serving.sent;
     saves_asked = rw c.reserve.ensures.items serving.saves_asked;
     showing = rw c.reserve.ensures.items serving.showing;
@@ -53,6 +55,7 @@ returns-then-is_err-clause-served g c = λ serving. record {
 pub returns-in-Err-clause-served : goal.returns-in-Err-clause-served
 returns-in-Err-clause-served g c = λ serving. record {
   serving = record {
+    made_with = refl;
     sent = rw c.reserve.ensures.items serving.sent;
     saves_asked = rw c.reserve.ensures.items serving.saves_asked;
     showing = rw c.reserve.ensures.items serving.showing;
@@ -68,33 +71,33 @@ put-requires-clause-kind g c =
     let core = c.args.self.now in
     let journal = core.journal in
     let few : length journal.items < 2 ^ 63 = omega (arith, journal.ok.0, journal.ok.1, journal.small, core.room, ap reserved c.requires) in
-    let session = session_of journal.items in
+    let session = session_of c.args.self.now.terms journal.items in
     let Held : List Opened → Type 0 = λ held. Stands held session.views in
     ∥∥₁_elim core.kept (Bool-set _ _) (λ kept.
-    (c.in-Ok.ensures.noted session (subst Held (sym c.as_slice.ensures) kept.stands.views, apart_of journal.items few)).kind)
+    (c.in-Ok.ensures.noted session (subst Held (sym c.as_slice.ensures) kept.stands.views, apart_of c.args.self.now.terms journal.items few)).kind)
 
 pub put-requires-clause-asked : goal.put-requires-clause-asked
 put-requires-clause-asked g c =
     let core = c.args.self.now in
     let journal = core.journal in
     let few : length journal.items < 2 ^ 63 = omega (arith, journal.ok.0, journal.ok.1, journal.small, core.room, ap reserved c.requires) in
-    let session = session_of journal.items in
+    let session = session_of c.args.self.now.terms journal.items in
     let Held : List Opened → Type 0 = λ held. Stands held session.views in
-    let At : List Entry → Type 0 = λ entries. asks_as (views_of entries) c.in-Ok.made.command.act c.in-Ok.made.note ≡ true in
+    let At : List Entry → Type 0 = λ entries. asks_as (views_of c.args.self.now.terms entries) c.in-Ok.made.command.act c.in-Ok.made.note ≡ true in
     subst At (sym c.reserve.ensures.items)
     (∥∥₁_elim core.kept (Bool-set _ _) (λ kept.
-    (c.in-Ok.ensures.noted session (subst Held (sym c.as_slice.ensures) kept.stands.views, apart_of journal.items few)).asked))
+    (c.in-Ok.ensures.noted session (subst Held (sym c.as_slice.ensures) kept.stands.views, apart_of c.args.self.now.terms journal.items few)).asked))
 
 pub put-requires-clause-prepared : goal.put-requires-clause-prepared
 put-requires-clause-prepared g c =
     let core = c.args.self.now in
     let journal = core.journal in
     let few : length journal.items < 2 ^ 63 = omega (arith, journal.ok.0, journal.ok.1, journal.small, core.room, ap reserved c.requires) in
-    let session = session_of journal.items in
+    let session = session_of c.args.self.now.terms journal.items in
     let Held : List Opened → Type 0 = λ held. StandsForSession held core.opened core.config session in
-    let At : List Entry → Type 0 = λ entries. ∥ IsPrepared (session_of entries) c.in-Ok.made ∥₁ in
+    let At : List Entry → Type 0 = λ entries. ∥ IsPrepared (session_of c.args.self.now.terms entries) c.in-Ok.made ∥₁ in
     subst At (sym c.reserve.ensures.items)
-    (∥∥₁_map core.kept (λ kept. c.in-Ok.ensures.prepared session (apart_of journal.items few) (subst Held (sym c.as_slice.ensures) kept.stands)))
+    (∥∥₁_map core.kept (λ kept. c.in-Ok.ensures.prepared session (apart_of c.args.self.now.terms journal.items few) (terms-session_of c.args.self.now.terms journal.items) (subst Held (sym c.as_slice.ensures) kept.stands)))
 
 pub returns-in-Ok-clause-answers : goal.returns-in-Ok-clause-answers
 returns-in-Ok-clause-answers g c = not_closed c.put.ensures.replies.0 c.put.result c.put.ensures.replies.1
@@ -107,21 +110,22 @@ returns-in-Ok-clause-served g c = λ serving.
     let core = c.args.self.now in
     let journal = core.journal in
     let few : length journal.items < 2 ^ 63 = omega (arith, journal.ok.0, journal.ok.1, journal.small, core.room, ap reserved c.requires) in
-    let session = session_of journal.items in
+    let session = session_of c.args.self.now.terms journal.items in
     let Held : List Opened → Type 0 = λ held. Stands held session.views in
     let All : List Opened → Type 0 = λ held. StandsForSession held core.opened core.config session in
     let made : IsPrepared session c.in-Ok.made =
-    c.in-Ok.ensures.prepared session (apart_of journal.items few) (subst All (sym c.as_slice.ensures) serving.stands) in
-    let noted = c.in-Ok.ensures.noted session (subst Held (sym c.as_slice.ensures) serving.stands.views, apart_of journal.items few) in
-    let Made : List Entry → Type 0 = λ entries. IsPrepared (session_of entries) c.in-Ok.made in
+    c.in-Ok.ensures.prepared session (apart_of c.args.self.now.terms journal.items few) (terms-session_of c.args.self.now.terms journal.items) (subst All (sym c.as_slice.ensures) serving.stands) in
+    let noted = c.in-Ok.ensures.noted session (subst Held (sym c.as_slice.ensures) serving.stands.views, apart_of c.args.self.now.terms journal.items few) in
+    let Made : List Entry → Type 0 = λ entries. IsPrepared (session_of c.args.self.now.terms entries) c.in-Ok.made in
     let puts = c.put.ensures.puts (record {
+      made_with = refl;
       sent = rw c.reserve.ensures.items serving.sent;
       saves_asked = rw c.reserve.ensures.items serving.saves_asked;
       showing = rw c.reserve.ensures.items serving.showing;
       stands = rw c.reserve.ensures.items serving.stands;
     }) (subst Made (sym c.reserve.ensures.items) made) in
     let tell = outlets_of g.K.Sink.held g.K.Sink.faults g.K.Sink.failures g.H.Shelf.files g.H.Shelf.faults in
-    let At : Command → Type 0 = λ command. ComesTo tell core c.put.new.self command c.put.result in
+    let At : Command → Type 0 = λ command. ComesTo c.args.self.now.terms tell core c.put.new.self command c.put.result in
     subst At c.in-Ok.ensures.command
-    (ComesTo-by g.K.Sink.held g.K.Sink.faults g.K.Sink.failures g.H.Shelf.files g.H.Shelf.faults core _ c.put.new.self
+    (ComesTo-by c.args.self.now.terms g.K.Sink.held g.K.Sink.faults g.K.Sink.failures g.H.Shelf.files g.H.Shelf.faults core _ c.put.new.self
     c.in-Ok.made.command c.in-Ok.made.note c.reserve.ensures.items refl noted c.put.result puts)
