@@ -17,12 +17,12 @@ fn session(alloc: Global, write: u64) -> Option<Session> {
 
 // How many of these of the five lines the session takes, and how many it does not, since it is over.
 fn answered(core: &mut Session, first: usize, count: usize) -> (usize, usize) {
-    let mut taken = 0;
-    let mut closed = 0;
+    let mut taken = 0usize;
+    let mut closed = 0usize;
     for line in FIVE_LINES.iter().skip(first).take(count) {
         match core.front_line(line.as_bytes()) {
-            Reply::Taken(_) => taken += 1,
-            Reply::Closed => closed += 1,
+            Reply::Taken(_) => taken = taken.saturating_add(1),
+            Reply::Closed => closed = closed.saturating_add(1),
             Reply::Refused(_) | Reply::SinkFault | Reply::NoMemory => {}
         }
     }
@@ -46,7 +46,7 @@ fn closed_before(alloc: Global, line: usize) -> Option<(bool, usize, Option<Vec<
     let after = answered(&mut core, line, 5);
     let again = closes(&mut core);
     let (journal, sink, _shelf) = core.into_parts();
-    let is = once && !again && before == (line, 0) && after.0 == 0 && after.1 + line == 5;
+    let is = once && !again && before == (line, 0) && after == (0, 5usize.saturating_sub(line));
     Some((is, journal.len(), sink.into_bytes()))
 }
 
