@@ -241,6 +241,19 @@ pub place_of-past : (text : List ℕ) (gap place : ℕ) → HasNone Chars text g
 place_of-past text gap place none is =
     let past = gap-past text gap none in is ∙ ap byte_len (sym (take_all gap text (omega (arith, past))))
 
+-- ---- where a line starts, in bytes
+
+pub line_place-converted : (text : List ℕ) (index place : ℕ) → IsConverted Lines Bytes text index place → place ≡ place_of text (line_start text index)
+line_place-converted text index place is =
+    let start = line_start-converted text index (length is.front) (record { front = is.front; back = is.back; cut = is.cut; is = refl }) in
+    is.is ∙ ap byte_len (sym (ap (take (length is.front)) is.cut.cut ∙ take_at is.front is.back (length is.front) refl)) ∙ ap (place_of text) start
+
+pub line_place-past : (text : List ℕ) (index place : ℕ) → HasNone Lines text index → place ≡ byte_len text → place ≡ place_of text (line_start text index)
+line_place-past text index place none is =
+    is ∙ ap byte_len (sym (take_all (length text) text (omega arith))) ∙ ap (place_of text) (line_start-past text index none)
+
+-- ---- between places
+
 pub place-between : (text : List ℕ) (from to : ℕ) → from ≤ to → place_of text from + byte_len (slice_range text from to) ≡ place_of text to
 place-between text from to ordered =
     let sum : from + (to - from) ≡ to = omega arith in

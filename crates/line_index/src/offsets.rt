@@ -50,6 +50,16 @@ pub(crate) fn place_of(text: &Rope, gap: u64) -> u64
     }
 }
 
+/// The byte offset where the logical line with this index starts; the text's end behind the last line.
+pub(crate) fn place_of_line(text: &Rope, index: u64) -> u64
+    ensures { result ≡ place_of text.now (line_start text.now index) }
+{
+    match converted(text, Measure::Lines, Measure::Bytes, index) {
+        Some(place) => place,
+        None => text.byte_len(),
+    }
+}
+
 fn converted(text: &Rope, from: Measure, to: Measure, at: u64) -> Option<u64>
     ensures some { IfSome result (λ offset. IsConverted from to text.now at offset) }
     ensures none { IfNone result (HasNone from text.now at) }

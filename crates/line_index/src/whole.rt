@@ -2,7 +2,7 @@ ghost use Rattle.std.specs.Prelude.{◌≡◌, ◌+◌, ◌^◌, ◌<◌, ◌≤
 ghost use Rattle.plain_screen.specs.View.{whole_lines};
 ghost use Rattle.line_index.specs.Whole.{point_of};
 
-use crate::offsets::{lf_count, line_at, line_start, place_of};
+use crate::offsets::{lf_count, line_at, line_start, place_of, place_of_line};
 use plain_screen::{Piece, TextView};
 use plain_text::{NoMemory, Run, Text};
 use rope_tree::Rope;
@@ -62,11 +62,8 @@ impl WholeLines {
             return None;
         }
         let line = line_at(&self.rope, gap);
-        let start = line_start(&self.rope, line);
-        Some((
-            line,
-            place_of(&self.rope, gap) - place_of(&self.rope, start),
-        ))
+        let start = place_of_line(&self.rope, line);
+        Some((line, place_of(&self.rope, gap) - start))
     }
 }
 
