@@ -1,15 +1,14 @@
 -- What a piece reads of what a search found: the characters of the piece that are found, and nothing right or left of them.
 use Rattle.std.proofs.Common.{◌≡◌, ℕ, zero, suc, ◌+◌, ◌-◌, ◌<◌, ◌≤◌, Bool, true, false, List, [], ◌∷◌, ◌++◌, map, cond, Option, Some, None, refl, ap, ap₂, sym, ◌∙◌, arith, inl, inr}
 use Rattle.std.specs.Prelude.{◌&&◌, ◌==◌, if◌then◌else◌, max, min, nat_lt}
-use Rattle.std.specs.List.{filter, range_with_len}
+use Rattle.std.specs.List.{filter}
 use Rattle.std.proofs.lemmas.Bool.{cases_lt, eqb-true}
 use Rattle.std.proofs.lemmas.Bool.Decides.{nat_tests}
 use Rattle.std.proofs.lemmas.List.{map-append}
 use Rattle.std.proofs.lemmas.List.Elements.{filter-append}
 use Rattle.plain_text.specs.declared.run.Run.{Run}
 use Rattle.plain_edits.specs.declared.style.Span.{Span}
-use Rattle.plain_edits.specs.Styles.{Layer}
-use Rattle.span_runs.specs.Spans.{onto_spans, spans_from}
+use Rattle.span_runs.specs.Spans.{onto_spans}
 use Rattle.line_render.specs.Rendered.{cut_span, cut_spans, reaches_in}
 use Rattle.line_render.proofs.ForCallers.{runs_by}
 use Rattle.doc_layout.specs.Found.{found_spans, is_found}

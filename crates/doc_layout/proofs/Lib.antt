@@ -5,7 +5,7 @@ pub mod AskedLemmas
 pub mod PlanLemmas
 pub mod TellLemmas
 pub mod SameLemmas
-pub mod FoundLemmas
 pub mod CutLemmas
+pub mod FoundLemmas
 pub mod ReadLemmas
 pub mod ForCallers

@@ -1,5 +1,5 @@
 -- What a search found in a text, as spans.
-use Rattle.std.specs.Prelude.{ℕ, ◌<◌, ◌≤◌, Bool, if◌then◌else◌, List, [], ◌∷◌, length, map, Some, None, ⊤}
+use Rattle.std.specs.Prelude.{◌≡◌, ℕ, ◌<◌, ◌≤◌, Bool, if◌then◌else◌, List, [], ◌∷◌, length, map, Some, None, ⊤}
 use Rattle.std.specs.List.{list_any, range_with_len}
 use Rattle.plain_text.specs.declared.run.Run.{Run}
 use Rattle.plain_text.specs.declared.selection.Region.{Region}
@@ -7,6 +7,7 @@ use Rattle.plain_edits.specs.declared.style.Span.{Span}
 use Rattle.plain_edits.specs.Styles.{Layer}
 use Rattle.plain_screen.specs.Plan.{is_within}
 use Rattle.selection_core.specs.Selection.{IsSelection}
+use Rattle.match_index.specs.Found.{Found}
 use Rattle.span_runs.specs.Spans.{spans_from}
 
 -- whether the character with this index stands in a result of the search
@@ -26,7 +27,7 @@ abbrev pub RiseApart : ℕ → ℕ → List Run → Type 0
 RiseApart len from [] = ⊤
 RiseApart len from (run ∷ results) = (from ≤ run.start) × (run.start < run.end) × (run.end ≤ len) × RiseApart len run.end results
 
--- what may be shown on a text: regions that are a selection, and such results
-pub record MayShow (text : List ℕ) (regions : List Region) (results : List Run) : Type 0 where
+-- what may be shown on a text: regions that are a selection, and what a search found in that text
+pub record MayShow (text : List ℕ) (regions : List Region) (results : Found) : Type 0 where
   pub selection : IsSelection regions
-  pub rise : RiseApart (length text) 0 results
+  pub searched : results.text ≡ text

@@ -1,11 +1,9 @@
 -- What private functions say: a piece of a text, lines that are asked for, and an update in the making.
-use Rattle.std.specs.Prelude.{◌≡◌, ℕ, ◌<◌, ◌≤◌, Bool, true, false, not, ◌||◌, List, [], ◌∷◌, ◌++◌, length, map, Option, Some, None}
+use Rattle.std.specs.Prelude.{◌≡◌, ℕ, ◌<◌, ◌≤◌, Bool, true, false, not, ◌||◌, List, [], ◌∷◌, length}
 use Rattle.std.specs.List.{list_all, range_with_len}
-use Rattle.std.specs.List.Sorted.{IsNonDecreasingBy}
 use Rattle.plain_text.specs.declared.run.Run.{Run}
 use Rattle.plain_text.specs.declared.selection.Region.{Region}
 use Rattle.plain_edits.specs.declared.style.Span.{Span}
-use Rattle.plain_edits.specs.Styles.{Layer}
 use Rattle.plain_screen.specs.declared.piece.Piece.{Piece}
 use Rattle.plain_screen.specs.declared.screen.Line.{Line}
 use Rattle.plain_screen.specs.declared.screen.Op.{Op}
@@ -13,9 +11,7 @@ use Rattle.plain_screen.specs.declared.screen.Op.TheVariants.{Invalidate, Ins}
 use Rattle.plain_screen.specs.Plan.{is_within}
 use Rattle.line_render.specs.Rendered.{rendered, rendered_piece, text_of_piece}
 use Rattle.line_render.specs.Inner.{onto_run}
-use Rattle.selection_core.specs.Selection.{IsSelection}
 use Rattle.doc_layout.specs.declared.asked.Asked.{Asked}
-use Rattle.doc_layout.specs.Layout.{styled_spans}
 use Rattle.doc_layout.specs.Told.{is_asked}
 
 -- the piece lies in the text, and is the last one or not, so that it is rendered from its own characters as from the whole text
@@ -25,27 +21,7 @@ pub record IsPieceIn (text : List ℕ) (piece : Piece) (is_last : Bool) : Type 0
   pub alike : (regions : List Region) (spans : List Span) →
       rendered text piece regions spans ≡ rendered_piece (text_of_piece text piece) piece is_last regions spans
 
--- ---- lines as they are drawn
-
--- regions are a selection, and of the spans that a search found neither starts nor ends go back
-pub record MayDraw (regions : List Region) (found : List Span) : Type 0 where
-  pub selection : IsSelection regions
-  pub starts : IsNonDecreasingBy (λ span. span.start) found
-  pub ends : IsNonDecreasingBy (λ span. span.end) found
-
--- the line of a piece with these spans of the whole text, and those that layers show in it; and the lines of all pieces
-abbrev pub drawn_line : List ℕ → List Region → List Span → List Layer → Piece → Line
-drawn_line text regions found layers piece = rendered text piece regions (found ++ styled_spans layers piece)
-
-abbrev pub drawn_lines : List ℕ → List Region → List Span → List Layer → List Piece → List Line
-drawn_lines text regions found layers pieces = map (drawn_line text regions found layers) pieces
-
 -- ---- what a search found
-
--- spans with a result of the search before them, where there is one: found characters have the id 1
-abbrev pub onto_found : Option Run → List Span → List Span
-onto_found None spans = spans
-onto_found (Some run) spans = onto_run 1 run spans
 
 -- results as spans, where those that touch are one
 abbrev pub joined_spans : List Run → List Span

@@ -1,21 +1,20 @@
 ghost use Rattle.std.specs.Prelude.{◌≡◌, ◌≤◌, [], length, IfOk, option_map, slice_range};
 ghost use Rattle.plain_screen.specs.Plan.{update_plan};
+ghost use Rattle.match_index.specs.Found.{runs_in};
 ghost use Rattle.doc_layout.specs.Found.{MayShow};
 ghost use Rattle.doc_layout.specs.Layout.{layout};
 ghost use Rattle.doc_layout.specs.Told.{is_asked, planned, scroll_between};
 ghost use Rattle.doc_layout.specs.PositionView.{position_view};
-ghost use Rattle.doc_layout.specs.Inner.{MayDraw, drawn_lines, stretch_op};
+ghost use Rattle.doc_layout.specs.Inner.{stretch_op};
 
 use crate::asked::Asked;
-use crate::found::joined;
 use crate::layout::{Shown, lines_of};
-use plain_edits::Span;
 use plain_screen::{Op, Ops, TextView, Update};
 use plain_text::NoMemory;
 use std::alloc::Global;
 
 /// The update that sends the lines that are asked for, and leaves the others invalid, in one operation for each run of them. It renders the
-/// lines that it sends, each from its own characters, and no others; it costs these, and the number of the results.
+/// lines that it sends, each from its own characters, and no others; it costs these.
 pub fn update_of<T: TextView>(
     alloc: Global,
     shown: &Shown<'_, T>,
@@ -24,32 +23,26 @@ pub fn update_of<T: TextView>(
 ) -> Result<Update, NoMemory>
     requires { MayShow (T.text_of shown.now.view.now) shown.now.sel.now.regions shown.now.results.now }
     ensures { IfOk result (λ made. made ≡ planned asked
-        (layout (T.text_of shown.now.view.now) (T.pieces_of shown.now.view.now) shown.now.sel.now.regions shown.now.results.now
-        shown.now.layers.now) pristine) }
+        (layout (T.text_of shown.now.view.now) (T.pieces_of shown.now.view.now) shown.now.sel.now.regions
+        (runs_in shown.now.results.now) shown.now.layers.now) pristine) }
 {
-    let found = joined(alloc, shown.results)?;
-    let ops = ops_of(alloc, shown, found.as_slice(), asked)?;
+    let ops = ops_of(alloc, shown, asked)?;
     Ok(Update { ops, pristine })
 }
 
-// The operations of all lines, with these spans of the whole text.
-fn ops_of<T: TextView>(
-    alloc: Global,
-    shown: &Shown<'_, T>,
-    found: &[Span],
-    asked: Asked,
-) -> Result<Ops, NoMemory>
-    requires { MayDraw shown.now.sel.now.regions found.now }
+// The operations of all lines.
+fn ops_of<T: TextView>(alloc: Global, shown: &Shown<'_, T>, asked: Asked) -> Result<Ops, NoMemory>
+    requires { MayShow (T.text_of shown.now.view.now) shown.now.sel.now.regions shown.now.results.now }
     ensures { IfOk result (λ ops. ops ≡ update_plan asked.window asked.request
-        (drawn_lines (T.text_of shown.now.view.now) shown.now.sel.now.regions found.now shown.now.layers.now
-        (T.pieces_of shown.now.view.now)) []) }
+        (layout (T.text_of shown.now.view.now) (T.pieces_of shown.now.view.now) shown.now.sel.now.regions
+        (runs_in shown.now.results.now) shown.now.layers.now) []) }
 {
     let len = shown.view.lines();
     let mut ops = Ops::new(alloc);
     let mut at: u64 = 0;
     while at < len {
         let end = asked.stretch_end(at, len);
-        ops.push(op_of(alloc, shown, found, asked, at, end)?)?;
+        ops.push(op_of(alloc, shown, asked, at, end)?)?;
         at = end;
     }
     Ok(ops)
@@ -59,21 +52,20 @@ fn ops_of<T: TextView>(
 fn op_of<T: TextView>(
     alloc: Global,
     shown: &Shown<'_, T>,
-    found: &[Span],
     asked: Asked,
     from: u64,
     to: u64,
 ) -> Result<Op, NoMemory>
-    requires drawn { MayDraw shown.now.sel.now.regions found.now }
+    requires may { MayShow (T.text_of shown.now.view.now) shown.now.sel.now.regions shown.now.results.now }
     requires ordered { from ≤ to }
     requires inside { to ≤ length (T.pieces_of shown.now.view.now) }
     ensures { IfOk result (λ op. op ≡ stretch_op (is_asked asked from) (slice_range
-        (drawn_lines (T.text_of shown.now.view.now) shown.now.sel.now.regions found.now shown.now.layers.now
-        (T.pieces_of shown.now.view.now)) from to)) }
+        (layout (T.text_of shown.now.view.now) (T.pieces_of shown.now.view.now) shown.now.sel.now.regions
+        (runs_in shown.now.results.now) shown.now.layers.now) from to)) }
 {
     if asked.has(from) {
         return Ok(Op::Ins {
-            lines: lines_of(alloc, shown, found, from, to)?,
+            lines: lines_of(alloc, shown, from, to)?,
         });
     }
     Ok(Op::Invalidate { n: to - from })

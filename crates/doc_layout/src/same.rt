@@ -2,14 +2,12 @@
 ghost use Rattle.std.specs.Prelude.{◌≡◌, ◌≤◌, length, take, IfOk};
 ghost use Rattle.std.specs.Str.{bytes_eq};
 ghost use Rattle.std.specs.Cmp.Lexicographic.{pointwise};
+ghost use Rattle.match_index.specs.Found.{runs_in};
 ghost use Rattle.plain_screen.specs.SameLayout.{is_same_layout, is_same_line, is_same_number, is_same_triple};
 ghost use Rattle.doc_layout.specs.Found.{MayShow};
 ghost use Rattle.doc_layout.specs.Layout.{layout};
-ghost use Rattle.doc_layout.specs.Inner.{MayDraw, drawn_lines};
 
-use crate::found::joined;
 use crate::layout::{Shown, line_at};
-use plain_edits::Span;
 use plain_screen::{Line, TextView, Triple};
 use plain_text::{NoMemory, Text};
 use std::alloc::Global;
@@ -26,56 +24,22 @@ pub fn is_same_layout<T: TextView>(
     requires another { MayShow (T.text_of other.now.view.now) other.now.sel.now.regions other.now.results.now }
     requires inside { from ≤ length (T.pieces_of shown.now.view.now) }
     requires alike { take from (layout (T.text_of shown.now.view.now) (T.pieces_of shown.now.view.now) shown.now.sel.now.regions
-        shown.now.results.now shown.now.layers.now)
+        (runs_in shown.now.results.now) shown.now.layers.now)
         ≡ take from (layout (T.text_of other.now.view.now) (T.pieces_of other.now.view.now) other.now.sel.now.regions
-        other.now.results.now other.now.layers.now) }
+        (runs_in other.now.results.now) other.now.layers.now) }
     ensures { IfOk result (λ same. same ≡ is_same_layout
-        (layout (T.text_of shown.now.view.now) (T.pieces_of shown.now.view.now) shown.now.sel.now.regions shown.now.results.now
-        shown.now.layers.now)
-        (layout (T.text_of other.now.view.now) (T.pieces_of other.now.view.now) other.now.sel.now.regions other.now.results.now
-        other.now.layers.now)) }
-{
-    let found = joined(alloc, shown.results)?;
-    let founds = joined(alloc, other.results)?;
-    are_same_lines(
-        alloc,
-        shown,
-        found.as_slice(),
-        other,
-        founds.as_slice(),
-        from,
-    )
-}
-
-// The same, with these spans of the whole text in the one and those in the other.
-fn are_same_lines<T: TextView>(
-    alloc: Global,
-    shown: &Shown<'_, T>,
-    found: &[Span],
-    other: &Shown<'_, T>,
-    founds: &[Span],
-    from: u64,
-) -> Result<bool, NoMemory>
-    requires one { MayDraw shown.now.sel.now.regions found.now }
-    requires another { MayDraw other.now.sel.now.regions founds.now }
-    requires inside { from ≤ length (T.pieces_of shown.now.view.now) }
-    requires alike { take from (drawn_lines (T.text_of shown.now.view.now) shown.now.sel.now.regions found.now shown.now.layers.now
-        (T.pieces_of shown.now.view.now))
-        ≡ take from (drawn_lines (T.text_of other.now.view.now) other.now.sel.now.regions founds.now other.now.layers.now
-        (T.pieces_of other.now.view.now)) }
-    ensures { IfOk result (λ same. same ≡ is_same_layout
-        (drawn_lines (T.text_of shown.now.view.now) shown.now.sel.now.regions found.now shown.now.layers.now
-        (T.pieces_of shown.now.view.now))
-        (drawn_lines (T.text_of other.now.view.now) other.now.sel.now.regions founds.now other.now.layers.now
-        (T.pieces_of other.now.view.now))) }
+        (layout (T.text_of shown.now.view.now) (T.pieces_of shown.now.view.now) shown.now.sel.now.regions
+        (runs_in shown.now.results.now) shown.now.layers.now)
+        (layout (T.text_of other.now.view.now) (T.pieces_of other.now.view.now) other.now.sel.now.regions
+        (runs_in other.now.results.now) other.now.layers.now)) }
 {
     let len = shown.view.lines();
     if len != other.view.lines() {
         return Ok(false);
     }
     for index in from..len {
-        let line = line_at(alloc, shown, found, index)?;
-        let counterpart = line_at(alloc, other, founds, index)?;
+        let line = line_at(alloc, shown, index)?;
+        let counterpart = line_at(alloc, other, index)?;
         if !is_same_line(&line, &counterpart) {
             return Ok(false);
         }

@@ -95,8 +95,8 @@ impl Doc {
     /// The document after an event, beside this one, and what those outside are told of it. An edit costs its elements, each times the
     /// height of the text, and the lines that it touches, whose breaks are made anew where lines are wrapped; one against an old revision costs
     /// the union and the runs of the later revisions besides; an undo or a redo what `Engine::set_undone_by` does; and a command what
-    /// `edit_ops::edit_of` does. Another width or tab width costs the breaks of each logical line. A search costs what `find_core::matches` does,
-    /// and a copy of the text, and so does an edit while something is looked for. Beside that an event costs the regions, and the lines that are
+    /// `edit_ops::edit_of` does. Another width or tab width costs the breaks of each logical line. A search walks the text,
+    /// and an edit while something is looked for searches round what it touches. Beside that an event costs the regions, and the lines that are
     /// told; and what `ViewState::settled` does to find whether the layout is another. A reading costs what `TextState::chunk` does, and a count
     /// O(1). No step is counted yet.
     pub fn after<L: Ledger>(

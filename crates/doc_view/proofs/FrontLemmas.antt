@@ -3,7 +3,7 @@ use Rattle.std.proofs.Common.{◌≡◌, ℕ, zero, suc, ◌+◌, ◌-◌, ◌<�
 use Rattle.std.specs.Prelude.{if◌then◌else◌, min, nat_lt, nat_le, not, ◌==◌, ◌&&◌, ◌||◌}
 use Rattle.std.specs.List.{AllByRecursion, filter, flat_map}
 use Rattle.std.specs.Option.{unwrap_or}
-use Rattle.std.proofs.lemmas.Bool.{eqb-true, le-leb, lt-leb, ne_eqb}
+use Rattle.std.proofs.lemmas.Bool.{eqb-true, lt-leb, ne_eqb}
 use Rattle.std.proofs.lemmas.Bool.Decides.{nat_tests}
 use Rattle.std.proofs.lemmas.List.{length-map, length-take-le, take-take}
 use Rattle.plain_text.specs.declared.run.Run.{Run}
@@ -25,9 +25,8 @@ use Rattle.doc_layout.specs.Changed.{IsChangeOf}
 use Rattle.doc_layout.specs.Found.{is_found}
 use Rattle.doc_layout.proofs.ForCallers.{slice-alike}
 use Rattle.doc_view.specs.Front.{KeepsFront}
-use Rattle.doc_view.specs.Inner.{AreAlikeLeftOf, AreAlikeViews, AreEndsApart, earlier, first_end, first_gap}
-use Rattle.doc_view.specs.Search.{results}
-use Rattle.doc_view.specs.Told.{IsKeptLeftOf, is_cut_alike, is_same_search}
+use Rattle.doc_view.specs.Inner.{AreAlikeViews, AreEndsApart, earlier, first_end, first_gap}
+use Rattle.doc_view.specs.Told.{IsKeptLeftOf, is_cut_alike}
 use Rattle.doc_view.specs.View.{View}
 use Rattle.doc_view.proofs.IdleLemmas.{first_has, runs-reach}
 use Rattle.doc_view.proofs.LaidLemmas.{results-same, same-search}

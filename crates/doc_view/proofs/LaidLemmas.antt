@@ -20,6 +20,7 @@ use Rattle.line_break.specs.Pieces.{wrapped_pieces}
 use Rattle.line_break.proofs.ForCallers.{ArePieces-wrapped}
 use Rattle.line_index.specs.Index.{Index, pieces_in as indexed_pieces}
 use Rattle.find_core.specs.Matches.{matches_of}
+use Rattle.match_index.specs.Found.{Found, runs_in}
 use Rattle.selection_core.specs.Mapped.{AreWithin}
 use Rattle.selection_core.specs.Selection.{IsSelection, greater_end, lesser_end}
 use Rattle.span_runs.specs.Spans.{sorted_spans, spans_from}
@@ -31,7 +32,7 @@ use Rattle.doc_layout.specs.Layout.{layout, styled_spans}
 use Rattle.doc_layout.proofs.ForCallers.{regions-read, styles-read}
 use Rattle.doc_view.specs.declared.search.Search.{Search}
 use Rattle.doc_view.specs.Inner.{IsShownApart, IsViewKept, index_at, line_left_of}
-use Rattle.doc_view.specs.Search.{is_for_nothing, results}
+use Rattle.doc_view.specs.Search.{found_at, is_for_nothing, results}
 use Rattle.doc_view.specs.Told.{are_same_ends, is_cut_alike, is_same_search}
 use Rattle.doc_view.specs.View.{View, layout_in, pieces_in}
 use Rattle.doc_view.proofs.MovedLemmas.{AreWithin-plain, IsSelection-plain}
@@ -164,18 +165,18 @@ line_left_of-some view (suc gap) line some is =
 
 -- ---- what a view shows, by its parts
 
-module _ (view : View) (index : Index) (regions : List Region) (found : List Run) (index_is : index ≡ index_at view.text view.config)
-    (regions_are : regions ≡ view.regions) (found_is : found ≡ results view.text view.query) where
-  pub MayShow-shown : MayShow view.text view.regions (results view.text view.query) → MayShow index.text regions found
+module _ (view : View) (index : Index) (regions : List Region) (found : Found) (index_is : index ≡ index_at view.text view.config)
+    (regions_are : regions ≡ view.regions) (found_is : found ≡ found_at view.text view.query) where
+  pub MayShow-shown : MayShow view.text view.regions (found_at view.text view.query) → MayShow index.text regions found
   MayShow-shown may =
       subst (λ (i : Index). MayShow i.text regions found) (sym index_is)
       (subst (λ (rs : List Region). MayShow view.text rs found) (sym regions_are)
-      (subst (λ (runs : List Run). MayShow view.text view.regions runs) (sym found_is) may))
+      (subst (λ (f : Found). MayShow view.text view.regions f) (sym found_is) may))
 
-  pub layout-shown : (layers : List Layer) → layers ≡ view.layers → layout index.text (indexed_pieces index) regions found layers ≡ layout_in view
+  pub layout-shown : (layers : List Layer) → layers ≡ view.layers → layout index.text (indexed_pieces index) regions (runs_in found) layers ≡ layout_in view
   layout-shown layers layers_are =
-      ap (λ (i : Index). layout i.text (indexed_pieces i) regions found layers) index_is ∙
-      ap₂ (λ (rs : List Region) (runs : List Run). layout view.text (pieces_in view) rs runs layers) regions_are found_is ∙
+      ap (λ (i : Index). layout i.text (indexed_pieces i) regions (runs_in found) layers) index_is ∙
+      ap₂ (λ (rs : List Region) (f : Found). layout view.text (pieces_in view) rs (runs_in f) layers) regions_are found_is ∙
       ap (layout view.text (pieces_in view) view.regions (results view.text view.query)) layers_are
 
 -- ---- what a view keeps
@@ -184,9 +185,9 @@ module _ (view : View) (index : Index) (regions : List Region) (found : List Run
 pub pieces-kept : (config : Config) (index : Index) → index ≡ index_at index.text config → indexed_pieces index ≡ wrapped_pieces config.width config.tab index.text
 pieces-kept config index is = ap indexed_pieces is
 
-pub IsViewKept-made : (config : Config) (text : List ℕ) (index : Index) (regions : List Region) (query : Search) (found : List Run) →
+pub IsViewKept-made : (config : Config) (text : List ℕ) (index : Index) (regions : List Region) (query : Search) (found : Found) →
     all_scalars text ≡ true → 0 < config.tab → index ≡ index_at text config → IsSelection regions → AreWithin (length text) regions →
-    found ≡ results text query → IsViewKept config index regions query found
+    found ≡ found_at text query → IsViewKept config index regions query found
 IsViewKept-made config text index regions query found characters tab is sound inside found_is =
     let same : text ≡ index.text = sym (ap (λ (i : Index). i.text) is) in
     record {
@@ -195,12 +196,12 @@ IsViewKept-made config text index regions query found characters tab is sound in
         tab = tab;
         is = is ∙ ap (λ t. index_at t config) same;
       };
-      found_are = found_is ∙ ap (λ t. results t query) same;
+      found_are = found_is ∙ ap (λ t. found_at t query) same;
       sound = sound;
       inside = subst (λ t. AreWithin (length t) regions) same inside;
     }
 
-module _ (config : Config) (index : Index) (regions : List Region) (query : Search) (found : List Run) (is : IsViewKept config index regions query found) where
+module _ (config : Config) (index : Index) (regions : List Region) (query : Search) (found : Found) (is : IsViewKept config index regions query found) where
   pub IsViewKept-regions : (others : List Region) → IsSelection others → AreWithin (length index.text) others → IsViewKept config index others query found
   IsViewKept-regions others sound inside = record { text = is.text; found_are = is.found_are; sound = sound; inside = inside }
 

@@ -1,42 +1,36 @@
 -- Which match a search selects, and that it lies in the text.
-use Rattle.std.proofs.Common.{◌≡◌, ◌≢◌, ℕ, zero, suc, ◌+◌, ◌-◌, ◌<◌, ◌≤◌, Bool, true, false, cond, List, [], ◌∷◌, length, Option, Some, None, refl, ap, sym, ◌∙◌, arith}
+use Rattle.std.proofs.Common.{◌≡◌, ◌≢◌, ℕ, zero, suc, ◌+◌, ◌-◌, ◌<◌, ◌≤◌, Bool, true, false, cond, List, [], ◌∷◌, length, Option, Some, None, refl, ap, ◌∙◌, arith}
 use Rattle.std.specs.Prelude.{if◌then◌else◌, slice_get, nat_le, not, ◌==◌, IfSome}
 use Rattle.std.specs.Option.{option_or, unwrap_or}
 use Rattle.std.specs.List.{AllByRecursion, filter, find, last_or}
-use Rattle.std.proofs.lemmas.Bool.{eqb-true}
+use Rattle.std.proofs.lemmas.Bool.{eqb-true, le-leb}
 use Rattle.plain_text.specs.declared.run.Run.{Run}
 use Rattle.plain_text.specs.declared.selection.Region.{Region}
-use Rattle.find_core.specs.Laws.{AreMatchesFrom}
-use Rattle.find_core.specs.Matches.{folded, matches_of}
-use Rattle.find_core.proofs.ForCallers.{matches_of-are, matches_of-inside}
+use Rattle.find_core.specs.Matches.{matches_of}
+use Rattle.find_core.proofs.ForCallers.{matches_of-inside}
+use Rattle.match_index.specs.Found.{Found, runs_in}
 use Rattle.selection_core.specs.Mapped.{AreWithin}
 use Rattle.selection_core.specs.Selection.{IsSelection, greater_end}
-use Rattle.doc_layout.specs.Found.{RiseApart}
 use Rattle.doc_view.specs.declared.search.Search.{Search}
 use Rattle.doc_view.specs.Search.{end_of_regions, if_wraps, is_for_nothing, next_found, next_match, previous_found, previous_match, results, start_of_regions, with_match}
 
--- ---- the last of a list
+-- ---- the first match and the last
 
-last-from : {X : Type 0} (o : Option X) (xs : List X) (index : ℕ) (x : X) → index + 1 ≡ length xs → Some x ≡ slice_get xs index → Some x ≡ last_or o xs
-last-from o [] index x len is = absurd (omega (arith, len))
-last-from o (y ∷ []) zero x len is = is
-last-from o (y ∷ []) (suc index) x len is = absurd (omega (arith, len))
-last-from o (y ∷ z ∷ xs) zero x len is = absurd (omega (arith, len))
-last-from o (y ∷ z ∷ xs) (suc index) x len is = last-from (Some y) (z ∷ xs) index x (omega (arith, len)) is
+-- the first match from the start on is the first, and the last one to the end of the text the last
+pub find-all : (runs : List Run) → find (λ (run : Run). nat_le 0 run.start) runs ≡ slice_get runs 0
+find-all [] = refl
+find-all (run ∷ runs) = ap (λ (b : Bool). cond b (Some run) (find (λ (own : Run). nat_le 0 own.start) runs)) (le-leb 0 run.start (omega arith))
 
-get-there : {X : Type 0} (xs : List X) (index : ℕ) → index < length xs → slice_get xs index ≡ None → ⊥
-get-there [] index inside none = omega (arith, inside)
-get-there (x ∷ xs) zero inside none = cc
-get-there (x ∷ xs) (suc index) inside none = get-there xs index (omega (arith, inside)) none
+last-all : (len : ℕ) (o : Option Run) (runs : List Run) → AllByRecursion (λ (run : Run). (run.start < run.end) × (run.end ≤ len)) runs →
+    last_or o (filter (λ (run : Run). nat_le run.end len) runs) ≡ last_or o runs
+last-all len o [] all = refl
+last-all len o (run ∷ runs) all =
+    ap (λ (b : Bool). last_or o (cond b (run ∷ filter (λ (own : Run). nat_le own.end len) runs) (filter (λ (own : Run). nat_le own.end len) runs)))
+    (le-leb run.end len all.0.1) ∙
+    last-all len (Some run) runs all.1
 
-last_or-by : {X : Type 0} (x : X) (xs : List X) (o : Option X) → slice_get (x ∷ xs) (length (x ∷ xs) - 1) ≡ o →
-    slice_get (x ∷ xs) (length (x ∷ xs) - 1) ≡ last_or None (x ∷ xs)
-last_or-by x xs (Some y) is = is ∙ last-from None (x ∷ xs) (length (x ∷ xs) - 1) y (omega arith) (sym is)
-last_or-by x xs None is = absurd (get-there (x ∷ xs) (length (x ∷ xs) - 1) (omega arith) is)
-
-pub last_or-get : {X : Type 0} (xs : List X) → slice_get xs (length xs - 1) ≡ last_or None xs
-last_or-get [] = refl
-last_or-get (x ∷ xs) = last_or-by x xs (slice_get (x ∷ xs) (length (x ∷ xs) - 1)) refl
+pub last-matches : (found : Found) → last_or None (filter (λ (run : Run). nat_le run.end (length found.text)) (runs_in found)) ≡ last_or None (runs_in found)
+last-matches found = last-all (length found.text) None (runs_in found) (matches_of-inside found.text found.chars found.fold)
 
 end-at : (regions : List Region) (index : ℕ) (region : Region) → index + 1 ≡ length regions → Some region ≡ slice_get regions index →
     greater_end region ≡ end_of_regions regions
@@ -143,19 +137,3 @@ results-none text query none = by query.chars none
     by : (chars : List ℕ) → (length chars == 0) ≡ true → matches_of text chars (not query.case_counts) ≡ []
     by [] none = refl
     by (c ∷ chars) none = absurd (omega (arith, eqb-true (length (c ∷ chars)) 0 none))
-
--- they rise in the text, and none begins before the one before it ends
-RiseApart-are : (chars text : List ℕ) (len from : ℕ) (runs : List Run) → AreMatchesFrom chars text from runs → AllByRecursion (IsInside len) runs →
-    RiseApart len from runs
-RiseApart-are chars text len from [] are inside = tt
-RiseApart-are chars text len from (run ∷ runs) are inside =
-    (are.0.after, inside.0.0, inside.0.1, RiseApart-are chars text len run.end runs are.1 inside.1)
-
-pub RiseApart-results : (text : List ℕ) (query : Search) → RiseApart (length text) 0 (results text query)
-RiseApart-results text query = by query.chars (not query.case_counts)
-  where
-    by : (chars : List ℕ) (fold : Bool) → RiseApart (length text) 0 (matches_of text chars fold)
-    by [] fold = tt
-    by (c ∷ chars) fold =
-        RiseApart-are (folded fold (c ∷ chars)) (folded fold text) (length text) 0 (matches_of text (c ∷ chars) fold)
-        (matches_of-are text (c ∷ chars) fold (omega arith)) (matches_of-inside text (c ∷ chars) fold)

@@ -14,9 +14,10 @@ use Rattle.span_runs.specs.Spans.{spans_in}
 use Rattle.line_render.specs.Rendered.{carets_of, is_selected}
 use Rattle.selection_core.specs.Mapped.{AreWithin}
 use Rattle.selection_core.specs.Selection.{IsSelection, last_caret, lesser_end}
+use Rattle.match_index.specs.Found.{Found}
 use Rattle.doc_layout.specs.Found.{is_found}
 use Rattle.doc_view.specs.declared.search.Search.{Search}
-use Rattle.doc_view.specs.Search.{results}
+use Rattle.doc_view.specs.Search.{found_at, results}
 use Rattle.doc_view.specs.Told.{are_same_ends}
 use Rattle.doc_view.specs.View.{View, pieces_in}
 
@@ -31,9 +32,9 @@ pub record IsIndexKept (config : Config) (index : Index) : Type 0 where
   pub is : index ≡ index_at index.text config
 
 -- so it is, what was found is all that is looked for, and the regions are a selection in the text
-pub record IsViewKept (config : Config) (index : Index) (regions : List Region) (query : Search) (found : List Run) : Type 0 where
+pub record IsViewKept (config : Config) (index : Index) (regions : List Region) (query : Search) (found : Found) : Type 0 where
   pub text : IsIndexKept config index
-  pub found_are : found ≡ results index.text query
+  pub found_are : found ≡ found_at index.text query
   pub sound : IsSelection regions
   pub inside : AreWithin (length index.text) regions
 

@@ -5,6 +5,7 @@ use Rattle.std.specs.List.{filter, find, last_or}
 use Rattle.plain_text.specs.declared.run.Run.{Run}
 use Rattle.plain_text.specs.declared.selection.Region.{Region}
 use Rattle.find_core.specs.Matches.{matches_of}
+use Rattle.match_index.specs.Found.{Found}
 use Rattle.selection_core.specs.Selection.{greater_end, lesser_end}
 use Rattle.doc_view.specs.declared.search.Search.{Search}
 
@@ -19,6 +20,10 @@ search_for query chars case_counts = record { chars = chars; case_counts = unwra
 -- whether it is for no characters
 abbrev pub is_for_nothing : Search → Bool
 is_for_nothing query = length query.chars == 0
+
+-- what it looks for in a text
+abbrev pub found_at : List ℕ → Search → Found
+found_at text query = record { text = text; chars = query.chars; fold = not query.case_counts }
 
 -- THE RESULTS of a search in a text: all matches, in order
 abbrev pub results : List ℕ → Search → List Run

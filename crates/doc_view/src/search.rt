@@ -1,13 +1,11 @@
 // What a view looks for, and which match a command selects.
-ghost use Rattle.std.specs.Prelude.{◌≡◌, List, IfOk, None, Some, nat_le, slice_get};
-ghost use Rattle.std.specs.List.{filter, find, last_or};
-ghost use Rattle.plain_text.specs.declared.run.Run.{Run as RunValue};
+ghost use Rattle.std.specs.Prelude.{◌≡◌, List, IfOk, Some};
 ghost use Rattle.plain_text.specs.declared.selection.Region.{Region as RegionValue};
-ghost use Rattle.doc_view.specs.Search.{end_of_regions, if_wraps, is_for_nothing, next_match, no_search, previous_match, results, search_for, start_of_regions, with_match};
+ghost use Rattle.match_index.specs.Found.{runs_in};
+ghost use Rattle.doc_view.specs.Search.{end_of_regions, found_at, if_wraps, is_for_nothing, next_match, no_search, previous_match, search_for, start_of_regions, with_match};
 
-use doc_layout::whole_text;
-use find_core::matches;
-use plain_text::{NoMemory, Region, Regions, Run, Runs, Sel, Text};
+use match_index::Matches;
+use plain_text::{NoMemory, Region, Regions, Run, Sel, Text};
 use rope_tree::Rope;
 use std::alloc::Global;
 
@@ -46,44 +44,40 @@ impl Search {
         self.chars.is_empty()
     }
 
-    /// All matches in a text. This copies the text and walks it, and copies it once more where case does not count; it does not read it where
-    /// it looks for nothing.
-    pub(crate) fn results(&self, alloc: Global, text: &Rope) -> Result<Runs, NoMemory>
-        ensures { IfOk result (λ runs. runs ≡ results text.now self.now) }
+    /// All matches in a text. This walks the text once, and copies a small part of it at a time; it does not read it where it looks for
+    /// nothing.
+    pub(crate) fn matches(&self, alloc: Global, text: &Rope) -> Result<Matches, NoMemory>
+        ensures { IfOk result (λ made. made ≡ found_at text.now self.now) }
     {
-        if self.is_for_nothing() {
-            return Ok(Runs::new(alloc));
-        }
-        let text = whole_text(alloc, text)?;
-        matches(alloc, &text, &self.chars, !self.case_counts)
+        Matches::of_rope(alloc, text, &self.chars, !self.case_counts)
     }
 }
 
 /// The first match that starts not before the end of the regions; where there is none and it wraps around, the first of all.
 pub(crate) fn next_match(
-    matches: &[Run],
+    matches: &Matches,
     wrap_around: Option<bool>,
     regions: &Regions,
 ) -> Option<Run>
-    ensures { result ≡ next_match matches.now wrap_around regions.now }
+    ensures { result ≡ next_match (runs_in matches.now) wrap_around regions.now }
 {
-    match first_from(matches, end_of_regions(regions)) {
+    match matches.first_from(end_of_regions(regions)) {
         Some(found) => Some(found),
-        None => if_wraps(wrap_around, first_of(matches)),
+        None => if_wraps(wrap_around, matches.first_from(0)),
     }
 }
 
 /// The last match that ends not after the start of the regions; where there is none and it wraps around, the last of all.
 pub(crate) fn previous_match(
-    matches: &[Run],
+    matches: &Matches,
     wrap_around: Option<bool>,
     regions: &Regions,
 ) -> Option<Run>
-    ensures { result ≡ previous_match matches.now wrap_around regions.now }
+    ensures { result ≡ previous_match (runs_in matches.now) wrap_around regions.now }
 {
-    match last_to(matches, start_of_regions(regions)) {
+    match matches.last_to(start_of_regions(regions)) {
         Some(found) => Some(found),
-        None => if_wraps(wrap_around, last_of(matches)),
+        None => if_wraps(wrap_around, matches.last_to(matches.rope().len())),
     }
 }
 
@@ -108,41 +102,6 @@ fn if_wraps(wrap_around: Option<bool>, found: Option<Run>) -> Option<Run>
         return found;
     }
     None
-}
-
-fn first_from(matches: &[Run], gap: u64) -> Option<Run>
-    ensures { result ≡ find (λ (run : RunValue). nat_le gap run.start) matches.now }
-{
-    for found in matches {
-        if gap <= found.start {
-            return Some(*found);
-        }
-    }
-    None
-}
-
-fn last_to(matches: &[Run], gap: u64) -> Option<Run>
-    ensures { result ≡ last_or None (filter (λ (run : RunValue). nat_le run.end gap) matches.now) }
-{
-    let mut last = None;
-    for found in matches {
-        if found.end <= gap {
-            last = Some(*found);
-        }
-    }
-    last
-}
-
-fn first_of(matches: &[Run]) -> Option<Run>
-    ensures { result ≡ slice_get matches.now 0 }
-{
-    matches.first().copied()
-}
-
-fn last_of(matches: &[Run]) -> Option<Run>
-    ensures { result ≡ last_or None matches.now }
-{
-    matches.last().copied()
 }
 
 // The greater end of the last region; 0 where there is none.

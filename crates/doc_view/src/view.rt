@@ -13,7 +13,7 @@ ghost use Rattle.doc_layout.specs.Found.{MayShow};
 ghost use Rattle.doc_layout.specs.PositionView.{position_view};
 ghost use Rattle.doc_layout.specs.Told.{planned};
 ghost use Rattle.doc_view.specs.Moved.{AreMoved};
-ghost use Rattle.doc_view.specs.Search.{next_found, no_search, previous_found, results, search_for, with_match};
+ghost use Rattle.doc_view.specs.Search.{found_at, next_found, no_search, previous_found, search_for, with_match};
 ghost use Rattle.doc_view.specs.Inner.{AreAlikeViews, IsShownApart, first_line_left_of, has_last_caret, index_at, is_told_apart, line_left_of};
 ghost use Rattle.doc_view.specs.Told.{IsKeptLeftOf, IsTextLeft, has_asked, is_cut_alike, is_lacking, settled_view, told};
 ghost use Rattle.doc_view.specs.View.{asked_in, layout_in, pieces_in, point_in};
@@ -26,10 +26,11 @@ use crate::told::{Pristine, TextLeft};
 use doc_layout::{Asked, Shown, is_same_layout, update_of};
 use edit_ops::{copied, edit_of};
 use line_index::LineIndex;
+use match_index::Matches;
 use match_index::laws::fronts_stay;
 use plain_edits::UnitDelta;
 use plain_screen::{TextView, Update};
-use plain_text::{NoMemory, Region, Regions, Run, Runs, Sel, Text};
+use plain_text::{NoMemory, Region, Regions, Run, Sel, Text};
 use rope_tree::Rope;
 use selection_core::Selection;
 use span_styles::Layers;
@@ -51,7 +52,7 @@ pub struct ViewState {
     layers: Arc<Layers, Global>,
     query: Arc<Search, Global>,
     /// All that the search finds in the text.
-    found: Arc<Runs, Global>,
+    found: Arc<Matches, Global>,
     /// The lines of the layout that are shown.
     window: Run,
     /// The lines that were asked for at the last update, if there was one. These its front end has.
@@ -104,7 +105,7 @@ impl ViewState {
         let unstyled = Layers::new(alloc, plugins, characters)?;
         let caret = Sel::caret_at(alloc, 0)?;
         let search = Search::none(alloc);
-        let nothing = Runs::new(alloc);
+        let nothing = search.matches(alloc, text)?;
         let index = index_of(alloc, text, config)?;
         let sel = Arc::new(alloc, caret)?;
         let layers = Arc::new(alloc, unstyled)?;
@@ -124,7 +125,7 @@ impl ViewState {
 
     /// The view of the text after an edit, of which the rope is that text, with other regions: what is kept keeps its styles, and what is
     /// added has none. It costs the lines that the edit touches and the height of the text, the runs of styles, and where something is looked
-    /// for a copy of the text and a walk over it.
+    /// for a search round what is edited.
     pub fn edited(
         &self,
         alloc: Global,
@@ -144,7 +145,7 @@ impl ViewState {
     {
         let _characters = text.len();
         let mapped = self.layers().map(alloc, units)?;
-        let results = self.sought().results(alloc, text)?;
+        let results = self.matches().edited(alloc, text, units)?;
         let index = edited_index(alloc, self.line_index(), text, units)?;
         let sel = Arc::new(alloc, sel)?;
         let layers = Arc::new(alloc, mapped)?;
@@ -241,7 +242,7 @@ impl ViewState {
     }
 
     /// The view that looks for other characters, where case counts as before if nothing is said of it, without the goals of its regions.
-    /// This copies the text and walks it; for no characters it does not read it.
+    /// This walks the text; for no characters it does not read it.
     pub fn seeking(
         &self,
         alloc: Global,
@@ -254,7 +255,7 @@ impl ViewState {
         }) }
     {
         let search = self.sought().for_chars(chars, case_counts);
-        let results = search.results(alloc, self.rope())?;
+        let results = search.matches(alloc, self.rope())?;
         let plain = without_goals(alloc, self.selection())?;
         let index = Arc::try_clone(&self.index)?;
         let sel = Arc::new(alloc, plain)?;
@@ -273,7 +274,7 @@ impl ViewState {
         })
     }
 
-    /// The view with the next match of its search selected, if there is one. This goes over the matches, and lays the text out.
+    /// The view with the next match of its search selected, if there is one, in O(log n).
     pub fn at_next(&self, alloc: Global, wrap_around: Option<bool>) -> Result<ViewState, NoMemory>
         ensures { IfOk result (λ made. made ≡ record self.now {
           regions = next_found self.now.text self.now.query wrap_around self.now.regions;
@@ -298,10 +299,10 @@ impl ViewState {
     }
 
     // All matches of its search.
-    fn matches(&self) -> &[Run]
-        ensures { result.now ≡ results self.now.text self.now.query }
+    fn matches(&self) -> &Matches
+        ensures { result.now ≡ found_at self.now.text self.now.query }
     {
-        self.found.as_slice()
+        &self.found
     }
 
     // The view with a match selected, if there is one.
@@ -478,9 +479,9 @@ impl ViewState {
     fn shown_text(&self) -> Shown<'_, LineIndex>
         ensures view { result.view.now ≡ index_at self.now.text self.now.config }
         ensures regions { result.sel.now.regions ≡ self.now.regions }
-        ensures results { result.results.now ≡ results self.now.text self.now.query }
+        ensures results { result.results.now ≡ found_at self.now.text self.now.query }
         ensures layers { result.layers.now ≡ self.now.layers }
-        ensures may { MayShow self.now.text self.now.regions (results self.now.text self.now.query) }
+        ensures may { MayShow self.now.text self.now.regions (found_at self.now.text self.now.query) }
         ensures characters { all_scalars self.now.text ≡ true }
         ensures inside { AreWithin (length self.now.text) self.now.regions }
     {

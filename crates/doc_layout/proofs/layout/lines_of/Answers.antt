@@ -1,5 +1,6 @@
 use Rattle.std.proofs.Common.{◌+◌, ◌≤◌, sym, ◌∙◌, arith}
-use Rattle.doc_layout.specs.Inner.{drawn_line, drawn_lines}
+use Rattle.match_index.specs.Found.{runs_in}
+use Rattle.doc_layout.specs.Layout.{layout, layout_line}
 use Rattle.doc_layout.proofs.LayoutLemmas.{mapped-more, slice_range-none}
 use Rattle.doc_layout.proofs.layout.lines_of.Goals as goal
 
@@ -9,7 +10,7 @@ loop-at-init g c = record {
   high = c.requires.ordered;
   made =
       c.new-lines.ensures ∙
-      sym (slice_range-none (drawn_lines (g.T.TextView.text_of c.args.shown.now.view.now) c.args.shown.now.sel.now.regions c.args.found.now c.args.shown.now.layers.now (g.T.TextView.pieces_of c.args.shown.now.view.now))
+      sym (slice_range-none (layout (g.T.TextView.text_of c.args.shown.now.view.now) (g.T.TextView.pieces_of c.args.shown.now.view.now) c.args.shown.now.sel.now.regions (runs_in c.args.shown.now.results.now) c.args.shown.now.layers.now)
       c.args.from);
 }
 
@@ -21,7 +22,7 @@ loop-at-preserved g c =
       high = let less = c.loop-at-test.true in omega arith;
       made =
           c.in_ok-push.ensures.pushed ∙
-          mapped-more (drawn_line (g.T.TextView.text_of c.args.shown.now.view.now) c.args.shown.now.sel.now.regions c.args.found.now c.args.shown.now.layers.now)
+          mapped-more (layout_line (g.T.TextView.text_of c.args.shown.now.view.now) c.args.shown.now.sel.now.regions (runs_in c.args.shown.now.results.now) c.args.shown.now.layers.now)
           c.in_ok-line_at.field-0 c.args.from c.loop-at.at (g.T.TextView.pieces_of c.args.shown.now.view.now) c.loop-at.lines was.low was.made
           c.in_ok-line_at.ensures;
     }

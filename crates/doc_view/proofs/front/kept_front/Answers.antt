@@ -1,4 +1,4 @@
-use Rattle.std.proofs.Common.{ℕ, ap, ap₂, sym, subst, ◌∙◌}
+use Rattle.std.proofs.Common.{ap, ap₂, sym, subst, ◌∙◌}
 use Rattle.std.specs.Prelude.{min}
 use Rattle.doc_view.specs.Front.{KeepsFront}
 use Rattle.doc_view.specs.Inner.{first_end, first_gap}

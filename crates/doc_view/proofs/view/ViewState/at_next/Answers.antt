@@ -1,5 +1,6 @@
 use Rattle.std.proofs.Common.{length, ap, sym, ◌∙◌, subst}
 use Rattle.std.specs.Prelude.{IfSome}
+use Rattle.match_index.specs.Found.{Found, runs_in}
 use Rattle.doc_view.specs.Search.{next_match}
 use Rattle.doc_view.proofs.SearchLemmas.{IsInside, next_match-inside}
 use Rattle.doc_view.proofs.view.ViewState.at_next.Goals as goal
@@ -9,5 +10,5 @@ with_match-requires c =
     let now = c.args.self.now in
     let regions = c.deref.result.now.regions in
     subst (λ o. IfSome o (IsInside (length now.text)))
-    (sym (c.next_match-found.ensures ∙ ap (λ matches. next_match matches c.args.wrap_around regions) c.matches.ensures))
+    (sym (c.next_match-found.ensures ∙ ap (λ (f : Found). next_match (runs_in f) c.args.wrap_around regions) c.matches.ensures))
     (next_match-inside now.text now.query c.args.wrap_around regions)

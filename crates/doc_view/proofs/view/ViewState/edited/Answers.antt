@@ -1,14 +1,16 @@
 use Rattle.std.proofs.Common.{◌≡◌, ℕ, List, length, ap, sym, subst, ◌∙◌, arith}
 use Rattle.std.specs.Arc.{arc_value}
 use Rattle.plain_text.specs.declared.selection.Sel.{Sel}
+use Rattle.delta_core.specs.Units.{text_after}
 use Rattle.line_index.specs.Index.{Index}
 use Rattle.selection_core.specs.Mapped.{AreWithin}
 use Rattle.selection_core.specs.Selection.{IsSelection}
 use Rattle.span_styles.specs.Layers.{AreOver}
 use Rattle.span_styles.proofs.ForCallers.{length_after-text}
+use Rattle.match_index.specs.Found.{Found}
 use Rattle.doc_layout.specs.Changed.{IsChangeOf}
 use Rattle.doc_view.specs.Inner.{index_at}
-use Rattle.doc_view.specs.Search.{results}
+use Rattle.doc_view.specs.Search.{found_at}
 use Rattle.doc_view.specs.View.{View}
 use Rattle.doc_view.proofs.LaidLemmas.{IsViewKept-made}
 use Rattle.doc_view.proofs.view.ViewState.edited.Goals as goal
@@ -31,6 +33,15 @@ map-requires-clause-bound c =
       c.len-characters.type_inv,
     )
 
+pub edited-requires-clause-well_formed : goal.edited-requires-clause-well_formed
+edited-requires-clause-well_formed c = c.requires.changes.well_formed
+
+pub edited-requires-clause-base : goal.edited-requires-clause-base
+edited-requires-clause-base c = c.requires.changes.base ∙ sym (ap (λ (f : Found). length f.text) c.matches.ensures)
+
+pub edited-requires-clause-after : goal.edited-requires-clause-after
+edited-requires-clause-after c = c.requires.changes.leads ∙ ap (λ (f : Found). text_after c.args.units.now f.text) (sym c.matches.ensures)
+
 pub edited_index-requires : goal.edited_index-requires
 edited_index-requires c =
     subst (λ (t : List ℕ). IsChangeOf t c.args.text.now c.args.units.now) (sym (ap (λ (i : Index). i.text) c.line_index.ensures.is)) c.requires.changes
@@ -43,9 +54,9 @@ invariant_of-result c =
     c.in_ok-index.ensures ∙ ap (λ (i : Index). record i { text = text }) c.line_index.ensures.is ∙
     ap (λ (v : View). index_at text v.config) (sym c.self.view_is) in
     let sel_is = c.in_ok-sel.ensures.ok in
-    let query_is = c.sought.ensures ∙ ap (λ (v : View). v.query) (sym c.self.view_is) ∙ sym c.in_ok-query.ensures in
+    let query_is = ap (λ (v : View). v.query) (sym c.self.view_is) ∙ sym c.in_ok-query.ensures in
     IsViewKept-made config text (arc_value c.in_ok-index.index) (arc_value c.in_ok-sel.sel).regions (arc_value c.in_ok-query.query)
     (arc_value c.in_ok-found.found) c.len-characters.ensures.characters c.self.invariant.text.tab index_is
     (subst (λ (s : Sel). IsSelection s.regions) (sym sel_is) c.requires.sound)
     (subst (λ (s : Sel). AreWithin (length text) s.regions) (sym sel_is) c.requires.inside)
-    (c.in_ok-found.ensures.ok ∙ c.in_ok-results.ensures ∙ ap (results text) query_is)
+    (c.in_ok-found.ensures.ok ∙ c.in_ok-results.ensures ∙ ap (λ (f : Found). record f { text = text }) c.matches.ensures ∙ ap (found_at text) query_is)

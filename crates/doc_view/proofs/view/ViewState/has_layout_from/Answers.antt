@@ -1,4 +1,4 @@
-use Rattle.std.proofs.Common.{◌≡◌, ℕ, false, take, length, sym, subst, ◌∙◌}
+use Rattle.std.proofs.Common.{◌≡◌, ℕ, take, sym, subst, ◌∙◌}
 use Rattle.doc_view.specs.View.{layout_in}
 use Rattle.doc_view.proofs.ApartLemmas.{same-length, told-apart}
 use Rattle.doc_view.proofs.LineLemmas.{front-alike}

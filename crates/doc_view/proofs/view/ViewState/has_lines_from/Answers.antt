@@ -3,6 +3,7 @@ use Rattle.std.specs.Prelude.{IfOk}
 use Rattle.plain_screen.specs.declared.screen.Line.{Line}
 use Rattle.plain_screen.specs.SameLayout.{is_same_layout}
 use Rattle.line_index.specs.Index.{Index, pieces_in}
+use Rattle.match_index.specs.Found.{runs_in}
 use Rattle.doc_layout.specs.Layout.{layout}
 use Rattle.doc_view.specs.View.{layout_in}
 use Rattle.doc_view.proofs.ApartLemmas.{told-apart}
@@ -53,6 +54,6 @@ returns c =
     subst (λ (lines : List Line). IfOk c.is_same_layout.result (λ same. same ≡ is_same_layout (layout_in c.args.self.now) lines))
     (layout-shown c.args.next.now other.view.now other.sel.now.regions other.results.now are.view are.regions are.results other.layers.now are.layers)
     (subst (λ (lines : List Line). IfOk c.is_same_layout.result (λ same. same ≡ is_same_layout lines
-    (layout other.view.now.text (pieces_in other.view.now) other.sel.now.regions other.results.now other.layers.now)))
+    (layout other.view.now.text (pieces_in other.view.now) other.sel.now.regions (runs_in other.results.now) other.layers.now)))
     (layout-shown c.args.self.now shown.view.now shown.sel.now.regions shown.results.now is.view is.regions is.results shown.layers.now is.layers)
     c.is_same_layout.ensures)

@@ -5,7 +5,7 @@ use Rattle.edit_ops.specs.Regions.{without_goal}
 use Rattle.selection_core.specs.Mapped.{AreWithin}
 use Rattle.selection_core.specs.Selection.{IsSelection}
 use Rattle.doc_view.specs.declared.search.Search.{Search}
-use Rattle.doc_view.specs.Search.{results}
+use Rattle.doc_view.specs.Search.{found_at}
 use Rattle.doc_view.specs.View.{View}
 use Rattle.doc_view.proofs.LaidLemmas.{IsViewKept-made}
 use Rattle.doc_view.proofs.MovedLemmas.{AreWithin-plain, IsSelection-plain}
@@ -25,5 +25,5 @@ invariant_of-result c =
     (arc_value c.in_ok-found.found) c.self.invariant.text.characters c.self.invariant.text.tab (c.in_ok-index.ensures ∙ c.self.invariant.text.is)
     (subst IsSelection (sym plain) (IsSelection-plain regions c.self.invariant.sound))
     (subst (AreWithin (length text)) (sym plain) (AreWithin-plain (length text) regions c.self.invariant.inside))
-    (c.in_ok-found.ensures.ok ∙ c.in_ok-results.ensures ∙ ap (λ t. results t c.for_chars-search.result) same ∙
-    ap (λ (q : Search). results text q) (sym c.in_ok-query.ensures.ok))
+    (c.in_ok-found.ensures.ok ∙ c.in_ok-results.ensures ∙ ap (λ t. found_at t c.for_chars-search.result) same ∙
+    ap (λ (q : Search). found_at text q) (sym c.in_ok-query.ensures.ok))

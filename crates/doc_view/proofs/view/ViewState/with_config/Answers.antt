@@ -5,7 +5,7 @@ use Rattle.selection_core.specs.Mapped.{AreWithin}
 use Rattle.selection_core.specs.Selection.{IsSelection}
 use Rattle.doc_view.specs.declared.search.Search.{Search}
 use Rattle.doc_view.specs.Inner.{index_at}
-use Rattle.doc_view.specs.Search.{results}
+use Rattle.doc_view.specs.Search.{found_at}
 use Rattle.doc_view.specs.View.{View}
 use Rattle.doc_view.proofs.LaidLemmas.{IsViewKept-made}
 use Rattle.doc_view.proofs.view.ViewState.with_config.Goals as goal
@@ -21,4 +21,4 @@ invariant_of-result c =
     (arc_value c.in_ok-found.found) c.self.invariant.text.characters c.requires.tab index_is
     (subst (λ (s : Sel). IsSelection s.regions) (sym c.in_ok-sel.ensures) c.self.invariant.sound)
     (subst (λ (s : Sel). AreWithin (length text) s.regions) (sym c.in_ok-sel.ensures) c.self.invariant.inside)
-    (c.in_ok-found.ensures ∙ c.self.invariant.found_are ∙ ap (λ (q : Search). results text q) (sym c.in_ok-query.ensures))
+    (c.in_ok-found.ensures ∙ c.self.invariant.found_are ∙ ap (λ (q : Search). found_at text q) (sym c.in_ok-query.ensures))
