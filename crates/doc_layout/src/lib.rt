@@ -19,5 +19,4 @@ pub use asked::Asked;
 pub use layout::Shown;
 pub use plan::{scroll_of, update_of};
 pub use same::is_same_layout;
-pub use texts::whole_text;
 pub use wire::to_wire;

@@ -1,12 +1,11 @@
 // Where gaps of a rope stand: each answer costs the height of the rope, and no walk over its text.
-ghost use Rattle.std.specs.Prelude.{◌≡◌, ◌<◌, IfNone, IfOk, IfSome};
+ghost use Rattle.std.specs.Prelude.{◌≡◌, ◌<◌, IfNone, IfSome};
 ghost use Rattle.plain_text.specs.Text.{place_of};
 ghost use Rattle.rope_metrics.specs.Measure.{HasNone, IsConverted};
 
-use plain_text::{NoMemory, Steps, Text};
+use plain_text::Steps;
 use rope_metrics::{Measure, convert};
 use rope_tree::Rope;
-use std::alloc::Global;
 use std::marker::Brand;
 use std::sync::ledger::{Blank, Ledger};
 
@@ -40,11 +39,4 @@ fn converted_by<L: Ledger>(
 {
     let mut steps = Steps::<L>::new(blank);
     convert(text.node(), from, to, at, &mut steps)
-}
-
-/// The text of a rope, in one copy.
-pub fn whole_text(alloc: Global, rope: &Rope) -> Result<Text, NoMemory>
-    ensures { IfOk result (λ made. made ≡ rope.now) }
-{
-    rope.slice(alloc, 0, rope.len())
 }

@@ -30,7 +30,7 @@ ghost use Rattle.doc_text.specs.Writing.{Writing, head_text, loaded_text};
 use crate::engine_step::{EngineStep, step_at_head, step_by_edit, step_by_turn};
 use crate::fault::DocFault;
 use crate::revised::Revised;
-use doc_layout::{to_wire, whole_text};
+use doc_layout::to_wire;
 use edit_groups::{
     Grouped, Kind, Sessions, Typing, joined_or_opened, named_or_opened, run_group, run_on, run_with,
 };
@@ -422,7 +422,8 @@ impl TextState {
     pub fn head_text(&self, alloc: Global) -> Result<Text, NoMemory>
         ensures { (plain : Writing) → TextStandsFor self.now plain → IfOk result (λ text. text ≡ head_text plain) }
     {
-        whole_text(alloc, self.engine.head_rope())
+        let text = self.head_rope();
+        text.slice(alloc, 0, text.len())
     }
 
     /// Whether it is the text that was loaded or last saved.

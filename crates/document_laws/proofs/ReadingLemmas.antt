@@ -99,8 +99,8 @@ none-left xs ys (z ∷ zs) empty cut = absurd (omega (arith, ap length empty, ap
 -- ---- one chunk after the other
 
 module _ (d : Document) (caller rev : ℕ) (collected : IsCollected d) (kept : acknowledgement_refusal d.text.history rev ≡ None) where
-  abbrev whole_text : List ℕ
-  whole_text = text_at d.text.history rev
+  abbrev read_text : List ℕ
+  read_text = text_at d.text.history rev
 
   -- what was read from the end of a front on
   record IsReadFrom (front rest rooms : List ℕ) : Type 0 where
@@ -109,7 +109,7 @@ module _ (d : Document) (caller rev : ℕ) (collected : IsCollected d) (kept : a
     cut : rest ≡ concat (chunks_of d caller rev (byte_len front) rooms) ++ left
     whole : has_empty (chunks_of d caller rev (byte_len front) rooms) ≡ true → left ≡ []
 
-  read-from : (front rest rooms : List ℕ) → whole_text ≡ front ++ rest → AllByRecursion (λ max. 4 ≤ max) rooms → IsReadFrom front rest rooms
+  read-from : (front rest rooms : List ℕ) → read_text ≡ front ++ rest → AllByRecursion (λ max. 4 ≤ max) rooms → IsReadFrom front rest rooms
   read-from front rest [] cut enough = record { taken = tt; left = rest; cut = refl; whole = λ is. absurd cc }
   read-from front rest (max ∷ rooms) cut enough =
       let own = beginning (room_of max) rest in
@@ -118,7 +118,7 @@ module _ (d : Document) (caller rev : ℕ) (collected : IsCollected d) (kept : a
       sym (take-append-drop (length own) rest) ∙ ap (λ t. t ++ behind) (take-beginning (room_of max) rest) in
       let next = read-from (front ++ own) behind rooms
       (cut ∙ ap (λ t. front ++ t) parts ∙ sym (append_assoc front own behind)) enough.1 in
-      let chunk = chunk_at whole_text (byte_len front) max in
+      let chunk = chunk_at read_text (byte_len front) max in
       let chunk_is : chunk ≡ own = ap (λ t. chunk_at t (byte_len front) max) cut ∙ chunk-seam front rest max in
       let start_is : byte_len front + byte_len chunk ≡ byte_len (front ++ own) =
       ap (λ c. byte_len front + byte_len c) chunk_is ∙ sym (byte_len-append front own) in
@@ -128,7 +128,7 @@ module _ (d : Document) (caller rev : ℕ) (collected : IsCollected d) (kept : a
       ap (λ c. c ∷ chunks_of d caller rev (byte_len (front ++ own)) rooms) chunk_is in
       record {
         taken = (
-          reading_refusal-by d.text.history rev (byte_len front) whole_text kept refl (Some (0 + length front))
+          reading_refusal-by d.text.history rev (byte_len front) read_text kept refl (Some (0 + length front))
               (ap (λ t. gap_from 0 t (byte_len front)) cut ∙ gap_from-seam 0 front rest),
           subst (λ e. AreTaken e caller rev (byte_len front + byte_len chunk) rooms) (sym collected)
               (subst (λ n. AreTaken d caller rev n rooms) (sym start_is) next.taken),
