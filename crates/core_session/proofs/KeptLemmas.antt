@@ -2,6 +2,7 @@
 use Rattle.session_step.specs.declared.terms.Terms.{Terms}
 use Rattle.std.proofs.Common.{◌≡◌, inl, inr, ℕ, suc, ◌<◌, arith, Bool, true, false, not, List, [], ◌∷◌, ◌++◌, length, length-append, refl, ap, sym, ◌∙◌, subst, append-nil}
 use Rattle.std.specs.Prelude.{◌⊎◌, ◌&&◌, ◌||◌, ◌==◌, ◌^◌, if◌then◌else◌, nat_le}
+use Rattle.std.specs.Arc.{arc_value}
 use Rattle.std.specs.List.{AllByRecursion, AllByRecursion-prop, list_all}
 use Rattle.std.proofs.Math.Bool.{or-false, or-true}
 use Rattle.std.proofs.Math.Logic.{∥∥₁_prop}
@@ -306,7 +307,7 @@ reserved_open stage (inr is) = ap reserved is
 
 pub MayBeAsked-prop : (held : List Opened) → IsProp (MayBeAsked held)
 MayBeAsked-prop held =
-    AllByRecursion-prop (λ (kept : Opened). TakesEvents kept.doc × ∥ ((plain : Document) × DocStandsFor kept.doc plain) ∥₁)
+    AllByRecursion-prop (λ (kept : Opened). TakesEvents (arc_value kept.doc) × ∥ ((plain : Document) × DocStandsFor (arc_value kept.doc) plain) ∥₁)
     (λ kept. hlevel (ℕ_set, le_prop, ∥∥₁_prop)) held
 
 -- a session that takes lines shows its whole journal

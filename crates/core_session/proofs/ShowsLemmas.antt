@@ -2,6 +2,7 @@
 use Rattle.session_step.specs.declared.terms.Terms.{Terms}
 use Rattle.std.proofs.Common.{◌≡◌, ℕ, ◌+◌, ◌-◌, ◌<◌, ◌≤◌, length, arith, true, false, List, [], ◌∷◌, ◌++◌, map, Option, Some, None, refl, ap, sym, ◌∙◌, subst, append-nil, ◌⊎◌, inl, inr}
 use Rattle.std.specs.Prelude.{if◌then◌else◌, ◌^◌}
+use Rattle.std.specs.Arc.{arc_value}
 use Rattle.std.specs.Str.{bytes_eq}
 use Rattle.std.specs.List.{filter_map, cons_option, AllByRecursion}
 use Rattle.serde_json.specs.Data.{Data}
@@ -426,7 +427,7 @@ MayBeAsked-few (kept ∷ held) n [] stands few small = absurd stands
 MayBeAsked-few (kept ∷ held) n (view ∷ views) stands few small =
     let plain = view.document in
     let is = stands.0.stands in (
-      (omega (arith, few.0, small, head-text kept.doc.text plain.text is.text.parts), ∣ (plain, is) ∣₁),
+      (omega (arith, few.0, small, head-text (arc_value kept.doc).text plain.text is.text.parts), ∣ (plain, is) ∣₁),
       MayBeAsked-few held n views stands.1 few.1 small,
     )
 

@@ -3,13 +3,15 @@ use Rattle.std.proofs.Common.{take_all, length-drop, ◌-◌, ◌≡◌, ℕ, ze
 use Rattle.std.proofs.Math.Seq.{drop-cons, split_at}
 use Rattle.std.proofs.lemmas.List.{map-append, drop_all}
 use Rattle.std.specs.Prelude.{if◌then◌else◌, option_map, Result, Ok, Err, OnOk}
+use Rattle.std.specs.Arc.{arc_value}
 use Rattle.std.specs.List.{AllByRecursion}
 use Rattle.std.specs.Str.{bytes_eq, encode_utf8_all}
 use Rattle.doc_session.specs.InMemory.{Doc}
+use Rattle.doc_session.specs.declared.event.Body.TheVariants.{Null}
 use Rattle.doc_session.specs.declared.event.Effects.{Effects}
 use Rattle.doc_session.specs.Document.{Document, loaded_document}
 use Rattle.doc_session.specs.Stands.{DocStandsFor}
-use Rattle.doc_session.specs.Step.{AreEffectsOf, EventStep, IsEventFor, event_step}
+use Rattle.doc_session.specs.Step.{AreEffectsOf, EventStep, IsEventFor, event_step, silent_step}
 use Rattle.doc_text.specs.Writing.{loaded_text}
 use Rattle.doc_text.proofs.ForCallers.{head-text}
 use Rattle.xi_plain.specs.declared.config.Config.{Config}
@@ -30,7 +32,7 @@ use Rattle.serde_json.specs.Data.{null}
 use Rattle.json_rpc.specs.Response.{text_data}
 use Rattle.view_update.specs.declared.note.Scroll.{Scroll}
 use Rattle.doc_session.specs.PositionView.{position_view}
-use Rattle.session_step.specs.Views.{ServesView, Stands, AreThere, HasApart, HaveOtherNames, IsFirstNamed, IsFoundAt, MayBeAsked, TakesEvents}
+use Rattle.session_step.specs.Views.{ServesView, Stands, AreThere, HasApart, HaveOtherNames, IsFirstNamed, IsFoundAt, IsPutBehind, MayBeAsked, TakesEvents}
 use Rattle.session_step.specs.InnerStep.{IsEdited, IsOutcome, MayTell, TakesSteps, each_event, each_step}
 use Rattle.session_step.specs.Session.{OpenView, close_outcome, edit_came, keeping, named_view, next_view, opened_document, opening_outcome, other_step, own_step, result_of, scroll_for, stepped, taking, told, updates_for, without}
 use Rattle.session_step.proofs.ViewLemmas.{same_id, other_way, AreOthers}
@@ -151,25 +153,45 @@ IsTakingTo-all event old held i now taking end front views first stands =
       subst (λ done. now.updates ≡ old.updates ++ told steps done) all was.5,
     )
 
+-- a view with the id and the document of a plain one was put behind those that stand for others
+Stands-put : (old new : List Opened) (id : List ℕ) (doc : Doc) (front : List OpenView) (view : OpenView) → Stands old front →
+    IsPutBehind old id doc new → id ≡ view.id → DocStandsFor doc view.document → Stands new (front ++ view ∷ [])
+Stands-put old new id doc front view first put own stands =
+    subst (λ all. Stands all (front ++ view ∷ [])) (sym put.behind)
+    (Stands-append old (put.put ∷ []) front (view ∷ []) first
+    (record { id = put.id_is ∙ own; stands = subst (λ held. DocStandsFor held view.document) (sym put.doc_is) stands }, tt))
+
 -- one view took its step
-pub TakesSteps-one : (event : ToEach) (old new : Stepped) (id : List ℕ) (doc next : Doc) (effects : Effects) →
-    ((plain : Document) → DocStandsFor doc plain → DocStandsFor next (event_step plain (each_event event)).document) →
-    ((plain : Document) → DocStandsFor doc plain → AreEffectsOf (event_step plain (each_event event)) effects) →
-    new.held ≡ old.held ++ record { id = id; doc = next } ∷ [] → new.updates ≡ old.updates ++ updates_for id effects.update →
-    TakesSteps event old (record { id = id; doc = doc } ∷ []) new
-TakesSteps-one event old new id doc next effects serves tells held updates front [] first stands = absurd stands
-TakesSteps-one event old new id doc next effects serves tells held updates front (view ∷ other ∷ views) first stands = absurd stands.1
-TakesSteps-one event old new id doc next effects serves tells held updates front (view ∷ []) first stands =
+pub TakesSteps-one : (event : ToEach) (old new : Stepped) (kept : Opened) (next : Doc) (effects : Effects) →
+    ((plain : Document) → DocStandsFor (arc_value kept.doc) plain → DocStandsFor next (event_step plain (each_event event)).document) →
+    ((plain : Document) → DocStandsFor (arc_value kept.doc) plain → AreEffectsOf (event_step plain (each_event event)) effects) →
+    IsPutBehind old.held kept.id next new.held → new.updates ≡ old.updates ++ updates_for kept.id effects.update →
+    TakesSteps event old (kept ∷ []) new
+TakesSteps-one event old new kept next effects serves tells held updates front [] first stands = absurd stands
+TakesSteps-one event old new kept next effects serves tells held updates front (view ∷ other ∷ views) first stands = absurd stands.1
+TakesSteps-one event old new kept next effects serves tells held updates front (view ∷ []) first stands =
     let plain = view.document in
     let here = stands.0.stands in
     let step = each_step event view in (
-      subst (λ all. Stands all (front ++ record view { document = step.document } ∷ [])) (sym held)
-          (Stands-append old.held (record { id = id; doc = next } ∷ []) front (record view { document = step.document } ∷ []) first
-          (record { id = stands.0.id; stands = serves plain here }, tt)),
+      Stands-put old.held new.held kept.id next front (record view { document = step.document }) first held stands.0.id (serves plain here),
       updates ∙ ap (λ more. old.updates ++ more)
-          (ap (λ update. updates_for id update) (tells plain here).update ∙ ap (λ own. updates_for own step.update) stands.0.id ∙
+          (ap (λ update. updates_for kept.id update) (tells plain here).update ∙ ap (λ own. updates_for own step.update) stands.0.id ∙
           sym (append-nil (updates_for view.id step.update))),
     )
+
+-- one view rests, and is put there as it is
+pub TakesSteps-resting : (event : ToEach) (old new : Stepped) (kept : Opened) →
+    ((plain : Document) → DocStandsFor (arc_value kept.doc) plain → event_step plain (each_event event) ≡ silent_step plain) →
+    IsPutBehind old.held kept.id (arc_value kept.doc) new.held → new.updates ≡ old.updates → TakesSteps event old (kept ∷ []) new
+TakesSteps-resting event old new kept rests held updates =
+    TakesSteps-one event old new kept (arc_value kept.doc) nothing
+    (λ plain stands. subst (λ (step : EventStep). DocStandsFor (arc_value kept.doc) step.document) (sym (rests plain stands)) stands)
+    (λ plain stands.
+    subst (λ step. AreEffectsOf step nothing) (sym (rests plain stands)) (record { body = refl; update = refl; scroll = refl; notice = refl })) held
+    (updates ∙ sym (append-nil old.updates))
+  where
+    nothing : Effects
+    nothing = record { body = Null; update = None; scroll = None; notice = None }
 
 -- ---- the views beside one
 
@@ -332,7 +354,7 @@ named_at held views name at there is =
 
 -- what may be asked of one of them
 abbrev pub IsAsked : Opened → Type 0
-IsAsked kept = TakesEvents kept.doc × ∥ ((plain : Document) × DocStandsFor kept.doc plain) ∥₁
+IsAsked kept = TakesEvents (arc_value kept.doc) × ∥ ((plain : Document) × DocStandsFor (arc_value kept.doc) plain) ∥₁
 
 pub asked_at : (held : List Opened) (i : ℕ) (none : Opened) → MayBeAsked held → i < length held → IsAsked (get_or held i none)
 asked_at [] i none asked below = absurd (omega (arith, below))
@@ -363,16 +385,16 @@ IsOutcome-each event held new reply came views takes is stands =
     rw is (record { reply = refl; updates = done.1; scroll = refl; stands = done.0; told = refl })
 
 -- a view is opened behind the others
-pub IsOutcome-opening : (terms : Terms) (config : Config) (opened : ℕ) (id text : List ℕ) (doc : Doc) (held : List Opened) (middle new : Stepped) (news : List PluginNews)
-    (came : ActEffects) (views : List OpenView) → id ≡ view_id_of (opened + 1) → DocStandsFor doc (opened_document terms config text) →
-    TakesSteps to.Other unstepped held middle → TakesSteps to.Other middle (record { id = id; doc = doc } ∷ []) new →
+pub IsOutcome-opening : (terms : Terms) (config : Config) (opened : ℕ) (id text : List ℕ) (loaded : Opened) (held : List Opened) (middle new : Stepped) (news : List PluginNews)
+    (came : ActEffects) (views : List OpenView) → id ≡ view_id_of (opened + 1) → loaded.id ≡ id →
+    DocStandsFor (arc_value loaded.doc) (opened_document terms config text) →
+    TakesSteps to.Other unstepped held middle → TakesSteps to.Other middle (loaded ∷ []) new →
     came ≡ record { reply = reply_to.Opened id; held = new.held; updates = new.updates; scroll = None; news = news } → Stands held views →
     map told_of news ≡ opened_news opened text → IsOutcome (opening_outcome terms config opened views text) (opened_news opened text) came
-IsOutcome-opening terms config opened id text doc held middle new news came views numbered loads first last is stands tells =
+IsOutcome-opening terms config opened id text loaded held middle new news came views numbered own loads first last is stands tells =
     let next = next_view terms config opened text in
-    let serves : ServesView (record { id = id; doc = doc }) next =
-    record { id = numbered; stands = loads } in
-    let done = TakesSteps-append to.Other unstepped middle new held (record { id = id; doc = doc } ∷ []) first last [] views (next ∷ []) tt stands (serves, tt) in
+    let serves : ServesView loaded next = record { id = own ∙ numbered; stands = loads } in
+    let done = TakesSteps-append to.Other unstepped middle new held (loaded ∷ []) first last [] views (next ∷ []) tt stands (serves, tt) in
     rw is (record { reply = ap (λ n. accepted (text_data n)) numbered; updates = done.1; scroll = refl; stands = done.0; told = tells })
 
 -- a view is closed
@@ -407,7 +429,7 @@ edited_cut : (held : List Opened) (front : List OpenView) (view : OpenView) (bac
     (first second third : Stepped) (reply : FrontReply) (scroll : Option Scroll) (news : List PluginNews) (came : ActEffects) →
     AreThere held (front ++ view ∷ back) →
     IsEdited step next effects → TakesSteps to.Other unstepped (take (length front) held) first →
-    second.held ≡ first.held ++ record { id = view.id; doc = next } ∷ [] → second.updates ≡ first.updates ++ updates_for view.id effects.update →
+    IsPutBehind first.held view.id next second.held → second.updates ≡ first.updates ++ updates_for view.id effects.update →
     TakesSteps to.Other second (drop (length front + 1) held) third → reply_of reply ≡ accepted (result_of effects.body) →
     scroll ≡ scroll_for view.id (option_map position_view effects.scroll) →
     came ≡ record { reply = reply; held = third.held; updates = third.updates; scroll = scroll; news = news } →
@@ -416,9 +438,7 @@ edited_cut held front view back step next effects first second third reply scrol
     let after : OpenView = record view { document = step.document } in
     let before = one [] front tt (stands_before held front view back there.0) in
     let own : Stands second.held (stepped other_step front ++ after ∷ []) =
-    subst (λ all. Stands all (stepped other_step front ++ after ∷ [])) (sym held_is)
-    (Stands-append first.held (record { id = view.id; doc = next } ∷ []) (stepped other_step front) (after ∷ []) before.0
-    (record { id = refl; stands = made.0 }, tt)) in
+    Stands-put first.held second.held view.id next (stepped other_step front) after before.0 held_is refl made.0 in
     let done = last (stepped other_step front ++ after ∷ []) back own (stands_after held front view back there.0) in
     let all = steps_beside front view back step (beside front view back there.1) in
     let updates : third.updates ≡ told (own_step view step) (front ++ view ∷ back) =
@@ -438,7 +458,7 @@ pub IsOutcome-edited : (held : List Opened) (views : List OpenView) (at : ℕ) (
     (id : List ℕ) (first second third : Stepped) (reply : FrontReply) (scroll : Option Scroll) (news : List PluginNews) (came : ActEffects) →
     AreThere held views →
     IsFoundAt views at view → id ≡ view.id → IsEdited step next effects → TakesSteps to.Other unstepped (take at held) first →
-    second.held ≡ first.held ++ record { id = id; doc = next } ∷ [] → second.updates ≡ first.updates ++ updates_for id effects.update →
+    IsPutBehind first.held id next second.held → second.updates ≡ first.updates ++ updates_for id effects.update →
     TakesSteps to.Other second (drop (at + 1) held) third → reply_of reply ≡ accepted (result_of effects.body) →
     scroll ≡ scroll_for id (option_map position_view effects.scroll) →
     came ≡ record { reply = reply; held = third.held; updates = third.updates; scroll = scroll; news = news } →
@@ -449,7 +469,7 @@ IsOutcome-edited held views at view step next effects id first second third repl
     let At : List OpenView → Type 0 = λ all. IsOutcome (edit_came all view None step) (edit_news view None step) came in
     subst At (sym found.cut)
     (edited_cut held found.front view found.back step next effects first second third reply scroll news came (subst (AreThere held) found.cut there) made
-    (subst First (sym found.place) one) (held_is ∙ ap (λ own. first.held ++ record { id = own; doc = next } ∷ []) own)
+    (subst First (sym found.place) one) (record { put = held_is.put; behind = held_is.behind; id_is = held_is.id_is ∙ own; doc_is = held_is.doc_is })
     (updates_is ∙ ap (λ own. first.updates ++ updates_for own effects.update) own) (subst Last (sym found.place) last) reply_is
     (scroll_is ∙ ap (λ own. scroll_for own (option_map position_view effects.scroll)) own) is (tells ∙ ap (λ own. news_for own effects.notice) own))
 
@@ -465,13 +485,13 @@ first_inside held name at is = omega (arith, is.place, ap length is.cut, length-
 
 -- what each document is told is an event that may come to it
 may_first : (told : ToEach) (kept : Opened) (held : List Opened) → MayTell told (kept ∷ held) →
-    IsEventFor (length kept.doc.text.sessions) (each_event told) × MayTell told held
+    IsEventFor (length (arc_value kept.doc).text.sessions) (each_event told) × MayTell told held
 may_first to.Other kept held may = (tt, tt)
 may_first (to.Config config) kept held may = (may, may)
 may_first (to.Ended caller) kept held may = may
 
 pub may_at : (told : ToEach) (held : List Opened) (i : ℕ) (none : Opened) → MayTell told held → i < length held →
-    IsEventFor (length (get_or held i none).doc.text.sessions) (each_event told)
+    IsEventFor (length (arc_value (get_or held i none).doc).text.sessions) (each_event told)
 may_at told [] i none may below = absurd (omega (arith, below))
 may_at told (kept ∷ held) zero none may below = (may_first told kept held may).0
 may_at told (kept ∷ held) (suc i) none may below = may_at told held i none (may_first told kept held may).1 (omega (arith, below))

@@ -8,6 +8,7 @@ use Rattle.plain_edits.specs.History.{head}
 use Rattle.session_step.specs.Session.{OpenView, Session, messages, outcome}
 use Rattle.session_step.specs.declared.given.Given.{Given}
 use Rattle.session_step.specs.declared.opened.Opened.{Opened}
+use Rattle.std.specs.Arc.{arc_value}
 use Rattle.std.specs.List.{AllByRecursion}
 use Rattle.std.specs.Prelude.{◌≡◌, ℕ, ◌+◌, ◌<◌, ◌≤◌, true, false, List, [], ◌∷◌, ◌++◌, length, Option, Some, ⊤, ◌^◌, ◌-◌, None}
 use Rattle.std.specs.Str.{bytes_eq, encode_utf8_all}
@@ -25,7 +26,7 @@ TakesEvents doc = head doc.text.engine.revisions < 2 ^ 63 - 1
 
 -- each document takes events, and stands for a plain one
 abbrev pub MayBeAsked : List Opened → Type 0
-MayBeAsked held = AllByRecursion (λ (kept : Opened). TakesEvents kept.doc × ∥ ((plain : Document) × DocStandsFor kept.doc plain) ∥₁) held
+MayBeAsked held = AllByRecursion (λ (kept : Opened). TakesEvents (arc_value kept.doc) × ∥ ((plain : Document) × DocStandsFor (arc_value kept.doc) plain) ∥₁) held
 
 -- the plugin with this number has a session in the document, which may have ended
 abbrev pub HasSession : ℕ → Doc → Type 0
@@ -33,12 +34,19 @@ HasSession caller doc = (1 ≤ caller) × (caller ≤ length doc.text.sessions)
 
 -- and in each document
 abbrev pub HaveSessions : ℕ → List Opened → Type 0
-HaveSessions caller held = AllByRecursion (λ (kept : Opened). HasSession caller kept.doc) held
+HaveSessions caller held = AllByRecursion (λ (kept : Opened). HasSession caller (arc_value kept.doc)) held
 
 -- what is held of a view is its id, and a document that stands for its own
 pub record ServesView (held : Opened) (view : OpenView) : Type 0 where
   pub id : held.id ≡ view.id
-  pub stands : DocStandsFor held.doc view.document
+  pub stands : DocStandsFor (arc_value held.doc) view.document
+
+-- a view with this id and this document was put behind those
+pub record IsPutBehind (old : List Opened) (id : List ℕ) (doc : Doc) (new : List Opened) : Type 0 where
+  pub put : Opened
+  pub behind : new ≡ old ++ put ∷ []
+  pub id_is : put.id ≡ id
+  pub doc_is : arc_value put.doc ≡ doc
 
 -- what is held is of the views that are open, in their order
 abbrev pub Stands : List Opened → List OpenView → Type 0

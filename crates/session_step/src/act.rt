@@ -23,6 +23,7 @@ use doc_session::{Body, Doc, DocFault, Effects, Event};
 use entry_lines::{FrontReply, PluginNews, view_id_of};
 use plain_text::{List, NoMemory, Text, TryClone};
 use std::alloc::Global;
+use std::sync::Arc;
 use view_update::{Scroll, ViewUpdate};
 use xi_plain::{Act, Config, EditAct, Fault};
 
@@ -218,10 +219,16 @@ fn open_text(
 {
     let news = opened_news(alloc, &id, text.byte_len())?;
     let doc = Doc::of_text(alloc, text, terms.plugins, terms.limit, config)?;
+    let copy = id.copy(alloc)?;
+    let shared = Arc::new(alloc, doc)?;
+    let loaded = Opened {
+        id: copy,
+        doc: shared,
+    };
     let mut stepped = Stepped::new(alloc);
     stepped.take(alloc, held, ToEach::Other)?;
-    stepped.take_one(alloc, &id, &doc, ToEach::Other)?;
-    drop(doc);
+    stepped.take_one(alloc, &loaded, ToEach::Other)?;
+    drop(loaded);
     Ok(effects_of(stepped, FrontReply::Opened(id), None, news))
 }
 

@@ -2,12 +2,14 @@ ghost use Rattle.session_step.specs.Views.{IsPlaceOf};
 
 use doc_session::Doc;
 use plain_text::Text;
+use std::alloc::Global;
+use std::sync::Arc;
 
-/// A view that is open: its id, and its document.
+/// A view that is open: its id, and its document, which views after an entry share where it rests.
 #[derive(Drop)]
 pub struct Opened {
     pub id: Text,
-    pub doc: Doc,
+    pub doc: Arc<Doc, Global>,
 }
 
 /// Where the view with this name stands.

@@ -1,7 +1,10 @@
-ghost use Rattle.std.specs.Prelude.{◌≡◌, ◌++◌, ◌∷◌, [], IfOk, OnOk, length};
-ghost use Rattle.doc_session.specs.Step.{IsEventFor};
+ghost use Rattle.std.specs.Prelude.{◌≡◌, ◌++◌, ◌∷◌, [], IfOk, IsTrue, OnOk, length};
+ghost use Rattle.std.specs.Arc.{arc_value};
+ghost use Rattle.doc_session.specs.Document.{Document};
+ghost use Rattle.doc_session.specs.Stands.{DocStandsFor};
+ghost use Rattle.doc_session.specs.Step.{IsEventFor, event_step, silent_step};
 ghost use Rattle.session_step.specs.InnerStep.{MayTell, TakesSteps, each_event};
-ghost use Rattle.session_step.specs.Views.{MayBeAsked, TakesEvents};
+ghost use Rattle.session_step.specs.Views.{IsPutBehind, MayBeAsked, TakesEvents};
 ghost use Rattle.session_step.specs.Session.{updates_for};
 
 use crate::after::after_alone;
@@ -10,6 +13,7 @@ use doc_session::{Doc, Effects, Event};
 use plain_screen::Update;
 use plain_text::{List, NoMemory, Text, TryClone};
 use std::alloc::Global;
+use std::sync::Arc;
 use view_update::ViewUpdate;
 use xi_plain::Config;
 
@@ -49,10 +53,11 @@ impl Stepped {
         doc: Doc,
         update: Option<Update>,
     ) -> Result<(), NoMemory>
-        ensures held { OnOk result (self.new.held ≡ self.old.held ++ record { id = id.now; doc = doc } ∷ []) }
+        ensures held { OnOk result (IsPutBehind self.old.held id.now doc self.new.held) }
         ensures updates { OnOk result (self.new.updates ≡ self.old.updates ++ updates_for id.now update) }
     {
         let copy = id.copy(alloc)?;
+        let doc = Arc::new(alloc, doc)?;
         tell(&mut self.updates, alloc, id, update)?;
         self.held.push(Opened { id: copy, doc })
     }
@@ -64,27 +69,55 @@ impl Stepped {
         ensures { OnOk result (TakesSteps told self.old held.now self.new) }
     {
         for kept in held {
-            self.take_one(alloc, &kept.id, &kept.doc, told)?;
+            self.take_one(alloc, kept, told)?;
         }
         Ok(())
     }
 
     /// The same of one view, which is put behind those that are there.
-    pub fn take_one(
-        &mut self,
-        alloc: Global,
-        id: &Text,
-        doc: &Doc,
-        told: ToEach,
-    ) -> Result<(), NoMemory>
-        requires takes { TakesEvents doc.now }
-        requires may { IsEventFor (length doc.now.text.sessions) (each_event told) }
-        ensures { OnOk result (TakesSteps told self.old (record { id = id.now; doc = doc.now } ∷ []) self.new) }
+    pub fn take_one(&mut self, alloc: Global, kept: &Opened, told: ToEach) -> Result<(), NoMemory>
+        requires takes { TakesEvents (arc_value kept.now.doc) }
+        requires may { IsEventFor (length (arc_value kept.now.doc).text.sessions) (each_event told) }
+        ensures { OnOk result (TakesSteps told self.old (kept.now ∷ []) self.new) }
     {
-        match after_alone(alloc, doc, event_of(told)) {
-            Ok((next, effects)) => self.push(alloc, id, next, update_of(effects)),
+        if stays_at(&kept.doc, told) {
+            self.share(alloc, kept)
+        } else {
+            self.push_after(alloc, kept, told)
+        }
+    }
+
+    /// Puts a view behind those that are there as it is, with its document shared.
+    fn share(&mut self, alloc: Global, kept: &Opened) -> Result<(), NoMemory>
+        ensures held { OnOk result (IsPutBehind self.old.held kept.now.id (arc_value kept.now.doc) self.new.held) }
+        ensures updates { OnOk result (self.new.updates ≡ self.old.updates) }
+    {
+        let id = kept.id.copy(alloc)?;
+        let doc = Arc::try_clone(&kept.doc)?;
+        self.held.push(Opened { id, doc })
+    }
+
+    /// Puts a view behind those that are there, after its step.
+    fn push_after(&mut self, alloc: Global, kept: &Opened, told: ToEach) -> Result<(), NoMemory>
+        requires takes { TakesEvents (arc_value kept.now.doc) }
+        requires may { IsEventFor (length (arc_value kept.now.doc).text.sessions) (each_event told) }
+        ensures { OnOk result (TakesSteps told self.old (kept.now ∷ []) self.new) }
+    {
+        match after_alone(alloc, &kept.doc, event_of(told)) {
+            Ok((next, effects)) => self.push(alloc, &kept.id, next, update_of(effects)),
             Err(_) => Err(NoMemory),
         }
+    }
+}
+
+/// Whether what each document is told leaves this one as it is, and nobody is told anything of it.
+fn stays_at(doc: &Doc, told: ToEach) -> bool
+    ensures { IsTrue result → (plain : Document) → DocStandsFor doc.now plain
+        → event_step plain (each_event told) ≡ silent_step plain }
+{
+    match told {
+        ToEach::Other => doc.rests(),
+        ToEach::Config(_) | ToEach::Ended(_) => false,
     }
 }
 

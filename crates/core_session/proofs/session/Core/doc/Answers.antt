@@ -1,6 +1,8 @@
-use Rattle.std.proofs.Common.{get_or, ◌<◌, List, Option, refl, sym, ◌∙◌, subst, arith, length}
+use Rattle.std.proofs.Common.{◌<◌, List, Option, refl, sym, ◌∙◌, subst, arith, length}
 use Rattle.std.specs.Prelude.{◌^◌}
 use Rattle.std.proofs.Math.Logic.{∥∥₁_elim, ∥∥₁_map}
+use Rattle.doc_session.specs.InMemory.{Doc}
+use Rattle.doc_session.specs.Stands.{DocStandsFor}
 use Rattle.session_step.specs.Session.{OpenView, named_view, views_of}
 use Rattle.session_step.specs.Views.{IsPlaceOf, Stands}
 use Rattle.session_step.specs.declared.opened.Opened.{Opened}
@@ -23,9 +25,10 @@ returns-in-Some-clause-stands g c =
     ∥∥₁_map core.kept (λ kept.
     let stands : Stands held views = subst Held (sym c.as_slice-held.ensures) kept.stands.views in
     let found = named_at held views name c.in-Some.at (stands, apart_of c.args.self.now.terms journal.items few) is in
-    let doc = (get_or held c.in-Some.at c.index-held-at.result).doc in
-    let At : Option OpenView → Type 0 = λ named. IsDocOf doc named in
-    subst At (sym found.named) (serves_found held views c.in-Some.at found.view c.index-held-at.result stands found.found).stands)
+    let At : Option OpenView → Type 0 = λ named. IsDocOf c.deref.result.now named in
+    let Of : Doc → Type 0 = λ doc. DocStandsFor doc found.view.document in
+    subst At (sym found.named)
+    (subst Of (sym c.deref.ensures) (serves_found held views c.in-Some.at found.view c.index-held-at.result stands found.found).stands))
 
 pub returns-in-Some-clause-absent : goal.returns-in-Some-clause-absent
 returns-in-Some-clause-absent g c =

@@ -1,4 +1,5 @@
 use Rattle.std.proofs.Common.{length, sym, subst, arith}
+use Rattle.std.specs.Arc.{arc_value}
 use Rattle.doc_session.specs.Step.{IsEventFor}
 use Rattle.session_step.specs.declared.opened.Opened.{Opened}
 use Rattle.session_step.specs.InnerStep.{each_event}
@@ -8,12 +9,12 @@ use Rattle.session_step.proofs.stepped.Stepped.take.Goals as goal
 
 pub take_one-requires-clause-takes : goal.take_one-requires-clause-takes
 take_one-requires-clause-takes c =
-    let At : Opened → Type 0 = λ kept. TakesEvents kept.doc in
+    let At : Opened → Type 0 = λ kept. TakesEvents (arc_value kept.doc) in
     subst At (sym c.kept-item.is) (asked_at c.args.held.now c.loop-kept.kept-index _ c.requires.asked c.loop-kept-test.true).0
 
 pub take_one-requires-clause-may : goal.take_one-requires-clause-may
 take_one-requires-clause-may c =
-    let At : Opened → Type 0 = λ kept. IsEventFor (length kept.doc.text.sessions) (each_event c.args.told) in
+    let At : Opened → Type 0 = λ kept. IsEventFor (length (arc_value kept.doc).text.sessions) (each_event c.args.told) in
     subst At (sym c.kept-item.is) (may_at c.args.told c.args.held.now c.loop-kept.kept-index _ c.requires.may c.loop-kept-test.true)
 
 pub loop-kept-init : goal.loop-kept-init
