@@ -1,6 +1,7 @@
 //! Laws of the steps of a document. The functions do nothing: their clauses are the laws.
 
 ghost use Rattle.document_laws.specs.Laws.{AcknowledgementsAreUnseen, AskingIsUnseen, CollectionIsUnseen, LayersFollow, NewGroupEndsRedo, ReadingGivesTheText, RedoTakesUndoBack, SavingIsSeen, StepsAreFew, UndoTakesNewest, UndoTakesRunBack};
+ghost use Rattle.document_laws.specs.Touched.{ChangesTouchLines};
 
 /// An undo takes a run of typing back whole: however many insertions it has, the text is the one before the first.
 pub fn undo_takes_run_back()
@@ -57,4 +58,9 @@ pub fn asking_is_unseen()
 /// A plugin that reads a revision chunk by chunk has its text.
 pub fn reading_gives_the_text()
     ensures { ReadingGivesTheText }
+{}
+
+/// The lines that the change of a revision touches, which are broken anew, are those that the revision touches in the history.
+pub fn changes_touch_lines()
+    ensures { ChangesTouchLines }
 {}
