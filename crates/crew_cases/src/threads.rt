@@ -10,11 +10,11 @@ use crate::player::{Part, Player};
 use crate::turns::{Outcome, comes_to, drawn, has, players_of, say_all, says};
 use outside::{Gate, Point};
 use plugin_crew::{Back, Post, RoomFront, hire_all};
-use plugin_session::{Text, hire, turned_away};
+use plugin_session::{Errand, Text, hire, turned_away};
 use room_lock::{Pass, Room};
 use std::alloc::Global;
-use std::sync::Wait;
 use std::sync::atomic::{AtomicU64, Ordering};
+use std::sync::{OnceLock, Wait};
 use std::thread;
 use std::thread::{Scope, Threads};
 
@@ -62,6 +62,15 @@ struct Work<'a> {
     closes: bool,
 }
 
+// The same without plugins: no ask of theirs is awaited.
+fn without_asks(work: Work<'_>) -> Work<'_> {
+    Work {
+        awaits: 0,
+        lines: work.lines,
+        closes: work.closes,
+    }
+}
+
 // The front closes the room, where this is so.
 fn close_where<R: Threads + Wait>(taker: &mut RoomFront<'_, Desk, R, Player>, closes: bool)
     requires { IsStaffed taker.old.room.now.table.shared.table_id taker.old.room.now.table.shared.key.first.value taker.old.pass (givens_of taker.old.posts.items) }
@@ -102,23 +111,23 @@ fn all_in_scope<'s, E, R: Threads + Wait + Sync>(
     room: &'s Room<Desk>,
     front: Pass,
     players: Vec<Player>,
-    flags: &'s [AtomicU64],
+    said: &'s [OnceLock<Errand>],
     posts: Vec<Post<'s, Desk, R, Player>>,
     back: Back<Player>,
     work: Work<'_>,
 ) -> (Option<Text>, Back<Player>)
     requires front { front ≡ first_pass room.now.table.shared.table_id }
     requires few { (vec_len players ≤ 64) × (vec_len players < room.now.table.shared.key.most) }
-    requires vectors { (vec_len players ≤ length flags.now) × (posts.items ≡ []) × (vec_len players ≤ vec_capacity posts) }
+    requires vectors { (vec_len players ≤ length said.now) × (posts.items ≡ []) × (vec_len players ≤ vec_capacity posts) }
     requires empty { (back.passes.items ≡ []) × (back.plugins.items ≡ []) }
     requires reserved { (vec_len players < vec_capacity back.passes) × (vec_len players ≤ vec_capacity back.plugins) }
     ensures { IsAllBack room.now.table.shared.table_id room.now.table.shared.key.first.value result.1.passes.items result.1.plugins.items result.1.all_served }
 {
-    let taker = hire_all(scope, rt, alloc, room, front, players, flags, posts, keeper);
+    let taker = hire_all(scope, rt, alloc, room, front, players, said, posts, keeper);
     front_works(alloc, keeper, taker, back, work)
 }
 
-// The same, with a scope.
+// The same, with a scope. Where there is no memory for the posts no plugin comes.
 fn all_on_threads<R: Threads + Wait + Sync>(
     rt: &R,
     alloc: Global,
@@ -126,14 +135,13 @@ fn all_on_threads<R: Threads + Wait + Sync>(
     room: &Room<Desk>,
     front: Pass,
     players: Vec<Player>,
-    flags: &[AtomicU64],
-    posts: Vec<Post<'_, Desk, R, Player>>,
+    said: &[OnceLock<Errand>],
     back: Back<Player>,
     work: Work<'_>,
 ) -> (Option<Text>, Back<Player>)
     requires front { front ≡ first_pass room.now.table.shared.table_id }
     requires few { (vec_len players ≤ 64) × (vec_len players < room.now.table.shared.key.most) }
-    requires vectors { (vec_len players ≤ length flags.now) × (posts.items ≡ []) × (vec_len players ≤ vec_capacity posts) }
+    requires words { vec_len players ≤ length said.now }
     requires empty { (back.passes.items ≡ []) × (back.plugins.items ≡ []) }
     requires reserved { (vec_len players < vec_capacity back.passes) × (vec_len players ≤ vec_capacity back.plugins) }
     ensures { IsAllBack room.now.table.shared.table_id room.now.table.shared.key.first.value result.1.passes.items result.1.plugins.items result.1.all_served }
@@ -144,14 +152,29 @@ fn all_on_threads<R: Threads + Wait + Sync>(
         move |scope| -> (Option<Text>, Back<Player>)
             requires front { front ≡ first_pass room.now.table.shared.table_id }
             requires few { (vec_len players ≤ 64) × (vec_len players < room.now.table.shared.key.most) }
-            requires vectors { (vec_len players ≤ length flags.now) × (posts.items ≡ []) × (vec_len players ≤ vec_capacity posts) }
+            requires words { vec_len players ≤ length said.now }
             requires empty { (back.passes.items ≡ []) × (back.plugins.items ≡ []) }
             requires reserved { (vec_len players < vec_capacity back.passes) × (vec_len players ≤ vec_capacity back.plugins) }
             ensures { IsAllBack room.entry.now.table.shared.table_id room.entry.now.table.shared.key.first.value result.1.passes.items result.1.plugins.items result.1.all_served }
         {
-            all_in_scope(
-                scope, rt, alloc, keeper, room, front, players, flags, posts, back, work,
-            )
+            match Vec::with_capacity(alloc, players.len()) {
+                Ok(posts) => all_in_scope(
+                    scope, rt, alloc, keeper, room, front, players, said, posts, back, work,
+                ),
+                Err(_) => all_in_scope(
+                    scope,
+                    rt,
+                    alloc,
+                    keeper,
+                    room,
+                    front,
+                    Vec::new(alloc),
+                    said,
+                    Vec::new(alloc),
+                    back,
+                    without_asks(work),
+                ),
+            }
         },
     )
 }
@@ -165,7 +188,7 @@ fn first_on_a_thread<'s, E, R: Threads + Wait + Sync>(
     room: &'s Room<Desk>,
     front: Pass,
     pair: (Player, Player),
-    flag: &'s AtomicU64,
+    said: &'s OnceLock<Errand>,
     posts: Vec<Post<'s, Desk, R, Player>>,
 ) -> RoomFront<'s, Desk, R, Player>
     requires front { front ≡ first_pass room.now.table.shared.table_id }
@@ -180,8 +203,8 @@ fn first_on_a_thread<'s, E, R: Threads + Wait + Sync>(
     let (first, second) = pair;
     let a = room.split(&mut front);
     let b = room.split(&mut front);
-    let one = hire(scope, rt, alloc, flag, room, a, first, keeper);
-    let two = turned_away(rt, alloc, room, b, second, keeper);
+    let one = hire(scope, rt, alloc, said, room, a, first, keeper);
+    let two = turned_away(room, b, second);
     posts.push_reserved(Post::of(alloc, rt, room, one));
     posts.push_reserved(Post::of(alloc, rt, room, two));
     RoomFront::new(alloc, rt, room, front, posts)
@@ -196,7 +219,7 @@ fn two_in_scope<'s, E, R: Threads + Wait + Sync>(
     room: &'s Room<Desk>,
     front: Pass,
     pair: (Player, Player),
-    flag: &'s AtomicU64,
+    said: &'s OnceLock<Errand>,
     posts: Vec<Post<'s, Desk, R, Player>>,
     back: Back<Player>,
     work: Work<'_>,
@@ -208,11 +231,11 @@ fn two_in_scope<'s, E, R: Threads + Wait + Sync>(
     requires reserved { (2 < vec_capacity back.passes) × (2 ≤ vec_capacity back.plugins) }
     ensures { IsAllBack room.now.table.shared.table_id room.now.table.shared.key.first.value result.1.passes.items result.1.plugins.items result.1.all_served }
 {
-    let taker = first_on_a_thread(scope, rt, alloc, keeper, room, front, pair, flag, posts);
+    let taker = first_on_a_thread(scope, rt, alloc, keeper, room, front, pair, said, posts);
     front_works(alloc, keeper, taker, back, work)
 }
 
-// The same, with a scope.
+// The same, with a scope. Where there is no memory for the posts no plugin comes.
 fn two_on_threads<R: Threads + Wait + Sync>(
     rt: &R,
     alloc: Global,
@@ -220,14 +243,13 @@ fn two_on_threads<R: Threads + Wait + Sync>(
     room: &Room<Desk>,
     front: Pass,
     pair: (Player, Player),
-    flag: &AtomicU64,
-    posts: Vec<Post<'_, Desk, R, Player>>,
+    said: &[OnceLock<Errand>],
     back: Back<Player>,
     work: Work<'_>,
 ) -> (Option<Text>, Back<Player>)
     requires front { front ≡ first_pass room.now.table.shared.table_id }
     requires few { 2 < room.now.table.shared.key.most }
-    requires posts { (posts.items ≡ []) × (2 ≤ vec_capacity posts) }
+    requires words { 1 ≤ length said.now }
     requires empty { (back.passes.items ≡ []) × (back.plugins.items ≡ []) }
     requires reserved { (2 < vec_capacity back.passes) × (2 ≤ vec_capacity back.plugins) }
     ensures { IsAllBack room.now.table.shared.table_id room.now.table.shared.key.first.value result.1.passes.items result.1.plugins.items result.1.all_served }
@@ -238,14 +260,29 @@ fn two_on_threads<R: Threads + Wait + Sync>(
         move |scope| -> (Option<Text>, Back<Player>)
             requires front { front ≡ first_pass room.now.table.shared.table_id }
             requires few { 2 < room.now.table.shared.key.most }
-            requires posts { (posts.items ≡ []) × (2 ≤ vec_capacity posts) }
+            requires words { 1 ≤ length said.now }
             requires empty { (back.passes.items ≡ []) × (back.plugins.items ≡ []) }
             requires reserved { (2 < vec_capacity back.passes) × (2 ≤ vec_capacity back.plugins) }
             ensures { IsAllBack room.entry.now.table.shared.table_id room.entry.now.table.shared.key.first.value result.1.passes.items result.1.plugins.items result.1.all_served }
         {
-            two_in_scope(
-                scope, rt, alloc, keeper, room, front, pair, flag, posts, back, work,
-            )
+            match Vec::with_capacity(alloc, 2) {
+                Ok(posts) => two_in_scope(
+                    scope, rt, alloc, keeper, room, front, pair, &said[0], posts, back, work,
+                ),
+                Err(_) => all_in_scope(
+                    scope,
+                    rt,
+                    alloc,
+                    keeper,
+                    room,
+                    front,
+                    Vec::new(alloc),
+                    said,
+                    Vec::new(alloc),
+                    back,
+                    without_asks(work),
+                ),
+            }
         },
     )
 }
@@ -281,11 +318,10 @@ fn play_on_threads<R: Threads + Wait + Sync>(
     if count > 64 {
         return None;
     }
-    let mut flags = Vec::with_capacity(alloc, count).ok()?;
+    let mut said = Vec::with_capacity(alloc, count).ok()?;
     for _ in 0..count {
-        flags.push_reserved(AtomicU64::new(0));
+        said.push_reserved(OnceLock::new());
     }
-    let posts = Vec::with_capacity(alloc, count).ok()?;
     let back = Back::with_room(alloc, count).ok()?;
     let Ok((room, front)) = Room::make(alloc, Desk::new(alloc), count as u32 + 1) else {
         return None;
@@ -296,7 +332,7 @@ fn play_on_threads<R: Threads + Wait + Sync>(
         holds,
     };
     let (tooks, back) = all_on_threads(
-        rt, alloc, &keeper, &room, front, players, &flags, posts, back, work,
+        rt, alloc, &keeper, &room, front, players, &said, back, work,
     );
     ended(alloc, room, tooks, back)
 }
@@ -313,20 +349,17 @@ fn play_beside<R: Threads + Wait + Sync>(
         Player::new(alloc, first).ok()?,
         Player::new(alloc, second).ok()?,
     );
-    let posts = Vec::with_capacity(alloc, 2).ok()?;
     let back = Back::with_room(alloc, 2).ok()?;
     let Ok((room, front)) = Room::make(alloc, Desk::new(alloc), 3) else {
         return None;
     };
-    let flag = AtomicU64::new(0);
+    let said = [OnceLock::new()];
     let keeper = Keeper {
         rt,
         served: AtomicU64::new(0),
         holds: 0,
     };
-    let (tooks, back) = two_on_threads(
-        rt, alloc, &keeper, &room, front, pair, &flag, posts, back, work,
-    );
+    let (tooks, back) = two_on_threads(rt, alloc, &keeper, &room, front, pair, &said, back, work);
     ended(alloc, room, tooks, back)
 }
 

@@ -24,7 +24,7 @@ use Rattle.plugin_crew.specs.declared.standing.Standing.TheVariants.{Going}
 use Rattle.plugin_crew.specs.declared.member.Member.{Member}
 use Rattle.plugin_crew.specs.declared.took.Took.{Took}
 use Rattle.plugin_crew.specs.declared.took.Took.TheVariants.{Taken, Fault, Closed, NoMemory}
-use Rattle.plugin_crew.specs.Taker.{SaysSent, HasTaken, IsTakenBy, took_of, is_sent, adds_entry}
+use Rattle.plugin_crew.specs.Taker.{SaysSent, HasTaken, IsEnteredBy, IsTakenBy, took_of, is_sent, adds_entry}
 use Rattle.plugin_crew.specs.Standing.{standing_after, is_going, is_open}
 use Rattle.plugin_crew.specs.Session.{IsSession}
 use Rattle.plugin_crew.specs.Round.{IsRound}
@@ -94,6 +94,14 @@ came_none Taken before after is came = absurd cc
 came_none Fault before after is came = absurd cc
 came_none Closed before after is came = came
 came_none NoMemory before after is came = came
+
+-- what came of it, by the entries of the front end
+taken_came : (took : Took) (before middle : List Entry) (fronts : List Entry) → fronts ≡ front_entries middle → Came took before middle
+    → HasTaken (front_entries before) took fronts
+taken_came Taken before middle fronts leaves (entry, last, own, sent) = (entry, leaves ∙ front_gains before middle entry last own, sent)
+taken_came Fault before middle fronts leaves (entry, last, own, sent) = (entry, leaves ∙ front_gains before middle entry last own, sent)
+taken_came Closed before middle fronts leaves same = leaves ∙ ap front_entries same
+taken_came NoMemory before middle fronts leaves same = leaves ∙ ap front_entries same
 
 module _ (serves : List Entry → ℕ → Ask → Reply → List Entry → Type 0) (answers : List Entry → ℕ → Query → Answer → Type 0) where
   -- one entry more, after those that were entered
@@ -469,20 +477,49 @@ module _ {O P : Type 0} (journal : O → List Entry) (serves : O → List Entry 
         → HasRound journal serves answers grown told middle members nexts after → IsRunning journal serves answers grown told fits first before members
         → MatchBool (adds_entry took) (IsClosed journal serves answers grown told first after nexts (front_entries (journal before)))
         (IsRunning journal serves answers grown told fits first after nexts)
+        × HasTaken (front_entries (journal before)) took (front_entries (journal after))
+        × IsEnteredBy (serves first) CloseDown (front_entries (journal before)) took (front_entries (journal after))
+    unfolding closes came_entry
     closing_made first before middle after members nexts given took is made grows adds served long round run =
         let came = came_by first before middle members CloseDown given took is adds served run in
         let (entry, last, own) = came_entry took (journal before) (journal middle) made came in
-        subst (λ b. MatchBool b (IsClosed journal serves answers grown told first after nexts (front_entries (journal before)))
-        (IsRunning journal serves answers grown told fits first after nexts)) (sym made)
-        (closes first before middle after members nexts entry grows last own long round run)
+        let closed = closes first before middle after members nexts entry grows last own long round run in
+        let leaves : front_entries (journal after) ≡ front_entries (journal middle) =
+        closed.front ∙ sym (front_gains (journal before) (journal middle) entry last own) in (
+          subst (λ b. MatchBool b (IsClosed journal serves answers grown told first after nexts (front_entries (journal before)))
+              (IsRunning journal serves answers grown told fits first after nexts)) (sym made) closed,
+          taken_came took (journal before) (journal middle) (front_entries (journal after)) leaves came,
+          (
+            journal before,
+            journal middle,
+            given,
+            serve first before (journal before) 0 CloseDown given (journal middle) run.members_are.0 served,
+            refl,
+            sym leaves,
+            is,
+          ),
+        )
 
     pub closing_none : (first before after : O) (members : List (Member P)) (given : Reply) (took : Took) → took ≡ took_of given
         → adds_entry took ≡ false → grown before after → AddsEntryIf (has_entry given) (journal before) 0 (journal after)
         → serves before (journal before) 0 CloseDown given (journal after) → IsRunning journal serves answers grown told fits first before members
         → MatchBool (adds_entry took) (IsClosed journal serves answers grown told first after members (front_entries (journal before)))
         (IsRunning journal serves answers grown told fits first after members)
+        × HasTaken (front_entries (journal before)) took (front_entries (journal after))
+        × IsEnteredBy (serves first) CloseDown (front_entries (journal before)) took (front_entries (journal after))
     closing_none first before after members given took is none grows adds served run =
-        let came = came_by first before after members CloseDown given took is adds served run in
-        subst (λ b. MatchBool b (IsClosed journal serves answers grown told first after members (front_entries (journal before)))
-        (IsRunning journal serves answers grown told fits first after members)) (sym none)
-        (goes_same first before after members grows (came_none took (journal before) (journal after) none came) run)
+        let came = came_by first before after members CloseDown given took is adds served run in (
+          subst (λ b. MatchBool b (IsClosed journal serves answers grown told first after members (front_entries (journal before)))
+              (IsRunning journal serves answers grown told fits first after members)) (sym none)
+              (goes_same first before after members grows (came_none took (journal before) (journal after) none came) run),
+          taken_came took (journal before) (journal after) (front_entries (journal after)) refl came,
+          (
+            journal before,
+            journal after,
+            given,
+            serve first before (journal before) 0 CloseDown given (journal after) run.members_are.0 served,
+            refl,
+            refl,
+            is,
+          ),
+        )

@@ -1,7 +1,7 @@
 -- A plugin of a run on threads: what its worker handed back, and its turns on the calling thread.
-use Rattle.std.proofs.Common.{◌≡◌, ◌≤◌, ℕ, Bool, true, false, not, List, [], ◌∷◌, length, Option, refl, ap, sym, ◌∙◌, subst, arith}
+use Rattle.std.proofs.Common.{◌≡◌, ◌≤◌, ℕ, Bool, true, false, not, List, [], ◌∷◌, length, Option, refl, ap, sym, ◌∙◌, subst}
 use Rattle.std.specs.Bool.{MatchBool}
-use Rattle.std.specs.Prelude.{Result, Ok, Err, None}
+use Rattle.std.specs.Prelude.{Result}
 use Rattle.atomic_table.specs.Seated.{TableId}
 use Rattle.xi_plain.specs.declared.entry.Entry.{Entry}
 use Rattle.xi_plain.specs.declared.ask.Ask.{Ask}
@@ -9,7 +9,9 @@ use Rattle.xi_plain.specs.declared.ask.Query.{Query}
 use Rattle.xi_plain.specs.declared.reply.Reply.{Reply}
 use Rattle.xi_plain.specs.declared.reply.Answer.{Answer}
 use Rattle.xi_plain.specs.Room.{Begins}
-use Rattle.room_lock.specs.Room.{Known, IsSamePass, own}
+use Rattle.room_lock.specs.Room.{Known, IsSamePass}
+use Rattle.plugin_session.specs.declared.errand.Errand.{Errand}
+use Rattle.plugin_session.specs.declared.errand.Errand.TheVariants.{Serve, Leave}
 use Rattle.plugin_session.specs.declared.worker.Worked.{Worked}
 use Rattle.plugin_session.specs.Turn.{Turned, TellsMore}
 use Rattle.plugin_session.specs.Call.{Went}
@@ -17,16 +19,14 @@ use Rattle.plugin_session.specs.Visit.{Visit, IsVisit, after_visit}
 use Rattle.plugin_session.specs.Seat.{Seated, IsUsable, IsFurther, Begins-same, Begins-trans}
 use Rattle.plugin_session.specs.Hired.{Hiring, IsHandedBack}
 use Rattle.plugin_session.specs.Worker.{HasEnded, HasWorked, MayWork}
-use Rattle.plugin_session.proofs.ForCallers.{TellsMore-none, same_on}
-use Rattle.plugin_crew.specs.declared.standing.Standing.TheVariants.{Going}
+use Rattle.plugin_session.proofs.ForCallers.{same_on}
+use Rattle.plugin_crew.specs.declared.standing.Standing.{Standing}
 use Rattle.plugin_crew.specs.declared.member.Member.{Member}
 use Rattle.plugin_crew.specs.Member.{IsNew}
 use Rattle.plugin_crew.specs.Standing.{HasStanding, is_going, standing_after}
 use Rattle.plugin_crew.specs.Session.{IsSession}
-use Rattle.plugin_crew.specs.declared.post.Work.{Work}
-use Rattle.plugin_crew.specs.declared.post.Work.TheVariants.{Runs}
-use Rattle.plugin_crew.specs.Place.{HasTurnHere, IsVisitHere, IsLeftHere, IsPlaced, place_at, place_by}
-use Rattle.plugin_crew.specs.Post.{HasServed, IsStay, gathered_of, standing_of}
+use Rattle.plugin_crew.specs.Place.{HasTurnHere, IsVisitHere, first_place, place_at}
+use Rattle.plugin_crew.specs.Post.{EndsBy, HasServed, IsStay, gathered_of, standing_of}
 use Rattle.plugin_crew.proofs.SessionLemmas.{open_as, port_caller, port_ended, session_further, session_new}
 
 -- it is the same pass
@@ -38,51 +38,50 @@ stands_ended true visits ended = ended
 stands_ended false [] ended = absurd ended
 stands_ended false (visit ∷ visits) ended = ended
 
-module _ (serves : List Entry → ℕ → Ask → Reply → List Entry → Type 0) (answers : List Entry → ℕ → Query → Answer → Type 0) where
+-- what is handed back, where errand and result are known
+pub handed_as : {P : Type 0} (serves : List Entry → ℕ → Ask → Reply → List Entry → Type 0) (answers : List Entry → ℕ → Query → Answer → Type 0)
+    (told : P → Option (List Turned)) (pass : Known) (plugin : P) (errand to : Errand) (handed is : Result (Worked P) (Known × P)) → errand ≡ to → handed ≡ is
+    → IsHandedBack serves answers told pass plugin errand handed → IsHandedBack serves answers told pass plugin to is
+handed_as serves answers told pass plugin errand to handed is same here back =
+    subst (λ e. IsHandedBack serves answers told pass plugin e is) same (subst (IsHandedBack serves answers told pass plugin errand) here back)
+
+-- its session is over
+ends_over : (errand : Errand) (over : Bool) → EndsBy errand (standing_of over)
+ends_over Serve true = refl
+ends_over Serve false = refl
+ends_over Leave over = tt
+
+ends_here : (errand : Errand) (standing : Standing) → errand ≡ Leave → EndsBy errand standing
+ends_here errand standing leaves = subst (λ e. EndsBy e standing) (sym leaves) tt
+
+module _ {O P : Type 0} (serves : O → List Entry → ℕ → Ask → Reply → List Entry → Type 0)
+    (answers : O → List Entry → ℕ → Query → Answer → Type 0) (told : P → Option (List Turned)) where
   -- a worker that came to its end
-  pub served_worked : (before after : Known) (began told : Option (List Turned)) (over : Bool) → HasWorked serves answers before after began told over
-      → HasServed serves answers before after began told (standing_of over)
-  served_worked before after began told over worked =
+  pub served_worked : (given : Hiring O P) (worked : Worked P)
+      → HasWorked (serves given.first) (answers given.first) given.pass worked.pass (told given.plugin) (told worked.plugin) worked.over
+      → HasServed serves answers told given (gathered_of worked)
+  served_worked given worked is =
       record {
-        same = worked.same;
-        seen = worked.seen;
-        visits = worked.visits;
-        served = worked.served;
-        tells = worked.tells;
-        stands = stands_ended over worked.visits worked.ended;
+        same = is.same;
+        seen = is.seen;
+        visits = is.visits;
+        served = is.served;
+        tells = is.tells;
+        stands = stands_ended worked.over is.visits is.ended;
+        ends = ends_over given.errand worked.over;
       }
-
-  -- one that did nothing
-  served_none : (pass : Known) (told : Option (List Turned)) → own pass ≡ [] → HasServed serves answers pass pass told told Going
-  served_none pass told fresh =
-      record {
-        same = same_pass pass;
-        seen = Begins-same pass.seen;
-        visits = [];
-        served = record { each = tt; stand = omega arith; alone = fresh };
-        tells = TellsMore-none told;
-        stands = refl;
-      }
-
-  -- what is handed back
-  pub served_handed : {P : Type 0} (told : P → Option (List Turned)) (pass : Known) (plugin : P) (handed : Result (Worked P) (Known × P))
-      → own pass ≡ [] → IsHandedBack serves answers told pass plugin handed
-      → HasServed serves answers pass (gathered_of handed).pass (told plugin) (told (gathered_of handed).plugin) (gathered_of handed).standing
-  served_handed told pass plugin (Ok worked) fresh is =
-      served_worked pass worked.pass (told plugin) (told worked.plugin) worked.over is
-  served_handed told pass plugin (Err back) fresh (pass_is, plugin_is) =
-      subst (λ p. HasServed serves answers pass p (told plugin) (told back.1) Going) (sym pass_is)
-      (subst (λ q. HasServed serves answers pass pass (told plugin) (told q) Going) (sym plugin_is) (served_none pass (told plugin) fresh))
 
 module _ {O P : Type 0} (fits : O → ℕ → Ask → Type 0) (legal : O → List Entry → Type 0)
     (serves : O → List Entry → ℕ → Ask → Reply → List Entry → Type 0) (answers : O → List Entry → ℕ → Query → Answer → Type 0)
     (told : P → Option (List Turned)) where
   -- before the first turn on the calling thread
-  pub stay_new : (room : TableId) (given : Hiring O P) (member : Member P) (door : Seated O) → door.first ≡ given.first → door.pass ≡ given.pass
+  pub stay_new : (room : TableId) (given : Hiring O P) (member : Member P) (door : Seated O) → given.errand ≡ Leave → door.first ≡ given.first
+      → door.pass ≡ given.pass
       → MayWork fits legal room given.first given.pass → IsNew given.pass.caller given.plugin member
       → IsStay fits legal serves answers told given member door
-  stay_new room given member door first is may new =
+  stay_new room given member door leaves first is may new =
       record {
+        leaves = leaves;
         object = first;
         same = subst (IsSamePass given.pass) (sym is) (same_pass given.pass);
         seen = subst (λ (p : Known). Begins given.pass.seen p.seen) (sym is) (Begins-same given.pass.seen);
@@ -94,16 +93,13 @@ module _ {O P : Type 0} (fits : O → ℕ → Ask → Type 0) (legal : O → Lis
             may.fresh new.port (ap told (sym new.now)) new.going);
       }
 
-  -- the place of one that was hired, and has a thread, and of one that has none
-  pub placed_runs : {R : Type 0} (given : Hiring O P) (work : Work O R P) → given.runs ≡ true → work ≡ Runs given
-      → IsPlaced serves answers told (record { given = given; here = place_by work })
-  placed_runs given work runs is =
-      subst (λ b. MatchBool b (place_by work ≡ None) (IsLeftHere serves answers told given (place_by work))) (sym runs) (ap place_by is)
-
-  pub placed_left : {R : Type 0} (given : Hiring O P) (work : Work O R P) → given.runs ≡ false → IsLeftHere serves answers told given (place_by work)
-      → IsPlaced serves answers told (record { given = given; here = place_by work })
-  placed_left given work stays left =
-      subst (λ b. MatchBool b (place_by work ≡ None) (IsLeftHere serves answers told given (place_by work))) (sym stays) left
+  -- its place is the first
+  pub place_new : (given : Hiring O P) (member : Member P) (door : Seated O) → door.pass ≡ given.pass → IsNew given.pass.caller given.plugin member
+      → place_at member door ≡ first_place given.pass
+  place_new given member door is new =
+      ap (λ (p : Known). record { port = member.port; standing = member.standing; seen = p.seen }) is
+      ∙ ap (λ port. record { port = port; standing = member.standing; seen = given.pass.seen }) new.port
+      ∙ ap (λ standing. record { port = (first_place given.pass).port; standing = standing; seen = given.pass.seen }) new.going
 
   -- where the session goes on, the port does, and its caller is that of the door
   pub stay_open : (given : Hiring O P) (member : Member P) (door : Seated O) → IsStay fits legal serves answers told given member door
@@ -134,6 +130,7 @@ module _ {O P : Type 0} (fits : O → ℕ → Ask → Type 0) (legal : O → Lis
       let by_first = subst (λ o. Went (serves o) (answers o) door.pass.caller door.pass.seen after.pass.seen visit.calls) stay.object went in
       let by_caller = subst (λ who. Went (serves given.first) (answers given.first) who door.pass.seen after.pass.seen visit.calls) stay.same.caller by_first in
       record {
+        leaves = stay.leaves;
         object = object;
         same = same_on given.pass door.pass after.pass stay.same further.same;
         seen = Begins-trans given.pass.seen door.pass.seen after.pass.seen stay.seen further.seen;
@@ -162,7 +159,7 @@ module _ {O P : Type 0} (fits : O → ℕ → Ask → Type 0) (legal : O → Lis
 
   -- what it came to
   pub stay_served : (given : Hiring O P) (member : Member P) (door : Seated O) → IsStay fits legal serves answers told given member door
-      → HasServed (serves given.first) (answers given.first) given.pass door.pass (told given.plugin) (told member.plugin) member.standing
+      → HasServed serves answers told given (record { pass = door.pass; plugin = member.plugin; standing = member.standing })
   stay_served given member door stay =
       record {
         same = stay.same;
@@ -171,4 +168,5 @@ module _ {O P : Type 0} (fits : O → ℕ → Ask → Type 0) (legal : O → Lis
         served = stay.session.served;
         tells = stay.session.tells;
         stands = stay.session.stands;
+        ends = ends_here given.errand member.standing stay.leaves;
       }

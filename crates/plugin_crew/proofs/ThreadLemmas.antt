@@ -28,7 +28,7 @@ use Rattle.plugin_crew.specs.declared.post.Gathered.{Gathered}
 use Rattle.plugin_crew.specs.Standing.{is_served}
 use Rattle.plugin_crew.specs.Taker.{HasTaken, IsEnteredBy, SaysSent, TellsFaults, took_of}
 use Rattle.plugin_crew.specs.Post.{HasServed}
-use Rattle.plugin_crew.specs.Threads.{IsGiven, AreGiven, IsStaffed, HaveServed, AreBack, WereServed, HasEnded, all_in, begun_in, passes_in}
+use Rattle.plugin_crew.specs.Threads.{IsGiven, AreGiven, IsStaffed, HaveServed, AreBack, WereServed, HasEnded, all_in, passes_in}
 
 -- the own entries of the front's pass are those of the front end
 own_front : (pass : Known) → pass.caller ≡ 0 → own pass ≡ front_entries pass.seen
@@ -148,7 +148,7 @@ module _ {O P : Type 0} (serves : O → List Entry → ℕ → Ask → Reply →
     (answers : O → List Entry → ℕ → Query → Answer → Type 0) (told : P → Option (List Turned)) where
   -- one more came back
   pub served_snoc : (givens : List (Hiring O P)) (cames : List (Gathered P)) (given : Hiring O P) (came : Gathered P) → HaveServed serves answers told givens cames
-      → HasServed (serves given.first) (answers given.first) given.pass came.pass (told given.plugin) (told came.plugin) came.standing
+      → HasServed serves answers told given came
       → HaveServed serves answers told (givens ++ given ∷ []) (cames ++ came ∷ [])
   served_snoc [] [] given came have is = (is, tt)
   served_snoc [] (other ∷ cames) given came have is = absurd have
@@ -175,20 +175,20 @@ module _ {O P : Type 0} (serves : O → List Entry → ℕ → Ask → Reply →
   )
 
   -- all passes of the room are there
-  pub back_all : (room : TableId) (first : O) (entries : List Entry) (begun : List P) (passes : List Known) (plugins : List P) (all : Bool)
-      → AreBack serves answers told room first entries begun passes plugins all → AreAll room passes
-  back_all room first entries begun passes plugins all back =
+  pub back_all : (room : TableId) (first : O) (entries : List Entry) (givens : List (Hiring O P)) (passes : List Known) (plugins : List P) (all : Bool)
+      → AreBack serves answers told room first entries givens passes plugins all → AreAll room passes
+  back_all room first entries givens passes plugins all back =
       let staffed = back.staffed in
-      let count = back_length back.givens back.cames back.served in
+      let count = back_length givens back.cames back.served in
       subst (AreAll room) (sym back.passes_are) (
-        (staffed.here, staffed.caller, back_from room first 1 back.givens back.cames staffed.given back.served),
+        (staffed.here, staffed.caller, back_from room first 1 givens back.cames staffed.given back.served),
         omega (arith, staffed.made, count),
       )
 
   -- each is served by the journal of the closed room
   served_back : (room : TableId) (first : O) (caller : ℕ) (journal : List Entry) (givens : List (Hiring O P)) (cames : List (Gathered P))
       → AreGiven room first caller givens → HaveServed serves answers told givens cames
-      → AllByRecursion (IsKnownOf journal) (passes_in cames) → WereServed told (serves first) (answers first) caller journal (begun_in givens) cames
+      → AllByRecursion (IsKnownOf journal) (passes_in cames) → WereServed told (serves first) (answers first) caller journal givens cames
   served_back room first caller journal [] [] are have known = tt
   served_back room first caller journal [] (came ∷ cames) are have known = absurd have
   served_back room first caller journal (given ∷ givens) [] are have known = absurd have
@@ -201,25 +201,25 @@ module _ {O P : Type 0} (serves : O → List Entry → ℕ → Ask → Reply →
           served = subst (λ who. IsServed (serves first) (answers first) who journal head.visits) (head.same.caller ∙ is.number) closed;
           tells = head.tells;
           stands = head.stands;
+          ends = head.ends;
         },
         served_back room first (caller + 1) journal givens cames are have known,
       )
 
   module _ (journal : O → List Entry) (grown : O → O → Type 0) where
     -- the run ended
-    pub run_ended : (room : TableId) (first object : O) (entries : List Entry) (begun : List P) (passes : List Known) (plugins : List P) (all : Bool)
+    pub run_ended : (room : TableId) (first object : O) (entries : List Entry) (givens : List (Hiring O P)) (passes : List Known) (plugins : List P) (all : Bool)
         → grown first object → AllByRecursion (IsKnownOf (journal object)) passes
-        → AreBack serves answers told room first entries begun passes plugins all
-        → HasEnded journal serves answers grown told first object entries begun plugins all
-    run_ended room first object entries begun passes plugins all grows known back =
+        → AreBack serves answers told room first entries givens passes plugins all
+        → HasEnded journal serves answers grown told first object entries givens plugins all
+    run_ended room first object entries givens passes plugins all grows known back =
         let staffed = back.staffed in
         let (front, others) = subst (AllByRecursion (IsKnownOf (journal object))) back.passes_are known in
         record {
           object_grown = grows;
           front = ap (λ who. entries_of who (journal object)) (sym staffed.caller) ∙ front.2 ∙ own_front back.front staffed.caller ∙ back.entered;
           cames = back.cames;
-          served = subst (λ x. WereServed told (serves first) (answers first) 1 (journal object) x back.cames) back.begun_is
-              (served_back room first 1 (journal object) back.givens back.cames staffed.given back.served others);
+          served = served_back room first 1 (journal object) givens back.cames staffed.given back.served others;
           plugins_are = back.plugins_are;
           all_is = back.all_is;
         }

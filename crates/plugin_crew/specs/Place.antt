@@ -1,5 +1,5 @@
 -- THE PLACE of a plugin that has its turns on the calling thread, in a run on threads.
-use Rattle.std.specs.Prelude.{◌≡◌, ℕ, Bool, List, [], ◌∷◌, map, Option, Some, None, ◌⊎◌}
+use Rattle.std.specs.Prelude.{◌≡◌, ℕ, Bool, List, [], ◌∷◌, map, Option, Some, None}
 use Rattle.std.specs.Bool.{MatchBool}
 use Rattle.xi_plain.specs.declared.entry.Entry.{Entry}
 use Rattle.xi_plain.specs.declared.ask.Ask.{Ask}
@@ -7,18 +7,17 @@ use Rattle.xi_plain.specs.declared.ask.Query.{Query}
 use Rattle.xi_plain.specs.declared.reply.Reply.{Reply}
 use Rattle.xi_plain.specs.declared.reply.Answer.{Answer}
 use Rattle.room_lock.specs.Room.{Known}
-use Rattle.plugin_session.specs.declared.worker.Worked.{Worked}
-use Rattle.plugin_session.specs.Turn.{Turned}
+use Rattle.plugin_session.specs.declared.errand.Errand.{Errand}
+use Rattle.plugin_session.specs.declared.errand.Errand.TheVariants.{Serve, Leave}
 use Rattle.plugin_session.specs.Call.{Went}
 use Rattle.plugin_session.specs.Visit.{Visit, PortState, IsVisit, after_visit, new_port}
 use Rattle.plugin_session.specs.Seat.{Seated}
 use Rattle.plugin_session.specs.Hired.{Hiring}
-use Rattle.plugin_session.specs.Worker.{HasWorked}
 use Rattle.plugin_crew.specs.declared.standing.Standing.{Standing}
 use Rattle.plugin_crew.specs.declared.standing.Standing.TheVariants.{Going}
 use Rattle.plugin_crew.specs.declared.member.Member.{Member}
 use Rattle.plugin_crew.specs.declared.post.Work.{Work}
-use Rattle.plugin_crew.specs.declared.post.Work.TheVariants.{Runs, Stays, Ended}
+use Rattle.plugin_crew.specs.declared.post.Work.TheVariants.{Runs, Stays}
 use Rattle.plugin_crew.specs.Standing.{is_going, standing_after}
 
 -- a place: the port, how its session stands, and what its pass has seen
@@ -35,11 +34,10 @@ place_at member door = record { port = member.port; standing = member.standing; 
 abbrev pub first_place : Known → Place
 first_place pass = record { port = new_port pass.caller; standing = Going; seen = pass.seen }
 
--- the place of a plugin, by its work: on a thread it has none here, nor when it is done
+-- the place of a plugin, by its work: on a thread it has none here
 abbrev pub place_by : {O R P : Type 0} → Work O R P → Option Place
 place_by (Runs hired) = None
 place_by (Stays member door) = Some (place_at member door)
-place_by (Ended worked) = None
 
 -- the same where there is work
 abbrev pub place_in : {O R P : Type 0} → Option (Work O R P) → Option Place
@@ -91,15 +89,11 @@ module _ {O P : Type 0} (serves : O → List Entry → ℕ → Ask → Reply →
   abbrev pub AreVisitedIf : Bool → List (Posted O P) → List (Posted O P) → Type 0
   AreVisitedIf goes olds news = MatchBool goes (AreVisited olds news) (news ≡ olds)
 
-module _ {O P : Type 0} (serves : O → List Entry → ℕ → Ask → Reply → List Entry → Type 0)
-    (answers : O → List Entry → ℕ → Query → Answer → Type 0) (told : P → Option (List Turned)) where
-  -- the place of a plugin that has no thread: it is before its first turn, or had them all
-  abbrev pub IsLeftHere : Hiring O P → Option Place → Type 0
-  IsLeftHere given here =
-      (here ≡ Some (first_place given.pass))
-      ⊎ (here ≡ None) × (worked : Worked P)
-      × HasWorked (serves given.first) (answers given.first) given.pass worked.pass (told given.plugin) (told worked.plugin) worked.over
+-- the place of a plugin by its errand: none, where a worker serves it; else it is before its first turn
+abbrev pub place_for : Errand → Known → Option Place
+place_for Serve pass = None
+place_for Leave pass = Some (first_place pass)
 
-  -- THE PLACE of a plugin that was hired: none here, if it has a thread
-  abbrev pub IsPlaced : Posted O P → Type 0
-  IsPlaced post = MatchBool post.given.runs (post.here ≡ None) (IsLeftHere post.given post.here)
+-- THE PLACE of a plugin that was hired
+abbrev pub IsPlaced : {O P : Type 0} → Posted O P → Type 0
+IsPlaced post = post.here ≡ place_for post.given.errand post.given.pass

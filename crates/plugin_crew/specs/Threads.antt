@@ -12,11 +12,10 @@ use Rattle.plugin_session.specs.Turn.{Turned, TellsMore}
 use Rattle.plugin_session.specs.Visit.{Visit, IsServed, turns_of}
 use Rattle.plugin_session.specs.Hired.{Hiring}
 use Rattle.plugin_crew.specs.declared.post.Gathered.{Gathered}
-use Rattle.plugin_crew.specs.declared.standing.Standing.{Standing}
 use Rattle.plugin_crew.specs.Standing.{HasStanding, is_served}
 use Rattle.plugin_crew.specs.Alone.{MayServe}
 use Rattle.plugin_crew.specs.Place.{Posted, givens_of}
-use Rattle.plugin_crew.specs.Post.{HasServed}
+use Rattle.plugin_crew.specs.Post.{EndsBy, HasServed}
 
 -- the plugin of this number was given a pass of the room
 pub record IsGiven {O P : Type 0} (room : TableId) (first : O) (caller : ℕ) (given : Hiring O P) : Type 0 where
@@ -66,47 +65,46 @@ module _ {O P : Type 0} (serves : O → List Entry → ℕ → Ask → Reply →
   HaveServed [] (came ∷ cames) = ⊥
   HaveServed (given ∷ givens) [] = ⊥
   HaveServed (given ∷ givens) (came ∷ cames) =
-      HasServed (serves given.first) (answers given.first) given.pass came.pass (told given.plugin) (told came.plugin) came.standing
-      × HaveServed givens cames
+      HasServed serves answers told given came × HaveServed givens cames
 
   -- ALL CAME BACK: the pass of the front, by which it has these entries, and then each plugin's, in order; so came the plugins
-  pub record AreBack (room : TableId) (first : O) (entries : List Entry) (begun : List P) (passes : List Known) (plugins : List P) (all : Bool) : Type 0 where
+  pub record AreBack (room : TableId) (first : O) (entries : List Entry) (givens : List (Hiring O P)) (passes : List Known) (plugins : List P)
+      (all : Bool) : Type 0 where
     pub front : Known
-    pub givens : List (Hiring O P)
     pub cames : List (Gathered P)
     pub staffed : IsStaffed room first front givens
-    pub begun_is : begun_in givens ≡ begun
     pub entered : front_entries front.seen ≡ entries
     pub served : HaveServed givens cames
     pub passes_are : passes ≡ front ∷ passes_in cames
     pub plugins_are : plugins ≡ plugins_in cames
     pub all_is : all ≡ all_in cames
 
-module _ {P : Type 0} (told : P → Option (List Turned)) (serves : List Entry → ℕ → Ask → Reply → List Entry → Type 0)
+module _ {O P : Type 0} (told : P → Option (List Turned)) (serves : List Entry → ℕ → Ask → Reply → List Entry → Type 0)
     (answers : List Entry → ℕ → Query → Answer → Type 0) where
-  -- the plugin was served by the journal: by these visits, whose turns it tells more than at first; its session stands so
-  pub record WasServed (caller : ℕ) (journal : List Entry) (began now : P) (standing : Standing) : Type 0 where
+  -- the plugin was served by the journal: by these visits, whose turns it tells more than at first; its session stands so, and is over where a
+  -- worker served it
+  pub record WasServed (caller : ℕ) (journal : List Entry) (given : Hiring O P) (came : Gathered P) : Type 0 where
     pub visits : List Visit
     pub served : IsServed serves answers caller journal visits
-    pub tells : TellsMore (told began) (told now) (turns_of visits)
-    pub stands : HasStanding standing visits
+    pub tells : TellsMore (told given.plugin) (told came.plugin) (turns_of visits)
+    pub stands : HasStanding came.standing visits
+    pub ends : EndsBy given.errand came.standing
 
   -- so was each, from this number on
-  abbrev pub WereServed : ℕ → List Entry → List P → List (Gathered P) → Type 0
+  abbrev pub WereServed : ℕ → List Entry → List (Hiring O P) → List (Gathered P) → Type 0
   WereServed caller journal [] [] = Unit {0}
   WereServed caller journal [] (came ∷ cames) = ⊥
-  WereServed caller journal (began ∷ begun) [] = ⊥
-  WereServed caller journal (began ∷ begun) (came ∷ cames) =
-      WasServed caller journal began came.plugin came.standing × WereServed (caller + 1) journal begun cames
+  WereServed caller journal (given ∷ givens) [] = ⊥
+  WereServed caller journal (given ∷ givens) (came ∷ cames) = WasServed caller journal given came × WereServed (caller + 1) journal givens cames
 
 module _ {O P : Type 0} (journal : O → List Entry) (serves : O → List Entry → ℕ → Ask → Reply → List Entry → Type 0)
     (answers : O → List Entry → ℕ → Query → Answer → Type 0) (grown : O → O → Type 0) (told : P → Option (List Turned)) where
   -- A RUN ON THREADS THAT ENDED: the object is grown from the one that the room was made with; the front end has these entries; and every
   -- plugin was served by the journal, and came back, in order
-  pub record HasEnded (first object : O) (entries : List Entry) (begun plugins : List P) (all : Bool) : Type 0 where
+  pub record HasEnded (first object : O) (entries : List Entry) (givens : List (Hiring O P)) (plugins : List P) (all : Bool) : Type 0 where
     pub object_grown : grown first object
     pub front : front_entries (journal object) ≡ entries
     pub cames : List (Gathered P)
-    pub served : WereServed told (serves first) (answers first) 1 (journal object) begun cames
+    pub served : WereServed told (serves first) (answers first) 1 (journal object) givens cames
     pub plugins_are : plugins ≡ plugins_in cames
     pub all_is : all ≡ all_in cames

@@ -1,9 +1,10 @@
 ghost use Rattle.std.specs.Prelude.{◌≡◌, [], List, length};
 ghost use Rattle.std.specs.Bool.{MatchBool};
+ghost use Rattle.xi_plain.specs.declared.ask.Ask.TheVariants.{CloseDown};
 ghost use Rattle.xi_plain.specs.Journal.{front_entries};
 ghost use Rattle.plugin_crew.specs.Member.{AreNew, begun_of};
 ghost use Rattle.plugin_crew.specs.Alone.{IsClosed, IsRunning, MayServe};
-ghost use Rattle.plugin_crew.specs.Taker.{adds_entry};
+ghost use Rattle.plugin_crew.specs.Taker.{HasTaken, IsEnteredBy, adds_entry};
 
 use crate::crew::Crew;
 use crate::taker::LineTaker;
@@ -31,7 +32,8 @@ impl<O: Object, P: Plugin> AloneFront<O, P> {
         requires new { (plugins : List P) × AreNew 1 plugins crew.members.items }
         ensures first { result.first.value ≡ object }
         ensures begun { begun_of result.crew.members.items ≡ begun_of crew.members.items }
-        ensures running { IsRunning O.journal O.serves O.answers O.grown P.told O.fits result.first.value result.object result.crew.members.items }
+        ensures running { IsRunning O.journal O.serves O.answers O.grown P.told O.fits result.first.value result.object
+            result.crew.members.items }
     {
         let first = Snapshot::of(&object);
         let mut object = object;
@@ -47,12 +49,18 @@ impl<O: Object, P: Plugin> AloneFront<O, P> {
 
     /// Enters the closing entry, and gives each plugin whose session goes on its last turn. Where no entry was made, there are no turns.
     pub fn close(&mut self) -> Took
-        requires running { IsRunning O.journal O.serves O.answers O.grown P.told O.fits self.old.first.value self.old.object self.old.crew.members.items }
+        requires running { IsRunning O.journal O.serves O.answers O.grown P.told O.fits self.old.first.value self.old.object
+            self.old.crew.members.items }
         ensures first { self.new.first ≡ self.old.first }
         ensures begun { begun_of self.new.crew.members.items ≡ begun_of self.old.crew.members.items }
         ensures closed { MatchBool (adds_entry result)
-            (IsClosed O.journal O.serves O.answers O.grown P.told self.new.first.value self.new.object self.new.crew.members.items (front_entries (O.journal self.old.object)))
-            (IsRunning O.journal O.serves O.answers O.grown P.told O.fits self.new.first.value self.new.object self.new.crew.members.items) }
+            (IsClosed O.journal O.serves O.answers O.grown P.told self.new.first.value self.new.object self.new.crew.members.items
+            (front_entries (O.journal self.old.object)))
+            (IsRunning O.journal O.serves O.answers O.grown P.told O.fits self.new.first.value self.new.object
+            self.new.crew.members.items) }
+        ensures took { HasTaken (front_entries (O.journal self.old.object)) result (front_entries (O.journal self.new.object)) }
+        ensures served { IsEnteredBy (O.serves self.old.first.value) CloseDown
+            (front_entries (O.journal self.old.object)) result (front_entries (O.journal self.new.object)) }
     {
         let reply = self.object.serve(0, Ask::CloseDown);
         let took = took_of(&reply);
@@ -87,7 +95,8 @@ impl<O: Object, P: Plugin> LineTaker for AloneFront<O, P> {
 
     ghost serves = { λ f. O.serves f.first.value };
 
-    ghost later = { λ f g. O.grown f.object g.object × (g.first.value ≡ f.first.value) × (begun_of g.crew.members.items ≡ begun_of f.crew.members.items) };
+    ghost later = { λ f g. O.grown f.object g.object × (g.first.value ≡ f.first.value)
+        × (begun_of g.crew.members.items ≡ begun_of f.crew.members.items) };
 
     ghost ready = { λ f. IsRunning O.journal O.serves O.answers O.grown P.told O.fits f.first.value f.object f.crew.members.items };
 
@@ -106,5 +115,6 @@ impl<O: Object, P: Plugin> LineTaker for AloneFront<O, P> {
 
     ghost prefix = { λ a b later. fronts_begin (O.journal a.object) (O.journal b.object) (O.prefix a.object b.object later.0) };
 
-    ghost serves_on = { λ a b before caller ask reply after later served. subst (λ o. O.serves o before caller ask reply after) later.1 served };
+    ghost serves_on = { λ a b before caller ask reply after later served. subst (λ o. O.serves o before caller ask reply after)
+        later.1 served };
 }

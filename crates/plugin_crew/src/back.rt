@@ -1,6 +1,7 @@
 // The end of a run on threads.
 ghost use Rattle.std.specs.Prelude.{◌≡◌, ◌≤◌, ◌<◌, ◌+◌, ◌&&◌, true, List, [], ◌∷◌, ◌++◌, vec_len, vec_capacity, IfOk};
 ghost use Rattle.xi_plain.specs.declared.entry.Entry.{Entry};
+ghost use Rattle.plugin_session.specs.Hired.{Hiring};
 ghost use Rattle.plugin_crew.specs.declared.post.Gathered.{Gathered};
 ghost use Rattle.plugin_crew.specs.Place.{givens_of};
 ghost use Rattle.plugin_crew.specs.Standing.{is_served};
@@ -101,11 +102,14 @@ pub struct Finished<O, P> {
 impl<P: Plugin> Back<P> {
     /// Ends the room, to which all came back.
     pub fn finish<O: Object>(self, room: Room<O>) -> Finished<O, P>
-        requires { (entries : List Entry) × (begun : List P)
-            × AreBack O.serves O.answers P.told room.table.shared.table_id room.table.shared.key.first.value entries begun self.passes.items self.plugins.items self.all_served }
-        ensures { (entries : List Entry) (begun : List P)
-            → AreBack O.serves O.answers P.told room.table.shared.table_id room.table.shared.key.first.value entries begun self.passes.items self.plugins.items self.all_served
-            → HasEnded O.journal O.serves O.answers O.grown P.told room.table.shared.key.first.value result.object entries begun result.plugins.items result.all_served }
+        requires { (entries : List Entry) × (givens : List (Hiring O P))
+            × AreBack O.serves O.answers P.told room.table.shared.table_id room.table.shared.key.first.value entries givens
+            self.passes.items self.plugins.items self.all_served }
+        ensures { (entries : List Entry) (givens : List (Hiring O P))
+            → AreBack O.serves O.answers P.told room.table.shared.table_id room.table.shared.key.first.value entries givens
+            self.passes.items self.plugins.items self.all_served
+            → HasEnded O.journal O.serves O.answers O.grown P.told room.table.shared.key.first.value result.object entries givens
+            result.plugins.items result.all_served }
     {
         let Back {
             passes,

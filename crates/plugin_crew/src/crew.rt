@@ -29,8 +29,10 @@ fn visit_at<O: Object, P: Plugin>(
 )
     requires inside { at < vec_len members.old }
     requires serving { (member : Member P) → drop at members.old.items ≡ member ∷ drop (at + 1) members.old.items
-        → (first : O) × (visits : List Visit) × IsMemberOf O.journal O.serves O.answers O.grown P.told member.caller first object.old member visits }
-    requires ready { (member : Member P) → drop at members.old.items ≡ member ∷ drop (at + 1) members.old.items → IsReady O.fits member.caller object.old }
+        → (first : O) × (visits : List Visit) × IsMemberOf O.journal O.serves O.answers O.grown P.told member.caller first
+        object.old member visits }
+    requires ready { (member : Member P) → drop at members.old.items ≡ member ∷ drop (at + 1) members.old.items
+        → IsReady O.fits member.caller object.old }
     ensures length { vec_len members.new ≡ vec_len members.old }
     ensures kept { take at members.new.items ≡ take at members.old.items }
     ensures rest { drop (at + 1) members.new.items ≡ drop (at + 1) members.old.items }
@@ -96,12 +98,14 @@ impl<P: Plugin> Crew<P> {
 
     /// Gives each plugin whose session goes on one visit at the object, in their order. An idle one takes no memory.
     pub fn round<O: Object>(&mut self, alloc: Global, object: &mut O)
-        requires serving { (first : O) × (visits : List (List Visit)) × AreMembersOf O.journal O.serves O.answers O.grown P.told first object.old self.old.members.items visits }
+        requires serving { (first : O) × (visits : List (List Visit)) × AreMembersOf O.journal O.serves O.answers O.grown P.told
+            first object.old self.old.members.items visits }
         requires ready { (caller : ℕ) → 0 < caller → caller ≤ length self.old.members.items → IsReady O.fits caller object.old }
         ensures length { length self.new.members.items ≡ length self.old.members.items }
         ensures begun { begun_of self.new.members.items ≡ begun_of self.old.members.items }
         ensures grown { O.grown object.old object.new }
-        ensures round { HasRound O.journal O.serves O.answers O.grown P.told object.old self.old.members.items self.new.members.items object.new }
+        ensures round { HasRound O.journal O.serves O.answers O.grown P.told object.old self.old.members.items
+            self.new.members.items object.new }
     {
         for at in 0..self.members.len() {
             visit_at(alloc, &mut self.members, at, object);

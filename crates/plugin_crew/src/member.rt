@@ -39,7 +39,8 @@ impl<P> Member<P> {
 // One visit at the object, of a plugin whose session goes on.
 fn visit_going<O: Object, P: Plugin>(alloc: Global, member: &mut Member<P>, object: &mut O)
     requires going { member.old.standing ≡ Going }
-    requires serving { (first : O) × (visits : List Visit) × IsMemberOf O.journal O.serves O.answers O.grown P.told member.old.caller first object.old member.old visits }
+    requires serving { (first : O) × (visits : List Visit) × IsMemberOf O.journal O.serves O.answers O.grown P.told
+        member.old.caller first object.old member.old visits }
     requires ready { IsReady O.fits member.old.caller object.old }
     ensures same { (member.new.caller ≡ member.old.caller) × (member.new.began ≡ member.old.began) }
     ensures grown { O.grown object.old object.new }
@@ -53,7 +54,8 @@ fn visit_going<O: Object, P: Plugin>(alloc: Global, member: &mut Member<P>, obje
 
 // One visit at the object, where the session goes on.
 pub(crate) fn visit<O: Object, P: Plugin>(alloc: Global, member: &mut Member<P>, object: &mut O)
-    requires serving { (first : O) × (visits : List Visit) × IsMemberOf O.journal O.serves O.answers O.grown P.told member.old.caller first object.old member.old visits }
+    requires serving { (first : O) × (visits : List Visit) × IsMemberOf O.journal O.serves O.answers O.grown P.told
+        member.old.caller first object.old member.old visits }
     requires ready { IsReady O.fits member.old.caller object.old }
     ensures same { (member.new.caller ≡ member.old.caller) × (member.new.began ≡ member.old.began) }
     ensures grown { O.grown object.old object.new }

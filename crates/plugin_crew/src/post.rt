@@ -1,15 +1,15 @@
 // A plugin of a run on threads.
-ghost use Rattle.std.specs.Prelude.{◌≡◌, [], IsSomeAnd};
-ghost use Rattle.room_lock.specs.Room.{own};
-ghost use Rattle.plugin_session.specs.Hired.{Hiring, IsHandedBack};
-ghost use Rattle.plugin_session.specs.Worker.{MayWork};
+ghost use Rattle.std.specs.Prelude.{◌≡◌, Some, IsSomeAnd};
+ghost use Rattle.plugin_session.specs.declared.errand.Errand.TheVariants.{Serve, Leave};
+ghost use Rattle.plugin_session.specs.Hired.{Hiring};
+ghost use Rattle.plugin_session.specs.Worker.{HasWorked, MayWork};
 ghost use Rattle.plugin_crew.specs.declared.standing.Standing.TheVariants.{Going};
-ghost use Rattle.plugin_crew.specs.Place.{HasTurnAt, HasTurnHere, IsLeftHere, IsPlaced, IsVisited, place_at, place_by, place_in};
+ghost use Rattle.plugin_crew.specs.Place.{HasTurnAt, HasTurnHere, IsPlaced, IsVisited, first_place, place_at, place_by, place_for, place_in};
 ghost use Rattle.plugin_crew.specs.Post.{HasServed, IsStay, IsWork, gathered_of, standing_of};
 
 use crate::member::Member;
 use crate::standing::{Standing, standing_after};
-use plugin_session::{Hired, Plugin, RoomDoor, Worked, finish, has_thread};
+use plugin_session::{Errand, Hired, Plugin, RoomDoor, Worked, finish};
 use room_lock::{Pass, Room};
 use std::alloc::Global;
 use std::marker::Model;
@@ -23,24 +23,21 @@ use xi_plain::Object;
 #[derive(Drop)]
 pub(crate) enum Work<'a, O: Object, R, P: Plugin> {
     // On a thread.
-    Runs(Hired<O, P>),
+    Runs(Hired<'a, O, P>),
     // On the calling thread, at a door of its own.
     Stays(Member<P>, RoomDoor<'a, O, R>),
-    // Nowhere: it had them.
-    Ended(Worked<P>),
 }
 
 /// A plugin of a run on threads. To a contract it is what it was given (the object that the room was made with, the pass and the plugin), and
 /// its place, if it has its turns on the calling thread.
 #[derive(Drop)]
 pub struct Post<'a, O: Object, R, P: Plugin> {
-    given: Snapshot<Hired<O, P>>,
+    given: Snapshot<Hired<'a, O, P>>,
     work: Option<Work<'a, O, R, P>>,
 }
 
 impl<'a, O: Object, R, P: Plugin> Model for Post<'a, O, R, P> {
-    ghost use Rattle.std.specs.Prelude.{◌≡◌, [], IsSomeAnd};
-    ghost use Rattle.room_lock.specs.Room.{own};
+    ghost use Rattle.std.specs.Prelude.{IsSomeAnd};
     ghost use Rattle.plugin_crew.specs.Place.{Posted, place_in};
     ghost use Rattle.plugin_crew.specs.Post.{IsWork};
 
@@ -48,7 +45,7 @@ impl<'a, O: Object, R, P: Plugin> Model for Post<'a, O, R, P> {
 
     ghost view = { λ p. record { given = p.given.value; here = place_in p.work } };
 
-    ghost invariant = { λ p. (own p.given.value.pass ≡ []) × IsSomeAnd p.work (λ work. IsWork O.fits O.legal O.serves O.answers P.told p.given.value work) };
+    ghost invariant = { λ p. IsSomeAnd p.work (λ work. IsWork O.fits O.legal O.serves O.answers P.told p.given.value work) };
 }
 
 /// What became of a plugin of a run on threads.
@@ -72,30 +69,44 @@ fn standing_of(over: bool) -> Standing
     }
 }
 
-// What a thread handed back, or what one that was turned away did.
-fn gathered_of<P>(handed: Result<Worked<P>, (Pass, P)>) -> Gathered<P>
-    ensures { result ≡ gathered_of handed }
+// What a worker came to.
+fn gathered_of<P>(worked: Worked<P>) -> Gathered<P>
+    ensures { result ≡ gathered_of worked }
 {
-    match handed {
-        Ok(worked) => {
-            let Worked { pass, plugin, over } = worked;
-            Gathered {
-                pass,
-                plugin,
-                standing: standing_of(over),
-            }
-        }
-        Err((pass, plugin)) => Gathered {
-            pass,
-            plugin,
-            standing: Standing::Going,
-        },
+    let Worked { pass, plugin, over } = worked;
+    Gathered {
+        pass,
+        plugin,
+        standing: standing_of(over),
+    }
+}
+
+// What a worker's thread came to, once it has ended.
+fn served_by<O: Object, R: Threads, P: Plugin>(rt: &R, hired: Hired<'_, O, P>) -> Worked<P>
+    requires { hired.errand ≡ Serve }
+    ensures { HasWorked (O.serves hired.entry.first) (O.answers hired.entry.first) hired.entry.pass result.pass
+        (P.told hired.entry.plugin) (P.told result.plugin) result.over }
+{
+    match finish(rt, hired) {
+        Ok(worked) => worked,
+        Err(_) => unreachable!(),
+    }
+}
+
+// What a worker hands back that is to leave.
+fn came_back<O: Object, R: Threads, P: Plugin>(rt: &R, hired: Hired<'_, O, P>) -> (Pass, P)
+    requires { hired.errand ≡ Leave }
+    ensures { (result.0 ≡ hired.entry.pass) × (result.1 ≡ hired.entry.plugin) }
+{
+    match finish(rt, hired) {
+        Ok(_) => unreachable!(),
+        Err(back) => back,
     }
 }
 
 // What a plugin came to that had its turns here.
 fn left<O: Object, R: Wait, P>(member: Member<P>, door: RoomDoor<'_, O, R>) -> Gathered<P>
-    ensures { (result.pass ≡ door.entry.pass) × (result.plugin ≡ member.plugin) × (result.standing ≡ member.standing) }
+    ensures { result ≡ record { pass = door.entry.pass; plugin = member.plugin; standing = member.standing } }
 {
     let Member {
         caller: _,
@@ -111,29 +122,39 @@ fn left<O: Object, R: Wait, P>(member: Member<P>, door: RoomDoor<'_, O, R>) -> G
     }
 }
 
-// What becomes of one that has no thread: it stays here, unless it had its turns.
-fn work_of<'a, O: Object, R: Wait, P: Plugin>(
+// A plugin that has no thread stays here.
+fn stay<'a, O: Object, R: Threads + Wait, P: Plugin>(
     alloc: Global,
     rt: &'a R,
     room: &'a Room<O>,
-    handed: Result<Worked<P>, (Pass, P)>,
+    hired: Hired<'_, O, P>,
 ) -> Work<'a, O, R, P>
-    requires { (given : Hiring O P) × (given.first ≡ room.now.table.shared.key.first.value)
-        × MayWork O.fits O.legal room.now.table.shared.table_id given.first given.pass
-        × IsHandedBack (O.serves given.first) (O.answers given.first) P.told given.pass given.plugin handed }
-    ensures work { (given : Hiring O P) → given.first ≡ room.now.table.shared.key.first.value
-        → MayWork O.fits O.legal room.now.table.shared.table_id given.first given.pass
-        → IsHandedBack (O.serves given.first) (O.answers given.first) P.told given.pass given.plugin handed
-        → IsWork O.fits O.legal O.serves O.answers P.told given result }
-    ensures left { (given : Hiring O P) → IsHandedBack (O.serves given.first) (O.answers given.first) P.told given.pass given.plugin handed
-        → IsLeftHere O.serves O.answers P.told given (place_by result) }
+    requires leaves { hired.errand ≡ Leave }
+    requires may { MayWork O.fits O.legal room.now.table.shared.table_id room.now.table.shared.key.first.value hired.pass }
+    requires first { hired.first ≡ room.now.table.shared.key.first.value }
+    ensures work { IsWork O.fits O.legal O.serves O.answers P.told hired.entry result }
+    ensures place { place_by result ≡ Some (first_place hired.entry.pass) }
 {
-    match handed {
-        Ok(worked) => Work::Ended(worked),
-        Err((pass, plugin)) => {
-            let member = Member::new(alloc, pass.caller(), plugin);
-            Work::Stays(member, RoomDoor::new(rt, room, pass))
-        }
+    let (pass, plugin) = came_back(rt, hired);
+    let member = Member::new(alloc, pass.caller(), plugin);
+    Work::Stays(member, RoomDoor::new(rt, room, pass))
+}
+
+// Where the plugin of a worker has its turns.
+fn work_of<'a, O: Object, R: Threads + Wait, P: Plugin>(
+    alloc: Global,
+    rt: &'a R,
+    room: &'a Room<O>,
+    hired: Hired<'a, O, P>,
+) -> Work<'a, O, R, P>
+    requires may { MayWork O.fits O.legal room.now.table.shared.table_id room.now.table.shared.key.first.value hired.pass }
+    requires first { hired.first ≡ room.now.table.shared.key.first.value }
+    ensures work { IsWork O.fits O.legal O.serves O.answers P.told hired.entry result }
+    ensures place { place_by result ≡ place_for hired.entry.errand hired.entry.pass }
+{
+    match hired.errand() {
+        Errand::Serve => Work::Runs(hired),
+        Errand::Leave => stay(alloc, rt, room, hired),
     }
 }
 
@@ -193,7 +214,6 @@ fn visited<'a, O: Object, R: Wait, P: Plugin>(
             Work::Stays(member, door)
         }
         Work::Runs(hired) => Work::Runs(hired),
-        Work::Ended(worked) => Work::Ended(worked),
     }
 }
 
@@ -219,30 +239,31 @@ fn work_gathered<O: Object, R: Threads + Wait, P: Plugin>(
     rt: &R,
     work: Work<'_, O, R, P>,
 ) -> Gathered<P>
-    ensures { (given : Hiring O P) → own given.pass ≡ [] → IsWork O.fits O.legal O.serves O.answers P.told given work.entry
-        → HasServed (O.serves given.first) (O.answers given.first) given.pass result.pass (P.told given.plugin) (P.told result.plugin) result.standing }
+    requires { (given : Hiring O P) × IsWork O.fits O.legal O.serves O.answers P.told given work }
+    ensures { (given : Hiring O P) → IsWork O.fits O.legal O.serves O.answers P.told given work.entry
+        → HasServed O.serves O.answers P.told given result }
 {
     match work {
-        Work::Runs(hired) => gathered_of(finish(rt, hired)),
+        Work::Runs(hired) => gathered_of(served_by(rt, hired)),
         Work::Stays(member, door) => left(member, door),
-        Work::Ended(worked) => gathered_of(Ok(worked)),
     }
 }
 
 impl<'a, O: Object, R: Threads + Wait, P: Plugin> Post<'a, O, R, P> {
     /// A worker that was hired at the room. Where it has no thread, the plugin has its turns on the calling thread.
-    pub fn of(alloc: Global, rt: &'a R, room: &'a Room<O>, hired: Hired<O, P>) -> Post<'a, O, R, P>
+    pub fn of(
+        alloc: Global,
+        rt: &'a R,
+        room: &'a Room<O>,
+        hired: Hired<'a, O, P>,
+    ) -> Post<'a, O, R, P>
         requires may { MayWork O.fits O.legal room.now.table.shared.table_id room.now.table.shared.key.first.value hired.pass }
         requires first { hired.first ≡ room.now.table.shared.key.first.value }
-        ensures given { result.given ≡ hired }
-        ensures placed { IsPlaced O.serves O.answers P.told result }
+        ensures given { result.given ≡ hired.entry }
+        ensures placed { IsPlaced result }
     {
         let given = Snapshot::of(&hired);
-        let work = if has_thread(&hired) {
-            Work::Runs(hired)
-        } else {
-            work_of(alloc, rt, room, finish(rt, hired))
-        };
+        let work = work_of(alloc, rt, room, hired);
         Post {
             given,
             work: Some(work),
@@ -259,7 +280,7 @@ impl<'a, O: Object, R: Threads + Wait, P: Plugin> Post<'a, O, R, P> {
 
     // What became of the plugin. Where it has a thread, that has ended then.
     pub(crate) fn gathered(self, rt: &R) -> Gathered<P>
-        ensures { HasServed (O.serves self.entry.given.first) (O.answers self.entry.given.first) self.entry.given.pass result.pass (P.told self.entry.given.plugin) (P.told result.plugin) result.standing }
+        ensures { HasServed O.serves O.answers P.told self.entry.given result }
     {
         let Post { given: _, work } = self;
         match work {

@@ -17,11 +17,10 @@ use crate::post::Post;
 use crate::taker::LineTaker;
 use crate::took::{Took, took_of};
 use outside::Gate;
-use plugin_session::{Plugin, hire};
+use plugin_session::{Errand, Plugin, hire};
 use room_lock::{Pass, Room};
 use std::alloc::Global;
-use std::sync::Wait;
-use std::sync::atomic::AtomicU64;
+use std::sync::{OnceLock, Wait};
 use std::thread::{Scope, Threads};
 use xi_plain::{Ask, Bytes, Object};
 
@@ -62,7 +61,7 @@ fn hire_next<
     scope: &Scope<'s, E>,
     rt: &'s R,
     alloc: Global,
-    flag: &'s AtomicU64,
+    said: &'s OnceLock<Errand>,
     room: &'s Room<O>,
     front: &mut Pass,
     plugin: P,
@@ -76,15 +75,15 @@ fn hire_next<
     ensures front { front.new ≡ after_split front.old }
     ensures given { IsGiven room.now.table.shared.table_id room.now.table.shared.key.first.value front.old.made result.given }
     ensures plugin { result.given.plugin ≡ plugin }
-    ensures placed { IsPlaced O.serves O.answers P.told result }
+    ensures placed { IsPlaced result }
 {
     let pass = split_pass(room, front);
-    let hired = hire(scope, rt, alloc, flag, room, pass, plugin, gate);
+    let hired = hire(scope, rt, alloc, said, room, pass, plugin, gate);
     Post::of(alloc, rt, room, hired)
 }
 
-/// Hires a worker for each plugin, in their order, by the passes that follow that of caller 0. A flag is of one worker alone, and not raised.
-/// This takes no memory but that of the threads: `posts` has room for all. Nothing waits here.
+/// Hires a worker for each plugin, in their order, by the passes that follow that of caller 0. Each has a word of its own for its errand, which
+/// was not said yet. This takes no memory but that of the threads: `posts` has room for all.
 pub fn hire_all<
     's,
     E,
@@ -99,26 +98,27 @@ pub fn hire_all<
     room: &'s Room<O>,
     front: Pass,
     plugins: Vec<P>,
-    flags: &'s [AtomicU64],
+    said: &'s [OnceLock<Errand>],
     posts: Vec<Post<'s, O, R, P>>,
     gate: &'s G,
 ) -> RoomFront<'s, O, R, P>
     requires front { front ≡ first_pass room.now.table.shared.table_id }
     requires few { (vec_len plugins ≤ 64) × (vec_len plugins < room.now.table.shared.key.most) }
-    requires reserved { (vec_len plugins ≤ length flags.now) × (posts.items ≡ []) × (vec_len plugins ≤ vec_capacity posts) }
+    requires reserved { (vec_len plugins ≤ length said.now) × (posts.items ≡ []) × (vec_len plugins ≤ vec_capacity posts) }
     requires may { MayServe O.fits O.serves (length plugins.items) room.now.table.shared.key.first.value }
     requires lawful { O.legal room.now.table.shared.key.first.value [] }
     ensures room { result.room.now ≡ room.now }
     ensures none { front_entries result.pass.seen ≡ [] }
     ensures begun { begun_in (givens_of result.posts.items) ≡ plugins.items }
-    ensures placed { All (IsPlaced O.serves O.answers P.told) result.posts.items }
-    ensures ready { MayTake O.fits O.serves room.now.table.shared.table_id room.now.table.shared.key.first.value result.pass result.posts.items }
+    ensures placed { All IsPlaced result.posts.items }
+    ensures ready { MayTake O.fits O.serves room.now.table.shared.table_id room.now.table.shared.key.first.value result.pass
+        result.posts.items }
 {
     let mut pass = front;
     let mut posts = posts;
     let mut at = 0;
     for plugin in plugins {
-        let post = hire_next(scope, rt, alloc, &flags[at], room, &mut pass, plugin, gate);
+        let post = hire_next(scope, rt, alloc, &said[at], room, &mut pass, plugin, gate);
         posts.push_reserved(post);
         at += 1;
     }
@@ -134,7 +134,8 @@ fn enter_front<O: Object, R: Wait>(rt: &R, room: &Room<O>, pass: &mut Pass, ask:
     ensures same { IsSamePass pass.old pass.new }
     ensures seen { Begins pass.old.seen pass.new.seen }
     ensures took { HasTaken (front_entries pass.old.seen) result (front_entries pass.new.seen) }
-    ensures served { IsEnteredBy (O.serves room.now.table.shared.key.first.value) ask (front_entries pass.old.seen) result (front_entries pass.new.seen) }
+    ensures served { IsEnteredBy (O.serves room.now.table.shared.key.first.value) ask (front_entries pass.old.seen) result
+        (front_entries pass.new.seen) }
 {
     let (reply, _receipt) = room.enter(rt, pass, ask);
     took_of(&reply)
@@ -185,12 +186,15 @@ impl<'a, O: Object, R: Threads + Wait, P: Plugin> RoomFront<'a, O, R, P> {
 
     /// Enters the closing entry, and gives each plugin that has no thread its last turn. It may wait.
     pub fn close(&mut self) -> Took
-        requires ready { MayTake O.fits O.serves self.old.room.now.table.shared.table_id self.old.room.now.table.shared.key.first.value self.old.pass self.old.posts.items }
+        requires ready { MayTake O.fits O.serves self.old.room.now.table.shared.table_id
+            self.old.room.now.table.shared.key.first.value self.old.pass self.old.posts.items }
         ensures same { (self.new.room.now ≡ self.old.room.now) × (givens_of self.new.posts.items ≡ givens_of self.old.posts.items) }
         ensures round { AreVisitedIf O.serves O.answers (adds_entry result) self.old.posts.items self.new.posts.items }
-        ensures ready { MayTake O.fits O.serves self.new.room.now.table.shared.table_id self.new.room.now.table.shared.key.first.value self.new.pass self.new.posts.items }
+        ensures ready { MayTake O.fits O.serves self.new.room.now.table.shared.table_id
+            self.new.room.now.table.shared.key.first.value self.new.pass self.new.posts.items }
         ensures took { HasTaken (front_entries self.old.pass.seen) result (front_entries self.new.pass.seen) }
-        ensures served { IsEnteredBy (O.serves self.old.room.now.table.shared.key.first.value) CloseDown (front_entries self.old.pass.seen) result (front_entries self.new.pass.seen) }
+        ensures served { IsEnteredBy (O.serves self.old.room.now.table.shared.key.first.value) CloseDown
+            (front_entries self.old.pass.seen) result (front_entries self.new.pass.seen) }
     {
         let took = enter_front(self.rt, self.room, &mut self.pass, Ask::CloseDown);
         round_where(self.alloc, &mut self.posts, took.adds_entry());
@@ -201,9 +205,11 @@ impl<'a, O: Object, R: Threads + Wait, P: Plugin> RoomFront<'a, O, R, P> {
     pub fn gather_all(self, back: Back<P>) -> Back<P>
         requires empty { (back.passes.items ≡ []) × (back.plugins.items ≡ []) }
         requires reserved { (length self.posts.items < vec_capacity back.passes) × (length self.posts.items ≤ vec_capacity back.plugins) }
-        requires staffed { IsStaffed self.room.now.table.shared.table_id self.room.now.table.shared.key.first.value self.pass (givens_of self.posts.items) }
-        ensures { AreBack O.serves O.answers P.told self.entry.room.now.table.shared.table_id self.entry.room.now.table.shared.key.first.value
-            (front_entries self.entry.pass.seen) (begun_in (givens_of self.entry.posts.items)) result.passes.items result.plugins.items result.all_served }
+        requires staffed { IsStaffed self.room.now.table.shared.table_id self.room.now.table.shared.key.first.value self.pass
+            (givens_of self.posts.items) }
+        ensures { AreBack O.serves O.answers P.told self.entry.room.now.table.shared.table_id
+            self.entry.room.now.table.shared.key.first.value (front_entries self.entry.pass.seen)
+            (givens_of self.entry.posts.items) result.passes.items result.plugins.items result.all_served }
     {
         let RoomFront {
             rt,
@@ -233,16 +239,22 @@ impl<O: Object, R: Threads + Wait, P: Plugin> LineTaker for RoomFront<'_, O, R, 
 
     ghost serves = { λ f. O.serves f.room.now.table.shared.key.first.value };
 
-    ghost later = { λ f g. (g.room.now ≡ f.room.now) × Begins f.pass.seen g.pass.seen × (givens_of g.posts.items ≡ givens_of f.posts.items) };
+    ghost later = { λ f g. (g.room.now ≡ f.room.now) × Begins f.pass.seen g.pass.seen
+        × (givens_of g.posts.items ≡ givens_of f.posts.items) };
 
-    ghost ready = { λ f. MayTake O.fits O.serves f.room.now.table.shared.table_id f.room.now.table.shared.key.first.value f.pass f.posts.items };
+    ghost ready = { λ f. MayTake O.fits O.serves f.room.now.table.shared.table_id f.room.now.table.shared.key.first.value f.pass
+        f.posts.items };
 
     fn take(&mut self, line: Bytes) -> Took
-        requires ready { MayTake O.fits O.serves self.old.room.now.table.shared.table_id self.old.room.now.table.shared.key.first.value self.old.pass self.old.posts.items }
-        ensures ready { MayTake O.fits O.serves self.new.room.now.table.shared.table_id self.new.room.now.table.shared.key.first.value self.new.pass self.new.posts.items }
-        ensures later { (self.new.room.now ≡ self.old.room.now) × Begins self.old.pass.seen self.new.pass.seen × (givens_of self.new.posts.items ≡ givens_of self.old.posts.items) }
+        requires ready { MayTake O.fits O.serves self.old.room.now.table.shared.table_id
+            self.old.room.now.table.shared.key.first.value self.old.pass self.old.posts.items }
+        ensures ready { MayTake O.fits O.serves self.new.room.now.table.shared.table_id
+            self.new.room.now.table.shared.key.first.value self.new.pass self.new.posts.items }
+        ensures later { (self.new.room.now ≡ self.old.room.now) × Begins self.old.pass.seen self.new.pass.seen
+            × (givens_of self.new.posts.items ≡ givens_of self.old.posts.items) }
         ensures took { HasTaken (front_entries self.old.pass.seen) result (front_entries self.new.pass.seen) }
-        ensures served { IsTakenBy (O.serves self.old.room.now.table.shared.key.first.value) line (front_entries self.old.pass.seen) result (front_entries self.new.pass.seen) }
+        ensures served { IsTakenBy (O.serves self.old.room.now.table.shared.key.first.value) line
+            (front_entries self.old.pass.seen) result (front_entries self.new.pass.seen) }
         ensures round { AreVisitedIf O.serves O.answers (is_sent result) self.old.posts.items self.new.posts.items }
     {
         let took = enter_front(self.rt, self.room, &mut self.pass, Ask::FrontLine(line));
@@ -252,9 +264,14 @@ impl<O: Object, R: Threads + Wait, P: Plugin> LineTaker for RoomFront<'_, O, R, 
 
     ghost same = { λ a. (refl, Begins-same a.pass.seen, refl) };
 
-    ghost onward = { λ a b c first then. (then.0 ∙ first.0, Begins-trans a.pass.seen b.pass.seen c.pass.seen first.1 then.1, then.2 ∙ first.2) };
+    ghost onward = { λ a b c first then. (
+      then.0 ∙ first.0,
+      Begins-trans a.pass.seen b.pass.seen c.pass.seen first.1 then.1,
+      then.2 ∙ first.2,
+    ) };
 
     ghost prefix = { λ a b later. fronts_begin a.pass.seen b.pass.seen later.1 };
 
-    ghost serves_on = { λ a b before caller ask reply after later served. subst (λ r. O.serves r.table.shared.key.first.value before caller ask reply after) later.0 served };
+    ghost serves_on = { λ a b before caller ask reply after later served.
+        subst (λ r. O.serves r.table.shared.key.first.value before caller ask reply after) later.0 served };
 }

@@ -38,7 +38,8 @@ impl<O: Object> Door for AloneDoor<'_, O> {
 
     ghost answers = { λ d. O.answers d.object.now };
 
-    ghost later = { λ d e. O.grown d.object.now e.object.now × (e.object.ghost_name ≡ d.object.ghost_name) × (e.caller ≡ d.caller) × OnlyAdds d.caller (O.journal d.object.now) (O.journal e.object.now) };
+    ghost later = { λ d e. O.grown d.object.now e.object.now × (e.object.ghost_name ≡ d.object.ghost_name) × (e.caller ≡ d.caller)
+        × OnlyAdds d.caller (O.journal d.object.now) (O.journal e.object.now) };
 
     ghost ready = { λ d. IsReady O.fits d.caller d.object.now };
 
@@ -63,7 +64,8 @@ impl<O: Object> Door for AloneDoor<'_, O> {
 
     ghost prefix = { λ a b later. O.prefix a.object.now b.object.now later.0 };
 
-    ghost serves_on = { λ a b before caller ask reply after later. O.serves_on a.object.now b.object.now before caller ask reply after later.0 };
+    ghost serves_on = { λ a b before caller ask reply after later. O.serves_on a.object.now b.object.now before caller ask reply
+        after later.0 };
 
     ghost answers_on = { λ a b log caller query answer later. O.answers_on a.object.now b.object.now log caller query answer later.0 };
 

@@ -41,7 +41,8 @@ pub(crate) fn ask<D: Door>(door: &mut D, ask: Ask) -> Reply
     requires ready { D.ready door.old }
     requires of_plugin { IsPluginAsk ask }
     ensures used { (at : ℕ)
-        × Used D.caller D.journal D.serves D.answers D.later D.ready D.told door.old door.new (record { at = at; noted = Asked ask result } ∷ []) }
+        × Used D.caller D.journal D.serves D.answers D.later D.ready D.told door.old door.new
+        (record { at = at; noted = Asked ask result } ∷ []) }
 {
     door.enter(ask)
 }
@@ -50,7 +51,8 @@ pub(crate) fn ask<D: Door>(door: &mut D, ask: Ask) -> Reply
 pub(crate) fn look<D: Door>(door: &mut D, place: u64) -> Answer
     requires ready { D.ready door.old }
     requires place { place ≤ length (D.journal door.old) }
-    ensures used { Used D.caller D.journal D.serves D.answers D.later D.ready D.told door.old door.new (record { at = length (D.journal door.new); noted = Looked (Notices place) result } ∷ []) }
+    ensures used { Used D.caller D.journal D.serves D.answers D.later D.ready D.told door.old door.new
+        (record { at = length (D.journal door.new); noted = Looked (Notices place) result } ∷ []) }
     ensures length { SaysLength (length (D.journal door.new)) result }
 {
     door.look(Query::Notices { from: place })
@@ -75,7 +77,8 @@ fn put_text(text: Text, lines: &mut Vec<Text>, kept: usize) -> usize
 fn put(reply: Reply, lines: &mut Vec<Text>, kept: usize) -> Step
     requires { kept < vec_len lines.old }
     ensures step { result ≡ step_after kept reply }
-    ensures kept { (line : List ℕ) → take (kept + length (answer_of (Asked (line_ask line) reply))) lines.new.items ≡ take kept lines.old.items ++ answer_of (Asked (line_ask line) reply) }
+    ensures kept { (line : List ℕ) → take (kept + length (answer_of (Asked (line_ask line) reply))) lines.new.items
+        ≡ take kept lines.old.items ++ answer_of (Asked (line_ask line) reply) }
     ensures rest { (at : ℕ) → kept < at → drop at lines.new.items ≡ drop at lines.old.items }
     ensures length { vec_len lines.new ≡ vec_len lines.old }
 {
@@ -93,7 +96,8 @@ fn ask_at<D: Door>(alloc: Global, door: &mut D, lines: &mut Vec<Text>, at: usize
     requires inside { at < vec_len lines.old }
     ensures used { (line : List ℕ) × (n : ℕ)
         × (drop at lines.old.items ≡ line ∷ drop (at + 1) lines.old.items)
-        × Used D.caller D.journal D.serves D.answers D.later D.ready D.told door.old door.new (record { at = n; noted = Asked (line_ask line) result } ∷ []) }
+        × Used D.caller D.journal D.serves D.answers D.later D.ready D.told door.old door.new
+        (record { at = n; noted = Asked (line_ask line) result } ∷ []) }
     ensures kept { take at lines.new.items ≡ take at lines.old.items }
     ensures rest { drop (at + 1) lines.new.items ≡ drop (at + 1) lines.old.items }
     ensures length { vec_len lines.new ≡ vec_len lines.old }

@@ -204,7 +204,8 @@ impl Port {
         requires place { self.old.place ≤ length (D.journal door.old) }
         requires ready { D.ready door.old }
         ensures visited { (visit : Visit)
-            × Visited D.caller D.journal D.serves D.answers D.later D.ready D.told self.old self.new door.old door.new (P.told plugin.old) (P.told plugin.new) visit
+            × Visited D.caller D.journal D.serves D.answers D.later D.ready D.told self.old self.new door.old door.new
+            (P.told plugin.old) (P.told plugin.new) visit
             × (visit.after ≡ result) }
         ensures place { self.new.place ≤ length (D.journal door.new) }
     {
@@ -221,7 +222,8 @@ impl Port {
         ensures visited { (calls : List Call) × (turns : List Turned)
             × Used D.caller D.journal D.serves D.answers D.later D.ready D.told door.old door.new calls
             × TellsMore (P.told plugin.old) (P.told plugin.new) turns
-            × MatchBool self.old.begun (IsLater self.old.place self.old.answers calls turns result) (IsFirst self.old.caller calls turns result)
+            × MatchBool self.old.begun (IsLater self.old.place self.old.answers calls turns result)
+            (IsFirst self.old.caller calls turns result)
             × (self.new.answers ≡ answers_after self.old.answers turns calls)
             × (self.new.place ≡ place_after self.old.place calls) }
         ensures place { self.new.place ≤ length (D.journal door.new) }

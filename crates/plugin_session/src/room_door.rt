@@ -91,9 +91,11 @@ impl<O: Object, R: Wait> Door for RoomDoor<'_, O, R> {
 
     ghost prefix = { λ a b later. later.seen };
 
-    ghost serves_on = { λ a b before caller ask reply after later served. object_on (λ o. O.serves o before caller ask reply after) a b later served };
+    ghost serves_on = { λ a b before caller ask reply after later served. object_on (λ o. O.serves o before caller ask reply after)
+        a b later served };
 
-    ghost answers_on = { λ a b log caller query answer later answered. object_on (λ o. O.answers o log caller query answer) a b later answered };
+    ghost answers_on = { λ a b log caller query answer later answered. object_on (λ o. O.answers o log caller query answer) a b
+        later answered };
 
     ghost legal_now = { λ a ready. ready.lawful };
 

@@ -8,12 +8,12 @@ use crate::post::Post;
 use crate::talker::Talker;
 use outside::{FreeGate, Gate, Point};
 use plugin_session::{
-    Ask, Hired, Plugin, Text, Texts, Turn, Worked, finish, has_thread, hire, turned_away,
+    Ask, Errand, Hired, Plugin, Text, Texts, Turn, Worked, finish, hire, turned_away,
 };
 use room_lock::{Pass, Room};
 use std::alloc::Global;
-use std::sync::Wait;
 use std::sync::atomic::{AtomicU64, Ordering};
+use std::sync::{OnceLock, Wait};
 use std::test::Fail;
 use std::thread;
 use std::thread::{Scope, Threads};
@@ -117,8 +117,8 @@ fn front_works<R: Wait + Clock>(
 }
 
 // What became of a worker, whose thread has ended or was never started.
-fn finished<P: Plugin, R: Threads>(rt: &R, hired: Hired<Post, P>) -> Ended<P>
-    ensures { IsSamePass hired.pass result.pass }
+fn finished<P: Plugin, R: Threads>(rt: &R, hired: Hired<'_, Post, P>) -> Ended<P>
+    ensures { IsSamePass hired.entry.pass result.pass }
 {
     match finish(rt, hired) {
         Ok(worked) => {
@@ -139,7 +139,7 @@ fn in_scope<'s, E, P: Plugin + Send + 's, G: Gate + Sync, R: Threads + Wait + Cl
     rt: &'s R,
     alloc: Global,
     room: &'s Room<Post>,
-    flags: (&'s AtomicU64, &'s AtomicU64),
+    said: (&'s OnceLock<Errand>, &'s OnceLock<Errand>),
     gate: &'s G,
     front: Pass,
     pair: Pair<P>,
@@ -158,8 +158,8 @@ fn in_scope<'s, E, P: Plugin + Send + 's, G: Gate + Sync, R: Threads + Wait + Cl
         b,
         second,
     } = pair;
-    let one = hire(scope, rt, alloc, flags.0, room, a, first, gate);
-    let two = hire(scope, rt, alloc, flags.1, room, b, second, gate);
+    let one = hire(scope, rt, alloc, said.0, room, a, first, gate);
+    let two = hire(scope, rt, alloc, said.1, room, b, second, gate);
     let front = front_works(rt, alloc, room, front, work);
     let one = finished(rt, one);
     let two = finished(rt, two);
@@ -182,9 +182,9 @@ fn both_work<P: Plugin + Send, G: Gate + Sync, R: Threads + Wait + Clock + Sync>
     ensures a { IsSamePass pair.a result.1.pass }
     ensures b { IsSamePass pair.b result.2.pass }
 {
-    let one = AtomicU64::new(0);
-    let two = AtomicU64::new(0);
-    let flags = (&one, &two);
+    let one = OnceLock::new();
+    let two = OnceLock::new();
+    let said = (&one, &two);
     thread::scope(
         thread::scope_env(),
         rt,
@@ -195,7 +195,7 @@ fn both_work<P: Plugin + Send, G: Gate + Sync, R: Threads + Wait + Clock + Sync>
             ensures front { IsSamePass front result.0 }
             ensures a { IsSamePass pair.a result.1.pass }
             ensures b { IsSamePass pair.b result.2.pass }
-        { in_scope(scope, rt, alloc, room, flags, gate, front, pair, work) },
+        { in_scope(scope, rt, alloc, room, said, gate, front, pair, work) },
     )
 }
 
@@ -500,24 +500,24 @@ fn a_gate_is_passed_around_each_ask(rt: HostRuntime) {
     assert!(rt; gate.leaves.load(Ordering::SeqCst) == 16);
 }
 
-// A worker that gets no thread: whether it has one, whether its session is over, and how many lines its plugin was given.
-fn without_thread<R: Threads + Wait>(rt: &R, alloc: Global) -> Option<(bool, bool, usize)> {
+// A worker that gets no thread: whether it is to leave, whether its session is over, and how many lines its plugin was given.
+fn without_thread<R: Threads>(rt: &R, alloc: Global) -> Option<(bool, bool, usize)> {
     let mut passes = Vec::with_capacity(alloc, 2).ok()?;
     let Ok((room, mut front)) = Room::make(alloc, Post::new(alloc), 2) else {
         return None;
     };
     let pass = room.split(&mut front);
     let talker = Talker::new(alloc, "first ", 7, true);
-    let hired = turned_away(rt, alloc, &room, pass, talker, &FreeGate);
-    let has = has_thread(&hired);
+    let hired = turned_away(&room, pass, talker);
+    let leaves = hired.errand() == Errand::Leave;
     let Ended { pass, plugin, over } = finished(rt, hired);
     passes.push_reserved(front);
     passes.push_reserved(pass);
     let _post = room.close(passes);
-    Some((has, over, plugin.given.len()))
+    Some((leaves, over, plugin.given.len()))
 }
 
 #[test]
 fn a_worker_without_a_thread_comes_back_at_once(rt: HostRuntime) {
-    assert!(rt; without_thread(&rt, rt.alloc()) == Some((false, false, 0)));
+    assert!(rt; without_thread(&rt, rt.alloc()) == Some((true, false, 0)));
 }

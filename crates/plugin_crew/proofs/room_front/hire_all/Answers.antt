@@ -20,7 +20,6 @@ loop-plugin-preserved g c =
     let same = c.hire_next-post.ensures.front in
     let post = c.hire_next-post.result in
     let givens = givens_of posts.items in
-    let placed = IsPlaced g.O.Object.serves g.O.Object.answers g.P.Plugin.told in
     let more : givens_of (posts.items ++ post ∷ []) ≡ givens ++ post.given ∷ [] = map-append (λ one. one.given) posts.items (post ∷ []) in
     let number : c.loop-plugin.pass.made ≡ 1 + length givens = omega (arith, inv.8, posts.ok.0, length-map posts.items (λ one. one.given)) in (
       tt,
@@ -39,8 +38,8 @@ loop-plugin-preserved g c =
       subst (AreGiven room.table_id room.key.first.value 1) (sym (ap givens_of c.push_reserved.ensures.items ∙ more))
           (given_snoc room.table_id room.key.first.value 1 (length givens) givens post.given refl inv.10
           (subst (λ n. IsGiven room.table_id room.key.first.value n post.given) number c.hire_next-post.ensures.given)),
-      subst (All placed) (sym c.push_reserved.ensures.items)
-          (All-append placed posts.items (post ∷ []) inv.11 (All-from_recursion placed (post ∷ []) (c.hire_next-post.ensures.placed, tt))),
+      subst (All IsPlaced) (sym c.push_reserved.ensures.items)
+          (All-append IsPlaced posts.items (post ∷ []) inv.11 (All-from_recursion IsPlaced (post ∷ []) (c.hire_next-post.ensures.placed, tt))),
     )
 
 pub hire_next-post-requires-clause-ready : goal.hire_next-post-requires-clause-ready

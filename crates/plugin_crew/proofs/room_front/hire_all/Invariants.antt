@@ -18,4 +18,4 @@ invariant-loop-plugin g l =
     × (l.pass.made ≡ vec_len l.posts + 1)
     × (begun_in (givens_of l.posts.items) ++ l.plugin-iterator.rest.items ≡ l.fn.plugins.items)
     × AreGiven l.room.table.shared.table_id l.room.table.shared.key.first.value 1 (givens_of l.posts.items)
-    × All (IsPlaced g.O.Object.serves g.O.Object.answers g.P.Plugin.told) l.posts.items
+    × All IsPlaced l.posts.items

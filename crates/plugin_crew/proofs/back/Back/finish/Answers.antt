@@ -6,13 +6,13 @@ close-requires g c =
     let o = g.O.Object in
     let room = c.args.room.table.shared in
     let self = c.args.self in
-    let (entries, begun, back) = c.requires in
-    record { all = back_all o.serves o.answers g.P.Plugin.told room.table_id room.key.first.value entries begun self.passes.items self.plugins.items self.all_served back }
+    let (entries, givens, back) = c.requires in
+    record { all = back_all o.serves o.answers g.P.Plugin.told room.table_id room.key.first.value entries givens self.passes.items self.plugins.items self.all_served back }
 
 pub returns : goal.returns
-returns g c entries begun back =
+returns g c entries givens back =
     let o = g.O.Object in
     let room = c.args.room.table.shared in
     let self = c.args.self in
-    run_ended o.serves o.answers g.P.Plugin.told o.journal o.grown room.table_id room.key.first.value c.close.result entries begun self.passes.items self.plugins.items
+    run_ended o.serves o.answers g.P.Plugin.told o.journal o.grown room.table_id room.key.first.value c.close.result entries givens self.passes.items self.plugins.items
     self.all_served c.close.ensures.grown c.close.ensures.known back

@@ -9,17 +9,15 @@ visited_in-requires g c =
     let o = g.O.Object in
     let given = c.self.inside.given.value in (
       given,
-      subst (λ work. IsSomeAnd work (λ one. IsWork o.fits o.legal o.serves o.answers g.P.Plugin.told given one)) (sym c.replace-work.ensures.value) c.self.invariant.1,
+      subst (λ work. IsSomeAnd work (λ one. IsWork o.fits o.legal o.serves o.answers g.P.Plugin.told given one)) (sym c.replace-work.ensures.value) c.self.invariant,
     )
 
 pub invariant_of-self : goal.invariant_of-self
 invariant_of-self g c =
     let o = g.O.Object in
-    let given = c.self.inside.given.value in (
-      c.self.invariant.0,
-      c.visited_in.ensures.work given
-          (subst (λ work. IsSomeAnd work (λ one. IsWork o.fits o.legal o.serves o.answers g.P.Plugin.told given one)) (sym c.replace-work.ensures.value) c.self.invariant.1),
-    )
+    let given = c.self.inside.given.value in
+    c.visited_in.ensures.work given
+    (subst (λ work. IsSomeAnd work (λ one. IsWork o.fits o.legal o.serves o.answers g.P.Plugin.told given one)) (sym c.replace-work.ensures.value) c.self.invariant)
 
 pub returns : goal.returns
 returns g c =
@@ -27,7 +25,7 @@ returns g c =
     let given = c.self.inside.given.value in
     let was = c.replace-work.ensures.value in
     let turn = c.visited_in.ensures.turn given
-    (subst (λ work. IsSomeAnd work (λ one. IsWork o.fits o.legal o.serves o.answers g.P.Plugin.told given one)) (sym was) c.self.invariant.1) in
+    (subst (λ work. IsSomeAnd work (λ one. IsWork o.fits o.legal o.serves o.answers g.P.Plugin.told given one)) (sym was) c.self.invariant) in
     subst (λ old. IsVisited o.serves o.answers old (record { given = given; here = place_in c.visited_in.result })) c.self.view_is (
       refl,
       subst (λ work. HasTurnAt (o.serves given.first) (o.answers given.first) (place_in work) (place_in c.visited_in.result)) was turn,

@@ -1,5 +1,4 @@
 use Rattle.std.proofs.Common.{◌++◌, [], ◌∷◌, refl, ap, ◌∙◌}
-use Rattle.plugin_crew.specs.Place.{givens_of}
 use Rattle.plugin_crew.specs.Threads.{passes_in, plugins_in}
 use Rattle.plugin_crew.proofs.room_front.RoomFront.gather_all.Goals as goal
 
@@ -8,10 +7,8 @@ returns g c =
     let (cames, served, passes, plugins, all) = c.gather.ensures in
     record {
       front = c.args.self.pass;
-      givens = givens_of c.args.self.posts.items;
       cames = cames;
       staffed = c.requires.staffed;
-      begun_is = refl;
       entered = refl;
       served = served;
       passes_are = passes ∙ ap (λ l. l ++ passes_in cames) (c.push_reserved.ensures.items ∙ ap (λ l. l ++ c.args.self.pass ∷ []) c.requires.empty.0);
