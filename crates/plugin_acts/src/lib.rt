@@ -1,0 +1,12 @@
+//! What an act of a plugin comes to in the views of a session: a refusal, or the next document of one view with what is told of it.
+//!
+//! `session_step/specs/PluginStep.antt` has what an act comes to in a plain session. Here it is made beside the views in memory, and put in
+//! place last by [`put_views`], which takes no memory.
+#![tactic(auto)]
+
+mod act;
+mod next;
+mod refused;
+
+pub use act::{Acted, PluginEffects, plugin_act};
+pub use next::{NextViews, put_views};
