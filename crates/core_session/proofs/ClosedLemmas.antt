@@ -19,7 +19,7 @@ pub shows_closed : (terms : Terms) {K H : Type 0} (core : Core K H) → IsServin
 shows_closed terms core serving =
     let journal = journal_of core in
     let few : length journal < 2 ^ 63 = omega (arith, core.journal.ok.0, core.journal.ok.1, core.journal.small, core.room) in
-    let shows = (shows_push terms journal closing_entry few serving.showing no_lines tt).shows in
+    let shows = (shows_push terms journal closing_entry few tt serving.showing no_lines tt).shows in
     record {
       pieces = sym (written-push terms journal closing_entry ∙ append-nil (written (first_session terms) journal));
       screens = shows.screens;
@@ -45,10 +45,11 @@ shows_none terms = record {
 -- EACH SESSION that is not over takes lines
 pub serving_of : {K H : Type 0} (core : Core K H) → is_over (journal_of core) ≡ false → ∥ IsServing (terms_of core) core ∥₁
 serving_of core goes =
-    let each = open_journal (journal_of core) core.legal goes in
+    let each = open_journal (terms_of core).plugins (journal_of core) core.legal goes in
     ∥∥₁_map core.kept (λ kept. record {
       made_with = refl;
       sent = each;
+      accepted = kept.accepted;
       saves_asked = kept.saves_asked;
       showing = showing_open (terms_of core) (journal_of core) each kept.showing;
       stands = kept.stands;

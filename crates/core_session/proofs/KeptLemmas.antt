@@ -1,6 +1,6 @@
 -- How a session stands after one more entry, and what it keeps then.
 use Rattle.session_step.specs.declared.terms.Terms.{Terms}
-use Rattle.std.proofs.Common.{◌≡◌, inl, inr, ℕ, suc, ◌<◌, arith, Bool, true, false, not, List, [], ◌∷◌, ◌++◌, length, length-append, refl, ap, sym, ◌∙◌, subst, append-nil}
+use Rattle.std.proofs.Common.{◌≡◌, inl, inr, ℕ, suc, ◌<◌, ◌≤◌, arith, Bool, true, false, not, List, [], ◌∷◌, ◌++◌, length, length-append, refl, ap, sym, ◌∙◌, subst, append-nil}
 use Rattle.std.specs.Prelude.{◌⊎◌, ◌&&◌, ◌||◌, ◌==◌, ◌^◌, if◌then◌else◌, nat_le}
 use Rattle.std.specs.Arc.{arc_value}
 use Rattle.std.specs.List.{AllByRecursion, AllByRecursion-prop, list_all}
@@ -25,8 +25,9 @@ use Rattle.session_step.specs.Session.{session_of, views_of}
 use Rattle.core_session.specs.Shelves.{AreSavesAsked, asks_as}
 use Rattle.doc_session.specs.Document.{Document}
 use Rattle.doc_session.specs.Stands.{DocStandsFor}
-use Rattle.session_step.specs.Views.{IsOfLine, MayBeAsked, TakesEvents}
-use Rattle.core_session.proofs.SessionLemmas.{session_of-push}
+use Rattle.session_step.specs.Views.{AreOfPlugins, IsOfLine, MayBeAsked, TakesEvents}
+use Rattle.session_step.specs.Accepted.{AreAccepted}
+use Rattle.core_session.proofs.SessionLemmas.{AreAccepted-push, none_within, session_of-push}
 use Rattle.core_session.proofs.ShelfLemmas.{AreSavesAsked-closed, AreSavesAsked-push}
 use Rattle.core_session.proofs.ShowsLemmas.{no_lines, serves_push, shows_push}
 
@@ -68,43 +69,39 @@ absurd_of is = absurd cc
 may_stand : (is follows ordered : Bool) → is ≡ true → follows ≡ true → ordered ≡ true → is && (follows && ordered) ≡ true
 may_stand is follows ordered first may rest = rw (first, may, rest) refl
 
-is_front : (caller : ℕ) → caller ≡ 0 → nat_le caller 0 ≡ true
-is_front caller front = rw front refl
-
-none_less : (caller : ℕ) → nat_le caller 0 ≡ true → caller ≡ 0
-none_less caller is = grind (arith, nat_tests, is)
-
-ordered_front : (entries rest : List Entry) → AllByRecursion IsOpen entries → is_ordered 0 rest ≡ true → is_ordered 0 (entries ++ rest) ≡ true
-ordered_front [] rest each ordered = ordered
-ordered_front (entry ∷ entries) rest each ordered =
+ordered_front : (plugins : ℕ) (entries rest : List Entry) → AllByRecursion (IsOpen plugins) entries → is_ordered plugins rest ≡ true →
+    is_ordered plugins (entries ++ rest) ≡ true
+ordered_front plugins [] rest each ordered = ordered
+ordered_front plugins (entry ∷ entries) rest each ordered =
     let follows : may_follow entry (entries ++ rest) ≡ true = rw (each.0.asks, each.0.sent) refl in
-    may_stand (nat_le entry.caller 0) (may_follow entry (entries ++ rest)) (is_ordered 0 (entries ++ rest))
-    (is_front entry.caller each.0.caller) follows (ordered_front entries rest each.1 ordered)
+    may_stand (nat_le entry.caller plugins) (may_follow entry (entries ++ rest)) (is_ordered plugins (entries ++ rest))
+    each.0.caller follows (ordered_front plugins entries rest each.1 ordered)
 
-noted_front : (entries rest : List Entry) → AllByRecursion IsOpen entries → list_all has_own_note rest ≡ true →
+noted_front : (plugins : ℕ) (entries rest : List Entry) → AllByRecursion (IsOpen plugins) entries → list_all has_own_note rest ≡ true →
     list_all has_own_note (entries ++ rest) ≡ true
-noted_front [] rest each noted = noted
-noted_front (entry ∷ entries) rest each noted = rw (each.0.note, noted_front entries rest each.1 noted) refl
+noted_front plugins [] rest each noted = noted
+noted_front plugins (entry ∷ entries) rest each noted = rw (each.0.note, noted_front plugins entries rest each.1 noted) refl
 
--- before a legal journal may stand entries of the front end that were sent
-pub IsLegal-front : (entries rest : List Entry) → AllByRecursion IsOpen entries → IsLegal 0 rest → IsLegal 0 (entries ++ rest)
-IsLegal-front entries rest each legal =
-    let ordered : is_ordered 0 (entries ++ rest) ≡ true =
-    ordered_front entries rest each (first_of (is_ordered 0 rest) (list_all has_own_note rest) legal) in
+-- before a legal journal may stand entries that were sent
+pub IsLegal-front : (plugins : ℕ) (entries rest : List Entry) → AllByRecursion (IsOpen plugins) entries → IsLegal plugins rest →
+    IsLegal plugins (entries ++ rest)
+IsLegal-front plugins entries rest each legal =
+    let ordered : is_ordered plugins (entries ++ rest) ≡ true =
+    ordered_front plugins entries rest each (first_of (is_ordered plugins rest) (list_all has_own_note rest) legal) in
     let noted : list_all has_own_note (entries ++ rest) ≡ true =
-    noted_front entries rest each (second_of (is_ordered 0 rest) (list_all has_own_note rest) legal) in
+    noted_front plugins entries rest each (second_of (is_ordered plugins rest) (list_all has_own_note rest) legal) in
     rw (ordered, noted) refl
 
 -- a line's entry alone, and with the closing one behind it
-legal_one : (command : Command) (note : ShelfNote) (sent : Bool) → IsOfLine command.act → may_have_note command.act note ≡ true →
-    IsLegal 0 (front_entry command note sent ∷ [])
-legal_one command note true asks kind = rw (asks, kind) refl
-legal_one command note false asks kind = rw (asks, kind) refl
+legal_one : (plugins : ℕ) (command : Command) (note : ShelfNote) (sent : Bool) → IsOfLine command.act → may_have_note command.act note ≡ true →
+    IsLegal plugins (front_entry command note sent ∷ [])
+legal_one plugins command note true asks kind = rw (none_within plugins, asks, kind) refl
+legal_one plugins command note false asks kind = rw (none_within plugins, asks, kind) refl
 
-pub IsLegal-push : (journal : List Entry) (command : Command) (note : ShelfNote) (sent : Bool) → AllByRecursion IsOpen journal →
-    IsOfLine command.act → may_have_note command.act note ≡ true → IsLegal 0 (journal ++ front_entry command note sent ∷ [])
-IsLegal-push journal command note sent each asks kind =
-    IsLegal-front journal (front_entry command note sent ∷ []) each (legal_one command note sent asks kind)
+pub IsLegal-push : (plugins : ℕ) (journal : List Entry) (command : Command) (note : ShelfNote) (sent : Bool) → AllByRecursion (IsOpen plugins) journal →
+    IsOfLine command.act → may_have_note command.act note ≡ true → IsLegal plugins (journal ++ front_entry command note sent ∷ [])
+IsLegal-push plugins journal command note sent each asks kind =
+    IsLegal-front plugins journal (front_entry command note sent ∷ []) each (legal_one plugins command note sent asks kind)
 
 follows_by : (sent a b : Bool) → (a ≡ true → b ≡ true) → (if sent then true else a) ≡ true → (if sent then true else b) ≡ true
 follows_by true a b later is = refl
@@ -113,83 +110,83 @@ follows_by false a b later is = later is
 all_more : (a : Bool) → a ≡ true → a && true ≡ true
 all_more a is = rw is refl
 
-ordered_closed : (journal : List Entry) → is_ordered 0 journal ≡ true → has_closing journal ≡ false →
-    is_ordered 0 (journal ++ closing_entry ∷ []) ≡ true
-ordered_closed [] ordered none = refl
-ordered_closed (entry ∷ entries) ordered none =
+ordered_closed : (plugins : ℕ) (journal : List Entry) → is_ordered plugins journal ≡ true → has_closing journal ≡ false →
+    is_ordered plugins (journal ++ closing_entry ∷ []) ≡ true
+ordered_closed plugins [] ordered none = rw (none_within plugins) refl
+ordered_closed plugins (entry ∷ entries) ordered none =
     let mine : is_closing entry ≡ false = not_first (is_closing entry) (has_closing entries) none in
-    let front : nat_le entry.caller 0 ≡ true = first_of (nat_le entry.caller 0) (may_follow entry entries && is_ordered 0 entries) ordered in
-    let rest : may_follow entry entries && is_ordered 0 entries ≡ true =
-    second_of (nat_le entry.caller 0) (may_follow entry entries && is_ordered 0 entries) ordered in
-    let may : may_follow entry entries ≡ true = first_of (may_follow entry entries) (is_ordered 0 entries) rest in
+    let front : nat_le entry.caller plugins ≡ true = first_of (nat_le entry.caller plugins) (may_follow entry entries && is_ordered plugins entries) ordered in
+    let rest : may_follow entry entries && is_ordered plugins entries ≡ true =
+    second_of (nat_le entry.caller plugins) (may_follow entry entries && is_ordered plugins entries) ordered in
+    let may : may_follow entry entries ≡ true = first_of (may_follow entry entries) (is_ordered plugins entries) rest in
     let by_open : (if entry.sent then true else list_all is_closing entries) ≡ true =
     subst (λ closes. (if closes then length entries == 0 else (if entry.sent then true else list_all is_closing entries)) ≡ true) mine may in
     let more : (if entry.sent then true else list_all is_closing (entries ++ closing_entry ∷ [])) ≡ true =
     follows_by entry.sent (list_all is_closing entries) (list_all is_closing (entries ++ closing_entry ∷ []))
     (λ is. list_all-append is_closing entries (closing_entry ∷ []) ∙ all_more (list_all is_closing entries) is) by_open in
     let follows : may_follow entry (entries ++ closing_entry ∷ []) ≡ true = rw mine more in
-    may_stand (nat_le entry.caller 0) (may_follow entry (entries ++ closing_entry ∷ [])) (is_ordered 0 (entries ++ closing_entry ∷ [])) front follows
-    (ordered_closed entries (second_of (may_follow entry entries) (is_ordered 0 entries) rest) (not_second (is_closing entry) (has_closing entries) none))
+    may_stand (nat_le entry.caller plugins) (may_follow entry (entries ++ closing_entry ∷ [])) (is_ordered plugins (entries ++ closing_entry ∷ [])) front follows
+    (ordered_closed plugins entries (second_of (may_follow entry entries) (is_ordered plugins entries) rest) (not_second (is_closing entry) (has_closing entries) none))
 
 -- the closing entry may stand behind a journal that has none
-pub IsLegal-closed : (journal : List Entry) → IsLegal 0 journal → has_closing journal ≡ false → IsLegal 0 (journal ++ closing_entry ∷ [])
-IsLegal-closed journal legal none =
-    let ordered = ordered_closed journal (first_of (is_ordered 0 journal) (list_all has_own_note journal) legal) none in
+pub IsLegal-closed : (plugins : ℕ) (journal : List Entry) → IsLegal plugins journal → has_closing journal ≡ false → IsLegal plugins (journal ++ closing_entry ∷ [])
+IsLegal-closed plugins journal legal none =
+    let ordered = ordered_closed plugins journal (first_of (is_ordered plugins journal) (list_all has_own_note journal) legal) none in
     let noted : list_all has_own_note (journal ++ closing_entry ∷ []) ≡ true =
     list_all-append has_own_note journal (closing_entry ∷ []) ∙
-    all_more (list_all has_own_note journal) (second_of (is_ordered 0 journal) (list_all has_own_note journal) legal) in
+    all_more (list_all has_own_note journal) (second_of (is_ordered plugins journal) (list_all has_own_note journal) legal) in
     rw (ordered, noted) refl
 
 last_step : (closes : Bool) (many : ℕ) (rest : Bool) → (if closes then suc many == 0 else rest) ≡ true → closes ≡ false
 last_step true many rest is = absurd (grind (arith, nat_tests, is))
 last_step false many rest is = refl
 
-ordered_none : (journal : List Entry) → is_ordered 0 (journal ++ closing_entry ∷ []) ≡ true → has_closing journal ≡ false
-ordered_none [] ordered = refl
-ordered_none (entry ∷ entries) ordered =
-    let rest : may_follow entry (entries ++ closing_entry ∷ []) && is_ordered 0 (entries ++ closing_entry ∷ []) ≡ true =
-    second_of (nat_le entry.caller 0) (may_follow entry (entries ++ closing_entry ∷ []) && is_ordered 0 (entries ++ closing_entry ∷ [])) ordered in
+ordered_none : (plugins : ℕ) (journal : List Entry) → is_ordered plugins (journal ++ closing_entry ∷ []) ≡ true → has_closing journal ≡ false
+ordered_none plugins [] ordered = refl
+ordered_none plugins (entry ∷ entries) ordered =
+    let rest : may_follow entry (entries ++ closing_entry ∷ []) && is_ordered plugins (entries ++ closing_entry ∷ []) ≡ true =
+    second_of (nat_le entry.caller plugins) (may_follow entry (entries ++ closing_entry ∷ []) && is_ordered plugins (entries ++ closing_entry ∷ [])) ordered in
     let may : may_follow entry (entries ++ closing_entry ∷ []) ≡ true =
-    first_of (may_follow entry (entries ++ closing_entry ∷ [])) (is_ordered 0 (entries ++ closing_entry ∷ [])) rest in
+    first_of (may_follow entry (entries ++ closing_entry ∷ [])) (is_ordered plugins (entries ++ closing_entry ∷ [])) rest in
     let long : length (entries ++ closing_entry ∷ []) ≡ suc (length entries) = omega (arith, length-append entries (closing_entry ∷ [])) in
     let mine : is_closing entry ≡ false =
     last_step (is_closing entry) (length entries) (if entry.sent then true else list_all is_closing (entries ++ closing_entry ∷ []))
     (subst (λ many. (if is_closing entry then many == 0 else (if entry.sent then true else list_all is_closing (entries ++ closing_entry ∷ []))) ≡ true) long may) in
-    rw mine (ordered_none entries (second_of (may_follow entry (entries ++ closing_entry ∷ [])) (is_ordered 0 (entries ++ closing_entry ∷ [])) rest))
+    rw mine (ordered_none plugins entries (second_of (may_follow entry (entries ++ closing_entry ∷ [])) (is_ordered plugins (entries ++ closing_entry ∷ [])) rest))
 
 -- behind a closing entry stands none
-pub closing_last : (journal : List Entry) → IsLegal 0 (journal ++ closing_entry ∷ []) → has_closing journal ≡ false
-closing_last journal legal =
-    ordered_none journal (first_of (is_ordered 0 (journal ++ closing_entry ∷ [])) (list_all has_own_note (journal ++ closing_entry ∷ [])) legal)
+pub closing_last : (plugins : ℕ) (journal : List Entry) → IsLegal plugins (journal ++ closing_entry ∷ []) → has_closing journal ≡ false
+closing_last plugins journal legal =
+    ordered_none plugins journal (first_of (is_ordered plugins (journal ++ closing_entry ∷ [])) (list_all has_own_note (journal ++ closing_entry ∷ [])) legal)
 
 -- ---- whether a journal is over
 
-pub open_not_over : (journal : List Entry) → AllByRecursion IsOpen journal → is_over journal ≡ false
-open_not_over [] each = refl
-open_not_over (entry ∷ entries) each = rw (each.0.asks, each.0.sent) (open_not_over entries each.1)
+pub open_not_over : (plugins : ℕ) (journal : List Entry) → AllByRecursion (IsOpen plugins) journal → is_over journal ≡ false
+open_not_over plugins [] each = refl
+open_not_over plugins (entry ∷ entries) each = rw (each.0.asks, each.0.sent) (open_not_over plugins entries each.1)
 
-open_by : (journal : List Entry) → is_ordered 0 journal ≡ true → list_all has_own_note journal ≡ true → is_over journal ≡ false →
-    AllByRecursion IsOpen journal
-open_by [] ordered noted goes = tt
-open_by (entry ∷ entries) ordered noted goes =
+open_by : (plugins : ℕ) (journal : List Entry) → is_ordered plugins journal ≡ true → list_all has_own_note journal ≡ true → is_over journal ≡ false →
+    AllByRecursion (IsOpen plugins) journal
+open_by plugins [] ordered noted goes = tt
+open_by plugins (entry ∷ entries) ordered noted goes =
     let here : is_closing entry || not entry.sent ≡ false = not_first (is_closing entry || not entry.sent) (is_over entries) goes in
-    let rest : may_follow entry entries && is_ordered 0 entries ≡ true =
-    second_of (nat_le entry.caller 0) (may_follow entry entries && is_ordered 0 entries) ordered in (
+    let rest : may_follow entry entries && is_ordered plugins entries ≡ true =
+    second_of (nat_le entry.caller plugins) (may_follow entry entries && is_ordered plugins entries) ordered in (
       record {
-        caller = none_less entry.caller (first_of (nat_le entry.caller 0) (may_follow entry entries && is_ordered 0 entries) ordered);
+        caller = first_of (nat_le entry.caller plugins) (may_follow entry entries && is_ordered plugins entries) ordered;
         asks = not_first (is_closing entry) (not entry.sent) here;
         note = first_of (has_own_note entry) (list_all has_own_note entries) noted;
         sent = of_not entry.sent (not_second (is_closing entry) (not entry.sent) here);
       },
-      open_by entries (second_of (may_follow entry entries) (is_ordered 0 entries) rest)
+      open_by plugins entries (second_of (may_follow entry entries) (is_ordered plugins entries) rest)
           (second_of (has_own_note entry) (list_all has_own_note entries) noted) (not_second (is_closing entry || not entry.sent) (is_over entries) goes),
     )
 
--- the entries of a legal journal that is not over are the front end's, and were sent
-pub open_journal : (journal : List Entry) → IsLegal 0 journal → is_over journal ≡ false → AllByRecursion IsOpen journal
-open_journal journal legal goes =
-    open_by journal (first_of (is_ordered 0 journal) (list_all has_own_note journal) legal)
-    (second_of (is_ordered 0 journal) (list_all has_own_note journal) legal) goes
+-- the entries of a legal journal that is not over do not close, and were sent
+pub open_journal : (plugins : ℕ) (journal : List Entry) → IsLegal plugins journal → is_over journal ≡ false → AllByRecursion (IsOpen plugins) journal
+open_journal plugins journal legal goes =
+    open_by plugins journal (first_of (is_ordered plugins journal) (list_all has_own_note journal) legal)
+    (second_of (is_ordered plugins journal) (list_all has_own_note journal) legal) goes
 
 over_step : (closing cut any over : Bool) → (any ≡ true → over ≡ true) → closing || any ≡ true → (closing || cut) || over ≡ true
 over_step true cut any over later is = refl
@@ -280,11 +277,12 @@ stage-closing journal =
 
 -- ---- the entries before the first that was not sent
 
-pub sent_front-open : (journal rest : List Entry) → AllByRecursion IsOpen journal → sent_front (journal ++ rest) ≡ journal ++ sent_front rest
-sent_front-open [] rest each = refl
-sent_front-open (entry ∷ entries) rest each =
+pub sent_front-open : (plugins : ℕ) (journal rest : List Entry) → AllByRecursion (IsOpen plugins) journal →
+    sent_front (journal ++ rest) ≡ journal ++ sent_front rest
+sent_front-open plugins [] rest each = refl
+sent_front-open plugins (entry ∷ entries) rest each =
     ap (λ sent. if sent then entry ∷ sent_front (entries ++ rest) else []) each.0.sent ∙
-    ap (λ later. entry ∷ later) (sent_front-open entries rest each.1)
+    ap (λ later. entry ∷ later) (sent_front-open plugins entries rest each.1)
 
 cut_step : (entry : Entry) (sent closing over : Bool) (front more : List Entry) → closing ≡ false → (closing || not sent) || over ≡ true →
     (over ≡ true → more ≡ front) → (if sent then entry ∷ more else []) ≡ (if sent then entry ∷ front else [])
@@ -310,43 +308,49 @@ MayBeAsked-prop held =
     AllByRecursion-prop (λ (kept : Opened). TakesEvents (arc_value kept.doc) × ∥ ((plain : Document) × DocStandsFor (arc_value kept.doc) plain) ∥₁)
     (λ kept. hlevel (ℕ_set, le_prop, ∥∥₁_prop)) held
 
+pub AreOfPlugins-prop : (plugins : ℕ) (callers : List ℕ) → IsProp (AreOfPlugins plugins callers)
+AreOfPlugins-prop plugins callers =
+    AllByRecursion-prop (λ caller. (1 ≤ caller) × (caller ≤ plugins)) (λ caller. hlevel le_prop) callers
+
 -- a session that takes lines shows its whole journal
-pub showing_open : (terms : Terms) (journal : List Entry) → AllByRecursion IsOpen journal → IsShowing terms (sent_front journal) → IsShowing terms journal
+pub showing_open : (terms : Terms) (journal : List Entry) → AllByRecursion (IsOpen terms.plugins) journal → IsShowing terms (sent_front journal) → IsShowing terms journal
 showing_open terms journal each showing =
     let same : sent_front journal ≡ journal =
-    ap sent_front (sym (append-nil journal)) ∙ sent_front-open journal [] each ∙ append-nil journal in
+    ap sent_front (sym (append-nil journal)) ∙ sent_front-open terms.plugins journal [] each ∙ append-nil journal in
     subst (IsShowing terms) same showing
 
-pub IsOfJournal-push : (terms : Terms) (journal : List Entry) (made : Prepared) (sent : Bool) → length journal < 2 ^ 63 → AllByRecursion IsOpen journal →
-    IsShowing terms journal → AreSavesAsked terms journal → IsOfLine made.command.act → may_have_note made.command.act made.note ≡ true →
-    asks_as (views_of terms journal) made.command.act made.note ≡ true → IsPrepared (session_of terms journal) made →
-    IsOfJournal terms made.held made.opened made.config (journal ++ front_entry made.command made.note sent ∷ [])
-IsOfJournal-push terms journal made sent few each showing saves asks kind asked prepared = record {
+pub IsOfJournal-push : (terms : Terms) (ended : List ℕ) (journal : List Entry) (made : Prepared) (sent : Bool) → length journal < 2 ^ 63 →
+    AllByRecursion (IsOpen terms.plugins) journal → IsShowing terms journal → AreSavesAsked terms journal → AreAccepted terms journal → IsOfLine made.command.act → may_have_note made.command.act made.note ≡ true →
+    asks_as (views_of terms journal) made.command.act made.note ≡ true → IsPrepared ended (session_of terms journal) made →
+    IsOfJournal terms made.held ended made.opened made.config (journal ++ front_entry made.command made.note sent ∷ [])
+IsOfJournal-push terms ended journal made sent few each showing saves accepted asks kind asked prepared = record {
   stands =
-      subst (StandsForSession made.held made.opened made.config) (sym (session_of-push terms journal (front_entry made.command made.note sent))) prepared.stands;
+      subst (StandsForSession made.held ended made.opened made.config) (sym (session_of-push terms journal (front_entry made.command made.note sent))) prepared.stands;
   showing = shown sent;
   saves_asked = AreSavesAsked-push terms journal (front_entry made.command made.note sent) saves asked;
+  accepted = AreAccepted-push terms journal (front_entry made.command made.note sent) accepted tt;
 }
   where
     shown : (sent : Bool) → IsShowing terms (sent_front (journal ++ front_entry made.command made.note sent ∷ []))
-    shown false = subst (IsShowing terms) (sym (sent_front-open journal (front_entry made.command made.note false ∷ []) each ∙ append-nil journal)) showing
+    shown false = subst (IsShowing terms) (sym (sent_front-open terms.plugins journal (front_entry made.command made.note false ∷ []) each ∙ append-nil journal)) showing
     shown true =
-        let parts = serves_push terms journal made.command made.note made.held made.opened made.config _ few each showing asks kind prepared.lines
+        let parts = serves_push terms journal made.command made.note made.held ended made.opened made.config _ few each showing asks kind prepared.lines
         prepared.reads_back prepared.stands in
-        subst (IsShowing terms) (sym (sent_front-open journal (front_entry made.command made.note true ∷ []) each)) parts.1
+        subst (IsShowing terms) (sym (sent_front-open terms.plugins journal (front_entry made.command made.note true ∷ []) each)) parts.1
 
-closed_showing : (terms : Terms) (journal : List Entry) (over : Bool) → is_over journal ≡ over → length journal < 2 ^ 63 → IsLegal 0 journal →
+closed_showing : (terms : Terms) (journal : List Entry) (over : Bool) → is_over journal ≡ over → length journal < 2 ^ 63 → IsLegal terms.plugins journal →
     has_closing journal ≡ false → IsShowing terms (sent_front journal) → IsShowing terms (sent_front (journal ++ closing_entry ∷ []))
 closed_showing terms journal true is few legal none showing = subst (IsShowing terms) (sym (sent_front-over journal (closing_entry ∷ []) none is)) showing
 closed_showing terms journal false is few legal none showing =
-    let each = open_journal journal legal is in
-    subst (IsShowing terms) (sym (sent_front-open journal (closing_entry ∷ []) each))
-    (shows_push terms journal closing_entry few (showing_open terms journal each showing) no_lines tt)
+    let each = open_journal terms.plugins journal legal is in
+    subst (IsShowing terms) (sym (sent_front-open terms.plugins journal (closing_entry ∷ []) each))
+    (shows_push terms journal closing_entry few tt (showing_open terms journal each showing) no_lines tt)
 
-pub IsOfJournal-closed : (terms : Terms) (held : List Opened) (many : ℕ) (laid : Config) (journal : List Entry) → length journal < 2 ^ 63 → IsLegal 0 journal →
-    has_closing journal ≡ false → IsOfJournal terms held many laid journal → IsOfJournal terms held many laid (journal ++ closing_entry ∷ [])
-IsOfJournal-closed terms held many laid journal few legal none kept = record {
-  stands = subst (StandsForSession held many laid) (sym (session_of-push terms journal closing_entry)) kept.stands;
+pub IsOfJournal-closed : (terms : Terms) (held : List Opened) (ended : List ℕ) (many : ℕ) (laid : Config) (journal : List Entry) → length journal < 2 ^ 63 → IsLegal terms.plugins journal →
+    has_closing journal ≡ false → IsOfJournal terms held ended many laid journal → IsOfJournal terms held ended many laid (journal ++ closing_entry ∷ [])
+IsOfJournal-closed terms held ended many laid journal few legal none kept = record {
+  stands = subst (StandsForSession held ended many laid) (sym (session_of-push terms journal closing_entry)) kept.stands;
   showing = closed_showing terms journal (is_over journal) refl few legal none kept.showing;
   saves_asked = AreSavesAsked-closed terms journal kept.saves_asked;
+  accepted = AreAccepted-push terms journal closing_entry kept.accepted tt;
 }

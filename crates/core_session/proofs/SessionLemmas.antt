@@ -1,19 +1,23 @@
 -- Lemmas on the plain session: one more entry.
 use Rattle.session_step.specs.declared.terms.Terms.{Terms}
-use Rattle.std.proofs.Common.{take_all, length-drop, length, ◌-◌, ◌≡◌, ℕ, zero, suc, ◌+◌, arith, zero-add, take, drop, List, [], ◌∷◌, ◌++◌, refl, ap, sym, ◌∙◌, append_assoc, append-nil}
+use Rattle.std.proofs.Common.{take_all, length-drop, length, ◌-◌, ◌≡◌, ℕ, zero, suc, ◌+◌, arith, zero-add, take, drop, Bool, true, false, List, [], ◌∷◌, ◌++◌, refl, ap, sym, ◌∙◌, append_assoc, append-nil}
 use Rattle.std.specs.List.{AllByRecursion}
 use Rattle.serde_json.specs.Data.{Data}
 use Rattle.xi_plain.specs.declared.command.Command.{Command}
 use Rattle.xi_plain.specs.declared.entry.Entry.{Entry}
 use Rattle.xi_plain.specs.declared.entry.ShelfNote.{ShelfNote}
 use Rattle.xi_plain.specs.Journal.{may_have_note}
-use Rattle.session_step.specs.Session.{Session, first_session, given_by, messages, outcome, step, session_after, session_of, views_of, written, piece_of}
+use Rattle.session_step.specs.Session.{Session, first_session, given_by, is_front, messages_by, outcome, step, step_by, session_after, session_of, views_of, written, piece_of}
 use Rattle.session_step.specs.Views.{IsOfLine}
 use Rattle.core_session.specs.Kept.{IsOpen, front_entry}
 use Rattle.entry_lines.specs.Piece.{lines_written}
 use Rattle.entry_lines.proofs.ForCallers.{all_append, lines_written-append}
 use Rattle.std.proofs.Math.Seq.{take-nil}
-use Rattle.std.specs.Prelude.{true}
+use Rattle.std.specs.Prelude.{nat_le}
+use Rattle.std.proofs.lemmas.Bool.Decides.{nat_tests}
+use Rattle.view_update.specs.declared.note.ViewUpdate.{ViewUpdate}
+use Rattle.session_step.specs.Accepted.{Accepts, AreAccepted, AreAcceptedFrom}
+use Rattle.session_step.specs.PluginStep.{plugin_outcome}
 use Rattle.front_wire.specs.Front.{command_of}
 use Rattle.front_wire.proofs.ForCallers.{closes-command_of}
 
@@ -26,21 +30,28 @@ session_after-append session (entry ∷ front) back = session_after-append (step
 -- the messages of entries, one after the other
 pub all_messages : Session → List Entry → List Data
 all_messages session [] = []
-all_messages session (entry ∷ entries) = messages session entry.command (given_by entry.shelf) ++ all_messages (step session entry) entries
+all_messages session (entry ∷ entries) = messages_by (is_front entry) session entry ++ all_messages (step session entry) entries
 
 pub all_messages-append : (session : Session) (front back : List Entry) →
     all_messages session (front ++ back) ≡ all_messages session front ++ all_messages (session_after session front) back
 unfolding all_messages
 all_messages-append session [] back = refl
 all_messages-append session (entry ∷ front) back =
-    ap (λ rest. messages session entry.command (given_by entry.shelf) ++ rest) (all_messages-append (step session entry) front back) ∙
-    sym (append_assoc (messages session entry.command (given_by entry.shelf)) (all_messages (step session entry) front)
+    ap (λ rest. messages_by (is_front entry) session entry ++ rest) (all_messages-append (step session entry) front back) ∙
+    sym (append_assoc (messages_by (is_front entry) session entry) (all_messages (step session entry) front)
     (all_messages (session_after (step session entry) front) back))
 
 -- a session keeps what it was made with
+pub terms-step : (session : Session) (entry : Entry) → session.terms ≡ (step session entry).terms
+terms-step session entry = by (is_front entry)
+  where
+    by : (front : Bool) → session.terms ≡ (step_by front session entry).terms
+    by true = refl
+    by false = refl
+
 terms-session_after : (session : Session) (entries : List Entry) → session.terms ≡ (session_after session entries).terms
 terms-session_after session [] = refl
-terms-session_after session (entry ∷ entries) = terms-session_after (step session entry) entries
+terms-session_after session (entry ∷ entries) = terms-step session entry ∙ terms-session_after (step session entry) entries
 
 pub terms-session_of : (terms : Terms) (journal : List Entry) → terms ≡ (session_of terms journal).terms
 terms-session_of terms journal = terms-session_after (first_session terms) journal
@@ -51,7 +62,7 @@ pub session_of-push : (terms : Terms) (journal : List Entry) (entry : Entry) →
 session_of-push terms journal entry = session_after-append (first_session terms) journal (entry ∷ [])
 
 pub views_of-push : (terms : Terms) (journal : List Entry) (entry : Entry) →
-    views_of terms (journal ++ entry ∷ []) ≡ (outcome (session_of terms journal) entry.command.act (given_by entry.shelf)).views
+    views_of terms (journal ++ entry ∷ []) ≡ (step (session_of terms journal) entry).views
 views_of-push terms journal entry = ap (λ (session : Session). session.views) (session_of-push terms journal entry)
 
 -- the messages of a journal
@@ -59,11 +70,11 @@ pub messages_of : Terms → List Entry → List Data
 messages_of terms journal = all_messages (first_session terms) journal
 
 pub messages_of-push : (terms : Terms) (journal : List Entry) (entry : Entry) →
-    messages_of terms (journal ++ entry ∷ []) ≡ messages_of terms journal ++ messages (session_of terms journal) entry.command (given_by entry.shelf)
+    messages_of terms (journal ++ entry ∷ []) ≡ messages_of terms journal ++ messages_by (is_front entry) (session_of terms journal) entry
 unfolding all_messages messages_of
 messages_of-push terms journal entry =
     all_messages-append (first_session terms) journal (entry ∷ []) ∙
-    ap (λ rest. messages_of terms journal ++ rest) (append-nil (messages (session_of terms journal) entry.command (given_by entry.shelf)))
+    ap (λ rest. messages_of terms journal ++ rest) (append-nil (messages_by (is_front entry) (session_of terms journal) entry))
 
 -- what entries write is the lines of their messages
 written-all : (session : Session) (entries : List Entry) → written session entries ≡ lines_written (all_messages session entries)
@@ -71,7 +82,7 @@ unfolding all_messages
 written-all session [] = refl
 written-all session (entry ∷ entries) =
     ap (λ rest. piece_of session entry ++ rest) (written-all (step session entry) entries) ∙
-    sym (lines_written-append (messages session entry.command (given_by entry.shelf)) (all_messages (step session entry) entries))
+    sym (lines_written-append (messages_by (is_front entry) session entry) (all_messages (step session entry) entries))
 
 pub written-messages : (terms : Terms) (journal : List Entry) → written (first_session terms) journal ≡ lines_written (messages_of terms journal)
 unfolding messages_of
@@ -81,7 +92,7 @@ written-messages terms journal = written-all (first_session terms) journal
 pub written-push : (terms : Terms) (journal : List Entry) (entry : Entry) →
     written (first_session terms) (journal ++ entry ∷ []) ≡ written (first_session terms) journal ++ piece_of (session_of terms journal) entry
 written-push terms journal entry =
-    let said = messages (session_of terms journal) entry.command (given_by entry.shelf) in
+    let said = messages_by (is_front entry) (session_of terms journal) entry in
     written-messages terms (journal ++ entry ∷ []) ∙ ap lines_written (messages_of-push terms journal entry) ∙
     lines_written-append (messages_of terms journal) said ∙ ap (λ front. front ++ lines_written said) (sym (written-messages terms journal))
 
@@ -97,11 +108,31 @@ take-plus (suc m) n (x ∷ xs) =
     let less : suc m + n ≡ suc (m + n) = omega arith in
     ap (λ k. take k (x ∷ xs)) less ∙ ap (λ rest. x ∷ rest) (take-plus m n xs)
 
+-- the front end is no plugin above so many
+pub none_within : (plugins : ℕ) → nat_le 0 plugins ≡ true
+none_within plugins = grind (arith, nat_tests)
+
 -- one more entry that is open
-pub IsOpen-push : (journal : List Entry) (command : Command) (note : ShelfNote) → AllByRecursion IsOpen journal → IsOfLine command.act →
-    may_have_note command.act note ≡ true → AllByRecursion IsOpen (journal ++ front_entry command note true ∷ [])
-IsOpen-push journal command note sent asks kind =
-    all_append IsOpen journal (front_entry command note true ∷ []) sent (record { caller = refl; asks = asks; note = kind; sent = refl }, tt)
+pub IsOpen-push : (plugins : ℕ) (journal : List Entry) (command : Command) (note : ShelfNote) → AllByRecursion (IsOpen plugins) journal →
+    IsOfLine command.act → may_have_note command.act note ≡ true → AllByRecursion (IsOpen plugins) (journal ++ front_entry command note true ∷ [])
+IsOpen-push plugins journal command note sent asks kind =
+    all_append (IsOpen plugins) journal (front_entry command note true ∷ []) sent
+    (record { caller = none_within plugins; asks = asks; note = kind; sent = refl }, tt)
+
+-- each entry of these is accepted, and so is one more
+AreAcceptedFrom-push : (session : Session) (entries : List Entry) (entry : Entry) → AreAcceptedFrom session entries →
+    Accepts (session_after session entries) entry → AreAcceptedFrom session (entries ++ entry ∷ [])
+AreAcceptedFrom-push session [] entry are last = (last, tt)
+AreAcceptedFrom-push session (first ∷ entries) entry are last = (are.0, AreAcceptedFrom-push (step session first) entries entry are.1 last)
+
+pub AreAccepted-push : (terms : Terms) (journal : List Entry) (entry : Entry) → AreAccepted terms journal →
+    Accepts (session_of terms journal) entry → AreAccepted terms (journal ++ entry ∷ [])
+AreAccepted-push terms journal entry are last = AreAcceptedFrom-push (first_session terms) journal entry are last
+
+-- the updates that an entry tells, by whether it is the front end's
+abbrev pub updates_by : Bool → Session → Entry → List ViewUpdate
+updates_by true session entry = (outcome session entry.command.act (given_by entry.shelf)).updates
+updates_by false session entry = (plugin_outcome session.views session.styles entry.caller entry.command.act).updates
 
 -- the rest of a slice is what stands after its front
 take_rest : (m : ℕ) (xs : List ℕ) → take (length xs - m) (drop m xs) ≡ drop m xs

@@ -1,6 +1,6 @@
 -- One more entry is shown, where those before it are.
 use Rattle.session_step.specs.declared.terms.Terms.{Terms}
-use Rattle.std.proofs.Common.{◌≡◌, ℕ, ◌+◌, ◌-◌, ◌<◌, ◌≤◌, length, arith, true, false, List, [], ◌∷◌, ◌++◌, map, Option, Some, None, refl, ap, sym, ◌∙◌, subst, append-nil, ◌⊎◌, inl, inr}
+use Rattle.std.proofs.Common.{◌≡◌, ℕ, ◌+◌, ◌-◌, ◌<◌, ◌≤◌, length, arith, Bool, true, false, List, [], ◌∷◌, ◌++◌, map, Option, Some, None, refl, ap, sym, ◌∙◌, subst, append-nil, ◌⊎◌, inl, inr}
 use Rattle.std.specs.Prelude.{if◌then◌else◌, ◌^◌}
 use Rattle.std.specs.Arc.{arc_value}
 use Rattle.std.specs.Str.{bytes_eq}
@@ -15,28 +15,32 @@ use Rattle.xi_plain.specs.declared.entry.Entry.{Entry}
 use Rattle.xi_plain.specs.declared.entry.ShelfNote.{ShelfNote}
 use Rattle.xi_plain.specs.Journal.{may_have_note}
 use Rattle.xi_plain.specs.declared.command.Act.{Act}
+use Rattle.xi_plain.specs.declared.command.Act.TheVariants.{Edit}
 use Rattle.plain_text.specs.declared.run.Run.{Run}
 use Rattle.plain_screen.specs.declared.screen.Update.{Update}
 use Rattle.plain_screen.specs.Screen.{Screen, screen_after}
 use Rattle.view_update.specs.declared.note.ViewUpdate.{ViewUpdate}
 use Rattle.view_update.specs.Reading.{line_update}
+use Rattle.doc_session.specs.Document.{loaded_document, no_request}
 use Rattle.doc_session.specs.ScreenOf.{IsUpToDate}
 use Rattle.doc_session.specs.Step.{EventStep}
 use Rattle.entry_lines.specs.Piece.{AreLinesOf, UpdatesReadBack, lines_written}
 use Rattle.entry_lines.proofs.ForCallers.{all_append, pieces_say_their_updates}
 use Rattle.session_step.specs.declared.given.Given.{Given}
 use Rattle.session_step.specs.declared.opened.Opened.{Opened}
-use Rattle.session_step.specs.Session.{OpenView, HaveRevisions, Session, first_session, session_of, view_of, views_of, Outcome, act_step, given_by, opened_after, outcome, leaving, outcome_messages, stepped, told, updates_for, messages, step, written, piece_of}
+use Rattle.session_step.specs.Accepted.{Accepts, AcceptsBy, is_of_plugin}
+use Rattle.session_step.specs.PluginStep.{PluginOutcome, plugin_messages, plugin_outcome}
+use Rattle.session_step.specs.Session.{OpenView, HaveRevisions, Session, first_session, session_of, view_of, views_of, Outcome, act_step, given_by, is_front, opened_after, outcome, leaving, next_view, outcome_messages, stepped, told, updates_for, messages, messages_by, step, step_by, written, piece_of}
 use Rattle.core_session.specs.Shows.{updates_in, screen_with, rebuilt_from, rebuilt, IsShown, AreShown, SendsTo, NoteSendsTo, NotesSendTo, requested, last_requested, Shows}
 use Rattle.doc_text.proofs.ForCallers.{head-text}
 use Rattle.entry_lines.specs.ViewId.{view_id_of}
 use Rattle.core_session.specs.Kept.{AreRebuilt, IsOpen, StandsForSession, IsShowing, front_entry}
 use Rattle.session_step.specs.Views.{IsNotGiven, IsOfLine, Stands, HasApart, MayBeAsked}
 use Rattle.core_session.proofs.RevisionLemmas.{revisions_few}
-use Rattle.session_step.proofs.ForCallers.{same_id, other_way, AreNumbered, apart-numbered, next_not_given, not_given-before, not_given-others}
-use Rattle.core_session.proofs.StepLemmas.{AreLastTold, IsBase, MakesScreen, UpdateWithin, KeepsStep, KeepEach, NoneRequested, all_base, apart_of, by_outcome, last_base, last_of, numbered_base, numbered_of, opened_few, opened_more, opened_of}
+use Rattle.session_step.proofs.ForCallers.{same_id, other_way, AreNumbered, apart-numbered, next_not_given, not_given-before, not_given-others, screen-without_sessions}
+use Rattle.core_session.proofs.StepLemmas.{AreLastTold, IsBase, MakesScreen, UpdateWithin, KeepScreens, KeepsStep, KeepEach, NoneRequested, ShowEach, all_base, apart_of, by_outcome, by_plugin_steps, keep_screens, last_base, last_of, numbered_base, numbered_of, opened_few, opened_more, opened_of}
 use Rattle.core_session.proofs.ScreenLemmas.{IsUpToDate-over}
-use Rattle.core_session.proofs.SessionLemmas.{session_of-push, views_of-push, messages_of, messages_of-push, written-messages, IsOpen-push}
+use Rattle.core_session.proofs.SessionLemmas.{session_of-push, views_of-push, messages_of, messages_of-push, updates_by, written-messages, IsOpen-push}
 
 -- the updates that messages say
 pub updates_of : List Data → List (Option ViewUpdate)
@@ -93,6 +97,12 @@ pub updates_of-outcome : (id : Id) (done : Outcome) → AllByRecursion (λ m. Is
     UpdatesReadBack done.updates → updates_of (outcome_messages id done) ≡ note_list done.updates
 updates_of-outcome id done lines reads =
     sym (updates_in-lines (outcome_messages id done)) ∙ pieces_say_their_updates id done.reply [] done.updates done.scroll lines reads ∙
+    note_list-is done.updates
+
+updates_of-plugin : (id : Id) (done : PluginOutcome) → AllByRecursion (λ m. IsLineOf m (line_of m)) (plugin_messages id done) →
+    UpdatesReadBack done.updates → updates_of (plugin_messages id done) ≡ note_list done.updates
+updates_of-plugin id done lines reads =
+    sym (updates_in-lines (plugin_messages id done)) ∙ pieces_say_their_updates id done.reply done.styles done.updates None lines reads ∙
     note_list-is done.updates
 
 -- ---- a journal with one more entry, in two parts
@@ -198,9 +208,9 @@ turned : (own : List ℕ) (views : List OpenView) → AllByRecursion (λ (view :
 turned own [] others = tt
 turned own (view ∷ views) others = (other_way view.id own ∙ others.0, turned own views others.1)
 
-pub settles : (requests : List ℕ → Run) (steps : OpenView → EventStep) (views : List OpenView) → HasApart views → KeepEach requests steps views →
+pub settles : (requests : List ℕ → Run) (steps : OpenView → EventStep) (views : List OpenView) → HasApart views → KeepScreens requests steps views →
     Settle (note_list (told steps views)) steps views
-unfolding Settle KeepEach KeepsStep Passes
+unfolding Settle KeepScreens Passes
 settles requests steps [] apart keep = tt
 settles requests steps (view ∷ views) apart keep =
     let first = updates_for view.id (steps view).update in
@@ -259,9 +269,9 @@ sends_one requests next views (Some update) within =
     let At : Option OpenView → Type 0 = λ found. SendsTo (requests next.id) found update.ops in
     (subst At (sym (ap (λ here. if here then Some next else view_of views next.id) (same_id next.id))) within, tt)
 
-sends_steps : (requests : List ℕ → Run) (steps : OpenView → EventStep) (views : List OpenView) → HasApart views → KeepEach requests steps views →
+sends_steps : (requests : List ℕ → Run) (steps : OpenView → EventStep) (views : List OpenView) → HasApart views → KeepScreens requests steps views →
     NotesSendTo requests (stepped steps views) (note_list (told steps views))
-unfolding KeepEach KeepsStep note_list
+unfolding KeepScreens note_list
 sends_steps requests steps [] apart keep = tt
 sends_steps requests steps (view ∷ views) apart keep =
     let next : OpenView = record view { document = (steps view).document } in
@@ -281,14 +291,37 @@ sends_leaving : (requests : List ℕ → Run) (views : List OpenView) → Sends 
 unfolding Sends note_list
 sends_leaving requests views = tt
 
-pub sends : (session : Session) (act : Act) (gave : Given) → session.opened + 1 < 2 ^ 64 → AreNumbered 0 session.opened session.views →
-    Sends (requested act) (outcome session act gave)
+sends_front : (session : Session) (act : Act) (gave : Given) → session.opened + 1 < 2 ^ 64 → AreNumbered 0 session.opened session.views →
+    NotesSendTo (requested act) (outcome session act gave).views (note_list (outcome session act gave).updates)
 unfolding Sends
-sends session act gave small are =
+sends_front session act gave small are =
     by_outcome session (λ requests opened done. opened < 2 ^ 64 → Sends requests done)
-    (λ requests opened base reply scroll each is keep. λ few. sends_steps requests each base (apart_base session opened base is few are) keep)
+    (λ requests opened base reply scroll each is keep. λ few. sends_steps requests each base (apart_base session opened base is few are) (keep_screens requests each base keep))
     (λ requests none. λ few. sends_leaving requests session.views) act gave
     (apart-numbered 0 session.opened session.views (omega (arith, small)) are) (omega (arith, small, opened_few session.opened act gave))
+
+-- so are those of an entry that is accepted
+none_of_plugin : (asks : Act) → is_of_plugin asks ≡ true → (id : List ℕ) → requested asks id ≡ no_request
+none_of_plugin (Edit name act) is id = absurd cc
+none_of_plugin asks is id = refl
+
+sends_plugin : (session : Session) (caller : ℕ) (asks : Act) → HasApart session.views → is_of_plugin asks ≡ true →
+    NotesSendTo (requested asks) (plugin_outcome session.views session.styles caller asks).views
+    (note_list (plugin_outcome session.views session.styles caller asks).updates)
+sends_plugin session caller asks apart is =
+    by_plugin_steps session.views session.styles caller (requested asks) (none_of_plugin asks is)
+    (λ after updates. NotesSendTo (requested asks) after (note_list updates))
+    (λ each keep shown. sends_steps (requested asks) each session.views apart keep) apart asks
+
+sends_entry : (session : Session) (entry : Entry) → session.opened + 1 < 2 ^ 64 → AreNumbered 0 session.opened session.views → Accepts session entry →
+    NotesSendTo (requested entry.command.act) (step session entry).views (note_list (updates_by (is_front entry) session entry))
+sends_entry session entry small are accepts = by (is_front entry) accepts
+  where
+    by : (front : Bool) → AcceptsBy front session entry →
+        NotesSendTo (requested entry.command.act) (step_by front session entry).views (note_list (updates_by front session entry))
+    by true taken = sends_front session entry.command.act (given_by entry.shelf) small are
+    by false taken =
+        sends_plugin session entry.caller entry.command.act (apart-numbered 0 session.opened session.views (omega (arith, small)) are) taken.asks
 
 -- ---- the lines that are valid
 
@@ -310,12 +343,30 @@ shown_leaving requests lasts (view ∷ views) none before =
     let At : Run → Type 0 = λ request. IsUpToDate request view.document in
     (subst At (sym none.0) (IsUpToDate-over (lasts view.id) view.document before.0), shown_leaving requests lasts views none.1 before.1)
 
-stays_up_to_date : (session : Session) (act : Act) (gave : Given) → HasApart session.views → AreLastTold session.views → (lasts : List ℕ → Run) →
+front_up_to_date : (session : Session) (act : Act) (gave : Given) → HasApart session.views → AreLastTold session.views → (lasts : List ℕ → Run) →
     AreUpToDate lasts session.views → AreUpToDate (requested act) (outcome session act gave).views
-stays_up_to_date session act gave apart last lasts before =
+front_up_to_date session act gave apart last lasts before =
     by_outcome session (λ requests opened done. AreUpToDate requests done.views)
     (λ requests opened base reply scroll each is keep. shown_each requests each base keep (last_base session opened base is last))
     (λ requests none. shown_leaving requests lasts session.views none before) act gave apart
+
+shown_after : (requests lasts : List ℕ → Run) (steps : OpenView → EventStep) (views : List OpenView) → ShowEach requests steps views →
+    AreLastTold views → AreUpToDate lasts views → AreUpToDate requests (stepped steps views)
+unfolding AreLastTold AreUpToDate ShowEach
+shown_after requests lasts steps [] each last before = tt
+shown_after requests lasts steps (view ∷ views) each last before =
+    (each.0 (lasts view.id) before.0 last.0, shown_after requests lasts steps views each.1 last.1 before.1)
+
+entry_up_to_date : (session : Session) (entry : Entry) → HasApart session.views → AreLastTold session.views → Accepts session entry →
+    (lasts : List ℕ → Run) → AreUpToDate lasts session.views → AreUpToDate (requested entry.command.act) (step session entry).views
+entry_up_to_date session entry apart last accepts lasts before = by (is_front entry) accepts
+  where
+    by : (front : Bool) → AcceptsBy front session entry → AreUpToDate (requested entry.command.act) (step_by front session entry).views
+    by true taken = front_up_to_date session entry.command.act (given_by entry.shelf) apart last lasts before
+    by false taken =
+        by_plugin_steps session.views session.styles entry.caller (requested entry.command.act) (none_of_plugin entry.command.act taken.asks)
+        (λ after updates. AreUpToDate (requested entry.command.act) after)
+        (λ each keep shown. shown_after (requested entry.command.act) lasts each session.views shown last before) apart entry.command.act
 
 -- ---- one more entry is shown
 
@@ -324,7 +375,7 @@ pub updates_in-push : (terms : Terms) (journal : List Entry) (entry : Entry) →
     updates_in (written (first_session terms) (journal ++ entry ∷ [])) ≡
     updates_in (written (first_session terms) journal) ++ updates_in (piece_of (session_of terms journal) entry)
 updates_in-push terms journal entry =
-    let said = messages (session_of terms journal) entry.command (given_by entry.shelf) in
+    let said = messages_by (is_front entry) (session_of terms journal) entry in
     ap updates_in (written-messages terms (journal ++ entry ∷ [])) ∙ updates_in-lines (messages_of terms (journal ++ entry ∷ [])) ∙
     ap updates_of (messages_of-push terms journal entry) ∙ updates_of-append (messages_of terms journal) said ∙
     ap (λ xs. xs ++ updates_of said) (sym (ap updates_in (written-messages terms journal) ∙ updates_in-lines (messages_of terms journal))) ∙
@@ -338,12 +389,18 @@ pub record ScreensAre (bytes : List ℕ) (opened : ℕ) (views : List OpenView) 
 screens_of : (terms : Terms) (journal : List Entry) → IsShowing terms journal → ScreensAre (written (first_session terms) journal) (session_of terms journal).opened (views_of terms journal)
 screens_of terms journal showing = record { kept = showing.screens; fresh = showing.fresh }
 
+-- the next view has an empty screen, whatever sessions ended
+screen-next : (session : Session) (text : List ℕ) →
+    [] ≡ (next_view session.terms session.ended session.config session.opened text).document.screen
+screen-next session text =
+    sym (screen-without_sessions session.ended (loaded_document text session.terms.plugins session.terms.limit session.config))
+
 -- the views whose steps an outcome is are rebuilt, the next one too
 rebuilt_base : (bytes : List ℕ) (session : Session) (opened : ℕ) (base : List OpenView) → session.opened + 1 < 2 ^ 64 → IsBase session opened base →
     ScreensAre bytes session.opened session.views → AreRebuilt bytes base
 rebuilt_base bytes session opened base small is are =
     all_base (λ (view : OpenView). rebuilt view.id bytes ≡ Some view.document.screen) session opened base is
-    (λ text. are.fresh (view_id_of (session.opened + 1)) (next_not_given session.opened small)) are.kept
+    (λ text. are.fresh (view_id_of (session.opened + 1)) (next_not_given session.opened small) ∙ ap Some (screen-next session text)) are.kept
 
 -- and by the notes of their steps they are rebuilt after these
 rebuilt_steps : (before after : List ℕ) (notes : List (Option ViewUpdate)) (steps : OpenView → EventStep) (views : List OpenView) →
@@ -381,7 +438,7 @@ screens_after session act gave before after small are is was =
     let numbered = numbered_base session opened base based are in
     let apart = apart-numbered 0 opened base few numbered in
     record {
-      kept = rebuilt_steps before after (note_list (told each base)) each base told_is (rebuilt_base before session opened base small based was) (settles requests each base apart keep);
+      kept = rebuilt_steps before after (note_list (told each base)) each base told_is (rebuilt_base before session opened base small based was) (settles requests each base apart (keep_screens requests each base keep));
       fresh = λ id free.
           rebuilt_same id before after (note_list (told each base)) told_is (passes_told id each base (not_given-others id 0 opened base free numbered))
           (was.fresh id (not_given-before session.opened opened id more free));
@@ -394,14 +451,45 @@ screens_after session act gave before after small are is was =
     act gave (apart-numbered 0 session.opened session.views (omega (arith, small)) are) (opened_more session.opened act gave)
     (omega (arith, small, opened_few session.opened act gave)) is
 
+-- and after an entry
+screens_plugin : (session : Session) (caller : ℕ) (asks : Act) (before after : List ℕ) → session.opened + 1 < 2 ^ 64 →
+    AreNumbered 0 session.opened session.views →
+    updates_in after ≡ updates_in before ++ note_list (plugin_outcome session.views session.styles caller asks).updates →
+    ScreensAre before session.opened session.views → ScreensAre after session.opened (plugin_outcome session.views session.styles caller asks).views
+screens_plugin session caller asks before after small are is was =
+    by_plugin_steps session.views session.styles caller (λ id. no_request) (λ id. refl)
+    (λ next updates. updates_in after ≡ updates_in before ++ note_list updates → ScreensAre after session.opened next)
+    (λ each keep shown. λ told_is.
+    record {
+      kept =
+          rebuilt_steps before after (note_list (told each session.views)) each session.views told_is was.kept
+          (settles (λ id. no_request) each session.views apart keep);
+      fresh = λ id free.
+          rebuilt_same id before after (note_list (told each session.views)) told_is
+          (passes_told id each session.views (not_given-others id 0 session.opened session.views free are)) (was.fresh id free);
+    }) apart asks is
+  where
+    apart : HasApart session.views
+    apart = apart-numbered 0 session.opened session.views (omega (arith, small)) are
+
+screens_entry : (session : Session) (entry : Entry) (before after : List ℕ) → session.opened + 1 < 2 ^ 64 → AreNumbered 0 session.opened session.views →
+    updates_in after ≡ updates_in before ++ note_list (updates_by (is_front entry) session entry) → ScreensAre before session.opened session.views →
+    ScreensAre after (step session entry).opened (step session entry).views
+screens_entry session entry before after small are is was = by (is_front entry) is
+  where
+    by : (front : Bool) → updates_in after ≡ updates_in before ++ note_list (updates_by front session entry) →
+        ScreensAre after (step_by front session entry).opened (step_by front session entry).views
+    by true told_is = screens_after session entry.command.act (given_by entry.shelf) before after small are told_is was
+    by false told_is = screens_plugin session entry.caller entry.command.act before after small are told_is was
+
 rebuilt_push : (terms : Terms) (journal : List Entry) (entry : Entry) → length journal < 2 ^ 63 → IsShowing terms journal →
-    updates_in (piece_of (session_of terms journal) entry) ≡ note_list (outcome (session_of terms journal) entry.command.act (given_by entry.shelf)).updates →
+    updates_in (piece_of (session_of terms journal) entry) ≡ note_list (updates_by (is_front entry) (session_of terms journal) entry) →
     ScreensAre (written (first_session terms) (journal ++ entry ∷ [])) (session_of terms (journal ++ entry ∷ [])).opened (views_of terms (journal ++ entry ∷ []))
 rebuilt_push terms journal entry small showing said =
     let session = session_of terms journal in
     let At : Session → Type 0 = λ next. ScreensAre (written (first_session terms) (journal ++ entry ∷ [])) next.opened next.views in
     subst At (sym (session_of-push terms journal entry))
-    (screens_after session entry.command.act (given_by entry.shelf) (written (first_session terms) journal) (written (first_session terms) (journal ++ entry ∷ []))
+    (screens_entry session entry (written (first_session terms) journal) (written (first_session terms) (journal ++ entry ∷ []))
     (omega (arith, small, opened_of terms journal)) (numbered_of terms journal)
     (updates_in-push terms journal entry ∙ ap (λ notes. updates_in (written (first_session terms) journal) ++ notes) said) (screens_of terms journal showing))
 
@@ -450,39 +538,42 @@ AreUpToDate-same requests others (view ∷ views) same told =
     (subst At (same view.id) told.0, AreUpToDate-same requests others views same told.1)
 
 -- what a journal shows after the entry that was added
-shown_push : (terms : Terms) (journal : List Entry) (entry : Entry) → length journal < 2 ^ 63 → IsShowing terms journal →
+shown_push : (terms : Terms) (journal : List Entry) (entry : Entry) → length journal < 2 ^ 63 → Accepts (session_of terms journal) entry →
+    IsShowing terms journal →
     AreRebuilt (written (first_session terms) (journal ++ entry ∷ [])) (views_of terms (journal ++ entry ∷ [])) →
     AreShown (last_requested (journal ++ entry ∷ [])) (views_of terms (journal ++ entry ∷ [])) (written (first_session terms) (journal ++ entry ∷ []))
-shown_push terms journal entry small showing screens =
+shown_push terms journal entry small accepts showing screens =
     let session = session_of terms journal in
     let before : AreUpToDate (last_requested journal) session.views =
     up_to_date-AreShown (last_requested journal) session.views (written (first_session terms) journal) showing.screens
     (showing.shows.screens journal [] (sym (append-nil journal))) in
-    let after : AreUpToDate (requested entry.command.act) (outcome session entry.command.act (given_by entry.shelf)).views =
-    stays_up_to_date session entry.command.act (given_by entry.shelf) (apart_of terms journal small) (last_of terms journal small) (last_requested journal) before in
+    let after : AreUpToDate (requested entry.command.act) (step session entry).views =
+    entry_up_to_date session entry (apart_of terms journal small) (last_of terms journal small) accepts (last_requested journal) before in
     let put = subst (AreUpToDate (requested entry.command.act)) (sym (views_of-push terms journal entry)) after in
     AreShown-up_to_date (last_requested (journal ++ entry ∷ [])) (views_of terms (journal ++ entry ∷ [])) (written (first_session terms) (journal ++ entry ∷ []))
     screens
     (AreUpToDate-same (requested entry.command.act) (last_requested (journal ++ entry ∷ [])) (views_of terms (journal ++ entry ∷ []))
     (λ id. sym (last_requested-push journal entry id)) put)
 
-screens_push : (terms : Terms) (journal : List Entry) (entry : Entry) → length journal < 2 ^ 63 → IsShowing terms journal →
+screens_push : (terms : Terms) (journal : List Entry) (entry : Entry) → length journal < 2 ^ 63 → Accepts (session_of terms journal) entry →
+    IsShowing terms journal →
     AreRebuilt (written (first_session terms) (journal ++ entry ∷ [])) (views_of terms (journal ++ entry ∷ [])) →
     (front back : List Entry) → SplitsPush journal entry front back → AreShown (last_requested front) (views_of terms front) (written (first_session terms) front)
 unfolding SplitsPush
-screens_push terms journal entry small showing screens front back (inl (none, all)) =
+screens_push terms journal entry small accepts showing screens front back (inl (none, all)) =
     let At : List Entry → Type 0 = λ entries. AreShown (last_requested entries) (views_of terms entries) (written (first_session terms) entries) in
-    subst At (sym all) (shown_push terms journal entry small showing screens)
-screens_push terms journal entry small showing screens front back (inr (rest, is, last)) = showing.shows.screens front rest is
+    subst At (sym all) (shown_push terms journal entry small accepts showing screens)
+screens_push terms journal entry small accepts showing screens front back (inr (rest, is, last)) = showing.shows.screens front rest is
 
 -- the entry at hand is the one that was added, or one before
-sends_push : (terms : Terms) (journal : List Entry) (entry : Entry) → length journal < 2 ^ 63 → Shows terms journal (written (first_session terms) journal) →
-    updates_in (piece_of (session_of terms journal) entry) ≡ note_list (outcome (session_of terms journal) entry.command.act (given_by entry.shelf)).updates →
+sends_push : (terms : Terms) (journal : List Entry) (entry : Entry) → length journal < 2 ^ 63 → Accepts (session_of terms journal) entry →
+    Shows terms journal (written (first_session terms) journal) →
+    updates_in (piece_of (session_of terms journal) entry) ≡ note_list (updates_by (is_front entry) (session_of terms journal) entry) →
     (front : List Entry) (last : Entry) (back : List Entry) → SplitsPush journal entry front (last ∷ back) →
     NotesSendTo (requested last.command.act) (views_of terms (front ++ last ∷ [])) (updates_in (piece_of (session_of terms front) last))
 unfolding SplitsPush Sends
-sends_push terms journal entry small each said front last back (inl (none, all)) = absurd cc
-sends_push terms journal entry small each said front last back (inr ([], is, only)) =
+sends_push terms journal entry small accepts each said front last back (inl (none, all)) = absurd cc
+sends_push terms journal entry small accepts each said front last back (inr ([], is, only)) =
     let At : List Entry → Entry → Type 0 =
     λ entries e.
     NotesSendTo (requested e.command.act) (views_of terms (entries ++ e ∷ [])) (updates_in (piece_of (session_of terms entries) e)) in
@@ -491,50 +582,62 @@ sends_push terms journal entry small each said front last back (inr ([], is, onl
     let To : List OpenView → List (Option ViewUpdate) → Type 0 = NotesSendTo (requested entry.command.act) in
     let session = session_of terms journal in
     let Of : List OpenView → Type 0 = λ views. To views (updates_in (piece_of session entry)) in
-    let Notes : List (Option ViewUpdate) → Type 0 = λ notes. To (outcome session entry.command.act (given_by entry.shelf)).views notes in
+    let Notes : List (Option ViewUpdate) → Type 0 = λ notes. To (step session entry).views notes in
     let here : At journal entry =
-    subst Of (sym (views_of-push terms journal entry)) (subst Notes (sym said) (sends session entry.command.act (given_by entry.shelf) (omega (arith, small, opened_of terms journal)) (numbered_of terms journal))) in
+    subst Of (sym (views_of-push terms journal entry)) (subst Notes (sym said) (sends_entry session entry (omega (arith, small, opened_of terms journal)) (numbered_of terms journal) accepts)) in
     let Last : Entry → Type 0 = λ e. At front e in
     let Before : List Entry → Type 0 = λ entries. At entries entry in
     subst Last (sym added) (subst Before whole here)
-sends_push terms journal entry small each said front last back (inr (r ∷ rest, is, only)) =
+sends_push terms journal entry small accepts each said front last back (inr (r ∷ rest, is, only)) =
     let same : r ≡ last = cc in
     let At : Entry → Type 0 =
     λ e. NotesSendTo (requested e.command.act) (views_of terms (front ++ e ∷ [])) (updates_in (piece_of (session_of terms front) e)) in
     subst At same (each.sends front r rest is)
 
--- what one more entry of a served session comes to
-pub shows_push : (terms : Terms) (journal : List Entry) (entry : Entry) → length journal < 2 ^ 63 → IsShowing terms journal →
-    AreLines (messages (session_of terms journal) entry.command (given_by entry.shelf)) → UpdatesReadBack (outcome (session_of terms journal) entry.command.act (given_by entry.shelf)).updates →
-    IsShowing terms (journal ++ entry ∷ [])
+-- an entry's piece says its updates
+says_updates : (session : Session) (entry : Entry) → AreLines (messages_by (is_front entry) session entry) →
+    UpdatesReadBack (updates_by (is_front entry) session entry) →
+    updates_in (piece_of session entry) ≡ note_list (updates_by (is_front entry) session entry)
 unfolding AreLines
-shows_push terms journal entry small showing lines reads =
+says_updates session entry lines reads = updates_in-lines (messages_by (is_front entry) session entry) ∙ by (is_front entry) lines reads
+  where
+    by : (front : Bool) → AllByRecursion (λ m. IsLineOf m (line_of m)) (messages_by front session entry) → UpdatesReadBack (updates_by front session entry) →
+        updates_of (messages_by front session entry) ≡ note_list (updates_by front session entry)
+    by true each back = updates_of-outcome entry.command.id (outcome session entry.command.act (given_by entry.shelf)) each back
+    by false each back =
+        updates_of-plugin entry.command.id (plugin_outcome session.views session.styles entry.caller entry.command.act) each back
+
+-- what one more entry of a served session comes to, which that accepts
+pub shows_push : (terms : Terms) (journal : List Entry) (entry : Entry) → length journal < 2 ^ 63 → Accepts (session_of terms journal) entry →
+    IsShowing terms journal → AreLines (messages_by (is_front entry) (session_of terms journal) entry) →
+    UpdatesReadBack (updates_by (is_front entry) (session_of terms journal) entry) → IsShowing terms (journal ++ entry ∷ [])
+shows_push terms journal entry small accepts showing lines reads =
     let session = session_of terms journal in
-    let said : updates_in (piece_of session entry) ≡ note_list (outcome session entry.command.act (given_by entry.shelf)).updates =
-    updates_in-lines (messages session entry.command (given_by entry.shelf)) ∙ updates_of-outcome entry.command.id (outcome session entry.command.act (given_by entry.shelf)) lines reads in
+    let said : updates_in (piece_of session entry) ≡ note_list (updates_by (is_front entry) session entry) =
+    says_updates session entry lines reads in
     let screens = rebuilt_push terms journal entry small showing said in
     record {
       shows = record {
         pieces = refl;
-        screens = λ front back split. screens_push terms journal entry small showing screens.kept front back (splits_push journal front back entry split);
+        screens = λ front back split. screens_push terms journal entry small accepts showing screens.kept front back (splits_push journal front back entry split);
         sends = λ front last back split.
-            sends_push terms journal entry small showing.shows said front last back (splits_push journal front (last ∷ back) entry split);
+            sends_push terms journal entry small accepts showing.shows said front last back (splits_push journal front (last ∷ back) entry split);
       };
       screens = screens.kept;
       fresh = screens.fresh;
     }
 
 -- a command that was prepared is an entry that is served, with the views that it leaves and the configuration after it
-pub serves_push : (terms : Terms) (journal : List Entry) (command : Command) (note : ShelfNote) (held : List Opened) (opened : ℕ) (config : Config) (piece : List ℕ) →
-    length journal < 2 ^ 63 → AllByRecursion IsOpen journal → IsShowing terms journal → IsOfLine command.act → may_have_note command.act note ≡ true →
+pub serves_push : (terms : Terms) (journal : List Entry) (command : Command) (note : ShelfNote) (held : List Opened) (ended : List ℕ) (opened : ℕ) (config : Config) (piece : List ℕ) →
+    length journal < 2 ^ 63 → AllByRecursion (IsOpen terms.plugins) journal → IsShowing terms journal → IsOfLine command.act → may_have_note command.act note ≡ true →
     AreLinesOf (messages (session_of terms journal) command (given_by note)) piece →
     UpdatesReadBack (outcome (session_of terms journal) command.act (given_by note)).updates →
-    StandsForSession held opened config (act_step (session_of terms journal) command.act (given_by note)) →
-    AllByRecursion IsOpen (journal ++ front_entry command note true ∷ []) × IsShowing terms (journal ++ front_entry command note true ∷ []) ×
-    StandsForSession held opened config (session_of terms (journal ++ front_entry command note true ∷ []))
+    StandsForSession held ended opened config (act_step (session_of terms journal) command.act (given_by note)) →
+    AllByRecursion (IsOpen terms.plugins) (journal ++ front_entry command note true ∷ []) × IsShowing terms (journal ++ front_entry command note true ∷ []) ×
+    StandsForSession held ended opened config (session_of terms (journal ++ front_entry command note true ∷ []))
 unfolding AreLines
-serves_push terms journal command note held opened config piece small sent showing asks kind lines reads stands = (
-  IsOpen-push journal command note sent asks kind,
-  shows_push terms journal (front_entry command note true) small showing lines.each reads,
-  subst (StandsForSession held opened config) (sym (session_of-push terms journal (front_entry command note true))) stands,
+serves_push terms journal command note held ended opened config piece small sent showing asks kind lines reads stands = (
+  IsOpen-push terms.plugins journal command note sent asks kind,
+  shows_push terms journal (front_entry command note true) small tt showing lines.each reads,
+  subst (StandsForSession held ended opened config) (sym (session_of-push terms journal (front_entry command note true))) stands,
 )

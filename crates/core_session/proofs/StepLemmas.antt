@@ -1,7 +1,7 @@
 -- What every step of an open view keeps, and what every outcome is: steps of the views that were open, of one more or of all but one, or
 -- the closing.
 use Rattle.session_step.specs.declared.terms.Terms.{Terms}
-use Rattle.std.proofs.Common.{◌≡◌, ℕ, ◌+◌, ◌≤◌, arith, Bool, true, false, List, [], ◌∷◌, Option, Some, None, not, refl, ap, sym, ◌∙◌, subst, inl, inr, ◌++◌}
+use Rattle.std.proofs.Common.{◌≡◌, ℕ, ◌+◌, ◌≤◌, arith, length-append, Bool, true, false, List, [], ◌∷◌, Option, Some, None, not, refl, ap, sym, ◌∙◌, subst, inl, inr, ◌++◌}
 use Rattle.std.specs.Prelude.{if◌then◌else◌, IfSome, ◌^◌, ◌<◌, ◌⊎◌, length, ⊤}
 use Rattle.std.specs.List.{AllByRecursion}
 use Rattle.std.specs.Str.{encode_utf8_all, bytes_eq}
@@ -10,7 +10,8 @@ use Rattle.xi_plain.specs.declared.command.Act.{Act}
 use Rattle.xi_plain.specs.declared.command.Act.TheVariants.{Bad, Nothing, Configure, NewView, CloseView, Save, Edit, Closing}
 use Rattle.xi_plain.specs.declared.config.Config.{Config}
 use Rattle.plain_edits.specs.Edits.{Refusal}
-use Rattle.plain_edits.specs.History.{head}
+use Rattle.plain_edits.specs.declared.style.Style.{Style}
+use Rattle.plain_edits.specs.History.{Revision, head}
 use Rattle.plain_screen.specs.Screen.{Screen, screen_after}
 use Rattle.plain_screen.specs.declared.screen.Update.{Update}
 use Rattle.doc_layout.specs.Told.{planned, screen_of}
@@ -20,25 +21,32 @@ use Rattle.doc_view.specs.View.{View, asked_in, layout_in}
 use Rattle.plain_text.specs.declared.run.Run.{Run}
 use Rattle.view_update.specs.declared.note.Scroll.{Scroll}
 use Rattle.xi_plain.specs.declared.entry.Entry.{Entry}
-use Rattle.doc_session.specs.declared.event.Event.TheVariants.{Config as Configured, Front, Other, Saved}
-use Rattle.doc_session.specs.Document.{Document, layout_of, no_request}
+use Rattle.doc_session.specs.declared.event.Event.{Event}
+use Rattle.doc_session.specs.declared.event.Event.TheVariants.{Ack, Config as Configured, Count, Edit as Edited, Ended, Front, Other, Read, Saved, Spans}
+use Rattle.doc_session.specs.declared.event.Body.{Body}
+use Rattle.doc_session.specs.Document.{Document, layout_of, loaded_document, no_request}
 use Rattle.doc_session.specs.declared.looking.Viewing.TheVariants.{Layout, Other as NoCommand}
 use Rattle.doc_session.specs.ScreenOf.{IsUpToDate}
 use Rattle.doc_session.specs.Stands.{IsLastTold}
+use Rattle.doc_text.specs.Asking.{asked_spans}
+use Rattle.doc_text.specs.Collecting.{acknowledged_text, ended_text}
 use Rattle.doc_text.specs.Refusal.{edit_refused}
 use Rattle.doc_text.specs.Writing.{Writing}
 use Rattle.doc_text.proofs.ForCallers.{part-collected}
 use Rattle.doc_session.specs.Effects.{pristine_from, screen_told, settled, update_after}
-use Rattle.doc_session.specs.Step.{EventStep, event_step, act_step, collected_document, command_refusal, effect_on, refusal_at, request_of, saved_document, viewed_document}
+use Rattle.doc_session.specs.Step.{EventStep, answered_step, event_step, act_step, collected_document, given_document, silent_step, styled_document, with_text, command_refusal, effect_on, refusal_at, request_of, saved_document, viewed_document}
 use Rattle.doc_session.proofs.ForCallers.{by_front, IsLastTold-settled, IsUpToDate-settled, part-settled, request_of-refused, updates_show}
 use Rattle.entry_lines.specs.Answer.{Reply, spent}
 use Rattle.session_step.specs.declared.given.Given.{Given}
 use Rattle.session_step.specs.declared.given.Given.TheVariants as given
+use Rattle.view_update.specs.declared.note.ViewUpdate.{ViewUpdate}
+use Rattle.session_step.specs.PluginStep.{ended_step, plugin_outcome, with_document}
 use Rattle.session_step.specs.Views.{HasApart}
-use Rattle.session_step.specs.Session.{OpenView, HaveRevisions, Session, first_session, view_of, named_view, views_of, Outcome, outcome, config_with, config_step, taking, leaving, keeping, next_view, opened_after, open_outcome, other_step, own_step, close_outcome, edit_came, edit_outcome, given_by, save_outcome, spent_total, step, stepped, session_after, session_of, without}
+use Rattle.session_step.specs.Session.{OpenView, Session, first_session, view_of, named_view, views_of, Outcome, outcome, config_with, config_step, taking, leaving, keeping, next_view, opened_after, open_outcome, other_step, own_step, close_outcome, edit_came, edit_outcome, given_by, save_outcome, spent_total, is_front, step, step_by, stepped, session_after, session_of, told as told_updates, updates_for, without, without_sessions}
 use Rattle.core_session.specs.Shows.{SendsWithin, requested}
 use Rattle.core_session.proofs.PlanLemmas.{sends-plan_from}
-use Rattle.session_step.proofs.ForCallers.{id_is, view_of-found, OnlyOwn, only_own, AreNumbered, numbered_none, numbered_push, numbered_without, numbered_stepped, apart-numbered}
+use Rattle.core_session.proofs.ScreenLemmas.{IsUpToDate-over}
+use Rattle.session_step.proofs.ForCallers.{id_is, view_of-found, OnlyOwn, only_own, all_found, alone_step, by_plugin, is_by_plugin, no_step, numbered_plugin, steps_alone, steps_none, AreNumbered, numbered_none, numbered_push, numbered_without, numbered_stepped, apart-numbered}
 
 -- the update, where there is one, makes this screen of that, and sends lines of this window, or requested, alone
 unfoldable pub MakesScreen : Option Update → Screen → Screen → Type 0
@@ -50,12 +58,16 @@ UpdateWithin None window request = ⊤
 UpdateWithin (Some update) window request = SendsWithin window request 0 update.ops
 
 -- after a step there is one revision more at most; the front end has the document's screen by the update, and was sent its window and
--- what was requested alone; and where its screen was as the last update left it, it is so then, and has what was asked for
-pub record Keeps (request : Run) (before after : Document) (update : Option Update) : Type 0 where
+-- what was requested alone; and where its screen was as the last update left it, it is so then
+pub record KeepsScreen (request : Run) (before after : Document) (update : Option Update) : Type 0 where
   pub few : head after.text.history ≤ head before.text.history + 1
   pub screen : MakesScreen update before.screen after.screen
   pub sends : UpdateWithin update after.view.window request
   pub last : IsLastTold before → IsLastTold after
+
+-- and it has what was asked for
+pub record Keeps (request : Run) (before after : Document) (update : Option Update) : Type 0 where
+  pub most : KeepsScreen request before after update
   pub shown : IsLastTold before → IsUpToDate request after
 
 unfoldable pub KeepsStep : Run → Document → EventStep → Type 0
@@ -80,12 +92,14 @@ sends_told request before next pristine = by (is_lacking before next request pri
 keeps_by : (request : Run) (before next : Document) → next.view.shown ≡ before.view.shown → next.screen ≡ before.screen →
     head next.text.history ≤ head before.text.history + 1 → Keeps request before (settled request before next) (update_after request before next)
 keeps_by request before next shown same one = record {
-  few = one;
-  screen = makes_screen (update_after request before next) before.screen next.screen same made;
-  sends = subst (λ window. UpdateWithin (update_after request before next) window request)
-      (sym (part-settled (λ (v : View). v.window) before.view next.view request (pristine_from before next) refl))
-      (sends_told request before.view next.view (pristine_from before next));
-  last = λ was. IsLastTold-settled before next request (was ∙ stays) same;
+  most = record {
+    few = one;
+    screen = makes_screen (update_after request before next) before.screen next.screen same made;
+    sends = subst (λ window. UpdateWithin (update_after request before next) window request)
+        (sym (part-settled (λ (v : View). v.window) before.view next.view request (pristine_from before next) refl))
+        (sends_told request before.view next.view (pristine_from before next));
+    last = λ was. IsLastTold-settled before next request (was ∙ stays) same;
+  };
   shown = λ was. IsUpToDate-settled before next request (was ∙ stays) same;
 }
   where
@@ -104,16 +118,20 @@ keeps_by request before next shown same one = record {
     made = by (is_lacking before.view next.view request (pristine_from before next)) (updates_show before next request)
 
 -- a collection changes none of this
-keeps_collected : (request : Run) (before next : Document) (update : Option Update) → Keeps request before next update →
-    Keeps request before (collected_document next) update
+screen_collected : (request : Run) (before next : Document) (update : Option Update) → KeepsScreen request before next update →
+    KeepsScreen request before (collected_document next) update
 unfolding MakesScreen UpdateWithin
-keeps_collected request before next update keeps = record {
+screen_collected request before next update keeps = record {
   few = omega (arith, keeps.few, part-collected (λ (text : Writing). head text.history) next.text (λ found. refl));
   screen = keeps.screen;
   sends = keeps.sends;
   last = keeps.last;
-  shown = keeps.shown;
 }
+
+keeps_collected : (request : Run) (before next : Document) (update : Option Update) → Keeps request before next update →
+    Keeps request before (collected_document next) update
+keeps_collected request before next update keeps =
+    record { most = screen_collected request before next update keeps.most; shown = keeps.shown }
 
 -- a line that only looks, and is no command
 keeps_still : (document next : Document) → next.text.history ≡ document.text.history → next.view.shown ≡ document.view.shown → next.screen ≡ document.screen →
@@ -122,19 +140,19 @@ keeps_still document next same shown screen =
     keeps_collected no_request document (settled no_request document next) (update_after no_request document next)
     (keeps_by no_request document next shown screen (omega (arith, ap head same)))
 
-keeps_other : (document : Document) → KeepsStep no_request document (event_step document Other)
+pub keeps_other : (document : Document) → KeepsStep no_request document (event_step document Other)
 unfolding KeepsStep
 keeps_other document = keeps_still document (viewed_document document NoCommand) refl refl refl
 
-keeps_config : (config : Config) (document : Document) → KeepsStep no_request document (event_step document (Configured config))
+pub keeps_config : (config : Config) (document : Document) → KeepsStep no_request document (event_step document (Configured config))
 unfolding KeepsStep
 keeps_config config document = keeps_still document (viewed_document document (Layout config)) refl refl refl
 
-keeps_saved : (document : Document) → KeepsStep no_request document (event_step document Saved)
+pub keeps_saved : (document : Document) → KeepsStep no_request document (event_step document Saved)
 unfolding KeepsStep
 keeps_saved document = keeps_still document (saved_document document) refl refl refl
 
-keeps_act : (document : Document) (act : EditAct) → KeepsStep (request_of act) document (event_step document (Front act))
+pub keeps_act : (document : Document) (act : EditAct) → KeepsStep (request_of act) document (event_step document (Front act))
 unfolding KeepsStep
 keeps_act document act =
     keeps_collected (request_of act) document (act_step document act).document (act_step document act).update
@@ -147,6 +165,17 @@ keeps_act document act =
 -- each view's step keeps this, with what is requested of the view
 unfoldable pub KeepEach : (List ℕ → Run) → (OpenView → EventStep) → List OpenView → Type 0
 KeepEach requests steps views = AllByRecursion (λ view. KeepsStep (requests view.id) view.document (steps view)) views
+
+-- the screens are kept, whatever is shown
+unfoldable pub KeepScreens : (List ℕ → Run) → (OpenView → EventStep) → List OpenView → Type 0
+KeepScreens requests steps views =
+    AllByRecursion (λ view. KeepsScreen (requests view.id) view.document (steps view).document (steps view).update) views
+
+pub keep_screens : (requests : List ℕ → Run) (steps : OpenView → EventStep) (views : List OpenView) → KeepEach requests steps views →
+    KeepScreens requests steps views
+unfolding KeepEach KeepsStep KeepScreens
+keep_screens requests steps [] keep = tt
+keep_screens requests steps (view ∷ views) keep = (keep.0.most, keep_screens requests steps views keep.1)
 
 -- ---- what is requested of a view
 
@@ -251,7 +280,7 @@ keep_saved views name own apart found =
 unfoldable pub IsBase : Session → ℕ → List OpenView → Type 0
 IsBase session opened base =
     ((opened ≡ session.opened) × (base ≡ session.views)) ⊎
-    (((text : List ℕ) × (opened ≡ session.opened + 1) × (base ≡ session.views ++ next_view session.terms session.config session.opened text ∷ [])) ⊎
+    (((text : List ℕ) × (opened ≡ session.opened + 1) × (base ≡ session.views ++ next_view session.terms session.ended session.config session.opened text ∷ [])) ⊎
     ((id : List ℕ) × (opened ≡ session.opened) × (base ≡ without id session.views)))
 
 base_same : (session : Session) → IsBase session session.opened session.views
@@ -259,7 +288,7 @@ unfolding IsBase
 base_same session = inl (refl, refl)
 
 base_next : (session : Session) (text : List ℕ) →
-    IsBase session (session.opened + 1) (session.views ++ next_view session.terms session.config session.opened text ∷ [])
+    IsBase session (session.opened + 1) (session.views ++ next_view session.terms session.ended session.config session.opened text ∷ [])
 unfolding IsBase
 base_next session text = inr (inl (text, refl, refl))
 
@@ -313,7 +342,7 @@ module _ (session : Session) (P : (List ℕ → Run) → ℕ → Outcome → Typ
 
   opens : (path : Option (List ℕ)) (gave : Given) →
       P (requested (NewView path)) (opened_after session.opened (NewView path) gave)
-      (open_outcome session.terms session.config session.opened session.views path gave)
+      (open_outcome session.terms session.ended session.config session.opened session.views path gave)
   opens None gave = idle (NewView None) (session.opened + 1) _ _ (base_next session []) (λ id. refl)
   opens (Some path) (given.Found text) = idle (NewView (Some path)) (session.opened + 1) _ _ (base_next session text) (λ id. refl)
   opens (Some path) given.NotText = stays (NewView (Some path)) _ (λ id. refl)
@@ -342,58 +371,51 @@ module _ (session : Session) (P : (List ℕ → Run) → ℕ → Outcome → Typ
 
 -- ---- the views of every outcome, whatever their ids
 
--- each step is one revision at most
-unfoldable pub IsSlow : Session → (OpenView → EventStep) → Type 0
-IsSlow session each = (most : ℕ) → HaveRevisions most session.views → (view : OpenView) → head view.document.text.history ≤ most →
-    head (each view).document.text.history ≤ most + 1
+-- each view's step is that of an event: in its own document, or in that of a view that was found
+unfoldable pub AreEvents : Session → (OpenView → EventStep) → Type 0
+AreEvents session each = (view : OpenView) → (event : Event) × (from : Document) × (each view ≡ event_step from event) ×
+    ((from ≡ view.document) ⊎ ((id : List ℕ) × (own : OpenView) × (view_of session.views id ≡ Some own) × (from ≡ own.document)))
 
-slow_other : (session : Session) → IsSlow session other_step
-unfolding IsSlow KeepsStep
-slow_other session most few view here = omega (arith, here, (keeps_other view.document).few)
+events_other : (session : Session) → AreEvents session other_step
+unfolding AreEvents
+events_other session view = (Other, view.document, refl, inl refl)
 
-slow_config : (session : Session) (config : Config) → IsSlow session (config_step config)
-unfolding IsSlow KeepsStep
-slow_config session config most few view here = omega (arith, here, (keeps_config config view.document).few)
+events_config : (session : Session) (config : Config) → AreEvents session (config_step config)
+unfolding AreEvents
+events_config session config view = (Configured config, view.document, refl, inl refl)
 
-found_few : (most : ℕ) (views : List OpenView) (id : List ℕ) (own : OpenView) → view_of views id ≡ Some own → HaveRevisions most views →
-    head own.document.text.history ≤ most
-found_few most [] id own found few = absurd cc
-found_few most (view ∷ views) id own found few = by (bytes_eq id view.id) found (λ there. found_few most views id own there few.1)
+events_own : (session : Session) (id : List ℕ) (own : OpenView) (event : Event) → view_of session.views id ≡ Some own →
+    AreEvents session (own_step own (event_step own.document event))
+unfolding AreEvents
+events_own session id own event found view = by (bytes_eq own.id view.id)
   where
-    by : (here : Bool) → (if here then Some view else view_of views id) ≡ Some own →
-        (view_of views id ≡ Some own → head own.document.text.history ≤ most) → head own.document.text.history ≤ most
-    by true is later =
-        let At : OpenView → Type 0 = λ v. head v.document.text.history ≤ most in
-        let same : view ≡ own = cc in
-        subst At same few.0
-    by false is later = later is
+    by : (same : Bool) → (asks : Event) × (from : Document) ×
+        ((if same then event_step own.document event else other_step view) ≡ event_step from asks) ×
+        ((from ≡ view.document) ⊎ ((id : List ℕ) × (own : OpenView) × (view_of session.views id ≡ Some own) × (from ≡ own.document)))
+    by true = (event, own.document, refl, inr (id, own, found, refl))
+    by false = (Other, view.document, refl, inl refl)
 
--- the own step of a view that was found is one revision at most
-slow_own : (session : Session) (id : List ℕ) (own : OpenView) (step : EventStep) → view_of session.views id ≡ Some own →
-    head step.document.text.history ≤ head own.document.text.history + 1 → IsSlow session (own_step own step)
-unfolding IsSlow KeepsStep
-slow_own session id own step found one most few view here = by (bytes_eq own.id view.id)
+-- what an event makes of what holds of a document holds after each of these
+pub all_events : (P Q : Document → Type 0) → ((document : Document) (event : Event) → P document → Q (event_step document event).document) →
+    (session : Session) (each : OpenView → EventStep) → AreEvents session each → AllByRecursion (λ (view : OpenView). P view.document) session.views →
+    (view : OpenView) → P view.document → Q (each view).document
+unfolding AreEvents
+all_events P Q steps session each are all view here = by (are view)
   where
-    by : (same : Bool) → head (if same then step else other_step view).document.text.history ≤ most + 1
-    by true = omega (arith, found_few most session.views id own found few, one)
-    by false = omega (arith, here, (keeps_other view.document).few)
-
-slow_act : (session : Session) (id : List ℕ) (own : OpenView) (act : EditAct) → view_of session.views id ≡ Some own →
-    IsSlow session (own_step own (event_step own.document (Front act)))
-unfolding KeepsStep
-slow_act session id own act found = slow_own session id own (event_step own.document (Front act)) found (keeps_act own.document act).few
-
-slow_saved : (session : Session) (id : List ℕ) (own : OpenView) → view_of session.views id ≡ Some own →
-    IsSlow session (own_step own (event_step own.document Saved))
-unfolding KeepsStep
-slow_saved session id own found = slow_own session id own (event_step own.document Saved) found (keeps_saved own.document).few
+    by : ((event : Event) × (from : Document) × (each view ≡ event_step from event) ×
+        ((from ≡ view.document) ⊎ ((id : List ℕ) × (own : OpenView) × (view_of session.views id ≡ Some own) × (from ≡ own.document)))) →
+        Q (each view).document
+    by (event, from, is, inl same) =
+        subst (λ (step : EventStep). Q step.document) (sym is) (steps from event (subst P (sym same) here))
+    by (event, from, is, inr (id, own, found, same)) =
+        subst (λ (step : EventStep). Q step.document) (sym is) (steps from event (subst P (sym same) (all_found P session.views id own found all)))
 
 module _ (session : Session) (P : ℕ → List OpenView → Type 0)
-    (steps : (opened : ℕ) (base : List OpenView) (each : OpenView → EventStep) → IsBase session opened base → IsSlow session each →
+    (steps : (opened : ℕ) (base : List OpenView) (each : OpenView → EventStep) → IsBase session opened base → AreEvents session each →
     P opened (stepped each base))
     (leaves : P session.opened session.views) where
   views_still : (opened : ℕ) (base : List OpenView) → IsBase session opened base → P opened (stepped other_step base)
-  views_still opened base is = steps opened base other_step is (slow_other session)
+  views_still opened base is = steps opened base other_step is (events_other session)
 
   views_same : P session.opened (stepped other_step session.views)
   views_same = views_still session.opened session.views (base_same session)
@@ -406,7 +428,7 @@ module _ (session : Session) (P : ℕ → List OpenView → Type 0)
       by : (total : Option ℕ) → P session.opened (edit_came session.views own total (event_step own.document (Front act))).views
       by None =
           steps session.opened session.views (own_step own (event_step own.document (Front act))) (base_same session)
-          (slow_act session (encode_utf8_all name) own act is)
+          (events_own session (encode_utf8_all name) own (Front act) is)
       by (Some total) = views_same
 
   views_saved : (name : List ℕ) (found : Option OpenView) (gave : Given) → named_view session.views name ≡ found →
@@ -414,14 +436,14 @@ module _ (session : Session) (P : ℕ → List OpenView → Type 0)
   views_saved name None gave is = views_same
   views_saved name (Some own) given.Done is =
       steps session.opened session.views (own_step own (event_step own.document Saved)) (base_same session)
-      (slow_saved session (encode_utf8_all name) own is)
+      (events_own session (encode_utf8_all name) own Saved is)
   views_saved name (Some own) given.Nothing is = views_same
   views_saved name (Some own) (given.Found text) is = views_same
   views_saved name (Some own) given.NotText is = views_same
   views_saved name (Some own) given.Failed is = views_same
 
   views_opened : (path : Option (List ℕ)) (gave : Given) →
-      P (opened_after session.opened (NewView path) gave) (open_outcome session.terms session.config session.opened session.views path gave).views
+      P (opened_after session.opened (NewView path) gave) (open_outcome session.terms session.ended session.config session.opened session.views path gave).views
   views_opened None gave = views_still (session.opened + 1) _ (base_next session [])
   views_opened (Some path) (given.Found text) = views_still (session.opened + 1) _ (base_next session text)
   views_opened (Some path) given.NotText = views_same
@@ -441,10 +463,150 @@ module _ (session : Session) (P : ℕ → List OpenView → Type 0)
   by_views (NewView path) gave = views_opened path gave
   by_views (Configure changes) gave =
       let next = config_with session.config changes in
-      steps session.opened session.views (config_step next) (base_same session) (slow_config session next)
+      steps session.opened session.views (config_step next) (base_same session) (events_config session next)
   by_views (Bad fault) gave = views_same
   by_views Nothing gave = views_same
   by_views act gave = views_same
+
+-- ---- what an act of a plugin is, view by view
+
+-- a step that nobody of the front end asked for keeps the screen, and where the document showed what was requested last, it shows its window
+pub record KeepsShown (document : Document) (step : EventStep) : Type 0 where
+  pub most : KeepsScreen no_request document step.document step.update
+  pub shown : (last : Run) → IsUpToDate last document → IsLastTold document → IsUpToDate no_request step.document
+
+-- the view takes no step
+shown_none : (document : Document) → KeepsShown document (silent_step document)
+unfolding MakesScreen UpdateWithin
+shown_none document = record {
+  most = record { few = omega arith; screen = refl; sends = tt; last = λ was. was };
+  shown = λ last told was. IsUpToDate-over last document told;
+}
+
+-- it looks, and what may be collected is
+shown_looking : (document : Document) (body : Body) →
+    KeepsShown document (record (answered_step document body) { document = collected_document document })
+unfolding MakesScreen UpdateWithin
+shown_looking document body = record {
+  most =
+      screen_collected no_request document document None
+      (record { few = omega arith; screen = refl; sends = tt; last = λ was. was });
+  shown = λ last told was. IsUpToDate-over last document told;
+}
+
+-- a session acknowledges a revision, or ends
+shown_session : (document : Document) (text : Writing) → text.history ≡ document.text.history →
+    KeepsShown document (record (silent_step (with_text document text)) { document = collected_document (with_text document text) })
+unfolding MakesScreen UpdateWithin
+shown_session document text same = record {
+  most =
+      screen_collected no_request document (with_text document text) None
+      (record { few = omega (arith, ap head same); screen = refl; sends = tt; last = λ was. was });
+  shown = λ last told was. IsUpToDate-over last document told;
+}
+
+-- the front end is told what it lacks
+shown_told : (document : Document) (step : EventStep) → KeepsStep no_request document step → KeepsShown document step
+unfolding KeepsStep
+shown_told document step keeps = record { most = keeps.most; shown = λ last told was. keeps.shown was }
+
+one_revision : (revisions : List Revision) (last : Revision) → length (revisions ++ last ∷ []) ≤ length revisions + 1
+one_revision revisions last = omega (arith, length-append revisions (last ∷ []))
+
+pub shown_plugin : (document : Document) (event : Event) → is_by_plugin event ≡ true → KeepsShown document (event_step document event)
+unfolding KeepsStep
+shown_plugin document (Edited caller edit named) is =
+    let next = given_document document caller edit named in
+    shown_told document (event_step document (Edited caller edit named))
+    (keeps_collected no_request document (settled no_request document next) (update_after no_request document next)
+    (keeps_by no_request document next refl refl (one_revision document.text.history.revisions _)))
+shown_plugin document (Spans caller rev start len spans) is =
+    shown_told document (event_step document (Spans caller rev start len spans))
+    (keeps_still document (styled_document document caller (asked_spans rev start len spans)) refl refl refl)
+shown_plugin document (Read caller rev start max) is = shown_looking document _
+shown_plugin document (Count caller) is = shown_looking document _
+shown_plugin document (Ack caller rev) is = shown_session document (acknowledged_text document.text caller rev) refl
+shown_plugin document (Ended caller) is = shown_session document (ended_text document.text caller) refl
+shown_plugin document (Front act) is = absurd cc
+shown_plugin document (Configured config) is = absurd cc
+shown_plugin document Saved is = absurd cc
+shown_plugin document Other is = absurd cc
+
+-- each view's step does so
+unfoldable pub ShowEach : (List ℕ → Run) → (OpenView → EventStep) → List OpenView → Type 0
+ShowEach requests steps views =
+    AllByRecursion (λ (view : OpenView). (last : Run) → IsUpToDate last view.document → IsLastTold view.document →
+    IsUpToDate (requests view.id) (steps view).document) views
+
+-- what an act of a plugin comes to is steps of these views that keep their screens and show their windows, where nothing is requested
+module _ (views : List OpenView) (styles : List Style) (caller : ℕ) (requests : List ℕ → Run) (none : (id : List ℕ) → requests id ≡ no_request)
+    (P : List OpenView → List ViewUpdate → Type 0)
+    (steps : (each : OpenView → EventStep) → KeepScreens requests each views → ShowEach requests each views → P (stepped each views) (told_updates each views)) where
+  screens_from : (each : OpenView → EventStep) (some : List OpenView) → AllByRecursion (λ (view : OpenView). KeepsShown view.document (each view)) some →
+      KeepScreens requests each some
+  unfolding KeepScreens
+  screens_from each [] all = tt
+  screens_from each (view ∷ some) all =
+      let At : Run → Type 0 = λ request. KeepsScreen request view.document (each view).document (each view).update in
+      (subst At (sym (none view.id)) all.0.most, screens_from each some all.1)
+
+  show_from : (each : OpenView → EventStep) (some : List OpenView) → AllByRecursion (λ (view : OpenView). KeepsShown view.document (each view)) some →
+      ShowEach requests each some
+  unfolding ShowEach
+  show_from each [] all = tt
+  show_from each (view ∷ some) all =
+      let At : Run → Type 0 = λ request. IsUpToDate request (each view).document in
+      (λ last told was. subst At (sym (none view.id)) (all.0.shown last told was), show_from each some all.1)
+
+  by_shown : (each : OpenView → EventStep) → AllByRecursion (λ (view : OpenView). KeepsShown view.document (each view)) views →
+      P (stepped each views) (told_updates each views)
+  by_shown each all = steps each (screens_from each views all) (show_from each views all)
+
+  all_shown : (each : OpenView → EventStep) (some : List OpenView) → ((view : OpenView) → KeepsShown view.document (each view)) →
+      AllByRecursion (λ (view : OpenView). KeepsShown view.document (each view)) some
+  all_shown each [] keeps = tt
+  all_shown each (view ∷ some) keeps = (keeps view, all_shown each some keeps)
+
+  -- this one takes a step of its own
+  one_or_none : (own : Bool) (view : OpenView) (step : EventStep) → (own ≡ true → KeepsShown view.document step) →
+      KeepsShown view.document (if own then step else silent_step view.document)
+  one_or_none true view step keeps = keeps refl
+  one_or_none false view step keeps = shown_none view.document
+
+  all_but_one : (id : List ℕ) (own : OpenView) (step : EventStep) (some : List OpenView) → own.id ≡ id → KeepsShown own.document step →
+      OnlyOwn id own some → AllByRecursion (λ (view : OpenView). KeepsShown view.document (alone_step own step view)) some
+  unfolding OnlyOwn
+  all_but_one id own step [] is keeps only = tt
+  all_but_one id own step (view ∷ some) is keeps only =
+      let At : OpenView → Type 0 = λ v. KeepsShown v.document step in (
+        one_or_none (bytes_eq own.id view.id) view step (λ same. subst At (only.0 (ap (λ name. bytes_eq name view.id) (sym is) ∙ same)) keeps),
+        all_but_one id own step some is keeps only.1,
+      )
+
+  stays_shown : P views []
+  stays_shown =
+      let same = steps_none views in
+      let At : List OpenView → Type 0 = λ after. P after [] in
+      subst At (sym same.0) (subst (P (stepped no_step views)) (sym same.1) (by_shown no_step (all_shown no_step views (λ view. shown_none view.document))))
+
+  own_shown : HasApart views → (id : List ℕ) (own : OpenView) (event : Event) → view_of views id ≡ Some own → is_by_plugin event ≡ true →
+      P (with_document own.id (event_step own.document event).document views) (updates_for own.id (event_step own.document event).update)
+  own_shown apart id own event found is =
+      let step = event_step own.document event in
+      let each = alone_step own step in
+      let same = steps_alone views id own step apart found in
+      let At : List OpenView → Type 0 = λ after. P after (updates_for own.id step.update) in
+      subst At (sym same.0)
+      (subst (P (stepped each views)) (sym same.1)
+      (by_shown each
+      (all_but_one id own step views (sym (id_is id own.id (view_of-found views id own found))) (shown_plugin own.document event is)
+      (only_own id own views apart found))))
+
+  pub by_plugin_steps : HasApart views → (asks : Act) → P (plugin_outcome views styles caller asks).views (plugin_outcome views styles caller asks).updates
+  by_plugin_steps apart asks =
+      by_plugin views styles caller P stays_shown
+      (by_shown (ended_step caller) (all_shown (ended_step caller) views (λ view. shown_plugin view.document (Ended caller) refl)))
+      (λ id own event found is. own_shown apart id own event found is) asks
 
 -- ---- ids are those of rising numbers, up to how many were opened
 
@@ -453,18 +615,27 @@ pub numbered_base : (session : Session) (opened : ℕ) (base : List OpenView) �
 unfolding IsBase
 numbered_base session opened base (inl (many, is)) are = rw (many, is) are
 numbered_base session opened base (inr (inl (text, many, is))) are =
-    rw (many, is) (numbered_push 0 session.opened session.views (next_view session.terms session.config session.opened text) (omega arith) refl are)
+    rw (many, is) (numbered_push 0 session.opened session.views (next_view session.terms session.ended session.config session.opened text) (omega arith) refl are)
 numbered_base session opened base (inr (inr (id, many, is))) are = rw (many, is) (numbered_without id 0 session.opened session.views are)
 
 pub numbered_step : (session : Session) (act : Act) (gave : Given) → AreNumbered 0 session.opened session.views →
     AreNumbered 0 (opened_after session.opened act gave) (outcome session act gave).views
 numbered_step session act gave are =
-    by_views session (AreNumbered 0) (λ opened base each is slow. numbered_stepped each 0 opened base (numbered_base session opened base is are)) are act gave
+    by_views session (AreNumbered 0) (λ opened base each is events. numbered_stepped each 0 opened base (numbered_base session opened base is are)) are act gave
+
+-- after an entry of the front end or of a plugin
+numbered_entry : (session : Session) (entry : Entry) → AreNumbered 0 session.opened session.views →
+    AreNumbered 0 (step session entry).opened (step session entry).views
+numbered_entry session entry are = by (is_front entry)
+  where
+    by : (front : Bool) → AreNumbered 0 (step_by front session entry).opened (step_by front session entry).views
+    by true = numbered_step session entry.command.act (given_by entry.shelf) are
+    by false = numbered_plugin session.views session.styles entry.caller entry.command.act 0 session.opened are
 
 numbered_after : (session : Session) (entries : List Entry) → AreNumbered 0 session.opened session.views →
     AreNumbered 0 (session_after session entries).opened (session_after session entries).views
 numbered_after session [] are = are
-numbered_after session (entry ∷ entries) are = numbered_after (step session entry) entries (numbered_step session entry.command.act (given_by entry.shelf) are)
+numbered_after session (entry ∷ entries) are = numbered_after (step session entry) entries (numbered_entry session entry are)
 
 pub numbered_of : (terms : Terms) (journal : List Entry) → AreNumbered 0 (session_of terms journal).opened (views_of terms journal)
 numbered_of terms journal = numbered_after (first_session terms) journal (numbered_none 0 0)
@@ -488,10 +659,21 @@ opened_more opened (NewView (Some path)) given.Failed = omega arith
 opened_more opened (NewView (Some path)) given.Done = omega arith
 opened_more opened act gave = omega arith
 
+pub opened_entry : (session : Session) (entry : Entry) →
+    (session.opened ≤ (step session entry).opened) × ((step session entry).opened ≤ session.opened + 1)
+opened_entry session entry = by (is_front entry)
+  where
+    by : (front : Bool) → (session.opened ≤ (step_by front session entry).opened) × ((step_by front session entry).opened ≤ session.opened + 1)
+    by true =
+        let act = entry.command.act in
+        let gave = given_by entry.shelf in
+        (opened_more session.opened act gave, opened_few session.opened act gave)
+    by false = (omega arith, omega arith)
+
 opened_by : (session : Session) (entries : List Entry) → (session_after session entries).opened ≤ session.opened + length entries
 opened_by session [] = omega arith
 opened_by session (entry ∷ entries) =
-    omega (arith, opened_few session.opened entry.command.act (given_by entry.shelf), opened_by (step session entry) entries)
+    omega (arith, (opened_entry session entry).1, opened_by (step session entry) entries)
 
 pub opened_of : (terms : Terms) (journal : List Entry) → (session_of terms journal).opened ≤ length journal
 opened_of terms journal = omega (arith, opened_by (first_session terms) journal)
@@ -502,6 +684,11 @@ apart_of terms journal small =
     apart-numbered 0 (session_of terms journal).opened (views_of terms journal) (omega (arith, small, opened_of terms journal)) (numbered_of terms journal)
 
 -- ---- screens are as the last updates left them
+
+-- the ends of sessions leave them so
+last_without : (callers : List ℕ) (document : Document) → IsLastTold document → IsLastTold (without_sessions callers document)
+last_without [] document last = last
+last_without (caller ∷ callers) document last = last_without callers (event_step document (Ended caller)).document last
 
 unfoldable pub AreLastTold : List OpenView → Type 0
 AreLastTold views = AllByRecursion (λ view. IsLastTold view.document) views
@@ -522,39 +709,53 @@ module _ (P : OpenView → Type 0) where
       by false rest = (all.0, rest)
 
   pub all_base : (session : Session) (opened : ℕ) (base : List OpenView) → IsBase session opened base →
-      ((text : List ℕ) → P (next_view session.terms session.config session.opened text)) → AllByRecursion P session.views → AllByRecursion P base
+      ((text : List ℕ) → P (next_view session.terms session.ended session.config session.opened text)) → AllByRecursion P session.views → AllByRecursion P base
   unfolding IsBase
   all_base session opened base (inl (many, is)) next all = rw (is) all
   all_base session opened base (inr (inl (text, many, is))) next all =
-      rw (is) (all_push session.views (next_view session.terms session.config session.opened text) (next text) all)
+      rw (is) (all_push session.views (next_view session.terms session.ended session.config session.opened text) (next text) all)
   all_base session opened base (inr (inr (id, many, is))) next all = rw (is) (all_without id session.views all)
 
 pub last_base : (session : Session) (opened : ℕ) (base : List OpenView) → IsBase session opened base → AreLastTold session.views → AreLastTold base
 unfolding AreLastTold
-last_base session opened base is last = all_base (λ view. IsLastTold view.document) session opened base is (λ text. refl) last
+last_base session opened base is last =
+    all_base (λ view. IsLastTold view.document) session opened base is
+    (λ text. last_without session.ended (loaded_document text session.terms.plugins session.terms.limit session.config) refl) last
 
-last_each : (requests : List ℕ → Run) (steps : OpenView → EventStep) (views : List OpenView) → KeepEach requests steps views → AreLastTold views →
+last_each : (requests : List ℕ → Run) (steps : OpenView → EventStep) (views : List OpenView) → KeepScreens requests steps views → AreLastTold views →
     AreLastTold (stepped steps views)
-unfolding AreLastTold KeepEach KeepsStep
+unfolding AreLastTold KeepScreens
 last_each requests steps [] keep last = tt
 last_each requests steps (view ∷ views) keep last = (keep.0.last last.0, last_each requests steps views keep.1 last.1)
 
-pub last_step : (session : Session) (act : Act) (gave : Given) → HasApart session.views → AreLastTold session.views →
+last_step : (session : Session) (act : Act) (gave : Given) → HasApart session.views → AreLastTold session.views →
     AreLastTold (outcome session act gave).views
 last_step session act gave apart last =
     by_outcome session (λ requests opened done. AreLastTold done.views)
-    (λ requests opened base reply scroll each is keep. last_each requests each base keep (last_base session opened base is last))
+    (λ requests opened base reply scroll each is keep.
+    last_each requests each base (keep_screens requests each base keep) (last_base session opened base is last))
     (λ requests none. last) act gave apart
+
+last_plugin : (session : Session) (caller : ℕ) (asks : Act) → HasApart session.views → AreLastTold session.views →
+    AreLastTold (plugin_outcome session.views session.styles caller asks).views
+last_plugin session caller asks apart last =
+    by_plugin_steps session.views session.styles caller (λ id. no_request) (λ id. refl) (λ after updates. AreLastTold after)
+    (λ each keep shown. last_each (λ id. no_request) each session.views keep last) apart asks
+
+last_entry : (session : Session) (entry : Entry) → HasApart session.views → AreLastTold session.views → AreLastTold (step session entry).views
+last_entry session entry apart last = by (is_front entry)
+  where
+    by : (front : Bool) → AreLastTold (step_by front session entry).views
+    by true = last_step session entry.command.act (given_by entry.shelf) apart last
+    by false = last_plugin session entry.caller entry.command.act apart last
 
 last_after : (session : Session) (entries : List Entry) → session.opened + length entries < 2 ^ 63 → AreNumbered 0 session.opened session.views →
     AreLastTold session.views → AreLastTold (session_after session entries).views
 last_after session [] small are last = last
 last_after session (entry ∷ entries) small are last =
-    let act = entry.command.act in
-    let gave = given_by entry.shelf in
     let apart = apart-numbered 0 session.opened session.views (omega (arith, small)) are in
-    last_after (step session entry) entries (omega (arith, small, opened_few session.opened act gave)) (numbered_step session act gave are)
-    (last_step session act gave apart last)
+    last_after (step session entry) entries (omega (arith, small, (opened_entry session entry).1)) (numbered_entry session entry are)
+    (last_entry session entry apart last)
 
 pub last_of : (terms : Terms) (journal : List Entry) → length journal < 2 ^ 63 → AreLastTold (views_of terms journal)
 unfolding AreLastTold

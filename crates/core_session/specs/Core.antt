@@ -11,6 +11,7 @@ use Rattle.outside.specs.Faults.{Rose, counted}
 use Rattle.outside.specs.Sink.{SinkState, Gains, sink_state}
 use Rattle.doc_session.specs.InMemory.{Doc}
 use Rattle.doc_session.specs.Stands.{DocStandsFor}
+use Rattle.session_step.specs.Accepted.{AreAccepted}
 use Rattle.session_step.specs.Session.{OpenView, piece_of, session_of, views_of}
 use Rattle.core_session.specs.declared.session.Core.{Core}
 use Rattle.core_session.specs.Kept.{IsOpen, IsShowing, StandsForSession, front_entry}
@@ -44,15 +45,16 @@ outlets_of held faults failures files shelf_faults core = record {
   shelf = shelf_state files shelf_faults (shelf_of core);
 }
 
--- the documents and the configuration in memory are those of the session that these entries define
+-- what is in memory is the session that these entries define
 abbrev pub HasSessionAfter : (terms : Terms) {K H : Type 0} → Core K H → List Entry → Type 0
-HasSessionAfter terms core journal = StandsForSession core.views core.opened core.config (session_of terms journal)
+HasSessionAfter terms core journal = StandsForSession core.views core.ended core.opened core.config (session_of terms journal)
 
--- THE SESSION, which was made with these terms, TAKES LINES: all its entries were sent, each saving asked the shelf exactly where its view was open, what they wrote shows
--- them, and its documents and its configuration are those that they define
+-- THE SESSION, which was made with these terms, TAKES LINES: all its entries were sent, and each is one that the session before it accepts;
+-- each saving asked the shelf exactly where its view was open; what they wrote shows them; and what is in memory is what they define
 pub record IsServing (terms : Terms) {K H : Type 0} (core : Core K H) : Type 0 where
   pub made_with : terms_of core ≡ terms
-  pub sent : AllByRecursion IsOpen (journal_of core)
+  pub sent : AllByRecursion (IsOpen terms.plugins) (journal_of core)
+  pub accepted : AreAccepted terms (journal_of core)
   pub saves_asked : AreSavesAsked terms (journal_of core)
   pub showing : IsShowing terms (journal_of core)
   pub stands : HasSessionAfter terms core (journal_of core)

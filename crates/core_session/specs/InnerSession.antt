@@ -1,6 +1,6 @@
 -- What private functions say: what an act and a command come to in memory.
 use Rattle.session_step.specs.declared.terms.Terms.{Terms}
-use Rattle.std.specs.Prelude.{◌≡◌, ℕ, ◌<◌, ◌≤◌, true, false, [], ◌∷◌, ◌++◌, length, take}
+use Rattle.std.specs.Prelude.{◌≡◌, ℕ, ◌<◌, ◌≤◌, true, false, List, [], ◌∷◌, ◌++◌, length, take}
 use Rattle.std.specs.Str.{encode_utf8_all}
 use Rattle.outside.specs.declared.shelf.Stored.{Stored}
 use Rattle.outside.specs.declared.shelf.Stored.TheVariants as stored
@@ -24,11 +24,11 @@ pub record IsAsked (session : Session) (command : Command) (asked : Asked) : Typ
   pub done : IsDone session command (given_by asked.note) asked.piece asked.held
   pub opened : asked.opened ≡ opened_after session.opened command.act (given_by asked.note)
 
--- the same before it is an entry, with the configuration after it
-pub record IsPrepared (session : Session) (made : Prepared) : Type 0 where
+-- the same before it is an entry, with the configuration after it, where these plugins' sessions have ended
+pub record IsPrepared (ended : List ℕ) (session : Session) (made : Prepared) : Type 0 where
   pub lines : AreLinesOf (messages session made.command (given_by made.note)) (encode_utf8_all made.piece)
   pub reads_back : UpdatesReadBack (outcome session made.command.act (given_by made.note)).updates
-  pub stands : StandsForSession made.held made.opened made.config (act_step session made.command.act (given_by made.note))
+  pub stands : StandsForSession made.held ended made.opened made.config (act_step session made.command.act (given_by made.note))
 
 -- a command with this note was put in as an entry that was sent, and the shelf was not asked again
 pub record PutsSent (terms : Terms) {K H : Type 0} (tell : K → SinkState) (old new : Core K H) (command : Command) (note : ShelfNote) : Type 0 where

@@ -1,6 +1,6 @@
 -- What a session keeps of its journal, whatever becomes of it.
 use Rattle.session_step.specs.declared.terms.Terms.{Terms}
-use Rattle.std.specs.Prelude.{◌≡◌, ℕ, ◌<◌, ◌||◌, Bool, true, false, not, if◌then◌else◌, List, [], ◌∷◌, Some}
+use Rattle.std.specs.Prelude.{◌≡◌, ℕ, ◌<◌, ◌||◌, nat_le, Bool, true, false, not, if◌then◌else◌, List, [], ◌∷◌, Some}
 use Rattle.std.specs.List.{AllByRecursion, list_any}
 use Rattle.xi_plain.specs.declared.command.Command.{Command}
 use Rattle.xi_plain.specs.declared.config.Config.{Config}
@@ -11,7 +11,8 @@ use Rattle.xi_plain.specs.declared.reply.Reply.TheVariants.{SinkFault, Taken}
 use Rattle.xi_plain.specs.Journal.{is_closing, may_have_note}
 use Rattle.session_step.specs.declared.opened.Opened.{Opened}
 use Rattle.session_step.specs.Session.{OpenView, Session, first_session, session_of, views_of, written}
-use Rattle.session_step.specs.Views.{IsNotGiven, IsOfLine, Stands}
+use Rattle.session_step.specs.Accepted.{AreAccepted}
+use Rattle.session_step.specs.Views.{AreOfPlugins, IsNotGiven, IsOfLine, Stands}
 use Rattle.core_session.specs.declared.stage.Stage.{Stage}
 use Rattle.core_session.specs.declared.stage.Stage.TheVariants.{Broken, Closed, Serves}
 use Rattle.core_session.specs.Shelves.{AreSavesAsked}
@@ -23,9 +24,9 @@ use Rattle.core_session.specs.Shows.{Shows, rebuilt}
 abbrev pub front_entry : Command → ShelfNote → Bool → Entry
 front_entry command note sent = record { caller = 0; command = command; shelf = note; sent = sent }
 
--- the entry is one of the front end's lines, with a note of its own kind, and its piece was sent whole
-pub record IsOpen (entry : Entry) : Type 0 where
-  pub caller : entry.caller ≡ 0
+-- the entry is of the front end or of one of so many plugins, and does not close; it has a note of its own kind, and its piece was sent whole
+pub record IsOpen (plugins : ℕ) (entry : Entry) : Type 0 where
+  pub caller : nat_le entry.caller plugins ≡ true
   pub asks : IsOfLine entry.command.act
   pub note : may_have_note entry.command.act entry.shelf ≡ true
   pub sent : entry.sent ≡ true
@@ -71,9 +72,12 @@ reserved stage = 1
 
 -- ---- what is kept
 
--- the views, their number and the configuration in memory are those of the session, and a tab has columns
-pub record StandsForSession (held : List Opened) (many : ℕ) (laid : Config) (session : Session) : Type 0 where
+-- the views, the plugins whose sessions have ended, the number of openings and the configuration in memory are those of the session; these
+-- plugins are some of those that there are, and a tab has columns
+pub record StandsForSession (held : List Opened) (gone : List ℕ) (many : ℕ) (laid : Config) (session : Session) : Type 0 where
   pub views : Stands held session.views
+  pub ended : gone ≡ session.ended
+  pub plugins : AreOfPlugins session.terms.plugins session.ended
   pub opened : many ≡ session.opened
   pub config : laid ≡ session.config
   pub tab : 0 < laid.tab
@@ -89,9 +93,10 @@ pub record IsShowing (terms : Terms) (journal : List Entry) : Type 0 where
   pub screens : AreRebuilt (written (first_session terms) journal) (views_of terms journal)
   pub fresh : (id : List ℕ) → IsNotGiven (session_of terms journal).opened id → rebuilt id (written (first_session terms) journal) ≡ Some []
 
--- WHAT IS KEPT: the views, their number and the configuration in memory are those of the session that the journal defines; what the entries
--- write that were sent before any was not shows them; and each saving asked the shelf exactly where its view was open
-pub record IsOfJournal (terms : Terms) (held : List Opened) (many : ℕ) (laid : Config) (journal : List Entry) : Type 0 where
-  pub stands : StandsForSession held many laid (session_of terms journal)
+-- WHAT IS KEPT: what is in memory is the session that the journal defines; what the entries write that were sent before any was not shows
+-- them; each saving asked the shelf exactly where its view was open; and each entry is one that the session before it accepts
+pub record IsOfJournal (terms : Terms) (held : List Opened) (ended : List ℕ) (many : ℕ) (laid : Config) (journal : List Entry) : Type 0 where
+  pub stands : StandsForSession held ended many laid (session_of terms journal)
   pub showing : IsShowing terms (sent_front journal)
   pub saves_asked : AreSavesAsked terms journal
+  pub accepted : AreAccepted terms journal

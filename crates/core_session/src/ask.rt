@@ -4,7 +4,7 @@ ghost use Rattle.outside.specs.Faults.{Rose};
 ghost use Rattle.xi_plain.specs.declared.entry.ShelfNote.TheVariants.{Done, Failed, Held, NoCall};
 ghost use Rattle.xi_plain.specs.declared.command.Act.TheVariants.{NewView, Save};
 ghost use Rattle.xi_plain.specs.Journal.{may_open};
-ghost use Rattle.session_step.specs.Views.{IsOfLine, AreThere, IsFoundAt, MayBeAsked};
+ghost use Rattle.session_step.specs.Views.{IsOfLine, AreOfPlugins, AreThere, IsFoundAt, MayBeAsked};
 ghost use Rattle.core_session.specs.InnerSession.{IsAsked};
 ghost use Rattle.session_step.specs.Session.{OpenView, Session, config_after, given_by, named_view};
 ghost use Rattle.core_session.specs.Shelves.{IsNoted, KeepsFiles, NoteTells, shelf_state};
@@ -26,25 +26,27 @@ pub struct Asked {
     pub opened: u64,
 }
 
-/// What a command comes to, for which the shelf is asked where it opens a file or saves a view. `config` is how texts are laid out and
-/// edited after it.
+/// What a command comes to, for which the shelf is asked where it opens a file or saves a view. `ended` are the plugins whose sessions have
+/// ended, and `config` is how texts are laid out and edited after it.
 pub fn ask<H: Shelf>(
     alloc: Global,
     shelf: &mut H,
     held: &[Opened],
     terms: Terms,
+    ended: &[u32],
     opened: u64,
     config: Config,
     command: &Command,
 ) -> Result<Asked, NoMemory>
     requires asked { MayBeAsked held.now }
+    requires ended { AreOfPlugins terms.plugins ended.now }
     requires few { opened < 2 ^ 63 }
     requires tab { 0 < config.tab }
     requires limit { terms.limit ≤ 2 ^ 60 }
     requires id { IsWireId command.now.id }
     requires line { IsOfLine command.now.act }
-    ensures made { (session : Session) → AreThere held.now session.views → terms ≡ session.terms → opened ≡ session.opened
-        → config ≡ config_after session.config command.now.act → IfOk result (IsAsked session command.now) }
+    ensures made { (session : Session) → AreThere held.now session.views → terms ≡ session.terms
+        → ended.now ≡ session.ended → opened ≡ session.opened → config ≡ config_after session.config command.now.act → IfOk result (IsAsked session command.now) }
     ensures noted { (session : Session) → AreThere held.now session.views → IfOk result (λ asked.
         IsNoted (shelf_state H.files H.faults shelf.old) (shelf_state H.files H.faults shelf.new)
         session.views command.now.act asked.note) }
@@ -53,15 +55,16 @@ pub fn ask<H: Shelf>(
 {
     match &command.act {
         Act::NewView { path: Some(path) } => opening(
-            alloc, shelf, held, terms, opened, config, command, path,
+            alloc, shelf, held, terms, ended, opened, config, command, path,
         ),
         Act::Save { view, path } => saving(
-            alloc, shelf, held, terms, opened, config, command, view, path,
+            alloc, shelf, held, terms, ended, opened, config, command, view, path,
         ),
         _ => noted(
             alloc,
             held,
             terms,
+            ended,
             opened,
             config,
             command,
@@ -76,6 +79,7 @@ fn noted(
     alloc: Global,
     held: &[Opened],
     terms: Terms,
+    ended: &[u32],
     opened: u64,
     config: Config,
     command: &Command,
@@ -83,18 +87,19 @@ fn noted(
     given: Given,
 ) -> Result<Asked, NoMemory>
     requires asked { MayBeAsked held.now }
+    requires ended { AreOfPlugins terms.plugins ended.now }
     requires few { opened < 2 ^ 63 }
     requires tab { 0 < config.tab }
     requires limit { terms.limit ≤ 2 ^ 60 }
     requires id { IsWireId command.now.id }
     requires line { IsOfLine command.now.act }
     requires given { given ≡ given_by note }
-    ensures made { (session : Session) → AreThere held.now session.views → terms ≡ session.terms → opened ≡ session.opened
-        → config ≡ config_after session.config command.now.act → IfOk result (IsAsked session command.now) }
+    ensures made { (session : Session) → AreThere held.now session.views → terms ≡ session.terms
+        → ended.now ≡ session.ended → opened ≡ session.opened → config ≡ config_after session.config command.now.act → IfOk result (IsAsked session command.now) }
     ensures note { IfOk result (λ asked. asked.note ≡ note) }
 {
     let then = opened_after(opened, &command.act, &given);
-    let done = done(alloc, held, terms, opened, config, command, given);
+    let done = done(alloc, held, terms, ended, opened, config, command, given);
     let (note, (piece, held)) = both(note, done)?;
     Ok(Asked {
         note,
@@ -110,19 +115,21 @@ fn opening<H: Shelf>(
     shelf: &mut H,
     held: &[Opened],
     terms: Terms,
+    ended: &[u32],
     opened: u64,
     config: Config,
     command: &Command,
     path: &Text,
 ) -> Result<Asked, NoMemory>
     requires asked { MayBeAsked held.now }
+    requires ended { AreOfPlugins terms.plugins ended.now }
     requires few { opened < 2 ^ 63 }
     requires tab { 0 < config.tab }
     requires limit { terms.limit ≤ 2 ^ 60 }
     requires id { IsWireId command.now.id }
     requires act { command.now.act ≡ NewView (Some path.now) }
-    ensures made { (session : Session) → AreThere held.now session.views → terms ≡ session.terms → opened ≡ session.opened
-        → config ≡ config_after session.config command.now.act → IfOk result (IsAsked session command.now) }
+    ensures made { (session : Session) → AreThere held.now session.views → terms ≡ session.terms
+        → ended.now ≡ session.ended → opened ≡ session.opened → config ≡ config_after session.config command.now.act → IfOk result (IsAsked session command.now) }
     ensures noted { (session : Session) → IfOk result (λ asked.
         IsNoted (shelf_state H.files H.faults shelf.old) (shelf_state H.files H.faults shelf.new)
         session.views command.now.act asked.note) }
@@ -130,7 +137,9 @@ fn opening<H: Shelf>(
         KeepsFiles (shelf_state H.files H.faults shelf.old) (shelf_state H.files H.faults shelf.new)) }
 {
     let (note, given) = read(alloc, shelf, path)?;
-    noted(alloc, held, terms, opened, config, command, note, given)
+    noted(
+        alloc, held, terms, ended, opened, config, command, note, given,
+    )
 }
 
 /// What the shelf has under a path: its note, and what it gave.
@@ -168,6 +177,7 @@ fn saving<H: Shelf>(
     shelf: &mut H,
     held: &[Opened],
     terms: Terms,
+    ended: &[u32],
     opened: u64,
     config: Config,
     command: &Command,
@@ -175,13 +185,14 @@ fn saving<H: Shelf>(
     path: &Text,
 ) -> Result<Asked, NoMemory>
     requires asked { MayBeAsked held.now }
+    requires ended { AreOfPlugins terms.plugins ended.now }
     requires few { opened < 2 ^ 63 }
     requires tab { 0 < config.tab }
     requires limit { terms.limit ≤ 2 ^ 60 }
     requires id { IsWireId command.now.id }
     requires act { command.now.act ≡ Save name.now path.now }
-    ensures made { (session : Session) → AreThere held.now session.views → terms ≡ session.terms → opened ≡ session.opened
-        → config ≡ config_after session.config command.now.act → IfOk result (IsAsked session command.now) }
+    ensures made { (session : Session) → AreThere held.now session.views → terms ≡ session.terms
+        → ended.now ≡ session.ended → opened ≡ session.opened → config ≡ config_after session.config command.now.act → IfOk result (IsAsked session command.now) }
     ensures noted { (session : Session) → AreThere held.now session.views → IfOk result (λ asked.
         IsNoted (shelf_state H.files H.faults shelf.old) (shelf_state H.files H.faults shelf.new)
         session.views command.now.act asked.note) }
@@ -189,11 +200,14 @@ fn saving<H: Shelf>(
         KeepsFiles (shelf_state H.files H.faults shelf.old) (shelf_state H.files H.faults shelf.new)) }
 {
     match place_of(held, name) {
-        Some(at) => saving_at(alloc, shelf, held, terms, opened, config, command, at, path),
+        Some(at) => saving_at(
+            alloc, shelf, held, terms, ended, opened, config, command, at, path,
+        ),
         None => noted(
             alloc,
             held,
             terms,
+            ended,
             opened,
             config,
             command,
@@ -210,6 +224,7 @@ fn saving_at<H: Shelf>(
     shelf: &mut H,
     held: &[Opened],
     terms: Terms,
+    ended: &[u32],
     opened: u64,
     config: Config,
     command: &Command,
@@ -217,14 +232,15 @@ fn saving_at<H: Shelf>(
     path: &Text,
 ) -> Result<Asked, NoMemory>
     requires asked { MayBeAsked held.now }
+    requires ended { AreOfPlugins terms.plugins ended.now }
     requires few { opened < 2 ^ 63 }
     requires tab { 0 < config.tab }
     requires limit { terms.limit ≤ 2 ^ 60 }
     requires id { IsWireId command.now.id }
     requires line { IsOfLine command.now.act }
     requires inside { at < length held.now }
-    ensures made { (session : Session) → AreThere held.now session.views → terms ≡ session.terms → opened ≡ session.opened
-        → config ≡ config_after session.config command.now.act → IfOk result (IsAsked session command.now) }
+    ensures made { (session : Session) → AreThere held.now session.views → terms ≡ session.terms
+        → ended.now ≡ session.ended → opened ≡ session.opened → config ≡ config_after session.config command.now.act → IfOk result (IsAsked session command.now) }
     ensures noted { (session : Session) (view : OpenView) (name : List ℕ) → AreThere held.now session.views
         → IsFoundAt session.views at view → named_view session.views name ≡ Some view
         → command.now.act ≡ Save name path.now → IfOk result (λ asked.
@@ -238,6 +254,7 @@ fn saving_at<H: Shelf>(
         alloc,
         held,
         terms,
+        ended,
         opened,
         config,
         command,
@@ -248,6 +265,7 @@ fn saving_at<H: Shelf>(
         alloc,
         held,
         terms,
+        ended,
         opened,
         config,
         command,

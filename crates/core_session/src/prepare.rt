@@ -1,7 +1,7 @@
 ghost use Rattle.std.specs.Prelude.{◌≡◌, ◌<◌, ◌≤◌, ◌^◌, IfErr, IfOk};
 ghost use Rattle.front_wire.specs.Front.{command_of};
 ghost use Rattle.session_step.specs.Session.{Session, config_after};
-ghost use Rattle.session_step.specs.Views.{IsOfLine, AreThere, HasApart, MayBeAsked};
+ghost use Rattle.session_step.specs.Views.{IsOfLine, AreOfPlugins, AreThere, HasApart, MayBeAsked};
 ghost use Rattle.core_session.specs.Kept.{StandsForSession};
 ghost use Rattle.core_session.specs.InnerSession.{IsPrepared};
 ghost use Rattle.core_session.specs.Shelves.{IsNoted, KeepsFiles, shelf_state};
@@ -34,18 +34,20 @@ pub fn prepare<H: Shelf>(
     shelf: &mut H,
     held: &[Opened],
     terms: Terms,
+    ended: &[u32],
     opened: u64,
     config: Config,
     line: &[u8],
 ) -> Result<Prepared, NoMemory>
     requires asked { MayBeAsked held.now }
+    requires ended { AreOfPlugins terms.plugins ended.now }
     requires few { opened < 2 ^ 63 }
     requires tab { 0 < config.tab }
     requires limit { terms.limit ≤ 2 ^ 60 }
     ensures command { IfOk result (λ made. made.command ≡ command_of line.now) }
     ensures asks { IfOk result (λ made. IsOfLine made.command.act) }
-    ensures prepared { (session : Session) → HasApart session.views → terms ≡ session.terms → StandsForSession held.now opened config session
-        → IfOk result (IsPrepared session) }
+    ensures prepared { (session : Session) → HasApart session.views → terms ≡ session.terms → StandsForSession held.now ended.now opened config session
+        → IfOk result (IsPrepared ended.now session) }
     ensures noted { (session : Session) → AreThere held.now session.views → IfOk result (λ made.
         IsNoted (shelf_state H.files H.faults shelf.old) (shelf_state H.files H.faults shelf.new)
         session.views made.command.act made.note) }
@@ -54,7 +56,7 @@ pub fn prepare<H: Shelf>(
 {
     let command = command_of(alloc, line)?;
     let config = config_after(config, &command.act);
-    let asked = ask(alloc, shelf, held, terms, opened, config, &command);
+    let asked = ask(alloc, shelf, held, terms, ended, opened, config, &command);
     let (command, asked) = both(command, asked)?;
     let Asked {
         note,

@@ -20,12 +20,13 @@ use session_step::{FIRST_CONFIG, Opened, Terms, place_of};
 use std::alloc::Global;
 use xi_plain::{Act, Command, Config, Entry, Id, Reply, ShelfNote};
 
-/// A session with its journal, the views that are open in the order of their openings, how many were opened, its configuration, the shelf of
-/// its files and the sink that it writes to. There is always room for its closing entry.
+/// A session with its journal, the views that are open in the order of their openings, the plugins whose sessions have ended, how many views
+/// were opened, its configuration, the shelf of its files and the sink that it writes to. There is always room for its closing entry.
 #[derive(Drop)]
 pub struct Core<K, H> {
     journal: Vec<Entry>,
     views: List<Opened>,
+    ended: List<u32>,
     opened: u64,
     config: Config,
     stage: Stage,
@@ -33,11 +34,11 @@ pub struct Core<K, H> {
     shelf: H,
     sink: K,
     alloc: Global,
-    ghost legal: { IsLegal 0 journal.items },
+    ghost legal: { IsLegal terms.plugins journal.items },
     ghost staged: { stage ≡ stage_of journal.items },
     ghost room: { vec_len journal + reserved stage ≤ vec_capacity journal },
     ghost limit: { terms.limit ≤ 2 ^ 60 },
-    ghost kept: { ∥ IsOfJournal terms views opened config journal.items ∥₁ },
+    ghost kept: { ∥ IsOfJournal terms views ended opened config journal.items ∥₁ },
 }
 
 impl<K: Sink, H: Shelf> Core<K, H> {
@@ -65,6 +66,7 @@ impl<K: Sink, H: Shelf> Core<K, H> {
             Ok(journal) => Ok(Core {
                 journal,
                 views: List::new(alloc),
+                ended: List::new(alloc),
                 opened: 0,
                 config: FIRST_CONFIG,
                 stage: Stage::Serves,
@@ -113,6 +115,7 @@ impl<K: Sink, H: Shelf> Core<K, H> {
             &mut self.shelf,
             self.views.as_slice(),
             self.terms,
+            self.ended.as_slice(),
             self.opened,
             self.config,
             line,
@@ -129,9 +132,9 @@ impl<K: Sink, H: Shelf> Core<K, H> {
         requires asks { IsOfLine made.command.act }
         requires kind { may_have_note made.command.act made.note ≡ true }
         requires asked { asks_as (views_of (terms_of self.old) (journal_of self.old)) made.command.act made.note ≡ true }
-        requires prepared { ∥ IsPrepared (session_of (terms_of self.old) (journal_of self.old)) made ∥₁ }
+        requires prepared { ∥ IsPrepared self.old.ended (session_of (terms_of self.old) (journal_of self.old)) made ∥₁ }
         ensures replies { (sent : Bool) × (result ≡ reply_if sent) }
-        ensures puts { IsServing (terms_of self.old) self.old → IsPrepared (session_of (terms_of self.old) (journal_of self.old)) made
+        ensures puts { IsServing (terms_of self.old) self.old → IsPrepared self.old.ended (session_of (terms_of self.old) (journal_of self.old)) made
             → PutsAs (terms_of self.old) (sink_state K.held K.faults K.failures) self.old self.new made.command made.note result }
         ensures terms { terms_of self.new ≡ terms_of self.old }
         ensures rose { result ≡ Reply.SinkFault → Rose (K.faults (sink_of self.old)) (K.faults (sink_of self.new)) }
@@ -202,6 +205,7 @@ impl<K: Sink, H: Shelf> Core<K, H> {
         let Core {
             journal,
             views,
+            ended,
             opened: _,
             config: _,
             stage: _,
@@ -210,7 +214,7 @@ impl<K: Sink, H: Shelf> Core<K, H> {
             sink,
             alloc: _,
         } = self;
-        drop(views);
+        drop((views, ended));
         (journal, sink, shelf)
     }
 }

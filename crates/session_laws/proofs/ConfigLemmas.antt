@@ -1,5 +1,5 @@
 -- All views are laid out and edited as their session is.
-use Rattle.std.proofs.Common.{◌≡◌, ℕ, Bool, true, false, List, [], ◌∷◌, ◌++◌, Option, Some, None, refl, ◌∙◌, subst}
+use Rattle.std.proofs.Common.{◌≡◌, ℕ, Bool, true, false, List, [], ◌∷◌, ◌++◌, Option, Some, None, refl, ap, ◌∙◌, subst}
 use Rattle.std.specs.Prelude.{if◌then◌else◌}
 use Rattle.std.specs.List.{AllByRecursion}
 use Rattle.std.specs.Str.{bytes_eq, encode_utf8_all}
@@ -8,13 +8,17 @@ use Rattle.xi_plain.specs.declared.command.Act.{Act}
 use Rattle.xi_plain.specs.declared.command.Act.TheVariants.{Configure, NewView, CloseView, Save, Edit, Closing}
 use Rattle.xi_plain.specs.declared.config.Config.{Config}
 use Rattle.xi_plain.specs.declared.entry.Entry.{Entry}
-use Rattle.doc_session.specs.declared.event.Event.TheVariants.{Config as Configured, Front, Other, Saved}
-use Rattle.doc_session.specs.Step.{EventStep, event_step, refusal_at}
+use Rattle.doc_session.specs.declared.event.Event.{Event}
+use Rattle.doc_session.specs.declared.event.Event.TheVariants.{Config as Configured, Ended, Front, Other, Saved}
+use Rattle.doc_session.specs.Document.{Document, loaded_document}
+use Rattle.doc_session.specs.Step.{EventStep, config_after as event_config, event_step, refusal_at}
 use Rattle.doc_session.proofs.ForCallers.{config-event_step}
 use Rattle.session_step.specs.declared.terms.Terms.{Terms}
 use Rattle.session_step.specs.declared.given.Given.{Given}
 use Rattle.session_step.specs.declared.given.Given.TheVariants as given
-use Rattle.session_step.specs.Session.{OpenView, Session, first_session, close_outcome, config_with, config_after, config_step, edit_came, edit_outcome, given_by, named_view, next_view, open_outcome, other_step, outcome, own_step, save_outcome, session_after, spent_total, step, stepped, view_of, without}
+use Rattle.session_step.specs.Session.{OpenView, Session, first_session, close_outcome, config_with, config_after, config_step, edit_came, edit_outcome, given_by, named_view, next_view, open_outcome, other_step, is_front, outcome, own_step, save_outcome, session_after, spent_total, step, step_by, stepped, view_of, without}
+use Rattle.session_step.specs.PluginStep.{ended_step, plugin_outcome}
+use Rattle.session_step.proofs.ForCallers.{all_found, all_with_document, by_plugin, is_by_plugin, view-without_sessions}
 use Rattle.core_session.proofs.ForCallers.{all_without}
 use Rattle.session_laws.specs.Laws.{AllAreConfigured}
 
@@ -90,19 +94,21 @@ unfolding AreConfigured
 configured_push config [] next is all = (is, tt)
 configured_push config (view ∷ views) next is all = (all.0, configured_push config views next is all.1)
 
-configured_on : (terms : Terms) (config : Config) (opened : ℕ) (views : List OpenView) (text : List ℕ) → AreConfigured config views →
-    AreConfigured config (stepped other_step (views ++ next_view terms config opened text ∷ []))
-configured_on terms config opened views text all =
-    configured_others config (views ++ next_view terms config opened text ∷ []) (configured_push config views (next_view terms config opened text) refl all)
+configured_on : (terms : Terms) (ended : List ℕ) (config : Config) (opened : ℕ) (views : List OpenView) (text : List ℕ) → AreConfigured config views →
+    AreConfigured config (stepped other_step (views ++ next_view terms ended config opened text ∷ []))
+configured_on terms ended config opened views text all =
+    let loaded = loaded_document text terms.plugins terms.limit config in
+    configured_others config (views ++ next_view terms ended config opened text ∷ [])
+    (configured_push config views (next_view terms ended config opened text) (rw (view-without_sessions ended loaded) refl) all)
 
-configured_open : (terms : Terms) (config : Config) (opened : ℕ) (views : List OpenView) (path : Option (List ℕ)) (gave : Given) → AreConfigured config views →
-    AreConfigured config (open_outcome terms config opened views path gave).views
-configured_open terms config opened views None gave all = configured_on terms config opened views [] all
-configured_open terms config opened views (Some path) (given.Found text) all = configured_on terms config opened views text all
-configured_open terms config opened views (Some path) given.NotText all = configured_others config views all
-configured_open terms config opened views (Some path) given.Nothing all = configured_others config views all
-configured_open terms config opened views (Some path) given.Failed all = configured_others config views all
-configured_open terms config opened views (Some path) given.Done all = configured_others config views all
+configured_open : (terms : Terms) (ended : List ℕ) (config : Config) (opened : ℕ) (views : List OpenView) (path : Option (List ℕ)) (gave : Given) → AreConfigured config views →
+    AreConfigured config (open_outcome terms ended config opened views path gave).views
+configured_open terms ended config opened views None gave all = configured_on terms ended config opened views [] all
+configured_open terms ended config opened views (Some path) (given.Found text) all = configured_on terms ended config opened views text all
+configured_open terms ended config opened views (Some path) given.NotText all = configured_others config views all
+configured_open terms ended config opened views (Some path) given.Nothing all = configured_others config views all
+configured_open terms ended config opened views (Some path) given.Failed all = configured_others config views all
+configured_open terms ended config opened views (Some path) given.Done all = configured_others config views all
 
 configured_without : (config : Config) (id : List ℕ) (views : List OpenView) → AreConfigured config views → AreConfigured config (without id views)
 unfolding AreConfigured
@@ -120,17 +126,41 @@ configured_outcome session (CloseView name) gave all = configured_close session.
 configured_outcome session (Save name path) gave all =
     configured_save session.config session.views name (named_view session.views name) gave refl all
 configured_outcome session Closing gave all = all
-configured_outcome session (NewView path) gave all = configured_open session.terms session.config session.opened session.views path gave all
+configured_outcome session (NewView path) gave all = configured_open session.terms session.ended session.config session.opened session.views path gave all
 configured_outcome session (Configure changes) gave all =
     let next = config_with session.config changes in
     configured_steps session.config next (config_step next) session.views (λ view at. config-event_step view.document (Configured next)) all
 configured_outcome session act gave all = configured_others session.config session.views all
 
+-- what a plugin asks leaves how a document is laid out
+config_same : (config : Config) (event : Event) → is_by_plugin event ≡ true → event_config config event ≡ config
+config_same config (Configured next) is = absurd cc
+config_same config event is = refl
+
+configured_plugin : (session : Session) (caller : ℕ) (asks : Act) → AreConfigured session.config session.views →
+    AreConfigured session.config (plugin_outcome session.views session.styles caller asks).views
+unfolding AreConfigured
+configured_plugin session caller asks all =
+    let Has : Document → Type 0 = λ document. document.view.config ≡ session.config in
+    by_plugin session.views session.styles caller (λ after updates. AreConfigured session.config after) all
+    (configured_steps session.config session.config (ended_step caller) session.views (λ view is. config-event_step view.document (Ended caller) ∙ is) all)
+    (λ id own event found is.
+    all_with_document Has own.id (event_step own.document event).document session.views
+    (config-event_step own.document event ∙ config_same own.document.view.config event is ∙ all_found Has session.views id own found all) all) asks
+
+configured_entry : (session : Session) (entry : Entry) → AreConfigured session.config session.views →
+    AreConfigured (step session entry).config (step session entry).views
+configured_entry session entry all = by (is_front entry)
+  where
+    by : (front : Bool) → AreConfigured (step_by front session entry).config (step_by front session entry).views
+    by true = configured_outcome session entry.command.act (given_by entry.shelf) all
+    by false = configured_plugin session entry.caller entry.command.act all
+
 configured_after : (session : Session) (entries : List Entry) → AreConfigured session.config session.views →
     AreConfigured (session_after session entries).config (session_after session entries).views
 configured_after session [] all = all
 configured_after session (entry ∷ entries) all =
-    configured_after (step session entry) entries (configured_outcome session entry.command.act (given_by entry.shelf) all)
+    configured_after (step session entry) entries (configured_entry session entry all)
 
 pub all_are_configured : AllAreConfigured
 unfolding AreConfigured

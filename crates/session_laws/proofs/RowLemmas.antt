@@ -21,7 +21,7 @@ use Rattle.xi_top.specs.declared.ending.Ending.TheVariants.{NoMemory, SourceFaul
 use Rattle.xi_top.specs.Ending.{Outcome, status_of}
 use Rattle.xi_top.specs.Written.{IsProperPart}
 use Rattle.xi_top.specs.Run.{Passage, IsRun}
-use Rattle.session_laws.specs.Rows.{FirstInsertion, FirstReadFails, FirstView, HalfLine, StrangeNotes, ThirdWriteFails, ThreeInsertions, first_bytes, first_id, insertion, opening, opening_bytes, opening_line, unsent_insertion}
+use Rattle.session_laws.specs.Rows.{FirstInsertion, FirstReadFails, FirstView, HalfLine, StrangeNotes, ThirdWriteFails, ThreeInsertions, first_bytes, first_id, insertion, opening, opening_bytes, opening_line, unsent_insertion, EndsStandOnce, LateView, PluginAlert}
 use Rattle.session_laws.proofs.LawLemmas.{other_view_is_passed_over, unread_shows_nothing}
 use Rattle.xi_top.proofs.ForCallers.{told_input, asked-lines}
 
@@ -38,6 +38,17 @@ first_insertion = refl
 pub three_insertions : ThreeInsertions
 unfolding line_of digits escape_byte lib.Utf8.encode
 three_insertions = refl
+
+pub plugin_alert : PluginAlert
+unfolding line_of digits escape_byte lib.Utf8.encode
+plugin_alert = refl
+
+pub late_view : LateView
+unfolding digits lib.Utf8.encode
+late_view = refl
+
+pub ends_stand_once : EndsStandOnce
+ends_stand_once = refl
 
 -- an update of a second view, without operations
 second_update : Update

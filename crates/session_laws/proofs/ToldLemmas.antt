@@ -65,12 +65,12 @@ saving_told views (Some open_view) Done view path kind asked =
 
 -- the opening of a file
 held_told : (session : Session) (bytes : List ℕ) (is_text : Bool) → is_utf8 bytes ≡ is_text →
-    IsTold (file_outcome session.terms session.config session.opened session.views (if is_text then given.Found (chars bytes) else given.NotText)).reply (Held bytes)
+    IsTold (file_outcome session.terms session.ended session.config session.opened session.views (if is_text then given.Found (chars bytes) else given.NotText)).reply (Held bytes)
 held_told session bytes true is = record { failed = ((λ told. cc), λ told. cc); no_text = ((λ told. cc), λ none. cc) }
 held_told session bytes false is = record { failed = ((λ told. cc), λ told. cc); no_text = ((λ told. is), λ none. refl) }
 
 opening_told : (session : Session) (note : ShelfNote) (path : List ℕ) → may_have_note (NewView (Some path)) note ≡ true →
-    IsTold (file_outcome session.terms session.config session.opened session.views (given_by note)).reply note
+    IsTold (file_outcome session.terms session.ended session.config session.opened session.views (given_by note)).reply note
 opening_told session NoCall path kind = absurd cc
 opening_told session Done path kind = absurd cc
 opening_told session Absent path kind = record { failed = ((λ is. cc), λ is. cc); no_text = ((λ is. cc), λ is. absurd is) }

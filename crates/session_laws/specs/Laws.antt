@@ -62,3 +62,8 @@ NoTextIsTold = (session : Session) (act : Act) (note : ShelfNote) → may_have_n
 abbrev pub AllAreConfigured : Type 0
 AllAreConfigured = (terms : Terms) (journal : List Entry) →
     AllByRecursion (λ (view : OpenView). view.document.view.config ≡ (session_of terms journal).config) (views_of terms journal)
+
+-- each document has a session of each plugin, which may have ended
+abbrev pub AllHaveSessions : Type 0
+AllHaveSessions = (terms : Terms) (journal : List Entry) →
+    AllByRecursion (λ (view : OpenView). length view.document.text.sessions ≡ terms.plugins) (views_of terms journal)

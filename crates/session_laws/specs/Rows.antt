@@ -1,16 +1,17 @@
 -- Worked rows: what a session writes, what a run comes to, and what is none.
 use Rattle.xi_top.specs.Alone.{alone_terms}
-use Rattle.std.specs.Prelude.{◌≡◌, ℕ, pos, List, [], ◌∷◌, ◌++◌, drop, codes, true, false, Some, None}
+use Rattle.std.specs.Prelude.{◌≡◌, ℕ, ◌^◌, pos, List, [], ◌∷◌, ◌++◌, drop, map, codes, true, false, Some, None}
 use Rattle.xi_plain.specs.declared.command.Id.{Id}
 use Rattle.xi_plain.specs.declared.command.Id.TheVariants.{NoId, Num}
 use Rattle.xi_plain.specs.declared.command.EditAct.TheVariants.{Insert}
 use Rattle.xi_plain.specs.declared.command.Act.{Act}
-use Rattle.xi_plain.specs.declared.command.Act.TheVariants.{NewView, Edit}
+use Rattle.xi_plain.specs.declared.command.Act.TheVariants.{Alert, Edit, Ended, NewView}
 use Rattle.xi_plain.specs.declared.entry.Entry.{Entry}
 use Rattle.xi_plain.specs.declared.entry.ShelfNote.TheVariants.{NoCall}
 use Rattle.outside.specs.Sink.{SinkState}
 use Rattle.xi_plain.specs.Journal.{closing_entry}
-use Rattle.session_step.specs.Session.{first_session, session_of, written}
+use Rattle.session_step.specs.declared.terms.Terms.{Terms}
+use Rattle.session_step.specs.Session.{OpenView, first_session, session_of, views_of, written}
 use Rattle.core_session.specs.Shows.{rebuilt}
 use Rattle.core_session.specs.Core.{piece_after}
 use Rattle.xi_top.specs.Written.{IsCutOff, IsProperPart}
@@ -103,3 +104,28 @@ opening_line = codes "{\"id\":0,\"method\":\"new_view\"}\n"
 abbrev pub HalfLine : Type 0
 HalfLine = (passage : Passage) (entry : Entry) → passage.before.source.left ≡ Some opening_line →
     passage.after.source.left ≡ Some (drop 10 opening_line) → RunsAlone passage (entry ∷ closing_entry ∷ []) 3 → ⊥
+
+-- an entry of the plugin with this number
+abbrev pub entry_by : ℕ → Id → Act → Entry
+entry_by caller id act = record { caller = caller; command = record { id = id; act = act }; shelf = NoCall; sent = true }
+
+-- what a session with three plugins is made with
+abbrev pub three_plugins : Terms
+three_plugins = record { plugins = 3; limit = 2 ^ 40 }
+
+-- the alert of a plugin is told the front end, and nothing else
+abbrev pub PluginAlert : Type 0
+PluginAlert = written (first_session three_plugins) (entry_by 1 (Num (pos 1)) (Alert (codes "hi")) ∷ []) ≡
+    codes "{\"method\":\"alert\",\"params\":{\"msg\":\"hi\"}}\n"
+
+-- the sessions of two plugins ended, of one of them twice, before a view was opened: they have ended in it, and that of the third has
+-- acknowledged nothing
+abbrev pub LateView : Type 0
+LateView = map (λ (view : OpenView). view.document.text.sessions)
+    (views_of three_plugins (entry_by 2 NoId Ended ∷ entry_by 1 NoId Ended ∷ entry_by 2 NoId Ended ∷ opening ∷ [])) ≡
+    (None ∷ None ∷ Some 0 ∷ []) ∷ []
+
+-- the plugins whose sessions have ended stand once each, in the order of their ends
+abbrev pub EndsStandOnce : Type 0
+EndsStandOnce =
+    (session_of three_plugins (entry_by 2 NoId Ended ∷ entry_by 1 NoId Ended ∷ entry_by 2 NoId Ended ∷ [])).ended ≡ 2 ∷ 1 ∷ []

@@ -1,6 +1,6 @@
 //! Laws of the definitions, each the contract of a function: they hold of all journals and all bytes.
 
-ghost use Rattle.session_laws.specs.Laws.{AllAreConfigured, NoTextIsTold, NothingWaits, OtherViewIsPassedOver, RevisionsAreFew, ShelfFailureIsTold, UnreadShowsNothing};
+ghost use Rattle.session_laws.specs.Laws.{AllAreConfigured, AllHaveSessions, NoTextIsTold, NothingWaits, OtherViewIsPassedOver, RevisionsAreFew, ShelfFailureIsTold, UnreadShowsNothing};
 
 /// A document has at most as many revisions as its journal has entries.
 pub fn revisions_are_few()
@@ -35,4 +35,9 @@ pub fn shelf_failure_is_told()
 /// Code 2 answers an entry exactly where its note holds bytes that are no text.
 pub fn no_text_is_told()
     ensures { NoTextIsTold }
+{}
+
+/// Each document has a session of each plugin.
+pub fn all_have_sessions()
+    ensures { AllHaveSessions }
 {}

@@ -1,6 +1,6 @@
 //! Worked rows, each the contract of a function: what a session writes and what a run comes to in small cases, and what is none.
 
-ghost use Rattle.session_laws.specs.Rows.{FirstInsertion, FirstReadFails, FirstView, HalfLine, StrangeNotes, ThirdWriteFails, ThreeInsertions};
+ghost use Rattle.session_laws.specs.Rows.{EndsStandOnce, FirstInsertion, FirstReadFails, FirstView, HalfLine, LateView, PluginAlert, StrangeNotes, ThirdWriteFails, ThreeInsertions};
 
 /// The first view is answered, and has one empty line with the caret.
 pub fn first_view()
@@ -35,4 +35,19 @@ pub fn third_write_fails()
 /// Half a line is none, whatever stops a run within it.
 pub fn half_line()
     ensures { HalfLine }
+{}
+
+/// A plugin's alert is told the front end, and nothing else.
+pub fn plugin_alert()
+    ensures { PluginAlert }
+{}
+
+/// In a view that is opened after sessions of plugins ended, they have ended.
+pub fn late_view()
+    ensures { LateView }
+{}
+
+/// The plugins whose sessions have ended stand once each.
+pub fn ends_stand_once()
+    ensures { EndsStandOnce }
 {}

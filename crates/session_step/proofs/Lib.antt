@@ -3,4 +3,6 @@ pub mod OpenLemmas
 pub mod FaultLemmas
 pub mod DoneLemmas
 pub mod SessionsLemmas
+pub mod EndedLemmas
+pub mod PluginLemmas
 pub mod ForCallers

@@ -9,11 +9,9 @@ use Rattle.std.specs.Str.{bytes_eq, encode_utf8_all}
 use Rattle.doc_session.specs.InMemory.{Doc}
 use Rattle.doc_session.specs.declared.event.Body.TheVariants.{Null}
 use Rattle.doc_session.specs.declared.event.Effects.{Effects}
-use Rattle.doc_session.specs.Document.{Document, loaded_document}
+use Rattle.doc_session.specs.Document.{Document}
 use Rattle.doc_session.specs.Stands.{DocStandsFor}
 use Rattle.doc_session.specs.Step.{AreEffectsOf, EventStep, IsEventFor, event_step, silent_step}
-use Rattle.doc_text.specs.Writing.{loaded_text}
-use Rattle.doc_text.proofs.ForCallers.{head-text}
 use Rattle.xi_plain.specs.declared.config.Config.{Config}
 use Rattle.session_step.specs.declared.terms.Terms.{Terms}
 use Rattle.session_step.specs.declared.opened.Opened.{Opened}
@@ -36,11 +34,6 @@ use Rattle.session_step.specs.Views.{ServesView, Stands, AreThere, HasApart, Hav
 use Rattle.session_step.specs.InnerStep.{IsEdited, IsOutcome, MayTell, TakesSteps, each_event, each_step}
 use Rattle.session_step.specs.Session.{OpenView, close_outcome, edit_came, keeping, named_view, next_view, opened_document, opening_outcome, other_step, own_step, result_of, scroll_for, stepped, taking, told, updates_for, without}
 use Rattle.session_step.proofs.ViewLemmas.{same_id, other_way, AreOthers}
-
--- a document that was just loaded takes events
-pub TakesEvents-loaded : (terms : Terms) (doc : Doc) (text : List ℕ) (config : Config) → DocStandsFor doc (loaded_document text terms.plugins terms.limit config) →
-    TakesEvents doc
-TakesEvents-loaded terms doc text config stands = omega (arith, head-text doc.text (loaded_text text terms.plugins terms.limit) stands.text.parts)
 
 -- ---- what stands for views
 
@@ -95,7 +88,7 @@ TakesSteps-append event old middle new held more one two front views others firs
     )
 
 -- one more of a slice
-drop-item : {A : Type 0} (items : List A) (i : ℕ) (none x : A) → i < length items → x ≡ get_or items i none → drop i items ≡ x ∷ drop (i + 1) items
+pub drop-item : {A : Type 0} (items : List A) (i : ℕ) (none x : A) → i < length items → x ≡ get_or items i none → drop i items ≡ x ∷ drop (i + 1) items
 drop-item items i none x below is = drop-cons items i none below ∙ ap (λ y. y ∷ drop (suc i) items) (sym is) ∙ ap (λ j. x ∷ drop j items) (sym (add-one i))
 
 -- the first i took their steps, and the rest waits
@@ -385,14 +378,14 @@ IsOutcome-each event held new reply came views takes is stands =
     rw is (record { reply = refl; updates = done.1; scroll = refl; stands = done.0; told = refl })
 
 -- a view is opened behind the others
-pub IsOutcome-opening : (terms : Terms) (config : Config) (opened : ℕ) (id text : List ℕ) (loaded : Opened) (held : List Opened) (middle new : Stepped) (news : List PluginNews)
+pub IsOutcome-opening : (terms : Terms) (ended : List ℕ) (config : Config) (opened : ℕ) (id text : List ℕ) (loaded : Opened) (held : List Opened) (middle new : Stepped) (news : List PluginNews)
     (came : ActEffects) (views : List OpenView) → id ≡ view_id_of (opened + 1) → loaded.id ≡ id →
-    DocStandsFor (arc_value loaded.doc) (opened_document terms config text) →
+    DocStandsFor (arc_value loaded.doc) (opened_document terms ended config text) →
     TakesSteps to.Other unstepped held middle → TakesSteps to.Other middle (loaded ∷ []) new →
     came ≡ record { reply = reply_to.Opened id; held = new.held; updates = new.updates; scroll = None; news = news } → Stands held views →
-    map told_of news ≡ opened_news opened text → IsOutcome (opening_outcome terms config opened views text) (opened_news opened text) came
-IsOutcome-opening terms config opened id text loaded held middle new news came views numbered own loads first last is stands tells =
-    let next = next_view terms config opened text in
+    map told_of news ≡ opened_news opened text → IsOutcome (opening_outcome terms ended config opened views text) (opened_news opened text) came
+IsOutcome-opening terms ended config opened id text loaded held middle new news came views numbered own loads first last is stands tells =
+    let next = next_view terms ended config opened text in
     let serves : ServesView loaded next = record { id = own ∙ numbered; stands = loads } in
     let done = TakesSteps-append to.Other unstepped middle new held (loaded ∷ []) first last [] views (next ∷ []) tt stands (serves, tt) in
     rw is (record { reply = ap (λ n. accepted (text_data n)) numbered; updates = done.1; scroll = refl; stands = done.0; told = tells })

@@ -13,14 +13,14 @@ use Rattle.entry_lines.specs.Answer.{reply_of}
 use Rattle.entry_lines.specs.Notices.{told_of}
 use Rattle.plugin_wire.specs.Told.{Told}
 use Rattle.plain_edits.specs.History.{head}
-use Rattle.session_step.specs.Session.{OpenView, Outcome, outcome, stepped, told}
+use Rattle.session_step.specs.Session.{OpenView, Outcome, stepped, told}
 use Rattle.session_step.specs.Views.{HaveSessions, Stands}
 use Rattle.session_step.specs.declared.act.ActEffects.{ActEffects}
 use Rattle.session_step.specs.declared.opened.Opened.{Opened}
 use Rattle.session_step.specs.declared.stepped.Stepped.{Stepped}
 use Rattle.session_step.specs.declared.stepped.ToEach.TheVariants as to
 use Rattle.session_step.specs.declared.stepped.ToEach.{ToEach}
-use Rattle.std.specs.Prelude.{◌≡◌, ◌+◌, ◌<◌, List, ◌++◌, map, ⊤, None, Result, IfOk, IfErr}
+use Rattle.std.specs.Prelude.{◌≡◌, ◌<◌, List, ◌++◌, map, ⊤, None, Result, IfOk, IfErr}
 
 -- what an event makes of a document: the one that its step gives and what is told of it, or the event is refused
 pub record IsMade (old : Doc) (event : Event) (result : Result (Doc × Effects) DocFault) : Type 0 where

@@ -1,5 +1,7 @@
+pub mod ViewSteps
+pub mod PluginStep
 pub mod Session
 pub mod News
-pub mod PluginStep
+pub mod Accepted
 pub mod Views
 pub mod InnerStep

@@ -1,22 +1,19 @@
--- WHAT PLUGINS ARE TOLD of an entry of the front end.
-use Rattle.std.specs.Prelude.{ℕ, ◌+◌, List, [], ◌∷◌, Option, Some, None}
+-- WHAT PLUGINS ARE TOLD of an entry.
+use Rattle.std.specs.Prelude.{ℕ, ◌+◌, Bool, true, false, List, [], ◌∷◌, Option, Some, None}
 use Rattle.plain_text.specs.Text.{byte_len}
 use Rattle.xi_plain.specs.declared.command.EditAct.{EditAct}
+use Rattle.xi_plain.specs.declared.entry.Entry.{Entry}
 use Rattle.xi_plain.specs.declared.command.Act.{Act}
 use Rattle.xi_plain.specs.declared.command.Act.TheVariants.{CloseView, Closing, Edit, NewView}
-use Rattle.xi_plain.specs.declared.config.Notice.{Notice}
-use Rattle.plugin_wire.specs.Told.{Told, changed, closed, opened, stopped}
+use Rattle.plugin_wire.specs.Told.{Told, closed, opened, stopped}
 use Rattle.entry_lines.specs.ViewId.{view_id_of}
 use Rattle.doc_session.specs.declared.event.Event.TheVariants.{Front}
 use Rattle.doc_session.specs.Step.{EventStep, event_step, refusal_at}
 use Rattle.session_step.specs.declared.given.Given.{Given}
 use Rattle.session_step.specs.declared.given.Given.TheVariants as given
-use Rattle.session_step.specs.Session.{OpenView, Session, named_view, spent_total}
-
--- the change of the view with this id, where there is one. (A document does not know the id.)
-abbrev pub news_for : List ℕ → Option Notice → List Told
-news_for id None = []
-news_for id (Some notice) = changed (record notice { view = id }) ∷ []
+pub use Rattle.session_step.specs.ViewSteps.{news_for}
+use Rattle.session_step.specs.PluginStep.{plugin_outcome}
+use Rattle.session_step.specs.Session.{OpenView, Session, given_by, is_front, named_view, spent_total}
 
 -- an edit of the front end in a view, where its characters would be spent or not
 abbrev pub edit_news : OpenView → Option ℕ → EventStep → List Told
@@ -56,3 +53,11 @@ front_news session (CloseView name) gave = closed_news (named_view session.views
 front_news session (Edit name act) gave = edited_news (named_view session.views name) act
 front_news session Closing gave = stopped ∷ []
 front_news session act gave = []
+
+-- THE NEWS of an entry, by whether it is the front end's: what its act tells plugins, or what that of its plugin does
+abbrev pub news_by : Bool → Session → Entry → List Told
+news_by true session entry = front_news session entry.command.act (given_by entry.shelf)
+news_by false session entry = (plugin_outcome session.views session.styles entry.caller entry.command.act).news
+
+abbrev pub news_of : Session → Entry → List Told
+news_of session entry = news_by (is_front entry) session entry

@@ -24,8 +24,7 @@ use Rattle.doc_session.specs.declared.event.Body.{Body}
 use Rattle.doc_session.specs.declared.event.Body.TheVariants.{Null, Chunk, Copied, Edited, Lines}
 use Rattle.doc_session.specs.declared.event.Event.{Event}
 use Rattle.doc_session.specs.declared.event.Event.TheVariants.{Ack, Count, Edit, Ended, Read, Spans}
-use Rattle.session_step.specs.News.{news_for}
-use Rattle.session_step.specs.Session.{OpenView, named_view, stepped, told, updates_for}
+use Rattle.session_step.specs.ViewSteps.{OpenView, named_view, news_for, stepped, told, updates_for}
 use Rattle.style_numbers.specs.Numbers.{new_styles, spans_with_ids, styles_with}
 
 -- ---- what is asked

@@ -1,21 +1,21 @@
 -- THE PLAIN SESSION: what the entries of a journal do, one after the other, and what each writes.
-use Rattle.std.specs.Prelude.{ℕ, ◌+◌, ◌^◌, ◌≤◌, not, false, if◌then◌else◌, List, [], ◌∷◌, ◌++◌, map, codes, Option, Some, None, unwrap_or}
-use Rattle.std.specs.List.{AllByRecursion, filter}
-use Rattle.std.specs.Str.{bytes_eq, chars, encode_utf8_all, is_utf8}
+use Rattle.std.specs.Prelude.{ℕ, ◌+◌, ◌≤◌, ◌==◌, not, Bool, true, false, if◌then◌else◌, List, [], ◌∷◌, ◌++◌, codes, Option, Some, None, unwrap_or}
+use Rattle.std.specs.List.{AllByRecursion, filter, list_any}
+use Rattle.std.specs.Str.{bytes_eq, chars, is_utf8}
 use Rattle.serde_json.specs.Data.{Data, null}
 use Rattle.xi_plain.specs.declared.command.Id.{Id}
 use Rattle.xi_plain.specs.declared.command.Fault.{Fault}
 use Rattle.xi_plain.specs.declared.command.Fault.TheVariants.{BadParams}
 use Rattle.xi_plain.specs.declared.command.EditAct.{EditAct}
 use Rattle.xi_plain.specs.declared.command.Act.{Act}
-use Rattle.xi_plain.specs.declared.command.Act.TheVariants.{Bad, Nothing, Configure, NewView, CloseView, Save, Edit, Closing}
+use Rattle.xi_plain.specs.declared.command.Act.TheVariants.{Bad, Nothing, Configure, NewView, CloseView, Save, Edit, Closing, Ended as Over}
 use Rattle.xi_plain.specs.declared.command.Command.{Command}
 use Rattle.xi_plain.specs.declared.config.Changes.{Changes}
 use Rattle.xi_plain.specs.declared.config.Config.{Config}
 use Rattle.xi_plain.specs.declared.entry.Entry.{Entry}
 use Rattle.xi_plain.specs.declared.entry.ShelfNote.{ShelfNote}
 use Rattle.xi_plain.specs.declared.entry.ShelfNote.TheVariants.{Absent, Done, Failed, Held, NoCall}
-use Rattle.plain_screen.specs.declared.screen.Update.{Update}
+use Rattle.plain_edits.specs.declared.style.Style.{Style}
 use Rattle.plain_edits.specs.Edits.{spent as spent_by}
 use Rattle.plain_edits.specs.History.{head}
 use Rattle.doc_session.specs.Layout.{Position}
@@ -27,35 +27,29 @@ use Rattle.entry_lines.specs.Piece.{entry_messages, lines_written}
 use Rattle.entry_lines.specs.ViewId.{view_id_of}
 use Rattle.doc_session.specs.declared.event.Body.{Body}
 use Rattle.doc_session.specs.declared.event.Body.TheVariants.{Null, Chunk, Copied, Edited, Lines}
-use Rattle.doc_session.specs.declared.event.Event.TheVariants.{Config as Configured, Front, Other, Saved}
+use Rattle.doc_session.specs.declared.event.Event.TheVariants.{Config as Configured, Ended, Front, Other, Saved}
 use Rattle.doc_session.specs.Document.{Document, loaded_document}
 use Rattle.doc_text.specs.Refusal.{DocRefusal, of_edit}
 use Rattle.doc_session.specs.Step.{EventStep, event_step, refusal_at}
 use Rattle.session_step.specs.declared.terms.Terms.{Terms}
+pub use Rattle.session_step.specs.ViewSteps.{OpenView, view_of, named_view, updates_for, stepped, told}
+use Rattle.session_step.specs.PluginStep.{plugin_messages, plugin_outcome, styles_after}
 use Rattle.session_step.specs.declared.given.Given.{Given}
 use Rattle.session_step.specs.declared.given.Given.TheVariants as given
 
--- A VIEW that is open: its id, which is of ASCII, and its document
-pub record OpenView : Type 0 where
-  pub id : List ℕ
-  pub document : Document
-
--- the view with this id, where it is open
-abbrev pub view_of : List OpenView → List ℕ → Option OpenView
-view_of [] id = None
-view_of (view ∷ views) id = if bytes_eq id view.id then Some view else view_of views id
-
--- the view that a text names, in bytes, where it is open
-abbrev pub named_view : List OpenView → List ℕ → Option OpenView
-named_view views name = view_of views (encode_utf8_all name)
-
--- A SESSION: what it was made with, how all its texts are laid out and edited, the views that are open in the order of their openings, and
--- how many were opened
+-- A SESSION: what it was made with, how all its texts are laid out and edited, the views that are open in the order of their openings, how
+-- many were opened, the styles in the order of their first uses, and the plugins whose sessions have ended, in the order of their ends
 pub record Session : Type 0 where
   pub terms : Terms
   pub config : Config
   pub views : List OpenView
   pub opened : ℕ
+  pub styles : List Style
+  pub ended : List ℕ
+
+-- whether an entry is the front end's
+abbrev pub is_front : Entry → Bool
+is_front entry = entry.caller == 0
 
 -- what an act comes to: what it is answered, the views that are open after it, and the updates and the place to scroll to that the
 -- front end is told, if any
@@ -65,22 +59,10 @@ pub record Outcome : Type 0 where
   pub updates : List ViewUpdate
   pub scroll : Option Scroll
 
--- the update and the place to scroll to, as they are told of the view with this id, where there are any
-abbrev pub updates_for : List ℕ → Option Update → List ViewUpdate
-updates_for id None = []
-updates_for id (Some update) = record { view = id; update = update } ∷ []
-
+-- the place to scroll to, as it is told of the view with this id, where there is one
 abbrev pub scroll_for : List ℕ → Option Position → Option Scroll
 scroll_for id None = None
 scroll_for id (Some point) = Some (record { view = id; line = point.line; col = point.col })
-
--- the views after each of them took its step, and the updates of these steps in the order of the views
-abbrev pub stepped : (OpenView → EventStep) → List OpenView → List OpenView
-stepped steps views = map (λ (view : OpenView). record view { document = (steps view).document }) views
-
-abbrev pub told : (OpenView → EventStep) → List OpenView → List ViewUpdate
-told steps [] = []
-told steps (view ∷ views) = updates_for view.id (steps view).update ++ told steps views
 
 -- each view takes its step, which is answered so
 abbrev pub taking : Reply → Option Scroll → (OpenView → EventStep) → List OpenView → Outcome
@@ -116,7 +98,7 @@ first_config = record { tab = 4; width = 0; spaces = false }
 
 -- a session without entries
 abbrev pub first_session : Terms → Session
-first_session terms = record { terms = terms; config = first_config; views = []; opened = 0 }
+first_session terms = record { terms = terms; config = first_config; views = []; opened = 0; styles = []; ended = [] }
 
 -- the configuration after a change: a member of which nothing is said stays
 abbrev pub config_with : Config → Changes → Config
@@ -131,18 +113,23 @@ abbrev pub config_after : Config → Act → Config
 config_after config (Configure changes) = config_with config changes
 config_after config act = config
 
--- the document of a view that is opened on this text
-abbrev pub opened_document : Terms → Config → List ℕ → Document
-opened_document terms config text = loaded_document text terms.plugins terms.limit config
+-- a document once the session of each of these plugins has ended in it
+abbrev pub without_sessions : List ℕ → Document → Document
+without_sessions [] document = document
+without_sessions (caller ∷ callers) document = without_sessions callers (event_step document (Ended caller)).document
+
+-- the document of a view that is opened on this text, where these plugins' sessions have ended: so they have in it
+abbrev pub opened_document : Terms → List ℕ → Config → List ℕ → Document
+opened_document terms ended config text = without_sessions ended (loaded_document text terms.plugins terms.limit config)
 
 -- the view that is opened after so many, before its front end was told anything
-abbrev pub next_view : Terms → Config → ℕ → List ℕ → OpenView
-next_view terms config opened text = record { id = view_id_of (opened + 1); document = opened_document terms config text }
+abbrev pub next_view : Terms → List ℕ → Config → ℕ → List ℕ → OpenView
+next_view terms ended config opened text = record { id = view_id_of (opened + 1); document = opened_document terms ended config text }
 
 -- a view is opened behind those that are open, and its id is the answer
-abbrev pub opening_outcome : Terms → Config → ℕ → List OpenView → List ℕ → Outcome
-opening_outcome terms config opened views text =
-    taking (accepted (text_data (view_id_of (opened + 1)))) None other_step (views ++ next_view terms config opened text ∷ [])
+abbrev pub opening_outcome : Terms → List ℕ → Config → ℕ → List OpenView → List ℕ → Outcome
+opening_outcome terms ended config opened views text =
+    taking (accepted (text_data (view_id_of (opened + 1)))) None other_step (views ++ next_view terms ended config opened text ∷ [])
 
 -- the step of a view that is told a configuration
 abbrev pub config_step : Config → OpenView → EventStep
@@ -191,15 +178,15 @@ given_by Failed = given.Failed
 given_by NoCall = given.Nothing
 
 -- a view is opened on the text of a file; where there is none, no view is
-abbrev pub file_outcome : Terms → Config → ℕ → List OpenView → Given → Outcome
-file_outcome terms config opened views (given.Found text) = opening_outcome terms config opened views text
-file_outcome terms config opened views given.NotText = keeping views not_text
-file_outcome terms config opened views gave = keeping views shelf_failed
+abbrev pub file_outcome : Terms → List ℕ → Config → ℕ → List OpenView → Given → Outcome
+file_outcome terms ended config opened views (given.Found text) = opening_outcome terms ended config opened views text
+file_outcome terms ended config opened views given.NotText = keeping views not_text
+file_outcome terms ended config opened views gave = keeping views shelf_failed
 
 -- a view is opened on an empty text, or on what the shelf gave of its file
-abbrev pub open_outcome : Terms → Config → ℕ → List OpenView → Option (List ℕ) → Given → Outcome
-open_outcome terms config opened views None gave = opening_outcome terms config opened views []
-open_outcome terms config opened views (Some path) gave = file_outcome terms config opened views gave
+abbrev pub open_outcome : Terms → List ℕ → Config → ℕ → List OpenView → Option (List ℕ) → Given → Outcome
+open_outcome terms ended config opened views None gave = opening_outcome terms ended config opened views []
+open_outcome terms ended config opened views (Some path) gave = file_outcome terms ended config opened views gave
 
 -- how many were opened after an act: one more where a view is opened, and an id is never given again
 abbrev pub opened_after : ℕ → Act → Given → ℕ
@@ -235,7 +222,7 @@ abbrev pub outcome : Session → Act → Given → Outcome
 outcome session (Bad fault) gave = refusing session.views fault
 outcome session Nothing gave = keeping session.views (accepted null)
 outcome session (Configure changes) gave = config_outcome session.views (config_with session.config changes)
-outcome session (NewView path) gave = open_outcome session.terms session.config session.opened session.views path gave
+outcome session (NewView path) gave = open_outcome session.terms session.ended session.config session.opened session.views path gave
 outcome session (CloseView name) gave = close_outcome session.views (named_view session.views name)
 outcome session (Save name path) gave = save_outcome session.views (named_view session.views name) gave
 outcome session (Edit name act) gave = edit_outcome session.views (named_view session.views name) act
@@ -246,26 +233,53 @@ outcome session act gave = keeping session.views silent
 abbrev pub outcome_messages : Id → Outcome → List Data
 outcome_messages id done = entry_messages id done.reply [] done.updates done.scroll
 
--- the messages of a command
+-- the messages of a command of the front end
 abbrev pub messages : Session → Command → Given → List Data
 messages session command gave = outcome_messages command.id (outcome session command.act gave)
 
+-- those of an entry: by whether it is the front end's, what its act comes to, or what that of its plugin does
+abbrev pub messages_by : Bool → Session → Entry → List Data
+messages_by true session entry = messages session entry.command (given_by entry.shelf)
+messages_by false session entry =
+    plugin_messages entry.command.id (plugin_outcome session.views session.styles entry.caller entry.command.act)
+
 -- THE PIECE of an entry: the lines of its messages
 abbrev pub piece_of : Session → Entry → List ℕ
-piece_of session entry = lines_written (messages session entry.command (given_by entry.shelf))
+piece_of session entry = lines_written (messages_by (is_front entry) session entry)
 
--- the session after an act
+-- the session after an act of the front end
 abbrev pub act_step : Session → Act → Given → Session
-act_step session act gave = record {
-  terms = session.terms;
+act_step session act gave = record session {
   config = config_after session.config act;
   views = (outcome session act gave).views;
   opened = opened_after session.opened act gave;
 }
 
+-- the plugins whose sessions have ended once that of this one has: each stands there once
+abbrev pub ended_with : List ℕ → ℕ → List ℕ
+ended_with ended caller = if list_any (λ other. other == caller) ended then ended else ended ++ caller ∷ []
+
+-- the same after an act of the plugin
+abbrev pub ended_after : List ℕ → ℕ → Act → List ℕ
+ended_after ended caller Over = ended_with ended caller
+ended_after ended caller act = ended
+
+-- the session after an act of a plugin
+abbrev pub plugin_act_step : Session → ℕ → Act → Session
+plugin_act_step session caller act = record session {
+  views = (plugin_outcome session.views session.styles caller act).views;
+  styles = styles_after session.styles act;
+  ended = ended_after session.ended caller act;
+}
+
+-- the session after an entry, by whether that is the front end's
+abbrev pub step_by : Bool → Session → Entry → Session
+step_by true session entry = act_step session entry.command.act (given_by entry.shelf)
+step_by false session entry = plugin_act_step session entry.caller entry.command.act
+
 -- THE STEP: the session after an entry, and after entries
 abbrev pub step : Session → Entry → Session
-step session entry = act_step session entry.command.act (given_by entry.shelf)
+step session entry = step_by (is_front entry) session entry
 
 abbrev pub session_after : Session → List Entry → Session
 session_after session [] = session

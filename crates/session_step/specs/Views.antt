@@ -28,6 +28,10 @@ TakesEvents doc = head doc.text.engine.revisions < 2 ^ 63 - 1
 abbrev pub MayBeAsked : List Opened → Type 0
 MayBeAsked held = AllByRecursion (λ (kept : Opened). TakesEvents (arc_value kept.doc) × ∥ ((plain : Document) × DocStandsFor (arc_value kept.doc) plain) ∥₁) held
 
+-- each of these is the number of one of so many plugins
+abbrev pub AreOfPlugins : ℕ → List ℕ → Type 0
+AreOfPlugins plugins callers = AllByRecursion (λ caller. (1 ≤ caller) × (caller ≤ plugins)) callers
+
 -- the plugin with this number has a session in the document, which may have ended
 abbrev pub HasSession : ℕ → Doc → Type 0
 HasSession caller doc = (1 ≤ caller) × (caller ≤ length doc.text.sessions)

@@ -8,7 +8,7 @@ ghost use Rattle.entry_lines.specs.Notices.{told_of};
 ghost use Rattle.entry_lines.specs.Answer.{accepted, reply_of};
 ghost use Rattle.entry_lines.specs.ViewId.{view_id_of};
 ghost use Rattle.session_step.specs.Views.{IsOfLine, Stands};
-ghost use Rattle.session_step.specs.Views.{AreThere, IsFoundAt, MayBeAsked};
+ghost use Rattle.session_step.specs.Views.{AreOfPlugins, AreThere, IsFoundAt, MayBeAsked};
 ghost use Rattle.session_step.specs.InnerStep.{IsEdited, IsOutcome, IsSpentOrLack, MayTell, each_step};
 ghost use Rattle.session_step.specs.News.{closed_news, edit_news, edited_news, file_news, front_news, open_news, opened_news};
 ghost use Rattle.session_step.specs.Session.{OpenView, Session, close_outcome, config_after, edit_came, edit_outcome, front_outcome, keeping, named_view, file_outcome, open_outcome, opening_outcome, outcome, refusing, refusing_view, result_of, save_outcome, saved_outcome, scroll_for, spent_total, stored_outcome, taking};
@@ -17,6 +17,7 @@ use crate::after::after_alone;
 use crate::given::Given;
 use crate::news::{news_of, one};
 use crate::opened::{Opened, place_of};
+use crate::opened_doc::opened_doc;
 use crate::stepped::{Stepped, ToEach};
 use crate::terms::Terms;
 use doc_session::{Body, Doc, DocFault, Effects, Event};
@@ -40,30 +41,32 @@ pub struct ActEffects {
     pub news: List<PluginNews>,
 }
 
-/// Does what a command asks that was given this, beside the views that are open. `opened` is how many were opened before, and `config` how
-/// texts are laid out and edited from then on.
+/// Does what a command asks that was given this, beside the views that are open. `ended` are the plugins whose sessions have ended, `opened`
+/// is how many views were opened before, and `config` how texts are laid out and edited from then on.
 pub fn act_on(
     alloc: Global,
     held: &[Opened],
     terms: Terms,
+    ended: &[u32],
     opened: u64,
     config: Config,
     act: &Act,
     given: Given,
 ) -> Result<ActEffects, NoMemory>
     requires asked { MayBeAsked held.now }
+    requires ended { AreOfPlugins terms.plugins ended.now }
     requires few { opened < 2 ^ 63 }
     requires tab { 0 < config.tab }
     requires limit { terms.limit ≤ 2 ^ 60 }
     requires line { IsOfLine act.now }
-    ensures { (session : Session) → AreThere held.now session.views → terms ≡ session.terms → opened ≡ session.opened
+    ensures { (session : Session) → AreThere held.now session.views → terms ≡ session.terms → ended.now ≡ session.ended → opened ≡ session.opened
         → config ≡ config_after session.config act.now → IfOk result (IsOutcome (outcome session act.now given) (front_news session act.now given)) }
 {
     match act {
         Act::Bad(fault) => refused(alloc, held, fault),
         Act::Nothing => others(alloc, held, FrontReply::Accepted),
         Act::Configure(_) => each(alloc, held, ToEach::Config(config), FrontReply::Accepted),
-        Act::NewView { path } => open(alloc, held, terms, opened, config, path, given),
+        Act::NewView { path } => open(alloc, held, terms, ended, opened, config, path, given),
         Act::CloseView { view } => close(alloc, held, view),
         Act::Save { view, path: _ } => save(alloc, held, view, &given),
         Act::Edit { view, act } => edit(alloc, held, view, act),
@@ -144,26 +147,29 @@ fn open(
     alloc: Global,
     held: &[Opened],
     terms: Terms,
+    ended: &[u32],
     opened: u64,
     config: Config,
     path: &Option<Text>,
     given: Given,
 ) -> Result<ActEffects, NoMemory>
     requires asked { MayBeAsked held.now }
+    requires ended { AreOfPlugins terms.plugins ended.now }
     requires few { opened < 2 ^ 63 }
     requires tab { 0 < config.tab }
     requires limit { terms.limit ≤ 2 ^ 60 }
     ensures { (views : List OpenView) → Stands held.now views
-        → IfOk result (IsOutcome (open_outcome terms config opened views path.now given) (open_news opened path.now given)) }
+        → IfOk result (IsOutcome (open_outcome terms ended.now config opened views path.now given) (open_news opened path.now given)) }
 {
     match path {
-        Some(_) => open_file(alloc, held, terms, opened, config, given),
+        Some(_) => open_file(alloc, held, terms, ended, opened, config, given),
         None => open_text(
             alloc,
             held,
             view_id_of(alloc, opened + 1)?,
             Text::new(alloc),
             terms,
+            ended,
             config,
         ),
     }
@@ -173,16 +179,18 @@ fn open_file(
     alloc: Global,
     held: &[Opened],
     terms: Terms,
+    ended: &[u32],
     opened: u64,
     config: Config,
     given: Given,
 ) -> Result<ActEffects, NoMemory>
     requires asked { MayBeAsked held.now }
+    requires ended { AreOfPlugins terms.plugins ended.now }
     requires few { opened < 2 ^ 63 }
     requires tab { 0 < config.tab }
     requires limit { terms.limit ≤ 2 ^ 60 }
     ensures { (views : List OpenView) → Stands held.now views
-        → IfOk result (IsOutcome (file_outcome terms config opened views given) (file_news opened given)) }
+        → IfOk result (IsOutcome (file_outcome terms ended.now config opened views given) (file_news opened given)) }
 {
     match given {
         Given::Found(text) => open_text(
@@ -191,6 +199,7 @@ fn open_file(
             view_id_of(alloc, opened + 1)?,
             text,
             terms,
+            ended,
             config,
         ),
         Given::NotText => others(alloc, held, FrontReply::NotText),
@@ -209,16 +218,18 @@ fn open_text(
     id: Text,
     text: Text,
     terms: Terms,
+    ended: &[u32],
     config: Config,
 ) -> Result<ActEffects, NoMemory>
     requires asked { MayBeAsked held.now }
+    requires ended { AreOfPlugins terms.plugins ended.now }
     requires tab { 0 < config.tab }
     requires limit { terms.limit ≤ 2 ^ 60 }
     ensures { (opened : ℕ) (views : List OpenView) → id ≡ view_id_of (opened + 1) → Stands held.now views
-        → IfOk result (IsOutcome (opening_outcome terms config opened views text) (opened_news opened text)) }
+        → IfOk result (IsOutcome (opening_outcome terms ended.now config opened views text) (opened_news opened text)) }
 {
     let news = opened_news(alloc, &id, text.byte_len())?;
-    let doc = Doc::of_text(alloc, text, terms.plugins, terms.limit, config)?;
+    let doc = opened_doc(alloc, text, terms, ended, config)?;
     let copy = id.copy(alloc)?;
     let shared = Arc::new(alloc, doc)?;
     let loaded = Opened {

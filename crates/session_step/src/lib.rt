@@ -13,6 +13,7 @@ mod given;
 mod made;
 mod news;
 mod opened;
+mod opened_doc;
 mod stepped;
 mod terms;
 

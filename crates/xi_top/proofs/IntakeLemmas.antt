@@ -47,14 +47,14 @@ first_part false b both = absurd cc
 pub ordered_legal : (journal : List Entry) → IsLegal 0 journal → IsOrdered 0 journal
 ordered_legal journal legal = first_part (is_ordered 0 journal) (list_all has_own_note journal) legal
 
-legal_open : (entries : List Entry) → AllByRecursion IsOpen entries → IsLegal 0 (entries ++ closing_entry ∷ [])
-legal_open entries each = IsLegal-front entries (closing_entry ∷ []) each refl
+legal_open : (entries : List Entry) → AllByRecursion (IsOpen 0) entries → IsLegal 0 (entries ++ closing_entry ∷ [])
+legal_open entries each = IsLegal-front 0 entries (closing_entry ∷ []) each refl
 
-legal_cut : (sent : List Entry) (command : Command) (note : ShelfNote) → AllByRecursion IsOpen sent → IsOfLine command.act →
+legal_cut : (sent : List Entry) (command : Command) (note : ShelfNote) → AllByRecursion (IsOpen 0) sent → IsOfLine command.act →
     may_have_note command.act note ≡ true → IsLegal 0 ((sent ++ front_entry command note false ∷ []) ++ closing_entry ∷ [])
 legal_cut sent command note each asks kind =
-    IsLegal-closed (sent ++ front_entry command note false ∷ []) (IsLegal-push sent command note false each asks kind)
-    (closing-push sent command note false (open_not_over sent each) asks)
+    IsLegal-closed 0 (sent ++ front_entry command note false ∷ []) (IsLegal-push 0 sent command note false each asks kind)
+    (closing-push sent command note false (open_not_over 0 sent each) asks)
 
 -- in a legal journal without plugins all entries are the front end's
 holds_front : (outcome : Outcome) (taken left : List ℕ) (entries : List Entry) → IsLegal 0 (entries ++ closing_entry ∷ []) →
@@ -64,7 +64,7 @@ holds_front outcome taken left entries legal lines =
     subst At (sym (front_entries-alone entries (closing_entry ∷ []) (ordered_legal (entries ++ closing_entry ∷ []) legal))) lines
 
 -- open entries were sent, and the closing one counts as sent
-sent_front : (entries rest : List Entry) → AllByRecursion IsOpen entries → AreSent rest → AreSent (entries ++ rest)
+sent_front : (entries rest : List Entry) → AllByRecursion (IsOpen 0) entries → AreSent rest → AreSent (entries ++ rest)
 sent_front [] rest each sent = sent
 sent_front (entry ∷ entries) rest each sent = (each.0.sent, sent_front entries rest each.1 sent)
 

@@ -68,7 +68,7 @@ module _ {S K H : Type 0} (tell_source : S → SourceState) (tell : Core K H →
 -- ---- the moments
 
 -- entries that are open were sent
-are_sent : (entries : List Entry) → AllByRecursion IsOpen entries → AreSent entries
+are_sent : (entries : List Entry) → AllByRecursion (IsOpen 0) entries → AreSent entries
 are_sent [] each = tt
 are_sent (entry ∷ entries) each = (each.0.sent, are_sent entries each.1)
 

@@ -10,7 +10,7 @@ use Rattle.session_step.proofs.DoneLemmas.{IsDone-by}
 use Rattle.session_step.proofs.command.done.Goals as goal
 
 pub returns : goal.returns
-returns c = λ session there terms opened config.
+returns c = λ session there terms ended opened config.
     let command = c.args.command.now in
     let last = c.in_ok-held in
     let At : List Opened → Type 0 = λ held. IsDone session command c.args.given last.piece held in
@@ -19,5 +19,5 @@ returns c = λ session there terms opened config.
     let Lines : List NumberedStyle → Type 0 =
     λ styles. AreLinesOf (entry_messages command.id (reply_of effects.reply) styles effects.updates effects.scroll) (encode_utf8_all last.piece) in
     subst At (sym made.0)
-    (IsDone-by session command c.args.given c.in_ok-effects.effects last.piece (c.in_ok-effects.ensures session there terms opened config)
+    (IsDone-by session command c.args.given c.in_ok-effects.effects last.piece (c.in_ok-effects.ensures session there terms ended opened config)
     (IfOk-at_ok _ made.1 c.piece_of-piece.ensures.reads_back) (subst Lines c.new.ensures (IfOk-at_ok _ made.1 c.piece_of-piece.ensures.lines)))

@@ -8,7 +8,7 @@ use Rattle.xi_top.proofs.ReadLemmas.{AnswersInTime-served, IsReadByCount-outcome
 use Rattle.xi_top.proofs.run.run.Goals as goal
 
 pub close-journal-requires : goal.close-journal-requires
-close-journal-requires g c = closing_last (run_journal c.serve-outcome.new.run) c.serve-outcome.ensures.stops.legal
+close-journal-requires g c = closing_last 0 (run_journal c.serve-outcome.new.run) c.serve-outcome.ensures.stops.legal
 
 pub returns-in-Ok-clause-alone : goal.returns-in-Ok-clause-alone
 returns-in-Ok-clause-alone g c =

@@ -15,14 +15,14 @@ invariant_of-self g c =
     let none = not_closed_of journal.items core.stage core.staged c.in-Serves.is in
     let items : c.push_reserved.new.self.items ≡ journal.items ++ closing_entry ∷ [] =
     c.push_reserved.ensures.items ∙ ap (λ e. journal.items ++ e ∷ []) c.closing.ensures in
-    let Kept : List Entry → Type 0 = λ entries. ∥ IsOfJournal c.args.self.now.terms core.views core.opened core.config entries ∥₁ in
+    let Kept : List Entry → Type 0 = λ entries. ∥ IsOfJournal c.args.self.now.terms core.views core.ended core.opened core.config entries ∥₁ in
     record {
-      legal = subst (IsLegal 0) (sym items) (IsLegal-closed journal.items core.legal none);
+      legal = subst (IsLegal core.terms.plugins) (sym items) (IsLegal-closed core.terms.plugins journal.items core.legal none);
       staged = stage-closing journal.items ∙ ap stage_of (sym items);
       room =
           omega (arith, c.push_reserved.ensures.len, c.push_reserved.ensures.capacity, core.room, reserved_open core.stage c.in-Serves.is);
       limit = core.limit;
       kept =
           subst Kept (sym items)
-          (∥∥₁_map core.kept (λ kept. IsOfJournal-closed c.args.self.now.terms core.views core.opened core.config journal.items few core.legal none kept));
+          (∥∥₁_map core.kept (λ kept. IsOfJournal-closed c.args.self.now.terms core.views core.ended core.opened core.config journal.items few core.legal none kept));
     }

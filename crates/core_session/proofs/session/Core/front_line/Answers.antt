@@ -14,7 +14,7 @@ pub returns-in-Broken-clause-served : goal.returns-in-Broken-clause-served
 returns-in-Broken-clause-served g c = λ terms serving.
     let journal = c.args.self.now.journal.items in
     let over = over_of journal c.args.self.now.stage c.args.self.now.staged c.in-Broken.is in
-    absurd_of (sym (open_not_over journal serving.sent) ∙ over)
+    absurd_of (sym (open_not_over terms.plugins journal serving.sent) ∙ over)
 
 pub returns-in-Broken-clause-complete : goal.returns-in-Broken-clause-complete
 returns-in-Broken-clause-complete g c = λ calm goes.

@@ -10,7 +10,7 @@ use Rattle.core_session.specs.Kept.{StandsForSession, front_entry, is_over, stag
 use Rattle.core_session.specs.Core.{piece_after}
 use Rattle.core_session.proofs.EnterLemmas.{PutsAs-by, unsent_of}
 use Rattle.core_session.proofs.KeptLemmas.{IsOfJournal-push, IsLegal-push, open_journal, reserved_if, showing_open, stage-push, stage_serves}
-use Rattle.core_session.proofs.SessionLemmas.{session_of-push}
+use Rattle.core_session.proofs.SessionLemmas.{AreAccepted-push, session_of-push}
 use Rattle.core_session.proofs.ShelfLemmas.{AreSavesAsked-push}
 use Rattle.core_session.proofs.ShowsLemmas.{serves_push}
 use Rattle.core_session.proofs.session.Core.put.Goals as goal
@@ -22,10 +22,10 @@ invariant_of-self g c =
     let made = c.args.made in
     let few : length journal.items < 2 ^ 63 = omega (arith, journal.ok.0, journal.ok.1, journal.small, c.requires.room) in
     let goes : is_over journal.items ≡ false = stage_serves journal.items (sym c.requires.serves ∙ core.staged) in
-    let each = open_journal journal.items core.legal goes in
+    let each = open_journal core.terms.plugins journal.items core.legal goes in
     let items = c.push_reserved.ensures.items ∙ ap (λ e. journal.items ++ e ∷ []) c.front_entry.ensures in
     record {
-      legal = subst (IsLegal 0) (sym items) (IsLegal-push journal.items made.command made.note _ each c.requires.asks c.requires.kind);
+      legal = subst (IsLegal core.terms.plugins) (sym items) (IsLegal-push core.terms.plugins journal.items made.command made.note _ each c.requires.asks c.requires.kind);
       staged = c.stage_if-self.ensures ∙ stage-push journal.items made.command made.note _ goes c.requires.asks ∙ ap stage_of (sym items);
       room =
           omega (
@@ -40,7 +40,7 @@ invariant_of-self g c =
           rw (items, c.put.ensures)
           (∥∥₁_elim core.kept ∥∥₁_prop (λ kept.
           ∥∥₁_map c.requires.prepared (λ prepared.
-          IsOfJournal-push c.args.self.now.terms journal.items made _ few each (showing_open c.args.self.now.terms journal.items each kept.showing) kept.saves_asked c.requires.asks c.requires.kind
+          IsOfJournal-push c.args.self.now.terms core.ended journal.items made _ few each (showing_open c.args.self.now.terms journal.items each kept.showing) kept.saves_asked kept.accepted c.requires.asks c.requires.kind
           c.requires.asked prepared)));
     }
 
@@ -59,7 +59,7 @@ returns-clause-puts g c = λ serving prepared.
     let journal = c.args.self.now.journal in
     let made = c.args.made in
     let few : length journal.items < 2 ^ 63 = omega (arith, journal.ok.0, journal.ok.1, journal.small, c.requires.room) in
-    let parts = serves_push c.args.self.now.terms _ made.command made.note _ _ _ _ few serving.sent serving.showing c.requires.asks c.requires.kind prepared.lines
+    let parts = serves_push c.args.self.now.terms _ made.command made.note _ _ _ _ _ few serving.sent serving.showing c.requires.asks c.requires.kind prepared.lines
     prepared.reads_back prepared.stands in
     let saves = AreSavesAsked-push c.args.self.now.terms journal.items (front_entry made.command made.note true) serving.saves_asked c.requires.asked in
     let items : c.push_reserved.new.self.items ≡ journal.items ++ front_entry made.command made.note true ∷ [] =
@@ -73,6 +73,7 @@ returns-clause-puts g c = λ serving prepared.
       serving = record {
         made_with = refl;
         sent = rw items parts.0;
+        accepted = rw items (AreAccepted-push c.args.self.now.terms journal.items (front_entry made.command made.note true) serving.accepted tt);
         saves_asked = rw items saves;
         showing = rw items parts.1;
         stands = rw (items, c.put.ensures) parts.2;
@@ -92,8 +93,8 @@ returns-clause-puts g c = λ serving prepared.
     let entry = front_entry made.command made.note false in
     let items : c.push_reserved.new.self.items ≡ journal.items ++ entry ∷ [] =
     c.push_reserved.ensures.items ∙ ap (λ e. journal.items ++ e ∷ []) (c.front_entry.ensures ∙ ap (front_entry made.command made.note) no) in
-    let stands : StandsForSession made.held made.opened made.config (session_of c.args.self.now.terms (journal.items ++ entry ∷ [])) =
-    subst (StandsForSession made.held made.opened made.config) (sym (session_of-push c.args.self.now.terms journal.items entry)) prepared.stands in
+    let stands : StandsForSession made.held c.args.self.now.ended made.opened made.config (session_of c.args.self.now.terms (journal.items ++ entry ∷ [])) =
+    subst (StandsForSession made.held c.args.self.now.ended made.opened made.config) (sym (session_of-push c.args.self.now.terms journal.items entry)) prepared.stands in
     let whole : bytes ≡ piece_after c.args.self.now.terms journal.items entry = c.as_bytes-bytes.ensures.value ∙ c.as_str.ensures.utf8 ∙ prepared.lines.joined in
     let Part : List ℕ → Type 0 = λ piece. c.write_piece-taken.result < length piece in
     let Gained : List ℕ → Type 0 = λ piece.
