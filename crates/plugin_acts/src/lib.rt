@@ -7,6 +7,7 @@
 mod act;
 mod next;
 mod refused;
+pub mod rows;
 
 pub use act::{Acted, PluginEffects, plugin_act};
 pub use next::{NextViews, put_views};
