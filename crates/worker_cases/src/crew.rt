@@ -521,3 +521,50 @@ fn without_thread<R: Threads>(rt: &R, alloc: Global) -> Option<(bool, bool, usiz
 fn a_worker_without_a_thread_comes_back_at_once(rt: HostRuntime) {
     assert!(rt; without_thread(&rt, rt.alloc()) == Some((true, false, 0)));
 }
+
+// A plugin that says one line a turn, so often, and is done then. It holds nothing that a box could not drop.
+#[derive(Drop)]
+struct Speaker {
+    left: u32,
+    alloc: Global,
+}
+
+impl Plugin for Speaker {
+    ghost use Rattle.std.specs.Prelude.{None};
+
+    ghost told = { λ p. None };
+
+    fn turn(&mut self, _lines: &[Text]) -> Turn {
+        let mut lines = Texts::new(self.alloc);
+        if let Ok(line) = Text::from_str(self.alloc, "boxed") {
+            if lines.push(line).is_ok() {
+                self.left = self.left.saturating_sub(1);
+            }
+        }
+        Turn {
+            lines,
+            done: self.left == 0,
+        }
+    }
+}
+
+// How many entries two boxed plugins made.
+fn boxed_entries<R: Threads + Wait + Clock + Sync>(rt: &R, alloc: Global) -> Option<usize> {
+    let Ok(first) = Box::new(alloc, Speaker { left: 9, alloc }) else {
+        return None;
+    };
+    let Ok(second) = Box::new(alloc, Speaker { left: 9, alloc }) else {
+        return None;
+    };
+    let first: Box<dyn Plugin + Send> = first;
+    let second: Box<dyn Plugin + Send> = second;
+    match run_both(rt, alloc, &FreeGate, first, second, Work::Nothing) {
+        Some(outcome) => Some(outcome.post.entries.len()),
+        None => None,
+    }
+}
+
+#[test]
+fn boxed_plugins_have_their_turns(rt: HostRuntime) {
+    assert!(rt; boxed_entries(&rt, rt.alloc()) == Some(20));
+}
