@@ -9,7 +9,7 @@ use crate::words::{Invocation, invocation_of, words};
 use outside::{FileShelf, StdSink, StdSource};
 use plain_text::Text;
 use std::process::ExitCode;
-use xi_top::xi_main;
+use xi_top::{Report, xi_main};
 
 /// Does what the words of the process ask, and gives the status that it ends with.
 pub fn status(rt: &HostRuntime) -> ExitCode
@@ -70,5 +70,12 @@ fn run(rt: &HostRuntime, words: &[Text]) -> ExitCode
     let mut source = StdSource::new(rt.stdin());
     let sink = StdSink::new(rt.stdout());
     let report = xi_main(rt.alloc(), words, &mut source, sink, FileShelf::new(rt));
+    code_of(&report)
+}
+
+/// The process ends with the status of its run.
+fn code_of<K, H>(report: &Report<K, H>) -> ExitCode
+    ensures { exit_status result ≡ report.now.status }
+{
     ExitCode::from(report.status)
 }
