@@ -4,3 +4,4 @@ mod LeafLemmas
 mod TimeLemmas
 mod TellerLemmas
 mod RunLemmas
+pub mod ForCallers

@@ -96,6 +96,13 @@ impl Book {
         Ok(lines)
     }
 
+    /// The pages in the order of openings, each with what stands beside it.
+    pub fn leaves(&self) -> &[Leaf]
+        ensures { result.now ≡ self.now.leaves }
+    {
+        self.leaves.as_slice()
+    }
+
     /// The page of a view; `None` exactly where it is not open. It costs the number of pages.
     pub fn page(&self, view: &Text) -> Option<&Page>
         ensures { option_copied result ≡ page_of view.now self.now.leaves }

@@ -1,2 +1,3 @@
 mod SearchLemmas
 mod ReplaceLemmas
+pub mod ForCallers
