@@ -1,19 +1,15 @@
 -- Lines that are given, and lines that are heeded one after the other.
-use Rattle.std.proofs.Common.{◌≡◌, ℕ, ◌+◌, ◌-◌, suc, ◌<◌, ◌≤◌, List, [], ◌∷◌, ◌++◌, length, length-append, take, drop, get_or, arith, refl, sym, ap, subst, ◌∙◌, append_assoc, append-nil, add-one}
+use Rattle.std.proofs.Common.{◌≡◌, ℕ, ◌+◌, suc, ◌<◌, ◌≤◌, List, [], ◌∷◌, ◌++◌, length, drop, get_or, refl, sym, ap, subst, ◌∙◌, append_assoc, append-nil, add-one}
 use Rattle.std.proofs.Math.Seq.{drop-cons}
-use Rattle.std.proofs.lemmas.List.{map-append, drop_all, take_at, get_or_push}
+use Rattle.std.proofs.lemmas.List.{map-append, drop_all}
 use Rattle.std.specs.List.{AllByRecursion}
 use Rattle.std.specs.Str.{encode_utf8_all}
 use Rattle.xi_plain.specs.declared.command.Command.{Command}
-use Rattle.serde_json.specs.Written.{compact_text}
-use Rattle.json_rpc.specs.Line.{reading, line_of, IsLineOf}
-use Rattle.json_rpc.specs.Laws.{EndsDoNotMatter}
-use Rattle.json_rpc.specs.Request.{value_request, line_request}
-use Rattle.plugin_wire.specs.Asked.{ask_of, ask_from}
-use Rattle.plugin_side.specs.Asking.{command_data}
+use Rattle.plugin_wire.specs.Asked.{ask_of}
+use Rattle.plugin_side.specs.Asking.{turn_bytes}
 use Rattle.plugin_side.specs.declared.heard.Heard.{Heard}
 use Rattle.plugin_side.specs.Heard.{heard_in}
-use Rattle.shipped_plugins.specs.Turns.{Upshot, utf8_of, line_bytes, command_lines, ReadsBack, Gives, GivesFirst, Comes, ComesFirst, heeded, HeedsAll, HeedsFirst}
+use Rattle.shipped_plugins.specs.Turns.{Upshot, utf8_of, command_lines, ReadsBack, Gives, GivesFirst, Comes, ComesFirst, heeded, HeedsAll, HeedsFirst}
 
 -- ---- lines that are given
 
@@ -24,35 +20,16 @@ all_append P (x ∷ xs) ys all each = (all.0, all_append P xs ys all.1 each)
 pub Gives-none : (from : List (List ℕ)) → Gives [] from from
 Gives-none from = record { put = sym (append-nil from); reads = tt }
 
-pub Gives-one : (command : Command) (from to : List (List ℕ)) → to ≡ from ++ line_bytes command ∷ [] → ReadsBack command → Gives (command ∷ []) from to
+pub Gives-one : (command : Command) (from to : List (List ℕ)) → to ≡ from ++ turn_bytes command ∷ [] → ReadsBack command → Gives (command ∷ []) from to
 Gives-one command from to is back = record { put = is; reads = (back, tt) }
 
-pub Gives-pushed : (command : Command) (line : List ℕ) (before after : List (List ℕ)) → encode_utf8_all line ≡ line_bytes command → ReadsBack command → after ≡ before ++ line ∷ []
+pub Gives-pushed : (command : Command) (line : List ℕ) (before after : List (List ℕ)) → encode_utf8_all line ≡ turn_bytes command → ask_of (encode_utf8_all line) ≡ command
+    → after ≡ before ++ line ∷ []
     → Gives (command ∷ []) (utf8_of before) (utf8_of after)
 Gives-pushed command line before after is back puts =
     Gives-one command (utf8_of before) (utf8_of after)
-    (ap utf8_of puts ∙ map-append encode_utf8_all before (line ∷ []) ∙ ap (λ bytes. utf8_of before ++ bytes ∷ []) is) back
-
--- ---- the LF at the end of a line
-
--- a line of so many bytes without the last one
-pub line_bytes-popped : (command : Command) (old new : List ℕ) (n : ℕ) → n ≡ length old → old ≡ line_of (command_data command)
-    → (0 < n → get_or old (n - 1) 0 < 128 → new ≡ take (n - 1) old) → new ≡ line_bytes command
-unfolding line_bytes line_of
-line_bytes-popped command old new n count is pops =
-    let text = compact_text (command_data command) in
-    let long : length old ≡ length text + 1 = ap length is ∙ length-append text (10 ∷ []) in
-    let last : length text ≡ n - 1 = omega (arith, long, count) in
-    let byte : get_or old (n - 1) 0 ≡ 10 = ap (λ l. get_or l (n - 1) 0) is ∙ get_or_push text 10 0 (n - 1) last in
-    pops (omega (arith, long, count)) (omega (arith, byte)) ∙ ap (take (n - 1)) is ∙ take_at text (10 ∷ []) (n - 1) last
-
--- without it the core reads the line as with it
-pub ReadsBack-line : (command : Command) (line : List ℕ) → EndsDoNotMatter → IsLineOf (command_data command) line → ask_of line ≡ command → ReadsBack command
-unfolding line_bytes line_of ask_of line_request
-ReadsBack-line command line ends is asks =
-    let text = compact_text (command_data command) in
-    let same : reading line ≡ reading text = ap reading is.bytes ∙ ends text is.one in
-    sym (ap (λ o. ask_from (value_request o)) same) ∙ asks
+    (ap utf8_of puts ∙ map-append encode_utf8_all before (line ∷ []) ∙ ap (λ bytes. utf8_of before ++ bytes ∷ []) is)
+    (sym (ap ask_of is) ∙ back)
 
 -- ---- one after the other
 
@@ -60,7 +37,7 @@ pub Gives-then : (first later : List Command) (from between to : List (List ℕ)
 Gives-then first later from between to h k = record {
   put =
       k.put ∙ ap (λ lines. lines ++ command_lines later) h.put ∙ append_assoc from (command_lines first) (command_lines later)
-      ∙ ap (λ lines. from ++ lines) (sym (map-append line_bytes first later));
+      ∙ ap (λ lines. from ++ lines) (sym (map-append turn_bytes first later));
   reads = all_append ReadsBack first later h.reads k.reads;
 }
 

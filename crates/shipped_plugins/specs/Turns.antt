@@ -4,9 +4,8 @@ use Rattle.std.specs.Bool.{MatchBool}
 use Rattle.std.specs.List.{AllByRecursion}
 use Rattle.std.specs.Str.{encode_utf8_all}
 use Rattle.xi_plain.specs.declared.command.Command.{Command}
-use Rattle.serde_json.specs.Written.{compact_text}
 use Rattle.plugin_wire.specs.Asked.{ask_of}
-use Rattle.plugin_side.specs.Asking.{command_data}
+use Rattle.plugin_side.specs.Asking.{turn_bytes}
 use Rattle.plugin_side.specs.declared.heard.Heard.{Heard}
 use Rattle.plugin_side.specs.Heard.{heard_in}
 
@@ -30,17 +29,13 @@ utf8_of texts = map encode_utf8_all texts
 
 -- ---- lines of commands
 
--- the line of a command, without its LF
-unfoldable pub line_bytes : Command → List ℕ
-line_bytes command = compact_text (command_data command)
-
 -- the lines of commands, in their order
 abbrev pub command_lines : List Command → List (List ℕ)
-command_lines commands = map line_bytes commands
+command_lines commands = map turn_bytes commands
 
 -- the core reads the line of the command as this command
 abbrev pub ReadsBack : Command → Type 0
-ReadsBack command = ask_of (line_bytes command) ≡ command
+ReadsBack command = ask_of (turn_bytes command) ≡ command
 
 -- the lines of these commands were put behind others, and the core reads each as its command
 pub record Gives (commands : List Command) (before after : List (List ℕ)) : Type 0 where

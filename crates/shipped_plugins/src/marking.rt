@@ -5,11 +5,11 @@ ghost use Rattle.plugin_side.specs.Range.{IsTakenCommand};
 ghost use Rattle.shipped_plugins.specs.Todo.{answer_asks, ack_ask, number_of, read_ask, reads, settles, spans_ask, todo_start, todo_step, told_version, whole_number};
 ghost use Rattle.shipped_plugins.specs.Turns.{Comes, ComesFirst, Gives, GivesFirst, HeedsAll, HeedsFirst, utf8_of};
 
-use crate::give::{give_with_ack, line_without_lf};
+use crate::give::give_with_ack;
 use crate::marks::spans_of;
 use crate::version::Version;
 use plain_text::{NoMemory, Text, Texts, TryClone};
-use plugin_side::{Answered, Heard, Told, hear};
+use plugin_side::{Answered, Heard, Told, hear, turn_line};
 use std::alloc::Global;
 use std::collections::BTreeMap;
 use std::marker::Model;
@@ -95,7 +95,7 @@ impl Marking {
         ensures unchanged { OnErr result ((self.new ≡ self.old) × (given.new ≡ given.old)) }
     {
         let command = read_ask(self.alloc, self.next, &version)?;
-        let line = line_without_lf(self.alloc, &command)?;
+        let line = turn_line(self.alloc, &command)?;
         given.push(line)?;
         match self.asked.insert(self.next, version) {
             Ok(_) => {

@@ -9,7 +9,7 @@ pub returns-in-Ok-clause-all : goal.returns-in-Ok-clause-all
 returns-in-Ok-clause-all c =
     Comes-read c.args.self.now c.args.version c.self.inside.next c.self.inside.asked.entries c.insert.new.self.entries c.in_ok-command.command
     (utf8_of c.args.given.now) (utf8_of c.push.new.self) c.self.view_is c.requires c.in_ok-command.ensures.command c.in-Ok.ensures.entries
-    (Gives-pushed c.in_ok-command.command c.in_ok-line.line c.args.given.now c.push.new.self c.in_ok-line.ensures.line c.in_ok-line.ensures.reads c.in_ok-push.ensures.pushed)
+    (Gives-pushed c.in_ok-command.command c.in_ok-line.line c.args.given.now c.push.new.self c.in_ok-line.ensures.line (c.in_ok-line.ensures.asked c.in_ok-command.ensures.taken) c.in_ok-push.ensures.pushed)
 
 pub returns-clause-unchanged : goal.returns-clause-unchanged
 returns-clause-unchanged c =
