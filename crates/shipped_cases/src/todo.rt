@@ -189,4 +189,20 @@ fn two_views_are_kept_apart(rt: HostRuntime) {
             r#"{"method":"update_spans","params":{"len":4,"rev":0,"spans":[{"end":4,"start":0,"style":{"weight":700}}],"start":0,"view_id":"b"}}|{"method":"ack","params":{"rev":0,"view_id":"b"}}|{"method":"update_spans","params":{"len":0,"rev":0,"spans":[],"start":0,"view_id":"a"}}|{"method":"ack","params":{"rev":0,"view_id":"a"}}|"#
         )
     );
+    assert!(rt;
+        gives(
+            alloc,
+            &mut plugin,
+            r#"{"method":"update","params":{"author":0,"delta":{"base_len":0,"els":[]},"new_len":4,"rev":1,"view_id":"b"}}|{"method":"update","params":{"author":0,"delta":{"base_len":0,"els":[]},"new_len":4,"rev":1,"view_id":"a"}}|{"method":"update","params":{"author":0,"delta":{"base_len":0,"els":[]},"new_len":4,"rev":2,"view_id":"b"}}"#,
+            r#"{"id":2,"method":"get_data","params":{"max_size":1048576,"rev":1,"start":0,"view_id":"b"}}|{"id":3,"method":"get_data","params":{"max_size":1048576,"rev":1,"start":0,"view_id":"a"}}|{"id":4,"method":"get_data","params":{"max_size":1048576,"rev":2,"start":0,"view_id":"b"}}|"#
+        )
+    );
+    assert!(rt;
+        gives(
+            alloc,
+            &mut plugin,
+            r#"{"id":3,"result":{"chunk":"TODO","offset":0}}|{"id":4,"result":{"chunk":"todo","offset":0}}|{"id":2,"result":{"chunk":"","offset":0}}"#,
+            r#"{"method":"update_spans","params":{"len":4,"rev":1,"spans":[{"end":4,"start":0,"style":{"weight":700}}],"start":0,"view_id":"a"}}|{"method":"ack","params":{"rev":1,"view_id":"a"}}|{"method":"update_spans","params":{"len":4,"rev":2,"spans":[],"start":0,"view_id":"b"}}|{"method":"ack","params":{"rev":2,"view_id":"b"}}|{"method":"update_spans","params":{"len":0,"rev":1,"spans":[],"start":0,"view_id":"b"}}|{"method":"ack","params":{"rev":1,"view_id":"b"}}|"#
+        )
+    );
 }
