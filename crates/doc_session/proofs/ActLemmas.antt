@@ -1,6 +1,6 @@
 -- The commands of the front end: those that only look, an undo, a redo, and all others.
 use Rattle.std.proofs.Common.{◌≡◌, ℕ, ◌+◌, Bool, true, false, List, [], length, Option, Some, None, refl, ap, sym, subst, ◌∙◌}
-use Rattle.std.specs.Prelude.{if◌then◌else◌}
+use Rattle.std.specs.Prelude.{if◌then◌else◌, unwrap_or}
 use Rattle.std.proofs.lemmas.List.{length_push}
 use Rattle.plain_text.specs.declared.run.Run.{Run}
 use Rattle.plain_edits.specs.History.{head}
@@ -23,7 +23,8 @@ use Rattle.doc_text.specs.Notices.{notice_to}
 use Rattle.doc_session.specs.Effects.{scroll_after}
 use Rattle.doc_session.specs.Layout.{Position}
 use Rattle.doc_session.specs.Looking.{scrolls_at, viewed, viewed_lines, viewing_of}
-use Rattle.doc_session.specs.Step.{EventStep, act_step, answer_to, command_refusal, command_step, done_step, effect_on, history_step, idle_step, is_idle, looking_step, request_of, revision_step, scroll_if, scrolls, selected_document, step_to, typed_document, typed_step, undone_document, viewed_document, viewing_step}
+use Rattle.doc_session.specs.Step.{EventStep, act_step, answer_to, command_refusal, command_step, done_step, effect_on, history_step, no_edit_step, is_idle, looking_step, request_of, revision_step, scroll_if, scrolls, selected_document, step_to, typed_document, typed_step, undone_document, viewed_document, viewing_step}
+use Rattle.doc_session.specs.Ticks.{viewing_ticks}
 use Rattle.doc_session.proofs.UntoldLemmas.{shown-viewed}
 
 -- a command that edits text or regions: it is done on these alone, its step is that of its effect, and it requests no lines
@@ -33,12 +34,13 @@ pub record IsCommand (act : EditAct) : Type 0 where
   pub step : (plain : Document) → done_step plain act ≡ command_step plain act (effect_on plain act)
   pub request : request_of act ≡ no_request
 
--- a command that only looks: it requests what it says, leaves the configuration, and edits nothing
+-- a command that only looks: it requests what it says, leaves the configuration, edits nothing, and takes no step
 record IsLook (act : EditAct) (viewing : Viewing) : Type 0 where
   is : viewing_of act ≡ Some viewing
   request : request_of act ≡ viewed_lines viewing
   config : (view : View) → (viewed view viewing).config ≡ view.config
   effect : (plain : Document) → effect_on plain act ≡ selecting plain.view.regions
+  ticks : (view : View) → viewing_ticks view viewing ≡ 0
 
 data Form (act : EditAct) : Type 0 where
   undoes : act ≡ Acts.Undo → Form act
@@ -62,15 +64,15 @@ form_of Acts.Redo = redoes refl
 form_of Acts.SelectAll = commands (record { done = tt; looks_not = refl; step = λ plain. refl; request = refl })
 form_of Acts.Collapse = commands (record { done = tt; looks_not = refl; step = λ plain. refl; request = refl })
 form_of (Acts.Move motion extend) = commands (record { done = tt; looks_not = refl; step = λ plain. refl; request = refl })
-form_of (Acts.Scroll first last) = looks (Views.Window (record { start = first; end = last })) (record { is = refl; request = refl; config = λ view. refl; effect = λ plain. refl })
-form_of (Acts.RequestLines first last) = looks (Views.Lines (record { start = first; end = last })) (record { is = refl; request = refl; config = λ view. refl; effect = λ plain. refl })
+form_of (Acts.Scroll first last) = looks (Views.Window (record { start = first; end = last })) (record { is = refl; request = refl; config = λ view. refl; effect = λ plain. refl; ticks = λ view. refl })
+form_of (Acts.RequestLines first last) = looks (Views.Lines (record { start = first; end = last })) (record { is = refl; request = refl; config = λ view. refl; effect = λ plain. refl; ticks = λ view. refl })
 form_of (Acts.Click line col modifiers count) = commands (record { done = tt; looks_not = refl; step = λ plain. refl; request = refl })
 form_of (Acts.Drag line col modifiers) = commands (record { done = tt; looks_not = refl; step = λ plain. refl; request = refl })
 form_of (Acts.Gesture line col ty) = commands (record { done = tt; looks_not = refl; step = λ plain. refl; request = refl })
 form_of (Acts.GotoLine line) = commands (record { done = tt; looks_not = refl; step = λ plain. refl; request = refl })
-form_of (Acts.Find chars case_sensitive regex whole_words) = looks (Views.Seek chars case_sensitive) (record { is = refl; request = refl; config = λ view. refl; effect = λ plain. refl })
-form_of (Acts.FindNext wrap_around allow_same) = looks (Views.Next wrap_around) (record { is = refl; request = refl; config = λ view. refl; effect = λ plain. refl })
-form_of (Acts.FindPrevious wrap_around allow_same) = looks (Views.Previous wrap_around) (record { is = refl; request = refl; config = λ view. refl; effect = λ plain. refl })
+form_of (Acts.Find chars case_sensitive regex whole_words) = looks (Views.Seek chars case_sensitive) (record { is = refl; request = refl; config = λ view. refl; effect = λ plain. refl; ticks = λ view. refl })
+form_of (Acts.FindNext wrap_around allow_same) = looks (Views.Next wrap_around) (record { is = refl; request = refl; config = λ view. refl; effect = λ plain. refl; ticks = λ view. refl })
+form_of (Acts.FindPrevious wrap_around allow_same) = looks (Views.Previous wrap_around) (record { is = refl; request = refl; config = λ view. refl; effect = λ plain. refl; ticks = λ view. refl })
 form_of Acts.Nothing = commands (record { done = tt; looks_not = refl; step = λ plain. refl; request = refl })
 
 -- what is none of those that only look does more
@@ -131,6 +133,16 @@ refusal-looking plain act viewing given = by (form_of act)
     by (looks own look) = ap (command_refusal plain) (look.effect plain) ∙ refusal-selecting plain
     by (commands is) = absurd (let clash = sym is.looks_not ∙ given in cc)
 
+-- a command that only looks takes no step
+pub ticks-looking : (view : View) (act : EditAct) (viewing : Viewing) → viewing_of act ≡ Some viewing → viewing_ticks view viewing ≡ 0
+ticks-looking view act viewing given = by (form_of act)
+  where
+    by : Form act → viewing_ticks view viewing ≡ 0
+    by (undoes is) = absurd (let clash = sym (ap viewing_of is) ∙ given in cc)
+    by (redoes is) = absurd (let clash = sym (ap viewing_of is) ∙ given in cc)
+    by (looks own look) = subst (λ found. viewing_ticks view (unwrap_or found own) ≡ 0) (sym look.is ∙ given) (look.ticks view)
+    by (commands is) = absurd (let clash = sym is.looks_not ∙ given in cc)
+
 -- an edit that is refused requests no lines
 pub request_of-refused : (plain : Document) (act : EditAct) (refusal : Refusal) → command_refusal plain (effect_on plain act) ≡ Some refusal →
     request_of act ≡ no_request
@@ -172,7 +184,7 @@ module _ (P : EventStep → Type 0) (plain : Document) (act : EditAct)
   command_forms : (effect : Effect) → request_of act ≡ no_request → P (command_step plain act effect)
   command_forms effect is = by (is_idle plain effect)
     where
-      by : (idle : Bool) → P (if idle then idle_step plain act effect else typed_step plain act effect)
+      by : (idle : Bool) → P (if idle then no_edit_step plain act effect else typed_step plain act effect)
       by true =
           let next = selected_document plain (kind_of act) effect.regions in
           still_asking no_request is next (answer_to plain act) (scroll_if (scrolls act) plain next) refl

@@ -7,3 +7,4 @@ pub use Rattle.doc_session.proofs.ScreenLemmas.{IsUpToDate-settled, updates_show
 pub use Rattle.doc_session.proofs.SettleLemmas.{IsLastTold-settled, part-settled}
 pub use Rattle.doc_session.proofs.SomeLemmas.{effect-some}
 pub use Rattle.doc_session.proofs.UntoldLemmas.{layers-viewed}
+pub use Rattle.doc_session.proofs.TouchedLemmas.{AreTouched-change}

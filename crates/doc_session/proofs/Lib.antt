@@ -13,4 +13,6 @@ pub mod ScreenLemmas
 pub mod ShowLemmas
 pub mod ConfigLemmas
 pub mod RestLemmas
+pub mod TouchedLemmas
+pub mod TickLemmas
 pub mod ForCallers

@@ -1,5 +1,5 @@
 -- What private functions say: the steps of an event.
-use Rattle.std.specs.Prelude.{◌≡◌, Bool, true, false, Some, None, Result, Ok, Err, IfOk}
+use Rattle.std.specs.Prelude.{◌≡◌, ℕ, ◌+◌, ◌≤◌, Bool, true, false, Some, None, Result, Ok, Err, IfOk}
 use Rattle.xi_plain.specs.declared.command.EditAct.{EditAct}
 use Rattle.doc_layout.specs.Told.{screen_of}
 use Rattle.doc_view.specs.declared.told.Pristine.{Pristine}
@@ -55,3 +55,7 @@ pub record IsStepped (step : EventStep) (made : Doc × Effects) : Type 0 where
 -- WHAT AN EVENT MAKES of this document, if it is taken, is what its step gives, whatever plain document it stands for
 abbrev pub IsStepOf : {E : Type 0} → Doc → (Document → EventStep) → Result (Doc × Effects) E → Type 0
 IsStepOf doc step result = (plain : Document) → DocStandsFor doc plain → IfOk result (IsStepped (step plain))
+
+-- WHAT AN EVENT COSTS: no more steps than this, whatever plain document this one stands for
+abbrev pub IsCountedBy : Doc → (Document → ℕ) → ℕ → ℕ → Type 0
+IsCountedBy doc ticks before after = (plain : Document) → DocStandsFor doc plain → after ≤ before + ticks plain

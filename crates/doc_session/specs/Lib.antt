@@ -5,6 +5,8 @@ pub mod Effects
 pub mod PositionView
 pub mod Looking
 pub mod Step
+pub mod Touched
+pub mod Ticks
 pub mod Whole
 pub mod InMemory
 pub mod Stands

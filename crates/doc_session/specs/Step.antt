@@ -130,8 +130,8 @@ typed_document document kind effect =
     revised_document document (typed_text document.text kind (replacing_delta effect.replacements (head_text document.text))) effect.regions
 
 -- a command that has this effect
-abbrev pub idle_step : Document → EditAct → Effect → EventStep
-idle_step document act effect =
+abbrev pub no_edit_step : Document → EditAct → Effect → EventStep
+no_edit_step document act effect =
     let next = selected_document document (kind_of act) effect.regions in
     still_step document next (answer_to document act) (scroll_if (scrolls act) document next)
 
@@ -141,7 +141,7 @@ typed_step document act effect =
     revision_step document next 0 (answer_to document act) (scroll_if (scrolls act) document next)
 
 abbrev pub command_step : Document → EditAct → Effect → EventStep
-command_step document act effect = if is_idle document effect then idle_step document act effect else typed_step document act effect
+command_step document act effect = if is_idle document effect then no_edit_step document act effect else typed_step document act effect
 
 -- ---- lines that leave the text as it is
 

@@ -1,7 +1,8 @@
-ghost use Rattle.std.specs.Prelude.{◌≡◌, ◌≢◌, ◌-◌, ◌^◌, ◌<◌, ◌≤◌, ℕ, [], length, if◌then◌else◌, Some, None, IfOk, IfErr, OnOk, OnErr, option_map, unwrap_or, IfSome, IsTrue, Option};
+ghost use Rattle.std.specs.Prelude.{◌≡◌, ◌≢◌, ◌+◌, ◌-◌, ◌^◌, ◌<◌, ◌≤◌, ℕ, [], length, if◌then◌else◌, Some, None, IfOk, IfErr, OnOk, OnErr, option_map, unwrap_or, IfSome, IsTrue, Option};
 ghost use Rattle.plain_edits.specs.Collection.{kept};
 ghost use Rattle.plain_edits.specs.History.{History, head};
 ghost use Rattle.delta_core.specs.Units.{text_after};
+ghost use Rattle.line_index.specs.Index.{touched_lines};
 ghost use Rattle.edit_ops.specs.Commands.{IsDoneOnText, IsEffect};
 ghost use Rattle.selection_core.specs.Mapped.{AreWithin};
 ghost use Rattle.selection_core.specs.Selection.{IsSelection};
@@ -24,13 +25,14 @@ ghost use Rattle.doc_session.specs.Asking.{front_edit};
 ghost use Rattle.doc_session.specs.declared.event.Event.TheVariants.{Other};
 ghost use Rattle.doc_session.specs.Document.{Document, layout_of, loaded_document};
 ghost use Rattle.doc_session.specs.InMemory.{is_resting};
-ghost use Rattle.doc_session.specs.Inner.{IsStepOf, IsStepped, IsUncollected, IsUntold, is_scrolling, pristine_to};
+ghost use Rattle.doc_session.specs.Inner.{IsCountedBy, IsStepOf, IsStepped, IsUncollected, IsUntold, is_scrolling, pristine_to};
 ghost use Rattle.doc_session.specs.Looking.{viewing_of};
 ghost use Rattle.doc_session.specs.PositionView.{position_view};
 ghost use Rattle.doc_session.specs.ScreenOf.{IsShownAfter};
 ghost use Rattle.doc_session.specs.Stands.{DocStandsFor};
+ghost use Rattle.doc_session.specs.Ticks.{revision_ticks, step_ticks, ticks_at};
 ghost use Rattle.doc_session.specs.Whole.{IsKept};
-ghost use Rattle.doc_session.specs.Step.{AreEffectsOf, IsEventFor, act_step, answer_to, answered_step, collected_document, command_refusal, command_step, done_step, effect_in, effect_on, event_step, history_step, idle_step, plugin_step, refusal_at, revised_document, revision_step, saved_step, scroll_if, silent_step, step_to, taken_step, typed_step, with_text};
+ghost use Rattle.doc_session.specs.Step.{AreEffectsOf, IsEventFor, act_step, answer_to, answered_step, collected_document, command_refusal, command_step, done_step, effect_in, effect_on, event_step, history_step, no_edit_step, plugin_step, refusal_at, revised_document, revision_step, saved_step, scroll_if, silent_step, step_to, taken_step, typed_step, with_text};
 
 use crate::event::{Body, Effects, Event};
 use crate::looking::{Viewing, copies, scrolls, viewing_of};
@@ -98,7 +100,7 @@ impl Doc {
     /// `edit_ops::edit_of` does. Another width or tab width costs the breaks of each logical line. A search walks the text,
     /// and an edit while something is looked for searches round what it touches. Beside that an event costs the regions, and the lines that are
     /// told; and what `ViewState::settled` does to find whether the layout is another. A reading costs what `TextState::chunk` does, and a count
-    /// O(1). No step is counted yet.
+    /// O(1). A logical line that is broken anew is a step.
     pub fn after<L: Ledger>(
         &self,
         alloc: Global,
@@ -116,10 +118,9 @@ impl Doc {
             → IfErr result (DocRefuses (refusal_at plain event)) }
         ensures shown { (plain : Document) → DocStandsFor self.now plain → IsShownAfter plain event }
         ensures kept { IfOk result (λ made. length made.0.text.sessions ≡ length self.now.text.sessions) }
-        ensures steps { steps.new ≡ steps.old }
+        ensures steps { IsCountedBy self.now (λ plain. ticks_at plain event) steps.old steps.new }
     {
-        let _steps = steps;
-        let (next, effects) = self.next(alloc, event)?;
+        let (next, effects) = self.next(alloc, event, steps)?;
         let collected = next.collected(alloc)?;
         Ok((collected.unwrap_or(next), effects))
     }
@@ -143,7 +144,7 @@ impl Doc {
         ensures shown { (plain : Document) → DocStandsFor self.old plain → IsShownAfter plain event }
         ensures same { OnErr result (self.new ≡ self.old) }
         ensures kept { length self.new.text.sessions ≡ length self.old.text.sessions }
-        ensures steps { steps.new ≡ steps.old }
+        ensures steps { IsCountedBy self.old (λ plain. ticks_at plain event) steps.old steps.new }
     {
         let (next, effects) = self.after(alloc, event, steps)?;
         *self = next;
@@ -151,7 +152,12 @@ impl Doc {
     }
 
     // The document after an event, before anything is collected, and what those outside are told of it.
-    fn next(&self, alloc: Global, event: Event) -> Result<(Doc, Effects), DocFault>
+    fn next<L: Ledger>(
+        &self,
+        alloc: Global,
+        event: Event,
+        steps: &mut Steps<L>,
+    ) -> Result<(Doc, Effects), DocFault>
         requires event { IsEventFor (length self.now.text.sessions) event }
         requires has_number { head self.now.text.engine.revisions < 2 ^ 63 - 1 }
         ensures stepped { IsStepOf self.now (λ plain. taken_step plain event) result }
@@ -159,14 +165,15 @@ impl Doc {
         ensures refused { (plain : Document) → DocStandsFor self.now plain
             → IfErr result (DocRefuses (refusal_at plain event)) }
         ensures plugins { IfOk result (λ made. length made.0.text.sessions ≡ length self.now.text.sessions) }
+        ensures steps { IsCountedBy self.now (λ plain. ticks_at plain event) steps.old steps.new }
     {
         match event {
-            Event::Front(act) => self.act(alloc, act),
+            Event::Front(act) => self.act(alloc, act, steps),
             Event::Edit {
                 caller,
                 edit,
                 named,
-            } => self.edit(alloc, caller, edit, named),
+            } => self.edit(alloc, caller, edit, named, steps),
             Event::Spans {
                 caller,
                 rev,
@@ -191,13 +198,18 @@ impl Doc {
             Event::Count { caller: _ } => Ok(self.count(alloc)?),
             Event::Ack { caller, rev } => self.acknowledge(alloc, caller, rev),
             Event::Ended { caller } => Ok(self.end_session(alloc, caller)?),
-            Event::Config(config) => Ok(self.view_only(alloc, Viewing::Layout(config))?),
+            Event::Config(config) => Ok(self.view_only(alloc, Viewing::Layout(config), steps)?),
             Event::Saved => Ok(self.save(alloc)?),
-            Event::Other => Ok(self.view_only(alloc, Viewing::Other)?),
+            Event::Other => Ok(self.view_only(alloc, Viewing::Other, steps)?),
         }
     }
 
-    fn act(&self, alloc: Global, act: EditAct) -> Result<(Doc, Effects), DocFault>
+    fn act<L: Ledger>(
+        &self,
+        alloc: Global,
+        act: EditAct,
+        steps: &mut Steps<L>,
+    ) -> Result<(Doc, Effects), DocFault>
         requires { head self.now.text.engine.revisions < 2 ^ 63 - 1 }
         ensures stepped { IsStepOf self.now (λ plain. act_step plain act) result }
         ensures accepted { (plain : Document) → DocStandsFor self.now plain
@@ -205,15 +217,21 @@ impl Doc {
         ensures refused { (plain : Document) → DocStandsFor self.now plain
             → IfErr result (DocRefuses (edit_refused (command_refusal plain (effect_on plain act)))) }
         ensures sessions { IfOk result (λ made. made.0.text.sessions ≡ self.now.text.sessions) }
+        ensures steps { IsCountedBy self.now (λ plain. step_ticks plain (act_step plain act)) steps.old steps.new }
     {
         match viewing_of(act) {
-            Ok(viewing) => Ok(self.view_only(alloc, viewing)?),
-            Err(act) => self.done(alloc, act),
+            Ok(viewing) => Ok(self.view_only(alloc, viewing, steps)?),
+            Err(act) => self.done(alloc, act, steps),
         }
     }
 
     // A command that does more than look.
-    fn done(&self, alloc: Global, act: EditAct) -> Result<(Doc, Effects), DocFault>
+    fn done<L: Ledger>(
+        &self,
+        alloc: Global,
+        act: EditAct,
+        steps: &mut Steps<L>,
+    ) -> Result<(Doc, Effects), DocFault>
         requires act { viewing_of act ≡ None }
         requires has_number { head self.now.text.engine.revisions < 2 ^ 63 - 1 }
         ensures stepped { IsStepOf self.now (λ plain. done_step plain act) result }
@@ -222,15 +240,21 @@ impl Doc {
         ensures refused { (plain : Document) → DocStandsFor self.now plain
             → IfErr result (DocRefuses (edit_refused (command_refusal plain (effect_on plain act)))) }
         ensures sessions { IfOk result (λ made. made.0.text.sessions ≡ self.now.text.sessions) }
+        ensures steps { IsCountedBy self.now (λ plain. step_ticks plain (done_step plain act)) steps.old steps.new }
     {
         match act {
-            EditAct::Undo => Ok(self.undo(alloc)?),
-            EditAct::Redo => Ok(self.redo(alloc)?),
-            act => self.command(alloc, &act),
+            EditAct::Undo => Ok(self.undo(alloc, steps)?),
+            EditAct::Redo => Ok(self.redo(alloc, steps)?),
+            act => self.command(alloc, &act, steps),
         }
     }
 
-    fn command(&self, alloc: Global, act: &EditAct) -> Result<(Doc, Effects), DocFault>
+    fn command<L: Ledger>(
+        &self,
+        alloc: Global,
+        act: &EditAct,
+        steps: &mut Steps<L>,
+    ) -> Result<(Doc, Effects), DocFault>
         requires act { IsDoneOnText act.now }
         requires has_number { head self.now.text.engine.revisions < 2 ^ 63 - 1 }
         ensures stepped { IsStepOf self.now (λ plain. command_step plain act.now (effect_on plain act.now)) result }
@@ -239,20 +263,22 @@ impl Doc {
         ensures refused { (plain : Document) → DocStandsFor self.now plain
             → IfErr result (DocRefuses (edit_refused (command_refusal plain (effect_on plain act.now)))) }
         ensures sessions { IfOk result (λ made. made.0.text.sessions ≡ self.now.text.sessions) }
+        ensures steps { IsCountedBy self.now
+            (λ plain. step_ticks plain (command_step plain act.now (effect_on plain act.now))) steps.old steps.new }
     {
         let (units, sel) = self.view.effect(alloc, act)?;
         if does_nothing(&units) {
-            return Ok(self.idle(alloc, act, sel)?);
+            return Ok(self.no_edit(alloc, act, sel)?);
         }
-        self.typed(alloc, act, units, sel)
+        self.typed(alloc, act, units, sel, steps)
     }
 
     // A command that edits nothing left the regions so.
-    fn idle(&self, alloc: Global, act: &EditAct, sel: Sel) -> Result<(Doc, Effects), NoMemory>
+    fn no_edit(&self, alloc: Global, act: &EditAct, sel: Sel) -> Result<(Doc, Effects), NoMemory>
         requires regions { sel.regions ≡ (effect_in self.now.view act.now).regions }
         requires sound { IsSelection sel.regions }
         requires inside { AreWithin (length self.now.view.text) sel.regions }
-        ensures stepped { IsStepOf self.now (λ plain. idle_step plain act.now (effect_on plain act.now)) result }
+        ensures stepped { IsStepOf self.now (λ plain. no_edit_step plain act.now (effect_on plain act.now)) result }
         ensures sessions { IfOk result (λ made. made.0.text.sessions ≡ self.now.text.sessions) }
     {
         let body = self.answer(alloc, act)?;
@@ -270,12 +296,13 @@ impl Doc {
     }
 
     // A command is this edit, and leaves the regions so.
-    fn typed(
+    fn typed<L: Ledger>(
         &self,
         alloc: Global,
         act: &EditAct,
         units: UnitDelta,
         sel: Sel,
+        steps: &mut Steps<L>,
     ) -> Result<(Doc, Effects), DocFault>
         requires effect { IsEffect self.now.view.text (effect_in self.now.view act.now) units sel.regions }
         requires has_number { head self.now.text.engine.revisions < 2 ^ 63 - 1 }
@@ -286,10 +313,12 @@ impl Doc {
             → IfErr result (DocRefuses (edit_refused
             (asked_refusal plain.text (front_edit plain None (effect_on plain act.now).replacements)))) }
         ensures sessions { IfOk result (λ made. made.0.text.sessions ≡ self.now.text.sessions) }
+        ensures steps { IsCountedBy self.now
+            (λ plain. step_ticks plain (typed_step plain act.now (effect_on plain act.now))) steps.old steps.new }
     {
         let revised = self.text.type_units(alloc, kind_of(act), units)?;
         let body = self.answer(alloc, act)?;
-        Ok(self.revise(alloc, revised, sel, body, scrolls(act))?)
+        Ok(self.revise(alloc, revised, sel, body, scrolls(act), steps)?)
     }
 
     fn answer(&self, alloc: Global, act: &EditAct) -> Result<Body, NoMemory>
@@ -303,61 +332,91 @@ impl Doc {
     }
 
     // The newest live group that is not undone is undone.
-    fn undo(&self, alloc: Global) -> Result<(Doc, Effects), NoMemory>
+    fn undo<L: Ledger>(
+        &self,
+        alloc: Global,
+        steps: &mut Steps<L>,
+    ) -> Result<(Doc, Effects), NoMemory>
         requires { head self.now.text.engine.revisions < 2 ^ 63 - 1 }
         ensures stepped { IsStepOf self.now
             (λ plain. history_step plain (next_undo plain.text.groups) (undone_one plain.text.groups)) result }
         ensures sessions { IfOk result (λ made. made.0.text.sessions ≡ self.now.text.sessions) }
+        ensures steps { IsCountedBy self.now
+            (λ plain. step_ticks plain (history_step plain (next_undo plain.text.groups) (undone_one plain.text.groups)))
+            steps.old steps.new }
     {
         let revised = self.text.undo_group(alloc)?;
-        self.turn(alloc, revised)
+        self.turn(alloc, revised, steps)
     }
 
     // The last undo is taken back.
-    fn redo(&self, alloc: Global) -> Result<(Doc, Effects), NoMemory>
+    fn redo<L: Ledger>(
+        &self,
+        alloc: Global,
+        steps: &mut Steps<L>,
+    ) -> Result<(Doc, Effects), NoMemory>
         requires { head self.now.text.engine.revisions < 2 ^ 63 - 1 }
         ensures stepped { IsStepOf self.now
             (λ plain. history_step plain (next_redo plain.text.groups) (redone_one plain.text.groups)) result }
         ensures sessions { IfOk result (λ made. made.0.text.sessions ≡ self.now.text.sessions) }
+        ensures steps { IsCountedBy self.now
+            (λ plain. step_ticks plain (history_step plain (next_redo plain.text.groups) (redone_one plain.text.groups)))
+            steps.old steps.new }
     {
         let revised = self.text.redo_group(alloc)?;
-        self.turn(alloc, revised)
+        self.turn(alloc, revised, steps)
     }
 
     // An undo or a redo made this of the text, or there was none.
-    fn turn(&self, alloc: Global, revised: Option<Revised>) -> Result<(Doc, Effects), NoMemory>
+    fn turn<L: Ledger>(
+        &self,
+        alloc: Global,
+        revised: Option<Revised>,
+        steps: &mut Steps<L>,
+    ) -> Result<(Doc, Effects), NoMemory>
         requires { IfSome revised (IsRevisionOf self.now.text) }
         ensures stepped { (plain : Document) (group : Option ℕ) (groups : Groups) → DocStandsFor self.now plain
             → IsTurnOf plain.text group groups revised → IfOk result (IsStepped (history_step plain group groups)) }
         ensures sessions { IfOk result (λ made. made.0.text.sessions ≡ self.now.text.sessions) }
+        ensures steps { (plain : Document) (group : Option ℕ) (groups : Groups) → DocStandsFor self.now plain
+            → IsTurnOf plain.text group groups revised → steps.new ≤ steps.old + step_ticks plain (history_step plain group groups) }
     {
         match revised {
-            Some(revised) => self.turn_group(alloc, revised),
-            None => self.view_only(alloc, Viewing::Other),
+            Some(revised) => self.turn_group(alloc, revised, steps),
+            None => self.view_only(alloc, Viewing::Other, steps),
         }
     }
 
     // A group is undone or given back.
-    fn turn_group(&self, alloc: Global, revised: Revised) -> Result<(Doc, Effects), NoMemory>
+    fn turn_group<L: Ledger>(
+        &self,
+        alloc: Global,
+        revised: Revised,
+        steps: &mut Steps<L>,
+    ) -> Result<(Doc, Effects), NoMemory>
         requires { IsRevisionOf self.now.text revised }
         ensures stepped { (plain : Document) (group : ℕ) (groups : Groups) → DocStandsFor self.now plain
             → IsTurnOf plain.text (Some group) groups (Some revised)
             → IfOk result (IsStepped (history_step plain (Some group) groups)) }
         ensures sessions { IfOk result (λ made. made.0.text.sessions ≡ self.now.text.sessions) }
+        ensures steps { (plain : Document) (group : ℕ) (groups : Groups) → DocStandsFor self.now plain
+            → IsTurnOf plain.text (Some group) groups (Some revised)
+            → steps.new ≤ steps.old + step_ticks plain (history_step plain (Some group) groups) }
     {
         let sel = self
             .view
             .moved(alloc, &revised.units, false, Goals::Cleared)?;
-        self.revise(alloc, revised, sel, Body::Null, Scrolling::ToCaret)
+        self.revise(alloc, revised, sel, Body::Null, Scrolling::ToCaret, steps)
     }
 
     // A plugin edits the text, in the group that it names or in the next.
-    fn edit(
+    fn edit<L: Ledger>(
         &self,
         alloc: Global,
         caller: u32,
         edit: Edit,
         named: Option<u64>,
+        steps: &mut Steps<L>,
     ) -> Result<(Doc, Effects), DocFault>
         requires caller { (1 ≤ caller) × (caller ≤ length self.now.text.sessions) }
         requires has_number { head self.now.text.engine.revisions < 2 ^ 63 - 1 }
@@ -367,6 +426,7 @@ impl Doc {
         ensures refused { (plain : Document) → DocStandsFor self.now plain
             → IfErr result (DocRefuses (edit_refused (asked_refusal plain.text (plugin_edit plain.text caller edit None)))) }
         ensures sessions { IfOk result (λ made. made.0.text.sessions ≡ self.now.text.sessions) }
+        ensures steps { IsCountedBy self.now (λ plain. step_ticks plain (plugin_step plain caller edit named)) steps.old steps.new }
     {
         let rev = self.head() + 1;
         let after_cursor = edit.after_cursor;
@@ -375,17 +435,18 @@ impl Doc {
             .view
             .moved(alloc, &revised.units, after_cursor, Goals::Kept)?;
         let body = Body::Edited { rev, group };
-        Ok(self.revise(alloc, revised, sel, body, Scrolling::Nowhere)?)
+        Ok(self.revise(alloc, revised, sel, body, Scrolling::Nowhere, steps)?)
     }
 
     // The document after a revision of its text, with these regions, and what the front end and the plugins are told.
-    fn revise(
+    fn revise<L: Ledger>(
         &self,
         alloc: Global,
         revised: Revised,
         sel: Sel,
         body: Body,
         scrolling: Scrolling,
+        steps: &mut Steps<L>,
     ) -> Result<(Doc, Effects), NoMemory>
         requires made { IsRevisionOf self.now.text revised }
         requires sound { IsSelection sel.regions }
@@ -395,6 +456,8 @@ impl Doc {
             → IfOk result (IsStepped (revision_step plain (revised_document plain next sel.regions) author body
             (scroll_if (is_scrolling scrolling) plain (revised_document plain next sel.regions)))) }
         ensures sessions { IfOk result (λ made. made.0.text.sessions ≡ self.now.text.sessions) }
+        ensures steps { (plain : Document) (next : Writing) (author : ℕ) → DocStandsFor self.now plain
+            → IsRevised plain.text next author revised → steps.new ≤ steps.old + revision_ticks plain.text next }
     {
         let Revised {
             text,
@@ -402,7 +465,7 @@ impl Doc {
             notice,
         } = revised;
         let from = kept_front(&units);
-        let next = self.with_revision(alloc, text, &units, sel)?;
+        let next = self.with_revision(alloc, text, &units, sel, steps)?;
         let said = Said {
             text: TextLeft::Edited { from },
             request: NO_REQUEST,
@@ -414,12 +477,13 @@ impl Doc {
     }
 
     // The document with the text that a change leads to, and its view of that, with these regions.
-    fn with_revision(
+    fn with_revision<L: Ledger>(
         &self,
         alloc: Global,
         text: TextState,
         units: &UnitDelta,
         sel: Sel,
+        steps: &mut Steps<L>,
     ) -> Result<Doc, NoMemory>
         requires changes { IsChangeOf (text_in self.now.text) (text_in text) units.now }
         requires sessions { text.sessions ≡ self.now.text.sessions }
@@ -436,8 +500,11 @@ impl Doc {
         ensures over { IfOk result (λ made. AreOver (length self.now.view.text) self.now.view.layers) }
         ensures left { (from : ℕ) → KeepsFront units.now from
             → IfOk result (λ made. IsKeptLeftOf from self.now.view made.view) }
+        ensures steps { steps.new ≤ steps.old + touched_lines units.now self.now.view.text }
     {
-        let view = self.view.edited(alloc, text.head_rope(), units, sel)?;
+        let view = self
+            .view
+            .edited(alloc, text.head_rope(), units, sel, steps)?;
         Ok(Doc { text, view })
     }
 

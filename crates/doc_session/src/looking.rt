@@ -1,15 +1,17 @@
 // Lines that leave the text as it is: what a view shows, what is looked for, and how the text is laid out; and which commands copy and scroll.
-ghost use Rattle.std.specs.Prelude.{◌≡◌, IfOk};
-ghost use Rattle.doc_session.specs.Inner.{IsStepOf, IsViewingOf, is_scrolling};
+ghost use Rattle.std.specs.Prelude.{◌≡◌, ◌+◌, ◌≤◌, IfOk};
+ghost use Rattle.doc_session.specs.Inner.{IsCountedBy, IsStepOf, IsViewingOf, is_scrolling};
 ghost use Rattle.doc_session.specs.Looking.{MayView, scrolls_at, viewed, viewed_lines};
 ghost use Rattle.doc_session.specs.Step.{copies, scrolls, viewing_step};
+ghost use Rattle.doc_session.specs.Ticks.{viewing_ticks};
 
 use crate::doc::{Doc, document_of};
 use crate::event::{Body, Effects};
 use crate::said::{NO_REQUEST, Said, Scrolling};
 use doc_view::{TextLeft, ViewState};
-use plain_text::{NoMemory, Run, Text};
+use plain_text::{NoMemory, Run, Steps, Text};
 use std::alloc::Global;
+use std::sync::ledger::Ledger;
 use xi_plain::{Config, EditAct};
 
 /// What a line does that leaves the text as it is, and ends the run of typing.
@@ -33,18 +35,20 @@ pub enum Viewing {
 
 impl Doc {
     /// The document after such a line; the front end is told what it lacks.
-    pub(crate) fn view_only(
+    pub(crate) fn view_only<L: Ledger>(
         &self,
         alloc: Global,
         viewing: Viewing,
+        steps: &mut Steps<L>,
     ) -> Result<(Doc, Effects), NoMemory>
         requires { MayView viewing }
         ensures stepped { IsStepOf self.now (λ plain. viewing_step plain viewing) result }
         ensures sessions { IfOk result (λ made. made.0.text.sessions ≡ self.now.text.sessions) }
+        ensures steps { IsCountedBy self.now (λ plain. viewing_ticks plain.view viewing) steps.old steps.new }
     {
         let request = viewed_lines(&viewing);
         let scrolling = scrolls_at(&viewing);
-        let view = viewed(alloc, &self.view, viewing)?;
+        let view = viewed(alloc, &self.view, viewing, steps)?;
         let text = self.text.with_run(alloc, None)?;
         let next = document_of(text, view);
         let said = Said {
@@ -86,9 +90,15 @@ fn lines_of(first: u64, last: u64) -> Run
 }
 
 // What such a line makes of a view.
-fn viewed(alloc: Global, view: &ViewState, viewing: Viewing) -> Result<ViewState, NoMemory>
+fn viewed<L: Ledger>(
+    alloc: Global,
+    view: &ViewState,
+    viewing: Viewing,
+    steps: &mut Steps<L>,
+) -> Result<ViewState, NoMemory>
     requires { MayView viewing }
-    ensures { IfOk result (λ made. made ≡ viewed view.now viewing) }
+    ensures is { IfOk result (λ made. made ≡ viewed view.now viewing) }
+    ensures steps { steps.new ≤ steps.old + viewing_ticks view.now viewing }
 {
     match viewing {
         Viewing::Window(lines) => view.scrolled(alloc, lines),
@@ -96,7 +106,7 @@ fn viewed(alloc: Global, view: &ViewState, viewing: Viewing) -> Result<ViewState
         Viewing::Seek(chars, case_counts) => view.seeking(alloc, chars, case_counts),
         Viewing::Next(wrap_around) => view.at_next(alloc, wrap_around),
         Viewing::Previous(wrap_around) => view.at_previous(alloc, wrap_around),
-        Viewing::Layout(config) => view.with_config(alloc, config),
+        Viewing::Layout(config) => view.with_config(alloc, config, steps),
         Viewing::Other => view.copy(),
     }
 }

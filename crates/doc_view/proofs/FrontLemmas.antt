@@ -119,7 +119,7 @@ AreLong-from : (chars text : List ℕ) (from : ℕ) (runs : List Run) → AreMat
 AreLong-from chars text from [] are = tt
 AreLong-from chars text from (run ∷ runs) are = (are.0.end, AreLong-from chars text run.end runs are.1)
 
-folded-long : (fold : Bool) (text : List ℕ) → length (folded fold text) ≡ length text
+pub folded-long : (fold : Bool) (text : List ℕ) → length (folded fold text) ≡ length text
 folded-long true text = length-map text _
 folded-long false text = refl
 

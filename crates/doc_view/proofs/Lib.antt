@@ -8,4 +8,5 @@ pub mod PointLemmas
 pub mod ApartLemmas
 pub mod FrontLemmas
 pub mod LineLemmas
+pub mod AnewLemmas
 pub mod ForCallers

@@ -134,13 +134,13 @@ AreEndsApart-found result regions others index sound good same is =
 
 -- ---- with the styles
 
-less_left : (at less : ℕ) (regions others : List Region) → less ≤ at → AreAlikeLeftOf at regions others → AreAlikeLeftOf less regions others
+pub less_left : (at less : ℕ) (regions others : List Region) → less ≤ at → AreAlikeLeftOf at regions others → AreAlikeLeftOf less regions others
 less_left at less regions others le alike = record {
   carets = λ gap left. alike.carets gap (omega arith);
   selected = λ index left. alike.selected index (omega arith);
 }
 
-all_alike : (at : ℕ) (regions others : List Region) → are_same_ends regions others ≡ true → AreAlikeLeftOf at regions others
+pub all_alike : (at : ℕ) (regions others : List Region) → are_same_ends regions others ≡ true → AreAlikeLeftOf at regions others
 all_alike at [] [] same = record { carets = λ gap left. refl; selected = λ index left. refl }
 all_alike at [] (other ∷ others) same = absurd cc
 all_alike at (region ∷ regions) [] same = absurd cc

@@ -47,7 +47,7 @@ end_of_regions-is (first ∷ regions) region is = end-at (first ∷ regions) (le
 
 -- ---- a fact of all matches is one of the match that is found
 
-find-holds : {X : Type 0} (P : X → Type 0) (test : X → Bool) (xs : List X) → AllByRecursion P xs → IfSome (find test xs) P
+pub find-holds : {X : Type 0} (P : X → Type 0) (test : X → Bool) (xs : List X) → AllByRecursion P xs → IfSome (find test xs) P
 find-holds P test [] all = tt
 find-holds P test (x ∷ xs) all = by (test x) (find-holds P test xs all.1)
   where

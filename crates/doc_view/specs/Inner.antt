@@ -84,6 +84,20 @@ IsShownApart (Some at) before after =
     AreAlikeLeftOf at before.regions after.regions ×
     ((range : Run) → range.end ≤ at → flat_map (spans_in range) before.layers ≡ flat_map (spans_in range) after.layers)
 
+-- where a run starts, if there is one; and two runs as one, where they are that
+abbrev pub start_of_run : Option Run → Option ℕ
+start_of_run found = option_map (λ run. run.start) found
+
+abbrev pub shared_run : Option Run → Option Run → Option Run
+shared_run None other = None
+shared_run (Some run) None = None
+shared_run (Some run) (Some other) = if run.start == other.start && run.end == other.end then Some run else None
+
+-- two searches find the same matches where no gap is named, and else they find the same characters left of it
+abbrev pub AreFoundApart : Option ℕ → List Run → List Run → Type 0
+AreFoundApart None runs others = runs ≡ others
+AreFoundApart (Some gap) runs others = (index : ℕ) → index < gap → is_found runs index ≡ is_found others index
+
 -- the line of the character left of a gap; the first one where there is none
 abbrev pub line_left_of : View → ℕ → ℕ
 line_left_of view zero = 0

@@ -1,5 +1,6 @@
 -- THE VIEW of a text: what a document keeps for who is shown its head text.
-use Rattle.std.specs.Prelude.{ℕ, List, Option}
+use Rattle.std.specs.Prelude.{ℕ, ◌+◌, Bool, ◌&&◌, ◌==◌, if◌then◌else◌, List, length, Option}
+use Rattle.plain_text.specs.Lines.{logical_lines}
 use Rattle.plain_text.specs.declared.run.Run.{Run}
 use Rattle.plain_text.specs.declared.selection.Region.{Region}
 use Rattle.plain_edits.specs.Styles.{Layer}
@@ -37,3 +38,11 @@ point_in view = position_of view.text (pieces_in view) (last_caret view.regions)
 -- the lines that it asks for with a request
 abbrev pub asked_in : View → Run → Asked
 asked_in view request = record { window = view.window; request = request }
+
+-- whether two configurations cut a text alike: into lines of one width, with tabs of one width
+abbrev pub has_same_widths : Config → Config → Bool
+has_same_widths config other = config.tab == other.tab && config.width == other.width
+
+-- THE STEPS OF ANOTHER CONFIGURATION: none where the text is cut alike, and else one a logical line, and two more
+abbrev pub config_ticks : View → Config → ℕ
+config_ticks view config = if has_same_widths config view.config then 0 else length (logical_lines view.text) + 2

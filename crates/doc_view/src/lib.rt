@@ -5,6 +5,7 @@
 //! lines the front end has; pieces and layout are those of `specs/View.antt`, and `specs/Search.antt` has which match a command selects.
 #![tactic(auto)]
 
+mod anew;
 mod front;
 mod idle;
 mod indexed;

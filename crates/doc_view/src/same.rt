@@ -1,13 +1,17 @@
-// Where the ends of regions begin to differ, whether searches are the same, whether a gap is one of a caret, and whether a region has a goal.
-ghost use Rattle.std.specs.Prelude.{◌≡◌};
+// Where the ends of regions and the matches of searches begin to differ, whether searches and pieces are the same, whether a gap is one of a
+// caret, and whether a region has a goal.
+ghost use Rattle.std.specs.Prelude.{◌≡◌, Some, IsTrue};
 ghost use Rattle.plain_text.specs.Numbers.{has};
 ghost use Rattle.line_render.specs.Rendered.{carets_of};
 ghost use Rattle.selection_core.specs.Selection.{IsSelection};
-ghost use Rattle.doc_view.specs.Inner.{AreEndsApart, earlier, has_goal, start_at};
+ghost use Rattle.match_index.specs.Found.{first_from, runs_in};
+ghost use Rattle.doc_view.specs.Inner.{AreEndsApart, AreFoundApart, earlier, has_goal, shared_run, start_at, start_of_run};
 ghost use Rattle.doc_view.specs.Told.{has_same_ends, is_same_search};
 
 use crate::search::Search;
-use plain_text::Region;
+use match_index::Matches;
+use plain_screen::Piece;
+use plain_text::{Region, Run};
 
 /// A gap left of which two selections have the same carets and select the same characters, where not all of their ends are the same. It costs the
 /// regions up to the first that has another end.
@@ -86,4 +90,78 @@ pub(crate) fn is_same_search(query: &Search, other: &Search) -> bool
 {
     query.chars.as_str() == other.chars.as_str()
         && (query.is_for_nothing() || query.case_counts == other.case_counts)
+}
+
+/// A gap left of which two searches find the same characters, where they do not find the same matches. It costs the matches up to the first
+/// that is another, each O(log n).
+pub(crate) fn found_apart(matches: &Matches, others: &Matches) -> Option<u64>
+    ensures { AreFoundApart result (runs_in matches.now) (runs_in others.now) }
+{
+    let mut at = 0;
+    while let Some(found) = shared_from(matches, others, at) {
+        at = found.end;
+    }
+    earlier(start_from(matches, at), start_from(others, at))
+}
+
+// The first match of both from a gap on, where it is one.
+fn shared_from(matches: &Matches, others: &Matches, at: u64) -> Option<Run>
+    ensures { result ≡ shared_run (first_from at (runs_in matches.now)) (first_from at (runs_in others.now)) }
+{
+    match matches.first_from(at) {
+        None => None,
+        Some(run) => match others.first_from(at) {
+            None => None,
+            Some(other) => if_same(run, other),
+        },
+    }
+}
+
+fn if_same(run: Run, other: Run) -> Option<Run>
+    ensures { result ≡ shared_run (Some run) (Some other) }
+{
+    if run.start == other.start && run.end == other.end {
+        Some(run)
+    } else {
+        None
+    }
+}
+
+// Where the first match from a gap on starts, if there is one.
+fn start_from(matches: &Matches, at: u64) -> Option<u64>
+    ensures { result ≡ start_of_run (first_from at (runs_in matches.now)) }
+{
+    match matches.first_from(at) {
+        None => None,
+        Some(run) => Some(run.start),
+    }
+}
+
+/// Whether two pieces are there and are one, or none of them is there.
+pub(crate) fn is_same_piece(one: Option<Piece>, other: Option<Piece>) -> bool
+    ensures { IsTrue result → one ≡ other }
+{
+    match one {
+        None => other.is_none(),
+        Some(piece) => match other {
+            None => false,
+            Some(next) => {
+                piece.start == next.start
+                    && piece.end == next.end
+                    && is_same_number(piece.ln, next.ln)
+            }
+        },
+    }
+}
+
+fn is_same_number(one: Option<u64>, other: Option<u64>) -> bool
+    ensures { IsTrue result → one ≡ other }
+{
+    match one {
+        None => other.is_none(),
+        Some(number) => match other {
+            None => false,
+            Some(next) => number == next,
+        },
+    }
 }

@@ -1,7 +1,8 @@
-ghost use Rattle.std.specs.Prelude.{◌≡◌, ◌≤◌, ◌<◌, ◌^◌, true, [], ◌∷◌, length, map, take, None, Some, IfOk, IfSome};
+ghost use Rattle.std.specs.Prelude.{◌≡◌, ◌+◌, ◌≤◌, ◌<◌, ◌^◌, true, [], ◌∷◌, length, map, take, None, Some, IfOk, IfSome};
 ghost use Rattle.std.specs.Arc.{arc_value};
 ghost use Rattle.std.specs.Str.{all_scalars};
 ghost use Rattle.plain_edits.specs.UnitDelta.{IsUnitDelta};
+ghost use Rattle.line_index.specs.Index.{touched_lines};
 ghost use Rattle.edit_ops.specs.Commands.{IsDoneOnText, IsEffect, copied_text, effect_of};
 ghost use Rattle.edit_ops.specs.Regions.{without_goal};
 ghost use Rattle.selection_core.specs.Mapped.{AreWithin, length_after};
@@ -16,9 +17,9 @@ ghost use Rattle.doc_view.specs.Moved.{AreMoved};
 ghost use Rattle.doc_view.specs.Search.{found_at, next_found, no_search, previous_found, search_for, with_match};
 ghost use Rattle.doc_view.specs.Inner.{AreAlikeViews, IsShownApart, first_line_left_of, has_last_caret, index_at, is_told_apart, line_left_of};
 ghost use Rattle.doc_view.specs.Told.{IsKeptLeftOf, IsTextLeft, has_asked, is_cut_alike, is_lacking, settled_view, told};
-ghost use Rattle.doc_view.specs.View.{asked_in, layout_in, pieces_in, point_in};
+ghost use Rattle.doc_view.specs.View.{asked_in, config_ticks, has_same_widths, layout_in, pieces_in, point_in};
 
-use crate::indexed::{edited_index, index_of};
+use crate::indexed::{edited_index, first_index, index_of};
 use crate::moved::Goals;
 use crate::same::{earlier, ends_apart, has_caret, has_goal, is_same_search};
 use crate::search::{Search, next_match, previous_match, selecting};
@@ -30,13 +31,14 @@ use match_index::Matches;
 use match_index::laws::fronts_stay;
 use plain_edits::UnitDelta;
 use plain_screen::{TextView, Update};
-use plain_text::{NoMemory, Region, Regions, Run, Sel, Text};
+use plain_text::{NoMemory, Region, Regions, Run, Sel, Steps, Text};
 use rope_tree::Rope;
 use selection_core::Selection;
 use span_styles::Layers;
 use std::alloc::Global;
 use std::marker::Model;
 use std::sync::Arc;
+use std::sync::ledger::Ledger;
 use xi_plain::{Config, EditAct};
 
 /// What a document keeps for a view on its head text: no line of its layout, and no text but the rope. Copies share the lines' index, regions,
@@ -106,7 +108,7 @@ impl ViewState {
         let caret = Sel::caret_at(alloc, 0)?;
         let search = Search::none(alloc);
         let nothing = search.matches(alloc, text)?;
-        let index = index_of(alloc, text, config)?;
+        let index = first_index(alloc, text, config)?;
         let sel = Arc::new(alloc, caret)?;
         let layers = Arc::new(alloc, unstyled)?;
         let query = Arc::new(alloc, search)?;
@@ -126,31 +128,33 @@ impl ViewState {
     /// The view of the text after an edit, of which the rope is that text, with other regions: what is kept keeps its styles, and what is
     /// added has none. It costs the lines that the edit touches and the height of the text, the runs of styles, and where something is looked
     /// for a search round what is edited.
-    pub fn edited(
+    pub fn edited<L: Ledger>(
         &self,
         alloc: Global,
         text: &Rope,
         units: &UnitDelta,
         sel: Sel,
+        steps: &mut Steps<L>,
     ) -> Result<ViewState, NoMemory>
         requires changes { IsChangeOf self.now.text text.now units.now }
         requires over { AreOver (length self.now.text) self.now.layers }
         requires sound { IsSelection sel.regions }
         requires inside { AreWithin (length text.now) sel.regions }
-        ensures { IfOk result (λ made. made ≡ record self.now {
+        ensures made { IfOk result (λ made. made ≡ record self.now {
           text = text.now;
           regions = sel.regions;
           layers = mapped_layers units.now self.now.layers;
         }) }
+        ensures ticks { steps.new ≤ steps.old + touched_lines units.now self.now.text }
     {
         let _characters = text.len();
         let mapped = self.layers().map(alloc, units)?;
         let results = self.matches().edited(alloc, text, units)?;
-        let index = edited_index(alloc, self.line_index(), text, units)?;
         let sel = Arc::new(alloc, sel)?;
         let layers = Arc::new(alloc, mapped)?;
         let query = Arc::try_clone(&self.query)?;
         let found = Arc::new(alloc, results)?;
+        let index = edited_index(alloc, self.line_index(), text, units, steps)?;
         Ok(ViewState {
             config: self.config,
             index,
@@ -185,18 +189,25 @@ impl ViewState {
 
     /// The view for another configuration, with its regions, their goals too. Where width or tab width is another this costs the breaks of
     /// each line that is wrapped, and else it takes O(1).
-    pub fn with_config(&self, alloc: Global, config: Config) -> Result<ViewState, NoMemory>
+    pub fn with_config<L: Ledger>(
+        &self,
+        alloc: Global,
+        config: Config,
+        steps: &mut Steps<L>,
+    ) -> Result<ViewState, NoMemory>
         requires tab { 0 < config.tab }
-        ensures { IfOk result (λ made. made ≡ record self.now { config = config }) }
+        ensures made { IfOk result (λ made. made ≡ record self.now { config = config }) }
+        ensures ticks { steps.new ≤ steps.old + config_ticks self.now config }
     {
-        if config.tab == self.config.tab && config.width == self.config.width {
-            return Ok(self.copy()?.edited_by(config));
+        if self.is_cut_by(config) {
+            let view = self.copy()?;
+            return Ok(view.edited_by(config));
         }
-        let index = index_of(alloc, self.rope(), config)?;
         let sel = Arc::try_clone(&self.sel)?;
         let layers = Arc::try_clone(&self.layers)?;
         let query = Arc::try_clone(&self.query)?;
         let found = Arc::try_clone(&self.found)?;
+        let index = index_of(alloc, self.rope(), config, steps)?;
         Ok(ViewState {
             config,
             index,
@@ -299,7 +310,7 @@ impl ViewState {
     }
 
     // All matches of its search.
-    fn matches(&self) -> &Matches
+    pub(crate) fn matches(&self) -> &Matches
         ensures { result.now ≡ found_at self.now.text self.now.query }
     {
         &self.found
@@ -348,7 +359,7 @@ impl ViewState {
     }
 
     // The index of the text's lines.
-    fn line_index(&self) -> &LineIndex
+    pub(crate) fn line_index(&self) -> &LineIndex
         ensures is { result.now ≡ index_at self.now.text self.now.config }
         ensures characters { all_scalars self.now.text ≡ true }
         ensures tab { 0 < self.now.config.tab }
@@ -445,8 +456,8 @@ impl ViewState {
     /// What the front end is told where the document has the view `next` after an event that requests these lines; and that view, settled.
     /// This renders the lines that are told. Whether the layout is another it tells without a line where the length of the text is another, where
     /// the last caret is no caret of the other view, and where the text is the same and no style, end of a region, search, width or tab width is
-    /// another; else it renders lines of both, up to the first that differs. Of one text that is cut alike it begins where regions or styles are
-    /// another, which it finds in their time; styles that the event left are not looked at. Of an edited text it begins at the logical line of
+    /// another; else it renders lines of both, up to the first that differs. Of one text it begins where regions, styles, matches or pieces are
+    /// another, which it finds in their time; styles that the event left are not looked at, nor pieces of one width. Of an edited text it begins at the logical line of
     /// the character left of the first change, or of the first end of a region that is another, if that is left of it.
     pub fn settled(
         &self,
@@ -540,7 +551,7 @@ impl ViewState {
         ensures { IfOk result (λ same. same ≡ is_same_layout (layout_in self.now) (layout_in next.now)) }
     {
         if !self.is_cut_as(next) {
-            return self.has_lines_from(alloc, next, 0);
+            return self.has_layout_anew(alloc, next, text);
         }
         match self.apart_from(next, text) {
             None => Ok(true),
@@ -596,6 +607,20 @@ impl ViewState {
         index.line_of(logical.start)
     }
 
+    // Whether both cut a text alike.
+    pub(crate) fn is_as_wide(&self, next: &ViewState) -> bool
+        ensures { result ≡ has_same_widths self.now.config next.now.config }
+    {
+        next.is_cut_by(self.config)
+    }
+
+    // Whether another configuration cuts the text alike.
+    fn is_cut_by(&self, config: Config) -> bool
+        ensures { result ≡ has_same_widths config self.now.config }
+    {
+        config.tab == self.config.tab && config.width == self.config.width
+    }
+
     // Whether one text is cut alike in both, and the same is looked for.
     fn is_cut_as(&self, next: &ViewState) -> bool
         ensures { result ≡ is_cut_alike self.now next.now }
@@ -606,7 +631,7 @@ impl ViewState {
     }
 
     // A gap left of which both show the same on one text, where they do not show the same on all of it.
-    fn apart_from(&self, next: &ViewState, text: TextLeft) -> Option<u64>
+    pub(crate) fn apart_from(&self, next: &ViewState, text: TextLeft) -> Option<u64>
         requires { IsTextLeft text self.now next.now }
         ensures { IsShownApart result self.now next.now }
     {
@@ -640,7 +665,7 @@ impl ViewState {
     }
 
     // The line of the character left of a gap; the first one where there is none.
-    fn line_left_of(&self, gap: u64) -> u64
+    pub(crate) fn line_left_of(&self, gap: u64) -> u64
         ensures line { result ≡ line_left_of self.now gap }
         ensures inside { result ≤ length (pieces_in self.now) }
         ensures characters { all_scalars self.now.text ≡ true }
@@ -654,7 +679,12 @@ impl ViewState {
 
     // Whether the layouts are the same, of which the lines before this one are: line by line where their texts and carets do not tell them
     // apart.
-    fn has_lines_from(&self, alloc: Global, next: &ViewState, from: u64) -> Result<bool, NoMemory>
+    pub(crate) fn has_lines_from(
+        &self,
+        alloc: Global,
+        next: &ViewState,
+        from: u64,
+    ) -> Result<bool, NoMemory>
         requires inside { from ≤ length (pieces_in self.now) }
         requires alike { take from (layout_in self.now) ≡ take from (layout_in next.now) }
         ensures { IfOk result (λ same. same ≡ is_same_layout (layout_in self.now) (layout_in next.now)) }
@@ -675,7 +705,7 @@ impl ViewState {
     }
 
     // How many characters the text has.
-    fn len(&self) -> u64
+    pub(crate) fn len(&self) -> u64
         ensures { result ≡ length self.now.text }
     {
         self.rope().len()

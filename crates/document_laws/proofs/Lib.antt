@@ -6,4 +6,3 @@ pub mod UnseenLemmas
 pub mod StyleLemmas
 pub mod SavingLemmas
 pub mod ReadingLemmas
-pub mod TouchedLemmas

@@ -32,7 +32,7 @@ use Rattle.doc_session.specs.declared.looking.Viewing.{Viewing}
 use Rattle.doc_session.specs.declared.looking.Viewing.TheVariants.{Layout, Other as NoCommand}
 use Rattle.doc_session.specs.Looking.{viewed_lines, viewing_of}
 use Rattle.doc_session.specs.Effects.{pristine_from, settled}
-use Rattle.doc_session.specs.Step.{act_step, collected_document, command_step, done_step, effect_on, given_document, history_step, idle_step, is_idle, looking_step, saved_document, selected_document, styled_document, taken_step, typed_document, typed_step, undone_document, viewed_document, viewing_step, with_text}
+use Rattle.doc_session.specs.Step.{act_step, collected_document, command_step, done_step, effect_on, given_document, history_step, no_edit_step, is_idle, looking_step, saved_document, selected_document, styled_document, taken_step, typed_document, typed_step, undone_document, viewed_document, viewing_step, with_text}
 use Rattle.document_laws.specs.Laws.{AreOverText, SaysNoStyles, StylesFollow}
 use Rattle.document_laws.proofs.GroupLemmas.{part-stepped}
 use Rattle.doc_text.proofs.ForCallers.{head_text-loaded}
@@ -119,7 +119,7 @@ module _ (d : Document) (over : AreOverText d) where
       effect : Effect
       effect = effect_on d act
 
-      by : (idle : Bool) → Follows d (if idle then idle_step d act effect else typed_step d act effect).document
+      by : (idle : Bool) → Follows d (if idle then no_edit_step d act effect else typed_step d act effect).document
       by true = follows-settled no_request d (selected_document d (kind_of act) effect.regions) follows-still
       by false = follows-settled no_request d (typed_document d (kind_of act) effect) refl
 

@@ -23,7 +23,7 @@ use Rattle.doc_view.specs.View.{View, pieces_in}
 use Rattle.doc_text.specs.Writing.{head_text}
 use Rattle.doc_session.specs.Document.{Document, no_request}
 use Rattle.doc_session.specs.Effects.{pristine_from, settled}
-use Rattle.doc_session.specs.Step.{collected_document, effect_on, history_step, idle_step, is_idle, selected_document, taken_step, typed_document, typed_step, undone_document, with_text}
+use Rattle.doc_session.specs.Step.{collected_document, effect_on, history_step, no_edit_step, is_idle, selected_document, taken_step, typed_document, typed_step, undone_document, with_text}
 use Rattle.doc_text.proofs.ForCallers.{next_undo-opened}
 use Rattle.doc_session.proofs.ForCallers.{effect-some, part-settled as view-settled, typing-some, typing-within}
 use Rattle.doc_session.specs.declared.event.Event.TheVariants.{Front}
@@ -123,7 +123,7 @@ one_run : (start document : Document) (chars : List ℕ) → IsInRun start docum
 one_run start document chars is = collected-IsInRun start (taken_step document (Front (Insert chars))).document (by (is_idle document (typing document chars)))
   where
     by : (idle : Bool) → IsInRun start
-        (if idle then idle_step document (Insert chars) (typing document chars) else typed_step document (Insert chars) (typing document chars)).document
+        (if idle then no_edit_step document (Insert chars) (typing document chars) else typed_step document (Insert chars) (typing document chars)).document
     by true =
         let next = selected_document document inserts (typing document chars).regions in
         settled-IsInRun start document next (still_typed start document (typing document chars).regions is)
@@ -183,7 +183,7 @@ run_taken_back (chars ∷ texts) plain is has some = by (run_taken_back texts) (
 
     by : ((document : Document) → IsBefore document → HasRegions document → concat texts ≢ [] →
         head_text (after_undo (after_typing document texts)).text ≡ head_text document.text) → (idle : Bool) → is_idle plain effect ≡ idle → head_text (after_undo (after_typing
-        (collected_document (if idle then idle_step plain (Insert chars) effect else typed_step plain (Insert chars) effect).document) texts)).text ≡ head_text plain.text
+        (collected_document (if idle then no_edit_step plain (Insert chars) effect else typed_step plain (Insert chars) effect).document) texts)).text ≡ head_text plain.text
     by later true idle =
         let next = selected_document plain inserts effect.regions in
         let still : IsBefore next = (is.0, is.1, is.2, ap (λ t. run_on t inserts) is.3) in

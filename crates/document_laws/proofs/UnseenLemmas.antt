@@ -33,7 +33,7 @@ use Rattle.doc_session.specs.Looking.{viewed_lines, viewing_of}
 use Rattle.doc_session.specs.Effects.{settled, update_after}
 use Rattle.doc_session.specs.Layout.{Position}
 use Rattle.doc_text.specs.Refusal.{edit_refused}
-use Rattle.doc_session.specs.Step.{EventStep, act_step, answer_to, collected_document, command_step, done_step, effect_on, event_step, history_step, idle_step, is_idle, looking_step, refusal_at, revised_document, revision_step, saved_document, scroll_if, scrolls, selected_document, step_to, taken_step, typed_step, undone_document, viewed_document, viewing_step, with_text}
+use Rattle.doc_session.specs.Step.{EventStep, act_step, answer_to, collected_document, command_step, done_step, effect_on, event_step, history_step, no_edit_step, is_idle, looking_step, refusal_at, revised_document, revision_step, saved_document, scroll_if, scrolls, selected_document, step_to, taken_step, typed_step, undone_document, viewed_document, viewing_step, with_text}
 use Rattle.edit_groups.proofs.ForCallers.{least-within}
 use Rattle.doc_text.proofs.ForCallers.{floor-found, head-after}
 use Rattle.document_laws.specs.Laws.{AcknowledgementsAreUnseen, AreAlike, CollectionIsUnseen, IsOfFront, TellTheSame, after_event, bare, bare_groups}
@@ -104,8 +104,8 @@ along-command d act = by (is_idle d effect)
     effect : Effect
     effect = effect_on d act
 
-    by : (idle : Bool) → GoAlong (if idle then idle_step d act effect else typed_step d act effect)
-        (if idle then idle_step (bare d) act effect else typed_step (bare d) act effect)
+    by : (idle : Bool) → GoAlong (if idle then no_edit_step d act effect else typed_step d act effect)
+        (if idle then no_edit_step (bare d) act effect else typed_step (bare d) act effect)
     by true =
         let next = selected_document d (kind_of act) effect.regions in
         along-step_to no_request d next (selected_document (bare d) (kind_of act) effect.regions) _ _ _ (bare-again next)
@@ -217,7 +217,7 @@ floor-command d act has = by (is_idle d effect)
     joined : Option ℕ
     joined = run_group (run_on d.text.typing (kind_of act))
 
-    by : (idle : Bool) → HasFloor (if idle then idle_step d act effect else typed_step d act effect).document
+    by : (idle : Bool) → HasFloor (if idle then no_edit_step d act effect else typed_step d act effect).document
     by true = floor-settled no_request d (selected_document d (kind_of act) effect.regions) has
     by false =
         floor-settled no_request d (typed_in d act effect joined) (omega (arith, has, head-after d.text.history (front_edit d joined effect.replacements)))

@@ -1,7 +1,7 @@
 //! Laws of the steps of a document. The functions do nothing: their clauses are the laws.
 
 ghost use Rattle.document_laws.specs.Laws.{AcknowledgementsAreUnseen, AskingIsUnseen, CollectionIsUnseen, LayersFollow, NewGroupEndsRedo, ReadingGivesTheText, RedoTakesUndoBack, SavingIsSeen, StepsAreFew, UndoTakesNewest, UndoTakesRunBack};
-ghost use Rattle.document_laws.specs.Touched.{ChangesTouchLines};
+ghost use Rattle.doc_session.specs.Touched.{ChangesTouchLines};
 
 /// An undo takes a run of typing back whole: however many insertions it has, the text is the one before the first.
 pub fn undo_takes_run_back()

@@ -13,14 +13,14 @@ use Rattle.doc_session.specs.declared.event.Event.TheVariants.{Ack, Config as Co
 use Rattle.doc_session.specs.declared.looking.Viewing.{Viewing}
 use Rattle.doc_session.specs.Document.{Document}
 use Rattle.doc_session.specs.Looking.{viewing_of}
-use Rattle.doc_session.specs.Step.{act_step, command_step, done_step, effect_on, event_step, history_step, idle_step, is_idle, looking_step, taken_step, typed_step}
+use Rattle.doc_session.specs.Step.{act_step, command_step, done_step, effect_on, event_step, history_step, no_edit_step, is_idle, looking_step, taken_step, typed_step}
 
 -- ---- commands of the front end
 
 command_same : (document : Document) (act : EditAct) (effect : Effect) → (command_step document act effect).document.text.sessions ≡ document.text.sessions
 command_same document act effect = by (is_idle document effect)
   where
-    by : (idle : Bool) → (if idle then idle_step document act effect else typed_step document act effect).document.text.sessions ≡ document.text.sessions
+    by : (idle : Bool) → (if idle then no_edit_step document act effect else typed_step document act effect).document.text.sessions ≡ document.text.sessions
     by true = refl
     by false = refl
 

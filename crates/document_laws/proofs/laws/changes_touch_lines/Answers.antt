@@ -1,4 +1,4 @@
-use Rattle.document_laws.proofs.TouchedLemmas.{AreTouched-change}
+use Rattle.doc_session.proofs.ForCallers.{AreTouched-change}
 use Rattle.document_laws.proofs.laws.changes_touch_lines.Goals as goal
 
 pub returns : goal.returns

@@ -21,38 +21,38 @@ use Rattle.doc_session.proofs.StepLemmas.{AreWithin-more, regions-moved}
 use Rattle.doc_session.proofs.doc.Doc.edit.Goals as goal
 
 pub moved-requires-clause-base : goal.moved-requires-clause-base
-moved-requires-clause-base c = c.in_ok-revised.ensures.made.changes.base ∙ ap length (sym c.self.invariant.shown_is)
+moved-requires-clause-base g c = c.in_ok-revised.ensures.made.changes.base ∙ ap length (sym c.self.invariant.shown_is)
 
 pub moved-requires-clause-well_formed : goal.moved-requires-clause-well_formed
-moved-requires-clause-well_formed c = c.in_ok-revised.ensures.made.changes.well_formed
+moved-requires-clause-well_formed g c = c.in_ok-revised.ensures.made.changes.well_formed
 
 pub moved-requires-clause-bound : goal.moved-requires-clause-bound
-moved-requires-clause-bound c = omega (arith, c.in_ok-revised.ensures.made.within, c.in_ok-revised.ensures.made.counted)
+moved-requires-clause-bound g c = omega (arith, c.in_ok-revised.ensures.made.within, c.in_ok-revised.ensures.made.counted)
 
 pub revise-requires-clause-sound : goal.revise-requires-clause-sound
-revise-requires-clause-sound c = c.in_ok-sel.ensures.sound
+revise-requires-clause-sound g c = c.in_ok-sel.ensures.sound
 
 pub revise-requires-clause-inside : goal.revise-requires-clause-inside
-revise-requires-clause-inside c = AreWithin-more _ _ c.in_ok-sel.sel.regions c.in_ok-revised.ensures.made.within c.in_ok-sel.ensures.inside
+revise-requires-clause-inside g c = AreWithin-more _ _ c.in_ok-sel.sel.regions c.in_ok-revised.ensures.made.within c.in_ok-sel.ensures.inside
 
 pub revise-requires-clause-made : goal.revise-requires-clause-made
-revise-requires-clause-made c = subst (λ (d : Doc). IsRevisionOf d.text c.in_ok-revised.revised) c.self.view_is c.in_ok-revised.ensures.made
+revise-requires-clause-made g c = subst (λ (d : Doc). IsRevisionOf d.text c.in_ok-revised.revised) c.self.view_is c.in_ok-revised.ensures.made
 
 pub returns-in_err-revised-clause-refused : goal.returns-in_err-revised-clause-refused
-returns-in_err-revised-clause-refused c = λ plain stands.
+returns-in_err-revised-clause-refused g c = λ plain stands.
     let was = subst (λ (d : Doc). DocStandsFor d plain) (sym c.self.view_is) stands in
     let refusal = edit_refused (asked_refusal plain.text (plugin_edit plain.text c.args.caller c.args.edit None)) in
     let same = err_from_is_err_and c.from_residual.result c.from_residual.ensures.1 in
     subst (λ r. IfErr r (DocRefuses refusal)) (sym same.1) (subst (DocRefuses refusal) (sym same.2) (c.in_err-revised.ensures.refused plain.text was.text))
 
 pub returns-in_err-sel-clause-refused : goal.returns-in_err-sel-clause-refused
-returns-in_err-sel-clause-refused c = λ plain stands.
+returns-in_err-sel-clause-refused g c = λ plain stands.
     let refusal = edit_refused (asked_refusal plain.text (plugin_edit plain.text c.args.caller c.args.edit None)) in
     let lack = err_from_is_err_and c.from_residual-in_err-sel.result c.from_residual-in_err-sel.ensures.1 in
     subst (λ r. IfErr r (DocRefuses refusal)) (sym lack.1) (subst (DocRefuses refusal) (sym lack.2) (λ other. absurd (other refl)))
 
 pub returns-clause-stepped : goal.returns-clause-stepped
-returns-clause-stepped c = λ plain stands.
+returns-clause-stepped g c = λ plain stands.
     let edit = c.args.edit in
     let caller = c.args.caller in
     let sel = c.in_ok-sel.sel in
@@ -72,6 +72,18 @@ returns-clause-stepped c = λ plain stands.
     (λ none. regions_by-some plain next.history edit.after_cursor plain.view.regions stands.regions_are.some (sym regions_is ∙ none)))
 
 pub returns-clause-accepted : goal.returns-clause-accepted
-returns-clause-accepted c = λ plain stands.
+returns-clause-accepted g c = λ plain stands.
     let was = subst (λ (d : Doc). DocStandsFor d plain) (sym c.self.view_is) stands in
     c.in_ok-revised.ensures.accepted plain.text was.text
+
+pub returns-in_err-revise-clause-steps : goal.returns-in_err-revise-clause-steps
+returns-in_err-revise-clause-steps g c = λ plain stands.
+    let was = subst (λ (d : Doc). DocStandsFor d plain) (sym c.self.view_is) stands in
+    c.in_err-revise.ensures.steps plain (given_text plain.text c.args.caller c.args.edit c.args.named) c.args.caller stands
+    (c.in_ok-revised.ensures.revised plain.text was.text)
+
+pub returns-clause-steps : goal.returns-clause-steps
+returns-clause-steps g c = λ plain stands.
+    let was = subst (λ (d : Doc). DocStandsFor d plain) (sym c.self.view_is) stands in
+    c.in_ok-revise.ensures.steps plain (given_text plain.text c.args.caller c.args.edit c.args.named) c.args.caller stands
+    (c.in_ok-revised.ensures.revised plain.text was.text)

@@ -15,22 +15,22 @@ use Rattle.doc_session.proofs.StepLemmas.{AreWithin-more, regions-moved}
 use Rattle.doc_session.proofs.doc.Doc.turn_group.Goals as goal
 
 pub moved-requires-clause-base : goal.moved-requires-clause-base
-moved-requires-clause-base c = c.requires.changes.base ∙ ap length (ap (λ (d : Doc). text_in d.text) (sym c.self.view_is) ∙ sym c.self.invariant.shown_is)
+moved-requires-clause-base g c = c.requires.changes.base ∙ ap length (ap (λ (d : Doc). text_in d.text) (sym c.self.view_is) ∙ sym c.self.invariant.shown_is)
 
 pub moved-requires-clause-well_formed : goal.moved-requires-clause-well_formed
-moved-requires-clause-well_formed c = c.requires.changes.well_formed
+moved-requires-clause-well_formed g c = c.requires.changes.well_formed
 
 pub moved-requires-clause-bound : goal.moved-requires-clause-bound
-moved-requires-clause-bound c = omega (arith, c.requires.within, c.requires.counted)
+moved-requires-clause-bound g c = omega (arith, c.requires.within, c.requires.counted)
 
 pub revise-requires-clause-sound : goal.revise-requires-clause-sound
-revise-requires-clause-sound c = c.in_ok-sel.ensures.sound
+revise-requires-clause-sound g c = c.in_ok-sel.ensures.sound
 
 pub revise-requires-clause-inside : goal.revise-requires-clause-inside
-revise-requires-clause-inside c = AreWithin-more _ _ c.in_ok-sel.sel.regions c.requires.within c.in_ok-sel.ensures.inside
+revise-requires-clause-inside g c = AreWithin-more _ _ c.in_ok-sel.sel.regions c.requires.within c.in_ok-sel.ensures.inside
 
 pub returns-clause-stepped : goal.returns-clause-stepped
-returns-clause-stepped c = λ plain group groups stands is.
+returns-clause-stepped g c = λ plain group groups stands is.
     let was = subst (λ (d : Doc). DocStandsFor d plain) (sym c.self.view_is) stands in
     let next = undone_text plain.text groups in
     let regions_is =
@@ -40,3 +40,6 @@ returns-clause-stepped c = λ plain group groups stands is.
     (c.revise.ensures.stepped plain next 0 stands is
     (λ none. regions_by-some plain next.history false (map without_goal plain.view.regions) (map-some without_goal plain.view.regions stands.regions_are.some)
     (sym regions_is ∙ none)))
+
+pub returns-clause-steps : goal.returns-clause-steps
+returns-clause-steps g c = λ plain group groups stands is. c.revise.ensures.steps plain (undone_text plain.text groups) 0 stands is

@@ -25,7 +25,7 @@ use Rattle.rope_node.specs.Lengths.{lf_count}
 use Rattle.delta_core.specs.UnitStep.{UnitStep, Dropped, Kept, New, step_of, steps_from, steps_of}
 use Rattle.line_index.specs.Index.{is_kept, kept_left, kept_right, touched_lines}
 use Rattle.rev_engine.specs.Engine.{IsChangeBy}
-use Rattle.document_laws.specs.Touched.{AreTouched, touched_between}
+use Rattle.doc_session.specs.Touched.{AreTouched, touched_between}
 
 -- ---- the steps of a change, along the characters
 

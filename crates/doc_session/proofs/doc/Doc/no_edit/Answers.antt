@@ -16,7 +16,7 @@ use Rattle.doc_session.specs.Stands.{AreRegionsOf, DocStandsFor}
 use Rattle.doc_session.proofs.SomeLemmas.{effect-some}
 use Rattle.doc_session.proofs.StepLemmas.{effect-is}
 use Rattle.doc_session.proofs.UntoldLemmas.{IsUntold-still}
-use Rattle.doc_session.proofs.doc.Doc.idle.Goals as goal
+use Rattle.doc_session.proofs.doc.Doc.no_edit.Goals as goal
 
 pub with_regions-requires-clause-inside : goal.with_regions-requires-clause-inside
 with_regions-requires-clause-inside c = subst (λ (d : Doc). AreWithin (length d.view.text) c.args.sel.regions) (sym c.self.view_is) c.requires.inside
