@@ -12,7 +12,7 @@ ghost use Rattle.core_session.specs.Shelves.{IsNoted, KeepsFiles, NoteTells, she
 use crate::made::by_answer;
 use outside::{Shelf, Shelved};
 use plain_text::{Bytes, List, NoMemory, Text};
-use session_step::{Given, Opened, Terms, both, done, opened_after, place_of};
+use session_step::{CommandEffects, Given, Opened, Terms, both, done, opened_after, place_of};
 use std::alloc::Global;
 use xi_plain::{Act, Command, Config, ShelfNote};
 
@@ -100,7 +100,9 @@ fn noted(
 {
     let then = opened_after(opened, &command.act, &given);
     let done = done(alloc, held, terms, ended, opened, config, command, given);
-    let (note, (piece, held)) = both(note, done)?;
+    let (note, done) = both(note, done)?;
+    let CommandEffects { piece, held, told } = done;
+    drop(told);
     Ok(Asked {
         note,
         piece,

@@ -2,10 +2,13 @@
 use Rattle.doc_session.specs.Document.{Document}
 use Rattle.doc_session.specs.InMemory.{Doc}
 use Rattle.doc_session.specs.Stands.{DocStandsFor}
+use Rattle.entry_lines.specs.Notices.{AreNoticeTexts}
 use Rattle.entry_lines.specs.Piece.{AreLinesOf, UpdatesReadBack}
 use Rattle.entry_lines.specs.ViewId.{view_id_of}
 use Rattle.plain_edits.specs.History.{head}
 use Rattle.session_step.specs.Session.{OpenView, Session, messages, outcome}
+use Rattle.session_step.specs.News.{front_news}
+use Rattle.session_step.specs.declared.command.CommandEffects.{CommandEffects}
 use Rattle.session_step.specs.declared.given.Given.{Given}
 use Rattle.session_step.specs.declared.opened.Opened.{Opened}
 use Rattle.std.specs.Arc.{arc_value}
@@ -104,3 +107,8 @@ pub record IsDone (session : Session) (command : Command) (gave : Given) (piece 
   pub lines : AreLinesOf (messages session command gave) (encode_utf8_all piece)
   pub reads_back : UpdatesReadBack (outcome session command.act gave).updates
   pub stands : Stands held (outcome session command.act gave).views
+
+-- WHAT A COMMAND CAME TO: what it comes to in the session, and its lines tell plugins the news of it
+pub record IsDoneWithNews (session : Session) (command : Command) (gave : Given) (made : CommandEffects) : Type 0 where
+  pub done : IsDone session command gave made.piece made.held
+  pub told : AreNoticeTexts (front_news session command.act gave) made.told

@@ -1,19 +1,27 @@
-ghost use Rattle.std.specs.Prelude.{◌≡◌, ◌<◌, ◌≤◌, ◌^◌, IfOk};
+ghost use Rattle.std.specs.Prelude.{◌≡◌, ◌<◌, ◌≤◌, ◌^◌, IfOk, Ok};
 ghost use Rattle.json_rpc.specs.Request.{IsWireId};
 ghost use Rattle.session_step.specs.Session.{Session, config_after};
-ghost use Rattle.session_step.specs.Views.{IsOfLine, AreOfPlugins, AreThere, IsDone, MayBeAsked};
+ghost use Rattle.session_step.specs.Views.{IsOfLine, AreOfPlugins, AreThere, IsDoneWithNews, MayBeAsked};
 
 use crate::act::{ActEffects, act_on};
 use crate::given::Given;
 use crate::made::both;
 use crate::opened::Opened;
 use crate::terms::Terms;
-use entry_lines::{FrontNews, piece_of};
-use plain_text::{List, NoMemory, Text};
+use entry_lines::{FrontNews, notices_of, piece_of};
+use plain_text::{List, NoMemory, Text, Texts};
 use std::alloc::Global;
 use xi_plain::{Command, Config};
 
-/// The piece of a command that was given this, and the views that are open after it. `ended` are the plugins whose
+/// What a command came to: its piece, the views that are open after it, and the lines that tell plugins of it, each without its LF.
+#[derive(Drop)]
+pub struct CommandEffects {
+    pub piece: Text,
+    pub held: List<Opened>,
+    pub told: Texts,
+}
+
+/// What a command comes to that was given this, with the views that are open after it. `ended` are the plugins whose
 /// sessions have ended, and `config` is how texts are laid out and edited after it.
 pub fn done(
     alloc: Global,
@@ -24,7 +32,7 @@ pub fn done(
     config: Config,
     command: &Command,
     given: Given,
-) -> Result<(Text, List<Opened>), NoMemory>
+) -> Result<CommandEffects, NoMemory>
     requires asked { MayBeAsked held.now }
     requires ended { AreOfPlugins terms.plugins ended.now }
     requires few { opened < 2 ^ 63 }
@@ -35,7 +43,7 @@ pub fn done(
     ensures { (session : Session) → AreThere held.now session.views → terms ≡ session.terms → ended.now ≡ session.ended
         → opened ≡ session.opened
         → config ≡ config_after session.config command.now.act
-        → IfOk result (λ made. IsDone session command.now given made.0 made.1) }
+        → IfOk result (IsDoneWithNews session command.now given) }
 {
     let effects = act_on(
         alloc,
@@ -54,7 +62,6 @@ pub fn done(
         scroll,
         news: told,
     } = effects;
-    drop(told);
     let news = FrontNews {
         reply,
         styles: List::new(alloc),
@@ -63,6 +70,20 @@ pub fn done(
     };
     let piece = piece_of(alloc, &command.id, &news);
     drop(news);
+    let lines = notices_of(alloc, told.as_slice());
+    drop(told);
+    whole(held, piece, lines)
+}
+
+/// All three, where the last two were made.
+fn whole(
+    held: List<Opened>,
+    piece: Result<Text, NoMemory>,
+    told: Result<Texts, NoMemory>,
+) -> Result<CommandEffects, NoMemory>
+    ensures { IfOk result (λ done. (held ≡ done.held) × (piece ≡ Ok done.piece) × (told ≡ Ok done.told)) }
+{
     let (held, piece) = both(held, piece)?;
-    Ok((piece, held))
+    let (held, told) = both(held, told)?;
+    Ok(CommandEffects { piece, held, told })
 }

@@ -18,7 +18,7 @@ mod stepped;
 mod terms;
 
 pub use after::after_alone;
-pub use command::done;
+pub use command::{CommandEffects, done};
 pub use config::{FIRST_CONFIG, config_after, opened_after};
 pub use given::Given;
 pub use made::both;
