@@ -1,4 +1,4 @@
--- How many sessions of plugins a document has: no event changes that.
+-- The sessions of a document after an event, which are as many as before.
 use Rattle.std.proofs.Common.{◌≡◌, ℕ, ◌-◌, Bool, true, false, if◌then◌else◌, List, length, Option, Some, None, refl, ap, ◌∙◌}
 use Rattle.std.proofs.lemmas.List.{length-set}
 use Rattle.plain_edits.specs.Collection.{Collection}
@@ -6,7 +6,7 @@ use Rattle.xi_plain.specs.declared.command.EditAct.{EditAct}
 use Rattle.xi_plain.specs.declared.command.EditAct.TheVariants.{Redo, Undo}
 use Rattle.edit_ops.specs.Commands.{Effect}
 use Rattle.undo_groups.specs.Groups.{Groups, next_redo, next_undo, redone_one, undone_one}
-use Rattle.doc_text.specs.Collecting.{collected_text, collection_after, with_collection, with_session}
+use Rattle.doc_text.specs.Collecting.{acknowledged_by, collected_text, collection_after, session_of, with_collection, with_session}
 use Rattle.doc_text.specs.Writing.{Writing}
 use Rattle.doc_session.specs.declared.event.Event.{Event}
 use Rattle.doc_session.specs.declared.event.Event.TheVariants.{Ack, Config as Configure, Count, Edit, Ended, Front, Other, Read, Saved, Spans}
@@ -42,20 +42,23 @@ act_same document act = by (viewing_of act)
 
 -- ---- all events
 
-as_many : (sessions : List (Option ℕ)) (caller : ℕ) (session : Option ℕ) → length (with_session sessions caller session) ≡ length sessions
-as_many sessions caller session = length-set sessions (caller - 1) session
+-- THE SESSIONS AFTER AN EVENT: what a plugin acknowledges, and its end
+abbrev pub sessions_by : Event → List (Option ℕ) → List (Option ℕ)
+sessions_by (Ack caller rev) sessions = with_session sessions caller (acknowledged_by rev (session_of sessions caller))
+sessions_by (Ended caller) sessions = with_session sessions caller None
+sessions_by event sessions = sessions
 
-taken_same : (document : Document) (event : Event) → length (taken_step document event).document.text.sessions ≡ length document.text.sessions
-taken_same document (Front act) = ap length (act_same document act)
-taken_same document (Edit caller edit named) = refl
-taken_same document (Spans caller rev start len spans) = refl
-taken_same document (Read caller rev start max) = refl
-taken_same document (Count caller) = refl
-taken_same document (Ack caller rev) = as_many document.text.sessions caller _
-taken_same document (Ended caller) = as_many document.text.sessions caller None
-taken_same document (Configure config) = refl
-taken_same document Saved = refl
-taken_same document Other = refl
+taken_by : (document : Document) (event : Event) → (taken_step document event).document.text.sessions ≡ sessions_by event document.text.sessions
+taken_by document (Front act) = act_same document act
+taken_by document (Edit caller edit named) = refl
+taken_by document (Spans caller rev start len spans) = refl
+taken_by document (Read caller rev start max) = refl
+taken_by document (Count caller) = refl
+taken_by document (Ack caller rev) = refl
+taken_by document (Ended caller) = refl
+taken_by document (Configure config) = refl
+taken_by document Saved = refl
+taken_by document Other = refl
 
 collected_same : (text : Writing) → (collected_text text).sessions ≡ text.sessions
 collected_same text = by (collection_after text)
@@ -64,6 +67,18 @@ collected_same text = by (collection_after text)
     by None = refl
     by (Some found) = refl
 
--- AN EVENT leaves as many
+pub sessions_by-event_step : (document : Document) (event : Event) →
+    (event_step document event).document.text.sessions ≡ sessions_by event document.text.sessions
+sessions_by-event_step document event = collected_same (taken_step document event).document.text ∙ taken_by document event
+
+-- an event leaves as many
+as_many : (sessions : List (Option ℕ)) (caller : ℕ) (session : Option ℕ) → length (with_session sessions caller session) ≡ length sessions
+as_many sessions caller session = length-set sessions (caller - 1) session
+
+length-sessions_by : (event : Event) (sessions : List (Option ℕ)) → length (sessions_by event sessions) ≡ length sessions
+length-sessions_by (Ack caller rev) sessions = as_many sessions caller _
+length-sessions_by (Ended caller) sessions = as_many sessions caller None
+length-sessions_by event sessions = refl
+
 pub sessions-event_step : (document : Document) (event : Event) → length (event_step document event).document.text.sessions ≡ length document.text.sessions
-sessions-event_step document event = ap length (collected_same (taken_step document event).document.text) ∙ taken_same document event
+sessions-event_step document event = ap length (sessions_by-event_step document event) ∙ length-sessions_by event document.text.sessions
