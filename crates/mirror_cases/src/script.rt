@@ -1,10 +1,10 @@
 // Lines to a book, and what it makes of them, in words.
 
-use plain_text::{NoMemory, Text};
+use plain_text::{NoMemory, Text, Texts};
 use plugin_mirror::{Book, BookFault, Page};
 use plugin_wire::ask_of;
 use std::alloc::Global;
-use xi_plain::{Act, Command, Id};
+use xi_plain::{Act, Command, Delta, El, Id};
 
 // The first word, and what stands after it.
 fn cut(words: &str) -> (&str, &str) {
@@ -26,7 +26,7 @@ fn update(alloc: Global, words: &str) -> Result<String, NoMemory> {
 }
 
 // The line that is said in words, or these words themselves.
-fn line(alloc: Global, said: &str) -> Result<String, NoMemory> {
+pub(crate) fn line(alloc: Global, said: &str) -> Result<String, NoMemory> {
     let (what, words) = cut(said);
     let (first, second) = cut(words);
     Ok(match what {
@@ -69,7 +69,20 @@ fn taken(alloc: Global, book: &mut Book, said: &str) -> Result<String, NoMemory>
     }
 }
 
-// An ask with its id, the view, where it starts and how long it is, or a revision that is acknowledged.
+fn elements(alloc: Global, els: &[El]) -> Result<String, NoMemory> {
+    let mut told = String::new(alloc);
+    for el in els {
+        let words = match el {
+            El::Copy { a, b } => format!(in alloc; " {a}-{b}")?,
+            El::Insert { text } => format!(in alloc; " {text}")?,
+        };
+        told.push_str(words.as_str())?;
+    }
+    Ok(told)
+}
+
+// An ask with its id, the view, where it starts and how long it is; a revision that is acknowledged; or an edit of a replacer with its
+// view, revision, length and elements.
 fn asked(alloc: Global, command: &Command) -> Result<String, NoMemory> {
     Ok(match (&command.id, &command.act) {
         (
@@ -82,12 +95,27 @@ fn asked(alloc: Global, command: &Command) -> Result<String, NoMemory> {
             },
         ) => format!(in alloc; "{id}:{view} from {start} most {max}")?,
         (Id::NoId, Act::Ack { view, rev }) => format!(in alloc; "ack {view} {rev}")?,
+        (
+            Id::NoId,
+            Act::PluginEdit {
+                view,
+                rev,
+                delta: Delta { els, base_len },
+                priority: 0,
+                after_cursor: false,
+                author,
+                named: None,
+            },
+        ) => {
+            let els = elements(alloc, els.as_slice())?;
+            format!(in alloc; "edit by {author} {view} {rev} of {base_len}:{els}")?
+        }
         _ => format!(in alloc; "?")?,
     })
 }
 
-fn asks(alloc: Global, book: &mut Book) -> Result<String, NoMemory> {
-    let lines = book.asks()?;
+// What lines ask, in words.
+pub(crate) fn in_words(alloc: Global, lines: &Texts) -> Result<String, NoMemory> {
     let mut told = String::new(alloc);
     for line in lines.as_slice() {
         if !told.is_empty() {
@@ -97,6 +125,11 @@ fn asks(alloc: Global, book: &mut Book) -> Result<String, NoMemory> {
         told.push_str(asked(alloc, &command)?.as_str())?;
     }
     Ok(told)
+}
+
+fn asks(alloc: Global, book: &mut Book) -> Result<String, NoMemory> {
+    let lines = book.asks()?;
+    in_words(alloc, &lines)
 }
 
 // The lines of asks as they are, each in angle brackets.
