@@ -1,2 +1,4 @@
 pub mod ActLemmas
+pub mod AskLemmas
+pub mod ForCallers
 pub mod RowLemmas
