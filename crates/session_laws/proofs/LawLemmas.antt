@@ -1,4 +1,4 @@
--- What bytes show that no core writes, and what waits in a session to be collected.
+-- What bytes show that no core writes.
 use Rattle.std.proofs.Common.{◌≡◌, ℕ, List, [], ◌∷◌, Option, Some, ap, sym, ◌∙◌, codes, append-nil}
 use Rattle.std.specs.Prelude.{if◌then◌else◌}
 use Rattle.plain_screen.specs.Screen.{screen_after}
@@ -11,9 +11,8 @@ use Rattle.view_update.specs.declared.note.ViewUpdate.{ViewUpdate}
 use Rattle.view_update.specs.Reading.{read_params, line_update}
 use Rattle.view_update.specs.Written.{update_data}
 use Rattle.view_update.proofs.ForCallers.{updates_are_read, updates_read_back}
-use Rattle.doc_text.proofs.ForCallers.{none-retired}
 use Rattle.core_session.specs.Shows.{updates_in, screen_with, rebuilt_from}
-use Rattle.session_laws.specs.Laws.{NothingWaits, UnreadShowsNothing, OtherViewIsPassedOver}
+use Rattle.session_laws.specs.Laws.{UnreadShowsNothing, OtherViewIsPassedOver}
 use Rattle.core_session.proofs.ForCallers.{updates_of-some, updates_in-lines}
 
 -- one message alone
@@ -36,13 +35,3 @@ pub other_view_is_passed_over : OtherViewIsPassedOver
 other_view_is_passed_over id view update fair other =
     ap (rebuilt_from id (Some [])) (updates_in-update view update fair) ∙
     ap (λ here. if here then screen_after [] update.ops else Some []) other
-
--- ---- nothing waits
-
-pub nothing_waits : NothingWaits
-nothing_waits [] [] stands = tt
-nothing_waits [] (view ∷ views) stands = absurd stands
-nothing_waits (kept ∷ held) [] stands = absurd stands
-nothing_waits (kept ∷ held) (view ∷ views) stands =
-    let is = stands.0.stands in
-    ((is.text.none_left, λ ended. none-retired _ view.document.text is.text ended), nothing_waits held views stands.1)

@@ -1,6 +1,6 @@
 //! Laws of the definitions, each the contract of a function: they hold of all journals and all bytes.
 
-ghost use Rattle.session_laws.specs.Laws.{AllAreConfigured, AllHaveSessions, NoTextIsTold, NothingWaits, OtherViewIsPassedOver, RevisionsAreFew, ShelfFailureIsTold, UnreadShowsNothing};
+ghost use Rattle.session_laws.specs.Laws.{AllAreConfigured, AllHaveSessions, EditsAreTold, EndsAreEverywhere, NoTextIsTold, NothingWaits, OtherViewIsPassedOver, PluginsScrollNothing, RevisionsAreFew, ShelfFailureIsTold, StylesAreToldOnce, UnreadShowsNothing};
 
 /// A document has at most as many revisions as its journal has entries.
 pub fn revisions_are_few()
@@ -12,7 +12,7 @@ pub fn all_are_configured()
     ensures { AllAreConfigured }
 {}
 
-/// In the documents of a session no group waits to be collected.
+/// In the documents of a session no group waits to be collected, and none at all once no plugin's session is open.
 pub fn nothing_waits()
     ensures { NothingWaits }
 {}
@@ -40,4 +40,24 @@ pub fn no_text_is_told()
 /// Each document has a session of each plugin.
 pub fn all_have_sessions()
     ensures { AllHaveSessions }
+{}
+
+/// A plugin's session is open in each view until its end.
+pub fn ends_are_everywhere()
+    ensures { EndsAreEverywhere }
+{}
+
+/// No entry of a plugin scrolls.
+pub fn plugins_scroll_nothing()
+    ensures { PluginsScrollNothing }
+{}
+
+/// Each style is told once, under its own number.
+pub fn styles_are_told_once()
+    ensures { StylesAreToldOnce }
+{}
+
+/// Each edit of a plugin is told once, and nothing else that plugins ask.
+pub fn edits_are_told()
+    ensures { EditsAreTold }
 {}

@@ -1,4 +1,4 @@
-use Rattle.session_laws.proofs.LawLemmas.{nothing_waits}
+use Rattle.session_laws.proofs.EndedLemmas.{nothing_waits}
 use Rattle.session_laws.proofs.laws.nothing_waits.Goals as goal
 
 pub returns : goal.returns
