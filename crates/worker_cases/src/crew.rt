@@ -22,17 +22,29 @@ use xi_plain::{Act, Bytes, Entry, TryClone};
 
 // What the front does while two workers have their turns.
 #[derive(Clone, Copy)]
-enum Work {
+enum Work<'a> {
     // Nothing: the plugins end by themselves.
     Nothing,
     // It closes the room.
     Closes,
     // It closes the room after so many milliseconds.
     ClosesAfter(u64),
+    // It closes the room once so many were counted.
+    ClosesAt(&'a AtomicU64, u64),
     // It has an entry that is not sent, and closes the room.
     Fails,
-    // It asks so often.
-    Asks(u32),
+    // It asks so often, and counts itself then.
+    Asks(u32, &'a AtomicU64),
+}
+
+// Waits until so many were counted.
+fn await_count<R: Wait>(rt: &R, counted: &AtomicU64, count: u64) {
+    for _ in rt.forever() {
+        if counted.load(Ordering::SeqCst) >= count {
+            return;
+        }
+        thread::yield_now();
+    }
 }
 
 // What became of a worker.
@@ -96,7 +108,7 @@ fn front_works<R: Wait + Clock>(
     alloc: Global,
     room: &Room<Post>,
     pass: Pass,
-    work: Work,
+    work: Work<'_>,
 ) -> Pass
     requires { pass.room ≡ room.now.table.shared.table_id }
     ensures { IsSamePass pass result }
@@ -108,11 +120,19 @@ fn front_works<R: Wait + Clock>(
             thread::sleep(rt, Duration::from_millis(millis));
             close(rt, room, pass)
         }
+        Work::ClosesAt(counted, count) => {
+            await_count(rt, counted, count);
+            close(rt, room, pass)
+        }
         Work::Fails => {
             let pass = say(rt, alloc, room, pass, "unsent");
             close(rt, room, pass)
         }
-        Work::Asks(count) => say_often(rt, alloc, room, pass, count),
+        Work::Asks(count, counted) => {
+            let pass = say_often(rt, alloc, room, pass, count);
+            counted.fetch_add(1, Ordering::SeqCst);
+            pass
+        }
     }
 }
 
@@ -143,7 +163,7 @@ fn in_scope<'s, E, P: Plugin + Send + 's, G: Gate + Sync, R: Threads + Wait + Cl
     gate: &'s G,
     front: Pass,
     pair: Pair<P>,
-    work: Work,
+    work: Work<'_>,
 ) -> (Pass, Ended<P>, Ended<P>)
     requires front { front.room ≡ room.now.table.shared.table_id }
     requires a { MayPost room.now.table.shared.table_id room.now.table.shared.key.first.value pair.a }
@@ -173,7 +193,7 @@ fn both_work<P: Plugin + Send, G: Gate + Sync, R: Threads + Wait + Clock + Sync>
     gate: &G,
     front: Pass,
     pair: Pair<P>,
-    work: Work,
+    work: Work<'_>,
 ) -> (Pass, Ended<P>, Ended<P>)
     requires front { front.room ≡ room.now.table.shared.table_id }
     requires a { MayPost room.now.table.shared.table_id room.now.table.shared.key.first.value pair.a }
@@ -214,7 +234,7 @@ fn run_both<P: Plugin + Send, G: Gate + Sync, R: Threads + Wait + Clock + Sync>(
     gate: &G,
     first: P,
     second: P,
-    work: Work,
+    work: Work<'_>,
 ) -> Option<Outcome<P>> {
     let mut passes = Vec::with_capacity(alloc, 3).ok()?;
     let Ok((room, mut front)) = Room::make(alloc, Post::new(alloc), 3) else {
@@ -323,7 +343,7 @@ fn talk<R: Threads + Wait + Clock + Sync>(
     line: &'static str,
     count: u32,
     ends: bool,
-    work: Work,
+    work: Work<'_>,
 ) -> Option<Outcome<Talker>> {
     let first = Talker::new(alloc, line, count, ends);
     let second = Talker::new(alloc, "second ", count, ends);
@@ -364,7 +384,11 @@ fn two_workers_side_by_side(rt: HostRuntime) {
 #[test]
 fn a_plugin_that_never_is_done_ends_with_the_room(rt: HostRuntime) {
     let alloc = rt.alloc();
-    let outcome = talk(&rt, alloc, "first ", 3, false, Work::ClosesAfter(100));
+    let gate = Counter::new();
+    let first = Talker::new(alloc, "first ", 3, false);
+    let second = Talker::new(alloc, "second ", 3, false);
+    let work = Work::ClosesAt(&gate.leaves, 6);
+    let outcome = run_both(&rt, alloc, &gate, first, second, work);
     assert!(rt; own_count(alloc, &outcome) == 3);
     assert!(rt; agree(alloc, outcome));
     assert!(rt;
@@ -406,20 +430,21 @@ fn a_room_is_closed_after_an_entry_that_was_not_sent(rt: HostRuntime) {
     assert!(rt; agree(alloc, outcome));
 }
 
-// A plugin that sleeps a second in its turn, and is done.
+// A plugin whose turn lasts until the front is counted, and that is done then.
 #[derive(Drop)]
-struct Sleeper<'a, R> {
+struct Awaiter<'a, R> {
     rt: &'a R,
+    counted: &'a AtomicU64,
     alloc: Global,
 }
 
-impl<R: Clock> Plugin for Sleeper<'_, R> {
+impl<R: Wait> Plugin for Awaiter<'_, R> {
     ghost use Rattle.std.specs.Prelude.{None};
 
     ghost told = { λ p. None };
 
     fn turn(&mut self, _lines: &[Text]) -> Turn {
-        thread::sleep(self.rt, Duration::from_millis(1000));
+        await_count(self.rt, self.counted, 1);
         Turn {
             lines: Texts::new(self.alloc),
             done: true,
@@ -442,9 +467,19 @@ fn is_front_first(entries: &[Entry], count: usize) -> bool {
 #[test]
 fn no_worker_holds_the_room_in_its_turn(rt: HostRuntime) {
     let alloc = rt.alloc();
-    let first = Sleeper { rt: &rt, alloc };
-    let second = Sleeper { rt: &rt, alloc };
-    match run_both(&rt, alloc, &FreeGate, first, second, Work::Asks(1000)) {
+    let counted = AtomicU64::new(0);
+    let first = Awaiter {
+        rt: &rt,
+        counted: &counted,
+        alloc,
+    };
+    let second = Awaiter {
+        rt: &rt,
+        counted: &counted,
+        alloc,
+    };
+    let work = Work::Asks(1000, &counted);
+    match run_both(&rt, alloc, &FreeGate, first, second, work) {
         Some(outcome) => {
             assert!(rt; is_front_first(outcome.post.entries.as_slice(), 1000));
         }
@@ -472,6 +507,16 @@ struct Counter {
     leaves: AtomicU64,
 }
 
+impl Counter {
+    fn new() -> Counter {
+        Counter {
+            turns: AtomicU64::new(0),
+            enters: AtomicU64::new(0),
+            leaves: AtomicU64::new(0),
+        }
+    }
+}
+
 impl Gate for Counter {
     fn pass(&self, _caller: u32, point: Point) {
         let count = match point {
@@ -486,11 +531,7 @@ impl Gate for Counter {
 #[test]
 fn a_gate_is_passed_around_each_ask(rt: HostRuntime) {
     let alloc = rt.alloc();
-    let gate = Counter {
-        turns: AtomicU64::new(0),
-        enters: AtomicU64::new(0),
-        leaves: AtomicU64::new(0),
-    };
+    let gate = Counter::new();
     let first = Talker::new(alloc, "first ", 7, true);
     let second = Talker::new(alloc, "second ", 7, true);
     let outcome = run_both(&rt, alloc, &gate, first, second, Work::Nothing);
