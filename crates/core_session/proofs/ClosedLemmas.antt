@@ -11,7 +11,8 @@ use Rattle.core_session.specs.Kept.{is_over}
 use Rattle.core_session.specs.Core.{IsServing, journal_of, terms_of}
 use Rattle.core_session.specs.Shows.{AreShown, last_requested, Shows}
 use Rattle.core_session.proofs.KeptLemmas.{open_journal, showing_open}
-use Rattle.core_session.proofs.ShowsLemmas.{no_lines, shows_push}
+use Rattle.core_session.proofs.ShowsLemmas.{no_lines}
+use Rattle.core_session.proofs.ShownLemmas.{shows_push}
 use Rattle.core_session.proofs.SessionLemmas.{written-push}
 
 -- what a session wrote shows its journal with the closing entry, which writes nothing

@@ -1,7 +1,7 @@
 -- How a session stands after one more entry, and what it keeps then.
 use Rattle.session_step.specs.declared.terms.Terms.{Terms}
 use Rattle.std.proofs.Common.{◌≡◌, inl, inr, ℕ, suc, ◌<◌, ◌≤◌, arith, Bool, true, false, not, List, [], ◌∷◌, ◌++◌, length, length-append, refl, ap, sym, ◌∙◌, subst, append-nil}
-use Rattle.std.specs.Prelude.{◌⊎◌, ◌&&◌, ◌||◌, ◌==◌, ◌^◌, if◌then◌else◌, nat_le}
+use Rattle.std.specs.Prelude.{◌⊎◌, ◌&&◌, ◌||◌, ◌==◌, ◌^◌, if◌then◌else◌, nat_le, unwrap_or}
 use Rattle.std.specs.Arc.{arc_value}
 use Rattle.std.specs.List.{AllByRecursion, AllByRecursion-prop, list_all}
 use Rattle.std.proofs.Math.Bool.{or-false, or-true}
@@ -10,34 +10,38 @@ use Rattle.std.proofs.Math.Nat.{ℕ_set}
 use Rattle.std.specs.Coded.{le_prop}
 use Rattle.std.proofs.lemmas.Bool.Decides.{nat_tests}
 use Rattle.std.proofs.lemmas.List.Folds.{list_all-append, list_any-append}
-use Rattle.xi_plain.specs.declared.command.Command.{Command}
+use Rattle.plain_edits.specs.declared.style.Style.{Style}
+use Rattle.plugin_wire.specs.Told.{stopped}
+use Rattle.entry_lines.specs.Notices.{AreNoticeTexts}
+use Rattle.plugin_acts.specs.Effects.{views_with}
 use Rattle.xi_plain.specs.declared.config.Config.{Config}
 use Rattle.xi_plain.specs.declared.entry.Entry.{Entry}
-use Rattle.xi_plain.specs.declared.entry.ShelfNote.{ShelfNote}
-use Rattle.xi_plain.specs.Journal.{IsLegal, closing_entry, has_own_note, is_closing, is_ordered, may_follow, may_have_note}
+use Rattle.xi_plain.specs.Journal.{IsLegal, closing_entry, has_own_note, is_closing, is_ordered, may_follow}
 use Rattle.session_step.specs.declared.opened.Opened.{Opened}
 use Rattle.core_session.specs.declared.prepare.Prepared.{Prepared}
 use Rattle.core_session.specs.declared.stage.Stage.{Stage}
 use Rattle.core_session.specs.declared.stage.Stage.TheVariants.{Broken, Closed, Serves}
 use Rattle.core_session.specs.InnerSession.{IsPrepared}
-use Rattle.core_session.specs.Kept.{IsOfJournal, IsOpen, IsShowing, StandsForSession, front_entry, has_closing, is_over, reserved, sent_front, stage_by, stage_if, stage_of}
+use Rattle.core_session.specs.Kept.{IsOfJournal, IsOpen, IsShowing, StandBy, StandsForSession, has_closing, is_over, reserved, sent_front, stage_by, stage_if, stage_of, with_sent}
 use Rattle.session_step.specs.Session.{session_of, views_of}
 use Rattle.core_session.specs.Shelves.{AreSavesAsked, asks_as}
 use Rattle.doc_session.specs.Document.{Document}
 use Rattle.doc_session.specs.Stands.{DocStandsFor}
 use Rattle.session_step.specs.Views.{AreOfPlugins, IsOfLine, MayBeAsked, TakesEvents}
 use Rattle.session_step.specs.Accepted.{AreAccepted}
+use Rattle.core_session.proofs.SentLemmas.{opens_sent, prepared_sent}
 use Rattle.core_session.proofs.SessionLemmas.{AreAccepted-push, none_within, session_of-push}
 use Rattle.core_session.proofs.ShelfLemmas.{AreSavesAsked-closed, AreSavesAsked-push}
-use Rattle.core_session.proofs.ShowsLemmas.{no_lines, serves_push, shows_push}
+use Rattle.core_session.proofs.ShowsLemmas.{no_lines}
+use Rattle.core_session.proofs.ShownLemmas.{serves_push, shows_push}
 
 -- ---- truths
 
-first_of : (a b : Bool) → a && b ≡ true → a ≡ true
+pub first_of : (a b : Bool) → a && b ≡ true → a ≡ true
 first_of true b is = refl
 first_of false b is = absurd cc
 
-second_of : (a b : Bool) → a && b ≡ true → b ≡ true
+pub second_of : (a b : Bool) → a && b ≡ true → b ≡ true
 second_of true b is = is
 second_of false b is = absurd cc
 
@@ -92,16 +96,15 @@ IsLegal-front plugins entries rest each legal =
     noted_front plugins entries rest each (second_of (is_ordered plugins rest) (list_all has_own_note rest) legal) in
     rw (ordered, noted) refl
 
--- a line's entry alone, and with the closing one behind it
-legal_one : (plugins : ℕ) (command : Command) (note : ShelfNote) (sent : Bool) → IsOfLine command.act → may_have_note command.act note ≡ true →
-    IsLegal plugins (front_entry command note sent ∷ [])
-legal_one plugins command note true asks kind = rw (none_within plugins, asks, kind) refl
-legal_one plugins command note false asks kind = rw (none_within plugins, asks, kind) refl
+-- an open entry alone, and behind those that were sent
+legal_one : (plugins : ℕ) (entry : Entry) (sent : Bool) → IsOpen plugins entry → IsLegal plugins (with_sent entry sent ∷ [])
+legal_one plugins entry true opens = rw (opens.caller, opens.asks, opens.note) refl
+legal_one plugins entry false opens = rw (opens.caller, opens.asks, opens.note) refl
 
-pub IsLegal-push : (plugins : ℕ) (journal : List Entry) (command : Command) (note : ShelfNote) (sent : Bool) → AllByRecursion (IsOpen plugins) journal →
-    IsOfLine command.act → may_have_note command.act note ≡ true → IsLegal plugins (journal ++ front_entry command note sent ∷ [])
-IsLegal-push plugins journal command note sent each asks kind =
-    IsLegal-front plugins journal (front_entry command note sent ∷ []) each (legal_one plugins command note sent asks kind)
+pub IsLegal-push : (plugins : ℕ) (journal : List Entry) (entry : Entry) (sent : Bool) → AllByRecursion (IsOpen plugins) journal →
+    IsOpen plugins entry → IsLegal plugins (journal ++ with_sent entry sent ∷ [])
+IsLegal-push plugins journal entry sent each opens =
+    IsLegal-front plugins journal (with_sent entry sent ∷ []) each (legal_one plugins entry sent opens)
 
 follows_by : (sent a b : Bool) → (a ≡ true → b ≡ true) → (if sent then true else a) ≡ true → (if sent then true else b) ≡ true
 follows_by true a b later is = refl
@@ -254,21 +257,21 @@ sent_stage true = refl
 sent_stage false = refl
 
 -- no line's entry closes
-pub closing-push : (journal : List Entry) (command : Command) (note : ShelfNote) (sent : Bool) → is_over journal ≡ false → IsOfLine command.act →
-    has_closing (journal ++ front_entry command note sent ∷ []) ≡ false
-closing-push journal command note sent goes asks =
-    list_any-append is_closing journal (front_entry command note sent ∷ []) ∙ rw (open_not_closed journal goes, asks) refl
+pub closing-push : (journal : List Entry) (entry : Entry) (sent : Bool) → is_over journal ≡ false → IsOfLine entry.command.act →
+    has_closing (journal ++ with_sent entry sent ∷ []) ≡ false
+closing-push journal entry sent goes asks =
+    list_any-append is_closing journal (with_sent entry sent ∷ []) ∙ rw (open_not_closed journal goes, asks) refl
 
-pub stage-push : (journal : List Entry) (command : Command) (note : ShelfNote) (sent : Bool) → is_over journal ≡ false → IsOfLine command.act →
-    stage_if sent ≡ stage_of (journal ++ front_entry command note sent ∷ [])
-stage-push journal command note sent goes asks =
-    let entry = front_entry command note sent in
+pub stage-push : (journal : List Entry) (entry : Entry) (sent : Bool) → is_over journal ≡ false → IsOfLine entry.command.act →
+    stage_if sent ≡ stage_of (journal ++ with_sent entry sent ∷ [])
+stage-push journal entry sent goes asks =
+    let next = with_sent entry sent in
     let ends : Entry → Bool = λ entry. is_closing entry || not entry.sent in
-    let closed : has_closing (journal ++ entry ∷ []) ≡ false = closing-push journal command note sent goes asks in
-    let over : is_over (journal ++ entry ∷ []) ≡ not sent || false =
-    list_any-append ends journal (entry ∷ []) ∙ rw (goes, asks) refl in
+    let closed : has_closing (journal ++ next ∷ []) ≡ false = closing-push journal entry sent goes asks in
+    let over : is_over (journal ++ next ∷ []) ≡ not sent || false =
+    list_any-append ends journal (next ∷ []) ∙ rw (goes, asks) refl in
     sent_stage sent ∙ ap (stage_by false) (sym (over ∙ or-false (not sent))) ∙
-    ap (λ c. stage_by c (is_over (journal ++ entry ∷ []))) (sym closed)
+    ap (λ c. stage_by c (is_over (journal ++ next ∷ []))) (sym closed)
 
 pub stage-closing : (journal : List Entry) → Closed ≡ stage_of (journal ++ closing_entry ∷ [])
 stage-closing journal =
@@ -319,24 +322,32 @@ showing_open terms journal each showing =
     ap sent_front (sym (append-nil journal)) ∙ sent_front-open terms.plugins journal [] each ∙ append-nil journal in
     subst (IsShowing terms) same showing
 
-pub IsOfJournal-push : (terms : Terms) (ended : List ℕ) (journal : List Entry) (made : Prepared) (sent : Bool) → length journal < 2 ^ 63 →
-    AllByRecursion (IsOpen terms.plugins) journal → IsShowing terms journal → AreSavesAsked terms journal → AreAccepted terms journal → IsOfLine made.command.act → may_have_note made.command.act made.note ≡ true →
-    asks_as (views_of terms journal) made.command.act made.note ≡ true → IsPrepared ended (session_of terms journal) made →
-    IsOfJournal terms made.held ended made.opened made.config (journal ++ front_entry made.command made.note sent ∷ [])
-IsOfJournal-push terms ended journal made sent few each showing saves accepted asks kind asked prepared = record {
+-- what is kept after one more entry that was prepared
+pub IsOfJournal-push : (terms : Terms) (held : List Opened) (table : List Style) (ended : List ℕ) (journal : List Entry) (made : Prepared) (sent : Bool) →
+    length journal < 2 ^ 63 → AllByRecursion (IsOpen terms.plugins) journal → IsShowing terms journal → AreSavesAsked terms journal →
+    AreAccepted terms journal → IsOpen terms.plugins made.entry →
+    asks_as (views_of terms journal) made.entry.command.act made.entry.shelf ≡ true → IsPrepared held table ended (session_of terms journal) made →
+    IsOfJournal terms (views_with held made.next) (unwrap_or made.grown table) (unwrap_or made.gone ended) made.opened made.config
+    (journal ++ with_sent made.entry sent ∷ [])
+IsOfJournal-push terms held table ended journal made sent few each showing saves accepted opens asked prepared = record {
   stands =
-      subst (StandsForSession made.held ended made.opened made.config) (sym (session_of-push terms journal (front_entry made.command made.note sent))) prepared.stands;
+      subst (StandsForSession (views_with held made.next) (unwrap_or made.grown table) (unwrap_or made.gone ended) made.opened made.config)
+      (sym (session_of-push terms journal (with_sent made.entry sent))) (ready sent).stands;
   showing = shown sent;
-  saves_asked = AreSavesAsked-push terms journal (front_entry made.command made.note sent) saves asked;
-  accepted = AreAccepted-push terms journal (front_entry made.command made.note sent) accepted tt;
+  saves_asked = AreSavesAsked-push terms journal (with_sent made.entry sent) saves asked;
+  accepted = AreAccepted-push terms journal (with_sent made.entry sent) accepted (ready sent).accepted;
 }
   where
-    shown : (sent : Bool) → IsShowing terms (sent_front (journal ++ front_entry made.command made.note sent ∷ []))
-    shown false = subst (IsShowing terms) (sym (sent_front-open terms.plugins journal (front_entry made.command made.note false ∷ []) each ∙ append-nil journal)) showing
+    ready : (sent : Bool) → IsPrepared held table ended (session_of terms journal) (record made { entry = with_sent made.entry sent })
+    ready sent = prepared_sent held table ended (session_of terms journal) made sent prepared
+
+    shown : (sent : Bool) → IsShowing terms (sent_front (journal ++ with_sent made.entry sent ∷ []))
+    shown false = subst (IsShowing terms) (sym (sent_front-open terms.plugins journal (with_sent made.entry false ∷ []) each ∙ append-nil journal)) showing
     shown true =
-        let parts = serves_push terms journal made.command made.note made.held ended made.opened made.config _ few each showing asks kind prepared.lines
-        prepared.reads_back prepared.stands in
-        subst (IsShowing terms) (sym (sent_front-open terms.plugins journal (front_entry made.command made.note true ∷ []) each)) parts.1
+        let next = ready true in
+        let parts = serves_push terms journal (with_sent made.entry true) _ few each showing (opens_sent terms.plugins made.entry opens) next.accepted
+        next.lines next.reads_back in
+        subst (IsShowing terms) (sym (sent_front-open terms.plugins journal (with_sent made.entry true ∷ []) each)) parts.1
 
 closed_showing : (terms : Terms) (journal : List Entry) (over : Bool) → is_over journal ≡ over → length journal < 2 ^ 63 → IsLegal terms.plugins journal →
     has_closing journal ≡ false → IsShowing terms (sent_front journal) → IsShowing terms (sent_front (journal ++ closing_entry ∷ []))
@@ -346,11 +357,24 @@ closed_showing terms journal false is few legal none showing =
     subst (IsShowing terms) (sym (sent_front-open terms.plugins journal (closing_entry ∷ []) each))
     (shows_push terms journal closing_entry few tt (showing_open terms journal each showing) no_lines tt)
 
-pub IsOfJournal-closed : (terms : Terms) (held : List Opened) (ended : List ℕ) (many : ℕ) (laid : Config) (journal : List Entry) → length journal < 2 ^ 63 → IsLegal terms.plugins journal →
-    has_closing journal ≡ false → IsOfJournal terms held ended many laid journal → IsOfJournal terms held ended many laid (journal ++ closing_entry ∷ [])
-IsOfJournal-closed terms held ended many laid journal few legal none kept = record {
-  stands = subst (StandsForSession held ended many laid) (sym (session_of-push terms journal closing_entry)) kept.stands;
+pub IsOfJournal-closed : (terms : Terms) (held : List Opened) (table : List Style) (ended : List ℕ) (many : ℕ) (laid : Config) (journal : List Entry) →
+    length journal < 2 ^ 63 → IsLegal terms.plugins journal → has_closing journal ≡ false → IsOfJournal terms held table ended many laid journal →
+    IsOfJournal terms held table ended many laid (journal ++ closing_entry ∷ [])
+IsOfJournal-closed terms held table ended many laid journal few legal none kept = record {
+  stands = subst (StandsForSession held table ended many laid) (sym (session_of-push terms journal closing_entry)) kept.stands;
   showing = closed_showing terms journal (is_over journal) refl few legal none kept.showing;
   saves_asked = AreSavesAsked-closed terms journal kept.saves_asked;
   accepted = AreAccepted-push terms journal closing_entry kept.accepted tt;
 }
+
+-- the lines that stand by for the closing entry, as long as it does not stand
+pub stands_by : (stage : Stage) (texts : List (List ℕ)) → StandBy stage texts → (stage ≡ Serves) ⊎ (stage ≡ Broken) → AreNoticeTexts (stopped ∷ []) texts
+stands_by Serves texts stop goes = stop
+stands_by Broken texts stop goes = stop
+stands_by Closed texts stop (inl goes) = absurd cc
+stands_by Closed texts stop (inr goes) = absurd cc
+
+-- they do after an entry of a line
+pub stand_by_if : (texts : List (List ℕ)) (sent : Bool) → AreNoticeTexts (stopped ∷ []) texts → StandBy (stage_if sent) texts
+stand_by_if texts true stop = stop
+stand_by_if texts false stop = stop

@@ -2,11 +2,17 @@ pub mod SessionLemmas
 pub mod PlanLemmas
 pub mod ScreenLemmas
 pub mod StepLemmas
+pub mod PluginStepLemmas
+pub mod AfterLemmas
 pub mod ShelfLemmas
 pub mod RevisionLemmas
 pub mod ShowsLemmas
+pub mod ShownLemmas
 pub mod PrepareLemmas
+pub mod SentLemmas
 pub mod KeptLemmas
+pub mod ToldLemmas
 pub mod EnterLemmas
+pub mod PluginLemmas
 pub mod ClosedLemmas
 pub mod ForCallers

@@ -16,7 +16,9 @@ use Rattle.session_step.specs.Session.{OpenView, HaveRevisions, Session, first_s
 use Rattle.session_step.specs.PluginStep.{ended_step, plugin_outcome}
 use Rattle.session_step.proofs.ForCallers.{all_found, all_with_document, by_plugin, head-without_sessions, sessions-event_step}
 use Rattle.core_session.proofs.SessionLemmas.{terms-step}
-use Rattle.core_session.proofs.StepLemmas.{IsBase, KeepsStep, all_base, all_events, by_views, keeps_act, keeps_config, keeps_other, keeps_saved, shown_plugin}
+use Rattle.core_session.proofs.StepLemmas.{IsBase, KeepsStep, all_events, by_views, keeps_act, keeps_config, keeps_other, keeps_saved}
+use Rattle.core_session.proofs.AfterLemmas.{all_base}
+use Rattle.core_session.proofs.PluginStepLemmas.{shown_plugin}
 
 -- the views one by one
 few_steps : (n : ℕ) (views : List OpenView) (each : OpenView → EventStep) →

@@ -7,17 +7,16 @@ use Rattle.xi_plain.specs.declared.command.Command.{Command}
 use Rattle.xi_plain.specs.declared.entry.Entry.{Entry}
 use Rattle.xi_plain.specs.declared.entry.ShelfNote.{ShelfNote}
 use Rattle.xi_plain.specs.Journal.{may_have_note}
-use Rattle.session_step.specs.Session.{Session, first_session, given_by, is_front, messages_by, outcome, step, step_by, session_after, session_of, views_of, written, piece_of}
+use Rattle.session_step.specs.Session.{Session, first_session, is_front, messages_by, step, step_by, session_after, session_of, views_of, written, piece_of}
 use Rattle.session_step.specs.Views.{IsOfLine}
 use Rattle.core_session.specs.Kept.{IsOpen, front_entry}
+pub use Rattle.core_session.specs.InnerSession.{updates_by}
 use Rattle.entry_lines.specs.Piece.{lines_written}
 use Rattle.entry_lines.proofs.ForCallers.{all_append, lines_written-append}
 use Rattle.std.proofs.Math.Seq.{take-nil}
 use Rattle.std.specs.Prelude.{nat_le}
 use Rattle.std.proofs.lemmas.Bool.Decides.{nat_tests}
-use Rattle.view_update.specs.declared.note.ViewUpdate.{ViewUpdate}
 use Rattle.session_step.specs.Accepted.{Accepts, AreAccepted, AreAcceptedFrom}
-use Rattle.session_step.specs.PluginStep.{plugin_outcome}
 use Rattle.front_wire.specs.Front.{command_of}
 use Rattle.front_wire.proofs.ForCallers.{closes-command_of}
 
@@ -112,12 +111,15 @@ take-plus (suc m) n (x ∷ xs) =
 pub none_within : (plugins : ℕ) → nat_le 0 plugins ≡ true
 none_within plugins = grind (arith, nat_tests)
 
+-- the entry of a command of the front end is open, where it is sent
+pub open_front : (plugins : ℕ) (command : Command) (note : ShelfNote) → IsOfLine command.act → may_have_note command.act note ≡ true →
+    IsOpen plugins (front_entry command note true)
+open_front plugins command note asks kind = record { caller = none_within plugins; asks = asks; note = kind; sent = refl }
+
 -- one more entry that is open
-pub IsOpen-push : (plugins : ℕ) (journal : List Entry) (command : Command) (note : ShelfNote) → AllByRecursion (IsOpen plugins) journal →
-    IsOfLine command.act → may_have_note command.act note ≡ true → AllByRecursion (IsOpen plugins) (journal ++ front_entry command note true ∷ [])
-IsOpen-push plugins journal command note sent asks kind =
-    all_append (IsOpen plugins) journal (front_entry command note true ∷ []) sent
-    (record { caller = none_within plugins; asks = asks; note = kind; sent = refl }, tt)
+pub IsOpen-push : (plugins : ℕ) (journal : List Entry) (entry : Entry) → AllByRecursion (IsOpen plugins) journal → IsOpen plugins entry →
+    AllByRecursion (IsOpen plugins) (journal ++ entry ∷ [])
+IsOpen-push plugins journal entry each opens = all_append (IsOpen plugins) journal (entry ∷ []) each (opens, tt)
 
 -- each entry of these is accepted, and so is one more
 AreAcceptedFrom-push : (session : Session) (entries : List Entry) (entry : Entry) → AreAcceptedFrom session entries →
@@ -129,13 +131,8 @@ pub AreAccepted-push : (terms : Terms) (journal : List Entry) (entry : Entry) �
     Accepts (session_of terms journal) entry → AreAccepted terms (journal ++ entry ∷ [])
 AreAccepted-push terms journal entry are last = AreAcceptedFrom-push (first_session terms) journal entry are last
 
--- the updates that an entry tells, by whether it is the front end's
-abbrev pub updates_by : Bool → Session → Entry → List ViewUpdate
-updates_by true session entry = (outcome session entry.command.act (given_by entry.shelf)).updates
-updates_by false session entry = (plugin_outcome session.views session.styles entry.caller entry.command.act).updates
-
 -- the rest of a slice is what stands after its front
-take_rest : (m : ℕ) (xs : List ℕ) → take (length xs - m) (drop m xs) ≡ drop m xs
+pub take_rest : {A : Type 0} (m : ℕ) (xs : List A) → take (length xs - m) (drop m xs) ≡ drop m xs
 take_rest m xs = take_all (length xs - m) (drop m xs) (omega (arith, length-drop m xs))
 
 pub take-plus_rest : (m n : ℕ) (xs : List ℕ) → take m xs ++ take n (take (length xs - m) (drop m xs)) ≡ take (m + n) xs

@@ -1,19 +1,13 @@
--- One more entry is shown, where those before it are.
-use Rattle.session_step.specs.declared.terms.Terms.{Terms}
-use Rattle.std.proofs.Common.{◌≡◌, ℕ, ◌+◌, ◌-◌, ◌<◌, ◌≤◌, length, arith, Bool, true, false, List, [], ◌∷◌, ◌++◌, map, Option, Some, None, refl, ap, sym, ◌∙◌, subst, append-nil, ◌⊎◌, inl, inr}
+-- What an entry tells the front end, and the screens of its views after it, whether it is the front end's or a plugin's.
+use Rattle.std.proofs.Common.{◌≡◌, ℕ, ◌+◌, ◌<◌, arith, Bool, true, false, List, [], ◌∷◌, ◌++◌, map, Option, Some, None, refl, ap, sym, ◌∙◌, subst, ◌⊎◌, inl, inr}
 use Rattle.std.specs.Prelude.{if◌then◌else◌, ◌^◌}
-use Rattle.std.specs.Arc.{arc_value}
 use Rattle.std.specs.Str.{bytes_eq}
 use Rattle.std.specs.List.{filter_map, cons_option, AllByRecursion}
 use Rattle.serde_json.specs.Data.{Data}
 use Rattle.json_rpc.specs.Line.{line_of, IsLineOf}
 use Rattle.json_rpc.proofs.ForCallers.{lines_of-lines}
 use Rattle.xi_plain.specs.declared.command.Id.{Id}
-use Rattle.xi_plain.specs.declared.command.Command.{Command}
-use Rattle.xi_plain.specs.declared.config.Config.{Config}
 use Rattle.xi_plain.specs.declared.entry.Entry.{Entry}
-use Rattle.xi_plain.specs.declared.entry.ShelfNote.{ShelfNote}
-use Rattle.xi_plain.specs.Journal.{may_have_note}
 use Rattle.xi_plain.specs.declared.command.Act.{Act}
 use Rattle.xi_plain.specs.declared.command.Act.TheVariants.{Edit}
 use Rattle.plain_text.specs.declared.run.Run.{Run}
@@ -21,26 +15,23 @@ use Rattle.plain_screen.specs.declared.screen.Update.{Update}
 use Rattle.plain_screen.specs.Screen.{Screen, screen_after}
 use Rattle.view_update.specs.declared.note.ViewUpdate.{ViewUpdate}
 use Rattle.view_update.specs.Reading.{line_update}
-use Rattle.doc_session.specs.Document.{loaded_document, no_request}
+use Rattle.doc_session.specs.Document.{no_request}
 use Rattle.doc_session.specs.ScreenOf.{IsUpToDate}
 use Rattle.doc_session.specs.Step.{EventStep}
-use Rattle.entry_lines.specs.Piece.{AreLinesOf, UpdatesReadBack, lines_written}
+use Rattle.entry_lines.specs.Piece.{UpdatesReadBack, lines_written}
 use Rattle.entry_lines.proofs.ForCallers.{all_append, pieces_say_their_updates}
 use Rattle.session_step.specs.declared.given.Given.{Given}
-use Rattle.session_step.specs.declared.opened.Opened.{Opened}
 use Rattle.session_step.specs.Accepted.{Accepts, AcceptsBy, is_of_plugin}
 use Rattle.session_step.specs.PluginStep.{PluginOutcome, plugin_messages, plugin_outcome}
-use Rattle.session_step.specs.Session.{OpenView, HaveRevisions, Session, first_session, session_of, view_of, views_of, Outcome, act_step, given_by, is_front, opened_after, outcome, leaving, next_view, outcome_messages, stepped, told, updates_for, messages, messages_by, step, step_by, written, piece_of}
-use Rattle.core_session.specs.Shows.{updates_in, screen_with, rebuilt_from, rebuilt, IsShown, AreShown, SendsTo, NoteSendsTo, NotesSendTo, requested, last_requested, Shows}
-use Rattle.doc_text.proofs.ForCallers.{head-text}
-use Rattle.entry_lines.specs.ViewId.{view_id_of}
-use Rattle.core_session.specs.Kept.{AreRebuilt, IsOpen, StandsForSession, IsShowing, front_entry}
-use Rattle.session_step.specs.Views.{IsNotGiven, IsOfLine, Stands, HasApart, MayBeAsked}
-use Rattle.core_session.proofs.RevisionLemmas.{revisions_few}
-use Rattle.session_step.proofs.ForCallers.{same_id, other_way, AreNumbered, apart-numbered, next_not_given, not_given-before, not_given-others, screen-without_sessions}
-use Rattle.core_session.proofs.StepLemmas.{AreLastTold, IsBase, MakesScreen, UpdateWithin, KeepScreens, KeepsStep, KeepEach, NoneRequested, ShowEach, all_base, apart_of, by_outcome, by_plugin_steps, keep_screens, last_base, last_of, numbered_base, numbered_of, opened_few, opened_more, opened_of}
+use Rattle.session_step.specs.Session.{OpenView, Session, view_of, Outcome, given_by, is_front, outcome, leaving, outcome_messages, stepped, told, updates_for, step, step_by}
+use Rattle.core_session.specs.Shows.{updates_in, screen_with, rebuilt_from, SendsTo, NoteSendsTo, NotesSendTo, requested}
+use Rattle.session_step.specs.Views.{HasApart}
+use Rattle.session_step.proofs.ForCallers.{same_id, other_way, AreNumbered, apart-numbered}
+use Rattle.core_session.proofs.AfterLemmas.{AreLastTold, last_base, numbered_base, opened_few}
+use Rattle.core_session.proofs.StepLemmas.{IsBase, MakesScreen, UpdateWithin, KeepScreens, KeepsStep, KeepEach, NoneRequested, by_outcome, keep_screens}
+use Rattle.core_session.proofs.PluginStepLemmas.{ShowEach, by_plugin_steps}
 use Rattle.core_session.proofs.ScreenLemmas.{IsUpToDate-over}
-use Rattle.core_session.proofs.SessionLemmas.{session_of-push, views_of-push, messages_of, messages_of-push, updates_by, written-messages, IsOpen-push}
+use Rattle.core_session.proofs.SessionLemmas.{updates_by}
 
 -- the updates that messages say
 pub updates_of : List Data → List (Option ViewUpdate)
@@ -75,7 +66,7 @@ rebuilt_from-append id screen [] back = refl
 rebuilt_from-append id screen (note ∷ front) back = rebuilt_from-append id (screen_with id screen note) front back
 
 -- each message's line is one line that reads as it
-pub AreLines : List Data → Type 0
+unfoldable pub AreLines : List Data → Type 0
 AreLines said = AllByRecursion (λ m. IsLineOf m (line_of m)) said
 
 pub no_lines : AreLines []
@@ -83,7 +74,7 @@ unfolding AreLines
 no_lines = tt
 
 -- the notes of updates
-pub note_list : List ViewUpdate → List (Option ViewUpdate)
+unfoldable pub note_list : List ViewUpdate → List (Option ViewUpdate)
 note_list [] = []
 note_list (told ∷ updates) = Some told ∷ note_list updates
 
@@ -99,7 +90,7 @@ updates_of-outcome id done lines reads =
     sym (updates_in-lines (outcome_messages id done)) ∙ pieces_say_their_updates id done.reply [] done.updates done.scroll lines reads ∙
     note_list-is done.updates
 
-updates_of-plugin : (id : Id) (done : PluginOutcome) → AllByRecursion (λ m. IsLineOf m (line_of m)) (plugin_messages id done) →
+pub updates_of-plugin : (id : Id) (done : PluginOutcome) → AllByRecursion (λ m. IsLineOf m (line_of m)) (plugin_messages id done) →
     UpdatesReadBack done.updates → updates_of (plugin_messages id done) ≡ note_list done.updates
 updates_of-plugin id done lines reads =
     sym (updates_in-lines (plugin_messages id done)) ∙ pieces_say_their_updates id done.reply done.styles done.updates None lines reads ∙
@@ -112,7 +103,7 @@ nil_or_more x [] ys is = cc
 nil_or_more x (y ∷ xs) ys is = cc
 
 -- either the second part is empty, or its last entry is the one that was added
-pub SplitsPush : {X : Type 0} → List X → X → List X → List X → Type 0
+unfoldable pub SplitsPush : {X : Type 0} → List X → X → List X → List X → Type 0
 SplitsPush {X} journal entry front back =
     ((back ≡ []) × (front ≡ journal ++ entry ∷ [])) ⊎ ((rest : List X) × (journal ≡ front ++ rest) × (back ≡ rest ++ entry ∷ []))
 
@@ -140,7 +131,7 @@ splits_push {X} (j ∷ journal) (x ∷ front) back entry is =
 -- ---- the screens after an entry
 
 -- the screen of this id stays as it is by these notes
-pub Passes : List ℕ → List (Option ViewUpdate) → Type 0
+unfoldable pub Passes : List ℕ → List (Option ViewUpdate) → Type 0
 Passes id notes = (screen : Screen) → rebuilt_from id (Some screen) notes ≡ Some screen
 
 passes_update : (id own : List ℕ) (update : Option Update) → bytes_eq own id ≡ false → Passes id (note_list (updates_for own update))
@@ -159,7 +150,7 @@ passes-append id front back first second = λ screen.
     rebuilt_from-append id (Some screen) front back ∙ ap (λ s. rebuilt_from id s back) (first screen) ∙ second screen
 
 -- the updates of the steps of views that have other ids
-passes_told : (id : List ℕ) (steps : OpenView → EventStep) (views : List OpenView) →
+pub passes_told : (id : List ℕ) (steps : OpenView → EventStep) (views : List OpenView) →
     AllByRecursion (λ (view : OpenView). bytes_eq view.id id ≡ false) views → Passes id (note_list (told steps views))
 unfolding Passes note_list
 passes_told id steps [] others = λ screen. refl
@@ -171,7 +162,7 @@ passes_told id steps (view ∷ views) others =
     (passes_told id steps views others.1))
 
 -- by notes the screens of views become those of their steps
-pub Settle : List (Option ViewUpdate) → (OpenView → EventStep) → List OpenView → Type 0
+unfoldable pub Settle : List (Option ViewUpdate) → (OpenView → EventStep) → List OpenView → Type 0
 Settle notes steps views =
     AllByRecursion (λ (view : OpenView). rebuilt_from view.id (Some view.document.screen) notes ≡ Some (steps view).document.screen) views
 
@@ -227,7 +218,7 @@ settles requests steps (view ∷ views) apart keep =
 -- ---- the lines that an entry sends
 
 -- the updates of an outcome are of its views, and send lines of their windows, or requested of them, alone
-pub Sends : (List ℕ → Run) → Outcome → Type 0
+unfoldable pub Sends : (List ℕ → Run) → Outcome → Type 0
 Sends requests done = NotesSendTo requests done.views (note_list done.updates)
 
 -- a view is found by its id behind others
@@ -313,7 +304,7 @@ sends_plugin session caller asks apart is =
     (λ after updates. NotesSendTo (requested asks) after (note_list updates))
     (λ each keep shown. sends_steps (requested asks) each session.views apart keep) apart asks
 
-sends_entry : (session : Session) (entry : Entry) → session.opened + 1 < 2 ^ 64 → AreNumbered 0 session.opened session.views → Accepts session entry →
+pub sends_entry : (session : Session) (entry : Entry) → session.opened + 1 < 2 ^ 64 → AreNumbered 0 session.opened session.views → Accepts session entry →
     NotesSendTo (requested entry.command.act) (step session entry).views (note_list (updates_by (is_front entry) session entry))
 sends_entry session entry small are accepts = by (is_front entry) accepts
   where
@@ -326,7 +317,7 @@ sends_entry session entry small are accepts = by (is_front entry) accepts
 -- ---- the lines that are valid
 
 -- the screen of each view's document shows it, with the lines that were requested of the view
-AreUpToDate : (List ℕ → Run) → List OpenView → Type 0
+unfoldable pub AreUpToDate : (List ℕ → Run) → List OpenView → Type 0
 AreUpToDate requests views = AllByRecursion (λ view. IsUpToDate (requests view.id) view.document) views
 
 shown_each : (requests : List ℕ → Run) (steps : OpenView → EventStep) (views : List OpenView) → KeepEach requests steps views →
@@ -357,7 +348,7 @@ shown_after requests lasts steps [] each last before = tt
 shown_after requests lasts steps (view ∷ views) each last before =
     (each.0 (lasts view.id) before.0 last.0, shown_after requests lasts steps views each.1 last.1 before.1)
 
-entry_up_to_date : (session : Session) (entry : Entry) → HasApart session.views → AreLastTold session.views → Accepts session entry →
+pub entry_up_to_date : (session : Session) (entry : Entry) → HasApart session.views → AreLastTold session.views → Accepts session entry →
     (lasts : List ℕ → Run) → AreUpToDate lasts session.views → AreUpToDate (requested entry.command.act) (step session entry).views
 entry_up_to_date session entry apart last accepts lasts before = by (is_front entry) accepts
   where
@@ -367,277 +358,3 @@ entry_up_to_date session entry apart last accepts lasts before = by (is_front en
         by_plugin_steps session.views session.styles entry.caller (requested entry.command.act) (none_of_plugin entry.command.act taken.asks)
         (λ after updates. AreUpToDate (requested entry.command.act) after)
         (λ each keep shown. shown_after (requested entry.command.act) lasts each session.views shown last before) apart entry.command.act
-
--- ---- one more entry is shown
-
--- the updates in what is written are those in the pieces
-pub updates_in-push : (terms : Terms) (journal : List Entry) (entry : Entry) →
-    updates_in (written (first_session terms) (journal ++ entry ∷ [])) ≡
-    updates_in (written (first_session terms) journal) ++ updates_in (piece_of (session_of terms journal) entry)
-updates_in-push terms journal entry =
-    let said = messages_by (is_front entry) (session_of terms journal) entry in
-    ap updates_in (written-messages terms (journal ++ entry ∷ [])) ∙ updates_in-lines (messages_of terms (journal ++ entry ∷ [])) ∙
-    ap updates_of (messages_of-push terms journal entry) ∙ updates_of-append (messages_of terms journal) said ∙
-    ap (λ xs. xs ++ updates_of said) (sym (ap updates_in (written-messages terms journal) ∙ updates_in-lines (messages_of terms journal))) ∙
-    ap (λ ys. updates_in (written (first_session terms) journal) ++ ys) (sym (updates_in-lines said))
-
--- what was written shows each of the views, and an id that was not given an empty screen
-pub record ScreensAre (bytes : List ℕ) (opened : ℕ) (views : List OpenView) : Type 0 where
-  pub kept : AreRebuilt bytes views
-  pub fresh : (id : List ℕ) → IsNotGiven opened id → rebuilt id bytes ≡ Some []
-
-screens_of : (terms : Terms) (journal : List Entry) → IsShowing terms journal → ScreensAre (written (first_session terms) journal) (session_of terms journal).opened (views_of terms journal)
-screens_of terms journal showing = record { kept = showing.screens; fresh = showing.fresh }
-
--- the next view has an empty screen, whatever sessions ended
-screen-next : (session : Session) (text : List ℕ) →
-    [] ≡ (next_view session.terms session.ended session.config session.opened text).document.screen
-screen-next session text =
-    sym (screen-without_sessions session.ended (loaded_document text session.terms.plugins session.terms.limit session.config))
-
--- the views whose steps an outcome is are rebuilt, the next one too
-rebuilt_base : (bytes : List ℕ) (session : Session) (opened : ℕ) (base : List OpenView) → session.opened + 1 < 2 ^ 64 → IsBase session opened base →
-    ScreensAre bytes session.opened session.views → AreRebuilt bytes base
-rebuilt_base bytes session opened base small is are =
-    all_base (λ (view : OpenView). rebuilt view.id bytes ≡ Some view.document.screen) session opened base is
-    (λ text. are.fresh (view_id_of (session.opened + 1)) (next_not_given session.opened small) ∙ ap Some (screen-next session text)) are.kept
-
--- and by the notes of their steps they are rebuilt after these
-rebuilt_steps : (before after : List ℕ) (notes : List (Option ViewUpdate)) (steps : OpenView → EventStep) (views : List OpenView) →
-    updates_in after ≡ updates_in before ++ notes → AreRebuilt before views → Settle notes steps views → AreRebuilt after (stepped steps views)
-unfolding Settle
-rebuilt_steps before after notes steps [] is was settle = tt
-rebuilt_steps before after notes steps (view ∷ views) is was settle = (
-  ap (rebuilt_from view.id (Some [])) is ∙ rebuilt_from-append view.id (Some []) (updates_in before) notes ∙
-      ap (λ screen. rebuilt_from view.id screen notes) was.0 ∙ settle.0,
-  rebuilt_steps before after notes steps views is was.1 settle.1,
-)
-
-rebuilt_same : (id before after : List ℕ) (notes : List (Option ViewUpdate)) → updates_in after ≡ updates_in before ++ notes → Passes id notes →
-    rebuilt id before ≡ Some [] → rebuilt id after ≡ Some []
-unfolding Passes
-rebuilt_same id before after notes is passes was =
-    ap (rebuilt_from id (Some [])) is ∙ rebuilt_from-append id (Some []) (updates_in before) notes ∙
-    ap (λ screen. rebuilt_from id screen notes) was ∙ passes []
-
-unchanged : (before after : List ℕ) (views : List OpenView) → updates_in after ≡ updates_in before ++ [] → AreRebuilt before views → AreRebuilt after views
-unchanged before after [] is was = tt
-unchanged before after (view ∷ views) is was =
-    (ap (rebuilt_from view.id (Some [])) (is ∙ append-nil (updates_in before)) ∙ was.0, unchanged before after views is was.1)
-
--- what is shown after an outcome, where its updates were written
-screens_after : (session : Session) (act : Act) (gave : Given) (before after : List ℕ) → session.opened + 1 < 2 ^ 64 → AreNumbered 0 session.opened session.views →
-    updates_in after ≡ updates_in before ++ note_list (outcome session act gave).updates → ScreensAre before session.opened session.views →
-    ScreensAre after (opened_after session.opened act gave) (outcome session act gave).views
-unfolding note_list
-screens_after session act gave before after small are is was =
-    by_outcome session
-    (λ requests opened done.
-    session.opened ≤ opened → opened < 2 ^ 64 → updates_in after ≡ updates_in before ++ note_list done.updates → ScreensAre after opened done.views)
-    (λ requests opened base reply scroll each based keep. λ more few told_is.
-    let numbered = numbered_base session opened base based are in
-    let apart = apart-numbered 0 opened base few numbered in
-    record {
-      kept = rebuilt_steps before after (note_list (told each base)) each base told_is (rebuilt_base before session opened base small based was) (settles requests each base apart (keep_screens requests each base keep));
-      fresh = λ id free.
-          rebuilt_same id before after (note_list (told each base)) told_is (passes_told id each base (not_given-others id 0 opened base free numbered))
-          (was.fresh id (not_given-before session.opened opened id more free));
-    })
-    (λ requests none. λ more few told_is.
-    record {
-      kept = unchanged before after session.views told_is was.kept;
-      fresh = λ id free. ap (rebuilt_from id (Some [])) (told_is ∙ append-nil (updates_in before)) ∙ was.fresh id free;
-    })
-    act gave (apart-numbered 0 session.opened session.views (omega (arith, small)) are) (opened_more session.opened act gave)
-    (omega (arith, small, opened_few session.opened act gave)) is
-
--- and after an entry
-screens_plugin : (session : Session) (caller : ℕ) (asks : Act) (before after : List ℕ) → session.opened + 1 < 2 ^ 64 →
-    AreNumbered 0 session.opened session.views →
-    updates_in after ≡ updates_in before ++ note_list (plugin_outcome session.views session.styles caller asks).updates →
-    ScreensAre before session.opened session.views → ScreensAre after session.opened (plugin_outcome session.views session.styles caller asks).views
-screens_plugin session caller asks before after small are is was =
-    by_plugin_steps session.views session.styles caller (λ id. no_request) (λ id. refl)
-    (λ next updates. updates_in after ≡ updates_in before ++ note_list updates → ScreensAre after session.opened next)
-    (λ each keep shown. λ told_is.
-    record {
-      kept =
-          rebuilt_steps before after (note_list (told each session.views)) each session.views told_is was.kept
-          (settles (λ id. no_request) each session.views apart keep);
-      fresh = λ id free.
-          rebuilt_same id before after (note_list (told each session.views)) told_is
-          (passes_told id each session.views (not_given-others id 0 session.opened session.views free are)) (was.fresh id free);
-    }) apart asks is
-  where
-    apart : HasApart session.views
-    apart = apart-numbered 0 session.opened session.views (omega (arith, small)) are
-
-screens_entry : (session : Session) (entry : Entry) (before after : List ℕ) → session.opened + 1 < 2 ^ 64 → AreNumbered 0 session.opened session.views →
-    updates_in after ≡ updates_in before ++ note_list (updates_by (is_front entry) session entry) → ScreensAre before session.opened session.views →
-    ScreensAre after (step session entry).opened (step session entry).views
-screens_entry session entry before after small are is was = by (is_front entry) is
-  where
-    by : (front : Bool) → updates_in after ≡ updates_in before ++ note_list (updates_by front session entry) →
-        ScreensAre after (step_by front session entry).opened (step_by front session entry).views
-    by true told_is = screens_after session entry.command.act (given_by entry.shelf) before after small are told_is was
-    by false told_is = screens_plugin session entry.caller entry.command.act before after small are told_is was
-
-rebuilt_push : (terms : Terms) (journal : List Entry) (entry : Entry) → length journal < 2 ^ 63 → IsShowing terms journal →
-    updates_in (piece_of (session_of terms journal) entry) ≡ note_list (updates_by (is_front entry) (session_of terms journal) entry) →
-    ScreensAre (written (first_session terms) (journal ++ entry ∷ [])) (session_of terms (journal ++ entry ∷ [])).opened (views_of terms (journal ++ entry ∷ []))
-rebuilt_push terms journal entry small showing said =
-    let session = session_of terms journal in
-    let At : Session → Type 0 = λ next. ScreensAre (written (first_session terms) (journal ++ entry ∷ [])) next.opened next.views in
-    subst At (sym (session_of-push terms journal entry))
-    (screens_entry session entry (written (first_session terms) journal) (written (first_session terms) (journal ++ entry ∷ []))
-    (omega (arith, small, opened_of terms journal)) (numbered_of terms journal)
-    (updates_in-push terms journal entry ∙ ap (λ notes. updates_in (written (first_session terms) journal) ++ notes) said) (screens_of terms journal showing))
-
--- views are shown where their documents' screens show them
-AreShown-up_to_date : (requests : List ℕ → Run) (views : List OpenView) (bytes : List ℕ) → AreRebuilt bytes views → AreUpToDate requests views →
-    AreShown requests views bytes
-unfolding AreUpToDate
-AreShown-up_to_date requests [] bytes screens told = tt
-AreShown-up_to_date requests (view ∷ views) bytes screens told =
-    (subst (IsShown (requests view.id) view.document) (sym screens.0) told.0, AreShown-up_to_date requests views bytes screens.1 told.1)
-
-up_to_date-AreShown : (requests : List ℕ → Run) (views : List OpenView) (bytes : List ℕ) → AreRebuilt bytes views → AreShown requests views bytes →
-    AreUpToDate requests views
-unfolding AreUpToDate
-up_to_date-AreShown requests [] bytes screens shown = tt
-up_to_date-AreShown requests (view ∷ views) bytes screens shown =
-    (subst (IsShown (requests view.id) view.document) screens.0 shown.0, up_to_date-AreShown requests views bytes screens.1 shown.1)
-
--- the documents that a session serves take events, where they have fewer revisions than there are numbers
-MayBeAsked-few : (held : List Opened) (n : ℕ) (views : List OpenView) → Stands held views → HaveRevisions n views → n < 2 ^ 63 - 1 → MayBeAsked held
-MayBeAsked-few [] n views stands few small = tt
-MayBeAsked-few (kept ∷ held) n [] stands few small = absurd stands
-MayBeAsked-few (kept ∷ held) n (view ∷ views) stands few small =
-    let plain = view.document in
-    let is = stands.0.stands in (
-      (omega (arith, few.0, small, head-text (arc_value kept.doc).text plain.text is.text.parts), ∣ (plain, is) ∣₁),
-      MayBeAsked-few held n views stands.1 few.1 small,
-    )
-
-pub MayBeAsked-stands : (terms : Terms) (held : List Opened) (journal : List Entry) → Stands held (views_of terms journal) → length journal < 2 ^ 63 - 1 → MayBeAsked held
-MayBeAsked-stands terms held journal stands small = MayBeAsked-few held (length journal) (views_of terms journal) stands (revisions_few terms journal) small
-
--- the last of the entries is the one that was added
-last_requested-push : (journal : List Entry) (entry : Entry) (id : List ℕ) →
-    last_requested (journal ++ entry ∷ []) id ≡ requested entry.command.act id
-last_requested-push [] entry id = refl
-last_requested-push (first ∷ []) entry id = refl
-last_requested-push (first ∷ next ∷ journal) entry id = last_requested-push (next ∷ journal) entry id
-
-AreUpToDate-same : (requests others : List ℕ → Run) (views : List OpenView) → ((id : List ℕ) → requests id ≡ others id) → AreUpToDate requests views →
-    AreUpToDate others views
-unfolding AreUpToDate
-AreUpToDate-same requests others [] same told = tt
-AreUpToDate-same requests others (view ∷ views) same told =
-    let At : Run → Type 0 = λ request. IsUpToDate request view.document in
-    (subst At (same view.id) told.0, AreUpToDate-same requests others views same told.1)
-
--- what a journal shows after the entry that was added
-shown_push : (terms : Terms) (journal : List Entry) (entry : Entry) → length journal < 2 ^ 63 → Accepts (session_of terms journal) entry →
-    IsShowing terms journal →
-    AreRebuilt (written (first_session terms) (journal ++ entry ∷ [])) (views_of terms (journal ++ entry ∷ [])) →
-    AreShown (last_requested (journal ++ entry ∷ [])) (views_of terms (journal ++ entry ∷ [])) (written (first_session terms) (journal ++ entry ∷ []))
-shown_push terms journal entry small accepts showing screens =
-    let session = session_of terms journal in
-    let before : AreUpToDate (last_requested journal) session.views =
-    up_to_date-AreShown (last_requested journal) session.views (written (first_session terms) journal) showing.screens
-    (showing.shows.screens journal [] (sym (append-nil journal))) in
-    let after : AreUpToDate (requested entry.command.act) (step session entry).views =
-    entry_up_to_date session entry (apart_of terms journal small) (last_of terms journal small) accepts (last_requested journal) before in
-    let put = subst (AreUpToDate (requested entry.command.act)) (sym (views_of-push terms journal entry)) after in
-    AreShown-up_to_date (last_requested (journal ++ entry ∷ [])) (views_of terms (journal ++ entry ∷ [])) (written (first_session terms) (journal ++ entry ∷ []))
-    screens
-    (AreUpToDate-same (requested entry.command.act) (last_requested (journal ++ entry ∷ [])) (views_of terms (journal ++ entry ∷ []))
-    (λ id. sym (last_requested-push journal entry id)) put)
-
-screens_push : (terms : Terms) (journal : List Entry) (entry : Entry) → length journal < 2 ^ 63 → Accepts (session_of terms journal) entry →
-    IsShowing terms journal →
-    AreRebuilt (written (first_session terms) (journal ++ entry ∷ [])) (views_of terms (journal ++ entry ∷ [])) →
-    (front back : List Entry) → SplitsPush journal entry front back → AreShown (last_requested front) (views_of terms front) (written (first_session terms) front)
-unfolding SplitsPush
-screens_push terms journal entry small accepts showing screens front back (inl (none, all)) =
-    let At : List Entry → Type 0 = λ entries. AreShown (last_requested entries) (views_of terms entries) (written (first_session terms) entries) in
-    subst At (sym all) (shown_push terms journal entry small accepts showing screens)
-screens_push terms journal entry small accepts showing screens front back (inr (rest, is, last)) = showing.shows.screens front rest is
-
--- the entry at hand is the one that was added, or one before
-sends_push : (terms : Terms) (journal : List Entry) (entry : Entry) → length journal < 2 ^ 63 → Accepts (session_of terms journal) entry →
-    Shows terms journal (written (first_session terms) journal) →
-    updates_in (piece_of (session_of terms journal) entry) ≡ note_list (updates_by (is_front entry) (session_of terms journal) entry) →
-    (front : List Entry) (last : Entry) (back : List Entry) → SplitsPush journal entry front (last ∷ back) →
-    NotesSendTo (requested last.command.act) (views_of terms (front ++ last ∷ [])) (updates_in (piece_of (session_of terms front) last))
-unfolding SplitsPush Sends
-sends_push terms journal entry small accepts each said front last back (inl (none, all)) = absurd cc
-sends_push terms journal entry small accepts each said front last back (inr ([], is, only)) =
-    let At : List Entry → Entry → Type 0 =
-    λ entries e.
-    NotesSendTo (requested e.command.act) (views_of terms (entries ++ e ∷ [])) (updates_in (piece_of (session_of terms entries) e)) in
-    let added : last ≡ entry = cc in
-    let whole : journal ≡ front = is ∙ append-nil front in
-    let To : List OpenView → List (Option ViewUpdate) → Type 0 = NotesSendTo (requested entry.command.act) in
-    let session = session_of terms journal in
-    let Of : List OpenView → Type 0 = λ views. To views (updates_in (piece_of session entry)) in
-    let Notes : List (Option ViewUpdate) → Type 0 = λ notes. To (step session entry).views notes in
-    let here : At journal entry =
-    subst Of (sym (views_of-push terms journal entry)) (subst Notes (sym said) (sends_entry session entry (omega (arith, small, opened_of terms journal)) (numbered_of terms journal) accepts)) in
-    let Last : Entry → Type 0 = λ e. At front e in
-    let Before : List Entry → Type 0 = λ entries. At entries entry in
-    subst Last (sym added) (subst Before whole here)
-sends_push terms journal entry small accepts each said front last back (inr (r ∷ rest, is, only)) =
-    let same : r ≡ last = cc in
-    let At : Entry → Type 0 =
-    λ e. NotesSendTo (requested e.command.act) (views_of terms (front ++ e ∷ [])) (updates_in (piece_of (session_of terms front) e)) in
-    subst At same (each.sends front r rest is)
-
--- an entry's piece says its updates
-says_updates : (session : Session) (entry : Entry) → AreLines (messages_by (is_front entry) session entry) →
-    UpdatesReadBack (updates_by (is_front entry) session entry) →
-    updates_in (piece_of session entry) ≡ note_list (updates_by (is_front entry) session entry)
-unfolding AreLines
-says_updates session entry lines reads = updates_in-lines (messages_by (is_front entry) session entry) ∙ by (is_front entry) lines reads
-  where
-    by : (front : Bool) → AllByRecursion (λ m. IsLineOf m (line_of m)) (messages_by front session entry) → UpdatesReadBack (updates_by front session entry) →
-        updates_of (messages_by front session entry) ≡ note_list (updates_by front session entry)
-    by true each back = updates_of-outcome entry.command.id (outcome session entry.command.act (given_by entry.shelf)) each back
-    by false each back =
-        updates_of-plugin entry.command.id (plugin_outcome session.views session.styles entry.caller entry.command.act) each back
-
--- what one more entry of a served session comes to, which that accepts
-pub shows_push : (terms : Terms) (journal : List Entry) (entry : Entry) → length journal < 2 ^ 63 → Accepts (session_of terms journal) entry →
-    IsShowing terms journal → AreLines (messages_by (is_front entry) (session_of terms journal) entry) →
-    UpdatesReadBack (updates_by (is_front entry) (session_of terms journal) entry) → IsShowing terms (journal ++ entry ∷ [])
-shows_push terms journal entry small accepts showing lines reads =
-    let session = session_of terms journal in
-    let said : updates_in (piece_of session entry) ≡ note_list (updates_by (is_front entry) session entry) =
-    says_updates session entry lines reads in
-    let screens = rebuilt_push terms journal entry small showing said in
-    record {
-      shows = record {
-        pieces = refl;
-        screens = λ front back split. screens_push terms journal entry small accepts showing screens.kept front back (splits_push journal front back entry split);
-        sends = λ front last back split.
-            sends_push terms journal entry small accepts showing.shows said front last back (splits_push journal front (last ∷ back) entry split);
-      };
-      screens = screens.kept;
-      fresh = screens.fresh;
-    }
-
--- a command that was prepared is an entry that is served, with the views that it leaves and the configuration after it
-pub serves_push : (terms : Terms) (journal : List Entry) (command : Command) (note : ShelfNote) (held : List Opened) (ended : List ℕ) (opened : ℕ) (config : Config) (piece : List ℕ) →
-    length journal < 2 ^ 63 → AllByRecursion (IsOpen terms.plugins) journal → IsShowing terms journal → IsOfLine command.act → may_have_note command.act note ≡ true →
-    AreLinesOf (messages (session_of terms journal) command (given_by note)) piece →
-    UpdatesReadBack (outcome (session_of terms journal) command.act (given_by note)).updates →
-    StandsForSession held ended opened config (act_step (session_of terms journal) command.act (given_by note)) →
-    AllByRecursion (IsOpen terms.plugins) (journal ++ front_entry command note true ∷ []) × IsShowing terms (journal ++ front_entry command note true ∷ []) ×
-    StandsForSession held ended opened config (session_of terms (journal ++ front_entry command note true ∷ []))
-unfolding AreLines
-serves_push terms journal command note held ended opened config piece small sent showing asks kind lines reads stands = (
-  IsOpen-push terms.plugins journal command note sent asks kind,
-  shows_push terms journal (front_entry command note true) small tt showing lines.each reads,
-  subst (StandsForSession held ended opened config) (sym (session_of-push terms journal (front_entry command note true))) stands,
-)

@@ -1,8 +1,7 @@
 -- What every step of an open view keeps, and what every outcome is: steps of the views that were open, of one more or of all but one, or
 -- the closing.
-use Rattle.session_step.specs.declared.terms.Terms.{Terms}
-use Rattle.std.proofs.Common.{◌≡◌, ℕ, ◌+◌, ◌≤◌, arith, length-append, Bool, true, false, List, [], ◌∷◌, Option, Some, None, not, refl, ap, sym, ◌∙◌, subst, inl, inr, ◌++◌}
-use Rattle.std.specs.Prelude.{if◌then◌else◌, IfSome, ◌^◌, ◌<◌, ◌⊎◌, length, ⊤}
+use Rattle.std.proofs.Common.{◌≡◌, ℕ, ◌+◌, ◌≤◌, arith, Bool, true, false, List, [], ◌∷◌, Option, Some, None, refl, ap, sym, ◌∙◌, subst, inl, inr, ◌++◌}
+use Rattle.std.specs.Prelude.{if◌then◌else◌, IfSome, ◌⊎◌, ⊤}
 use Rattle.std.specs.List.{AllByRecursion}
 use Rattle.std.specs.Str.{encode_utf8_all, bytes_eq}
 use Rattle.xi_plain.specs.declared.command.EditAct.{EditAct}
@@ -10,8 +9,7 @@ use Rattle.xi_plain.specs.declared.command.Act.{Act}
 use Rattle.xi_plain.specs.declared.command.Act.TheVariants.{Bad, Nothing, Configure, NewView, CloseView, Save, Edit, Closing}
 use Rattle.xi_plain.specs.declared.config.Config.{Config}
 use Rattle.plain_edits.specs.Edits.{Refusal}
-use Rattle.plain_edits.specs.declared.style.Style.{Style}
-use Rattle.plain_edits.specs.History.{Revision, head}
+use Rattle.plain_edits.specs.History.{head}
 use Rattle.plain_screen.specs.Screen.{Screen, screen_after}
 use Rattle.plain_screen.specs.declared.screen.Update.{Update}
 use Rattle.doc_layout.specs.Told.{planned, screen_of}
@@ -20,33 +18,26 @@ use Rattle.doc_view.specs.Told.{is_lacking, told}
 use Rattle.doc_view.specs.View.{View, asked_in, layout_in}
 use Rattle.plain_text.specs.declared.run.Run.{Run}
 use Rattle.view_update.specs.declared.note.Scroll.{Scroll}
-use Rattle.xi_plain.specs.declared.entry.Entry.{Entry}
 use Rattle.doc_session.specs.declared.event.Event.{Event}
-use Rattle.doc_session.specs.declared.event.Event.TheVariants.{Ack, Config as Configured, Count, Edit as Edited, Ended, Front, Other, Read, Saved, Spans}
-use Rattle.doc_session.specs.declared.event.Body.{Body}
-use Rattle.doc_session.specs.Document.{Document, layout_of, loaded_document, no_request}
+use Rattle.doc_session.specs.declared.event.Event.TheVariants.{Config as Configured, Front, Other, Saved}
+use Rattle.doc_session.specs.Document.{Document, layout_of, no_request}
 use Rattle.doc_session.specs.declared.looking.Viewing.TheVariants.{Layout, Other as NoCommand}
 use Rattle.doc_session.specs.ScreenOf.{IsUpToDate}
 use Rattle.doc_session.specs.Stands.{IsLastTold}
-use Rattle.doc_text.specs.Asking.{asked_spans}
-use Rattle.doc_text.specs.Collecting.{acknowledged_text, ended_text}
 use Rattle.doc_text.specs.Refusal.{edit_refused}
 use Rattle.doc_text.specs.Writing.{Writing}
 use Rattle.doc_text.proofs.ForCallers.{part-collected}
 use Rattle.doc_session.specs.Effects.{pristine_from, screen_told, settled, update_after}
-use Rattle.doc_session.specs.Step.{EventStep, answered_step, event_step, act_step, collected_document, given_document, silent_step, styled_document, with_text, command_refusal, effect_on, refusal_at, request_of, saved_document, viewed_document}
+use Rattle.doc_session.specs.Step.{EventStep, event_step, act_step, collected_document, command_refusal, effect_on, refusal_at, request_of, saved_document, viewed_document}
 use Rattle.doc_session.proofs.ForCallers.{by_front, IsLastTold-settled, IsUpToDate-settled, part-settled, request_of-refused, updates_show}
 use Rattle.entry_lines.specs.Answer.{Reply, spent}
 use Rattle.session_step.specs.declared.given.Given.{Given}
 use Rattle.session_step.specs.declared.given.Given.TheVariants as given
-use Rattle.view_update.specs.declared.note.ViewUpdate.{ViewUpdate}
-use Rattle.session_step.specs.PluginStep.{ended_step, plugin_outcome, with_document}
 use Rattle.session_step.specs.Views.{HasApart}
-use Rattle.session_step.specs.Session.{OpenView, Session, first_session, view_of, named_view, views_of, Outcome, outcome, config_with, config_step, taking, leaving, keeping, next_view, opened_after, open_outcome, other_step, own_step, close_outcome, edit_came, edit_outcome, given_by, save_outcome, spent_total, is_front, step, step_by, stepped, session_after, session_of, told as told_updates, updates_for, without, without_sessions}
+use Rattle.session_step.specs.Session.{OpenView, Session, view_of, named_view, Outcome, outcome, config_with, config_step, taking, leaving, keeping, next_view, opened_after, open_outcome, other_step, own_step, close_outcome, edit_came, edit_outcome, save_outcome, spent_total, step, stepped, without}
 use Rattle.core_session.specs.Shows.{SendsWithin, requested}
 use Rattle.core_session.proofs.PlanLemmas.{sends-plan_from}
-use Rattle.core_session.proofs.ScreenLemmas.{IsUpToDate-over}
-use Rattle.session_step.proofs.ForCallers.{id_is, view_of-found, OnlyOwn, only_own, all_found, alone_step, by_plugin, is_by_plugin, no_step, numbered_plugin, steps_alone, steps_none, AreNumbered, numbered_none, numbered_push, numbered_without, numbered_stepped, apart-numbered}
+use Rattle.session_step.proofs.ForCallers.{id_is, view_of-found, OnlyOwn, only_own, all_found}
 
 -- the update, where there is one, makes this screen of that, and sends lines of this window, or requested, alone
 unfoldable pub MakesScreen : Option Update → Screen → Screen → Type 0
@@ -89,7 +80,7 @@ sends_told request before next pristine = by (is_lacking before next request pri
     by true = sends-plan_from next.window request (layout_in next) 0 0
     by false = tt
 
-keeps_by : (request : Run) (before next : Document) → next.view.shown ≡ before.view.shown → next.screen ≡ before.screen →
+pub keeps_by : (request : Run) (before next : Document) → next.view.shown ≡ before.view.shown → next.screen ≡ before.screen →
     head next.text.history ≤ head before.text.history + 1 → Keeps request before (settled request before next) (update_after request before next)
 keeps_by request before next shown same one = record {
   most = record {
@@ -118,7 +109,7 @@ keeps_by request before next shown same one = record {
     made = by (is_lacking before.view next.view request (pristine_from before next)) (updates_show before next request)
 
 -- a collection changes none of this
-screen_collected : (request : Run) (before next : Document) (update : Option Update) → KeepsScreen request before next update →
+pub screen_collected : (request : Run) (before next : Document) (update : Option Update) → KeepsScreen request before next update →
     KeepsScreen request before (collected_document next) update
 unfolding MakesScreen UpdateWithin
 screen_collected request before next update keeps = record {
@@ -128,13 +119,13 @@ screen_collected request before next update keeps = record {
   last = keeps.last;
 }
 
-keeps_collected : (request : Run) (before next : Document) (update : Option Update) → Keeps request before next update →
+pub keeps_collected : (request : Run) (before next : Document) (update : Option Update) → Keeps request before next update →
     Keeps request before (collected_document next) update
 keeps_collected request before next update keeps =
     record { most = screen_collected request before next update keeps.most; shown = keeps.shown }
 
 -- a line that only looks, and is no command
-keeps_still : (document next : Document) → next.text.history ≡ document.text.history → next.view.shown ≡ document.view.shown → next.screen ≡ document.screen →
+pub keeps_still : (document next : Document) → next.text.history ≡ document.text.history → next.view.shown ≡ document.view.shown → next.screen ≡ document.screen →
     Keeps no_request document (collected_document (settled no_request document next)) (update_after no_request document next)
 keeps_still document next same shown screen =
     keeps_collected no_request document (settled no_request document next) (update_after no_request document next)
@@ -467,296 +458,3 @@ module _ (session : Session) (P : ℕ → List OpenView → Type 0)
   by_views (Bad fault) gave = views_same
   by_views Nothing gave = views_same
   by_views act gave = views_same
-
--- ---- what an act of a plugin is, view by view
-
--- a step that nobody of the front end asked for keeps the screen, and where the document showed what was requested last, it shows its window
-pub record KeepsShown (document : Document) (step : EventStep) : Type 0 where
-  pub most : KeepsScreen no_request document step.document step.update
-  pub shown : (last : Run) → IsUpToDate last document → IsLastTold document → IsUpToDate no_request step.document
-
--- the view takes no step
-shown_none : (document : Document) → KeepsShown document (silent_step document)
-unfolding MakesScreen UpdateWithin
-shown_none document = record {
-  most = record { few = omega arith; screen = refl; sends = tt; last = λ was. was };
-  shown = λ last told was. IsUpToDate-over last document told;
-}
-
--- it looks, and what may be collected is
-shown_looking : (document : Document) (body : Body) →
-    KeepsShown document (record (answered_step document body) { document = collected_document document })
-unfolding MakesScreen UpdateWithin
-shown_looking document body = record {
-  most =
-      screen_collected no_request document document None
-      (record { few = omega arith; screen = refl; sends = tt; last = λ was. was });
-  shown = λ last told was. IsUpToDate-over last document told;
-}
-
--- a session acknowledges a revision, or ends
-shown_session : (document : Document) (text : Writing) → text.history ≡ document.text.history →
-    KeepsShown document (record (silent_step (with_text document text)) { document = collected_document (with_text document text) })
-unfolding MakesScreen UpdateWithin
-shown_session document text same = record {
-  most =
-      screen_collected no_request document (with_text document text) None
-      (record { few = omega (arith, ap head same); screen = refl; sends = tt; last = λ was. was });
-  shown = λ last told was. IsUpToDate-over last document told;
-}
-
--- the front end is told what it lacks
-shown_told : (document : Document) (step : EventStep) → KeepsStep no_request document step → KeepsShown document step
-unfolding KeepsStep
-shown_told document step keeps = record { most = keeps.most; shown = λ last told was. keeps.shown was }
-
-one_revision : (revisions : List Revision) (last : Revision) → length (revisions ++ last ∷ []) ≤ length revisions + 1
-one_revision revisions last = omega (arith, length-append revisions (last ∷ []))
-
-pub shown_plugin : (document : Document) (event : Event) → is_by_plugin event ≡ true → KeepsShown document (event_step document event)
-unfolding KeepsStep
-shown_plugin document (Edited caller edit named) is =
-    let next = given_document document caller edit named in
-    shown_told document (event_step document (Edited caller edit named))
-    (keeps_collected no_request document (settled no_request document next) (update_after no_request document next)
-    (keeps_by no_request document next refl refl (one_revision document.text.history.revisions _)))
-shown_plugin document (Spans caller rev start len spans) is =
-    shown_told document (event_step document (Spans caller rev start len spans))
-    (keeps_still document (styled_document document caller (asked_spans rev start len spans)) refl refl refl)
-shown_plugin document (Read caller rev start max) is = shown_looking document _
-shown_plugin document (Count caller) is = shown_looking document _
-shown_plugin document (Ack caller rev) is = shown_session document (acknowledged_text document.text caller rev) refl
-shown_plugin document (Ended caller) is = shown_session document (ended_text document.text caller) refl
-shown_plugin document (Front act) is = absurd cc
-shown_plugin document (Configured config) is = absurd cc
-shown_plugin document Saved is = absurd cc
-shown_plugin document Other is = absurd cc
-
--- each view's step does so
-unfoldable pub ShowEach : (List ℕ → Run) → (OpenView → EventStep) → List OpenView → Type 0
-ShowEach requests steps views =
-    AllByRecursion (λ (view : OpenView). (last : Run) → IsUpToDate last view.document → IsLastTold view.document →
-    IsUpToDate (requests view.id) (steps view).document) views
-
--- what an act of a plugin comes to is steps of these views that keep their screens and show their windows, where nothing is requested
-module _ (views : List OpenView) (styles : List Style) (caller : ℕ) (requests : List ℕ → Run) (none : (id : List ℕ) → requests id ≡ no_request)
-    (P : List OpenView → List ViewUpdate → Type 0)
-    (steps : (each : OpenView → EventStep) → KeepScreens requests each views → ShowEach requests each views → P (stepped each views) (told_updates each views)) where
-  screens_from : (each : OpenView → EventStep) (some : List OpenView) → AllByRecursion (λ (view : OpenView). KeepsShown view.document (each view)) some →
-      KeepScreens requests each some
-  unfolding KeepScreens
-  screens_from each [] all = tt
-  screens_from each (view ∷ some) all =
-      let At : Run → Type 0 = λ request. KeepsScreen request view.document (each view).document (each view).update in
-      (subst At (sym (none view.id)) all.0.most, screens_from each some all.1)
-
-  show_from : (each : OpenView → EventStep) (some : List OpenView) → AllByRecursion (λ (view : OpenView). KeepsShown view.document (each view)) some →
-      ShowEach requests each some
-  unfolding ShowEach
-  show_from each [] all = tt
-  show_from each (view ∷ some) all =
-      let At : Run → Type 0 = λ request. IsUpToDate request (each view).document in
-      (λ last told was. subst At (sym (none view.id)) (all.0.shown last told was), show_from each some all.1)
-
-  by_shown : (each : OpenView → EventStep) → AllByRecursion (λ (view : OpenView). KeepsShown view.document (each view)) views →
-      P (stepped each views) (told_updates each views)
-  by_shown each all = steps each (screens_from each views all) (show_from each views all)
-
-  all_shown : (each : OpenView → EventStep) (some : List OpenView) → ((view : OpenView) → KeepsShown view.document (each view)) →
-      AllByRecursion (λ (view : OpenView). KeepsShown view.document (each view)) some
-  all_shown each [] keeps = tt
-  all_shown each (view ∷ some) keeps = (keeps view, all_shown each some keeps)
-
-  -- this one takes a step of its own
-  one_or_none : (own : Bool) (view : OpenView) (step : EventStep) → (own ≡ true → KeepsShown view.document step) →
-      KeepsShown view.document (if own then step else silent_step view.document)
-  one_or_none true view step keeps = keeps refl
-  one_or_none false view step keeps = shown_none view.document
-
-  all_but_one : (id : List ℕ) (own : OpenView) (step : EventStep) (some : List OpenView) → own.id ≡ id → KeepsShown own.document step →
-      OnlyOwn id own some → AllByRecursion (λ (view : OpenView). KeepsShown view.document (alone_step own step view)) some
-  unfolding OnlyOwn
-  all_but_one id own step [] is keeps only = tt
-  all_but_one id own step (view ∷ some) is keeps only =
-      let At : OpenView → Type 0 = λ v. KeepsShown v.document step in (
-        one_or_none (bytes_eq own.id view.id) view step (λ same. subst At (only.0 (ap (λ name. bytes_eq name view.id) (sym is) ∙ same)) keeps),
-        all_but_one id own step some is keeps only.1,
-      )
-
-  stays_shown : P views []
-  stays_shown =
-      let same = steps_none views in
-      let At : List OpenView → Type 0 = λ after. P after [] in
-      subst At (sym same.0) (subst (P (stepped no_step views)) (sym same.1) (by_shown no_step (all_shown no_step views (λ view. shown_none view.document))))
-
-  own_shown : HasApart views → (id : List ℕ) (own : OpenView) (event : Event) → view_of views id ≡ Some own → is_by_plugin event ≡ true →
-      P (with_document own.id (event_step own.document event).document views) (updates_for own.id (event_step own.document event).update)
-  own_shown apart id own event found is =
-      let step = event_step own.document event in
-      let each = alone_step own step in
-      let same = steps_alone views id own step apart found in
-      let At : List OpenView → Type 0 = λ after. P after (updates_for own.id step.update) in
-      subst At (sym same.0)
-      (subst (P (stepped each views)) (sym same.1)
-      (by_shown each
-      (all_but_one id own step views (sym (id_is id own.id (view_of-found views id own found))) (shown_plugin own.document event is)
-      (only_own id own views apart found))))
-
-  pub by_plugin_steps : HasApart views → (asks : Act) → P (plugin_outcome views styles caller asks).views (plugin_outcome views styles caller asks).updates
-  by_plugin_steps apart asks =
-      by_plugin views styles caller P stays_shown
-      (by_shown (ended_step caller) (all_shown (ended_step caller) views (λ view. shown_plugin view.document (Ended caller) refl)))
-      (λ id own event found is. own_shown apart id own event found is) asks
-
--- ---- ids are those of rising numbers, up to how many were opened
-
-pub numbered_base : (session : Session) (opened : ℕ) (base : List OpenView) → IsBase session opened base →
-    AreNumbered 0 session.opened session.views → AreNumbered 0 opened base
-unfolding IsBase
-numbered_base session opened base (inl (many, is)) are = rw (many, is) are
-numbered_base session opened base (inr (inl (text, many, is))) are =
-    rw (many, is) (numbered_push 0 session.opened session.views (next_view session.terms session.ended session.config session.opened text) (omega arith) refl are)
-numbered_base session opened base (inr (inr (id, many, is))) are = rw (many, is) (numbered_without id 0 session.opened session.views are)
-
-pub numbered_step : (session : Session) (act : Act) (gave : Given) → AreNumbered 0 session.opened session.views →
-    AreNumbered 0 (opened_after session.opened act gave) (outcome session act gave).views
-numbered_step session act gave are =
-    by_views session (AreNumbered 0) (λ opened base each is events. numbered_stepped each 0 opened base (numbered_base session opened base is are)) are act gave
-
--- after an entry of the front end or of a plugin
-numbered_entry : (session : Session) (entry : Entry) → AreNumbered 0 session.opened session.views →
-    AreNumbered 0 (step session entry).opened (step session entry).views
-numbered_entry session entry are = by (is_front entry)
-  where
-    by : (front : Bool) → AreNumbered 0 (step_by front session entry).opened (step_by front session entry).views
-    by true = numbered_step session entry.command.act (given_by entry.shelf) are
-    by false = numbered_plugin session.views session.styles entry.caller entry.command.act 0 session.opened are
-
-numbered_after : (session : Session) (entries : List Entry) → AreNumbered 0 session.opened session.views →
-    AreNumbered 0 (session_after session entries).opened (session_after session entries).views
-numbered_after session [] are = are
-numbered_after session (entry ∷ entries) are = numbered_after (step session entry) entries (numbered_entry session entry are)
-
-pub numbered_of : (terms : Terms) (journal : List Entry) → AreNumbered 0 (session_of terms journal).opened (views_of terms journal)
-numbered_of terms journal = numbered_after (first_session terms) journal (numbered_none 0 0)
-
--- no more were opened than there are entries
-pub opened_few : (opened : ℕ) (act : Act) (gave : Given) → opened_after opened act gave ≤ opened + 1
-opened_few opened (NewView None) gave = omega arith
-opened_few opened (NewView (Some path)) (given.Found text) = omega arith
-opened_few opened (NewView (Some path)) given.NotText = omega arith
-opened_few opened (NewView (Some path)) given.Nothing = omega arith
-opened_few opened (NewView (Some path)) given.Failed = omega arith
-opened_few opened (NewView (Some path)) given.Done = omega arith
-opened_few opened act gave = omega arith
-
-pub opened_more : (opened : ℕ) (act : Act) (gave : Given) → opened ≤ opened_after opened act gave
-opened_more opened (NewView None) gave = omega arith
-opened_more opened (NewView (Some path)) (given.Found text) = omega arith
-opened_more opened (NewView (Some path)) given.NotText = omega arith
-opened_more opened (NewView (Some path)) given.Nothing = omega arith
-opened_more opened (NewView (Some path)) given.Failed = omega arith
-opened_more opened (NewView (Some path)) given.Done = omega arith
-opened_more opened act gave = omega arith
-
-pub opened_entry : (session : Session) (entry : Entry) →
-    (session.opened ≤ (step session entry).opened) × ((step session entry).opened ≤ session.opened + 1)
-opened_entry session entry = by (is_front entry)
-  where
-    by : (front : Bool) → (session.opened ≤ (step_by front session entry).opened) × ((step_by front session entry).opened ≤ session.opened + 1)
-    by true =
-        let act = entry.command.act in
-        let gave = given_by entry.shelf in
-        (opened_more session.opened act gave, opened_few session.opened act gave)
-    by false = (omega arith, omega arith)
-
-opened_by : (session : Session) (entries : List Entry) → (session_after session entries).opened ≤ session.opened + length entries
-opened_by session [] = omega arith
-opened_by session (entry ∷ entries) =
-    omega (arith, (opened_entry session entry).1, opened_by (step session entry) entries)
-
-pub opened_of : (terms : Terms) (journal : List Entry) → (session_of terms journal).opened ≤ length journal
-opened_of terms journal = omega (arith, opened_by (first_session terms) journal)
-
--- so the ids tell the views of a journal apart that has no more entries than there are numbers
-pub apart_of : (terms : Terms) (journal : List Entry) → length journal < 2 ^ 63 → HasApart (views_of terms journal)
-apart_of terms journal small =
-    apart-numbered 0 (session_of terms journal).opened (views_of terms journal) (omega (arith, small, opened_of terms journal)) (numbered_of terms journal)
-
--- ---- screens are as the last updates left them
-
--- the ends of sessions leave them so
-last_without : (callers : List ℕ) (document : Document) → IsLastTold document → IsLastTold (without_sessions callers document)
-last_without [] document last = last
-last_without (caller ∷ callers) document last = last_without callers (event_step document (Ended caller)).document last
-
-unfoldable pub AreLastTold : List OpenView → Type 0
-AreLastTold views = AllByRecursion (λ view. IsLastTold view.document) views
-
--- what holds of each view that was open, and of the next one, holds of those whose steps an outcome is
-module _ (P : OpenView → Type 0) where
-  all_push : (views : List OpenView) (next : OpenView) → P next → AllByRecursion P views → AllByRecursion P (views ++ next ∷ [])
-  all_push [] next here all = (here, tt)
-  all_push (view ∷ views) next here all = (all.0, all_push views next here all.1)
-
-  pub all_without : (id : List ℕ) (views : List OpenView) → AllByRecursion P views → AllByRecursion P (without id views)
-  all_without id [] all = tt
-  all_without id (view ∷ views) all = by (bytes_eq id view.id) (all_without id views all.1)
-    where
-      by : (here : Bool) → AllByRecursion P (without id views) →
-          AllByRecursion P (if not here then view ∷ without id views else without id views)
-      by true rest = rest
-      by false rest = (all.0, rest)
-
-  pub all_base : (session : Session) (opened : ℕ) (base : List OpenView) → IsBase session opened base →
-      ((text : List ℕ) → P (next_view session.terms session.ended session.config session.opened text)) → AllByRecursion P session.views → AllByRecursion P base
-  unfolding IsBase
-  all_base session opened base (inl (many, is)) next all = rw (is) all
-  all_base session opened base (inr (inl (text, many, is))) next all =
-      rw (is) (all_push session.views (next_view session.terms session.ended session.config session.opened text) (next text) all)
-  all_base session opened base (inr (inr (id, many, is))) next all = rw (is) (all_without id session.views all)
-
-pub last_base : (session : Session) (opened : ℕ) (base : List OpenView) → IsBase session opened base → AreLastTold session.views → AreLastTold base
-unfolding AreLastTold
-last_base session opened base is last =
-    all_base (λ view. IsLastTold view.document) session opened base is
-    (λ text. last_without session.ended (loaded_document text session.terms.plugins session.terms.limit session.config) refl) last
-
-last_each : (requests : List ℕ → Run) (steps : OpenView → EventStep) (views : List OpenView) → KeepScreens requests steps views → AreLastTold views →
-    AreLastTold (stepped steps views)
-unfolding AreLastTold KeepScreens
-last_each requests steps [] keep last = tt
-last_each requests steps (view ∷ views) keep last = (keep.0.last last.0, last_each requests steps views keep.1 last.1)
-
-last_step : (session : Session) (act : Act) (gave : Given) → HasApart session.views → AreLastTold session.views →
-    AreLastTold (outcome session act gave).views
-last_step session act gave apart last =
-    by_outcome session (λ requests opened done. AreLastTold done.views)
-    (λ requests opened base reply scroll each is keep.
-    last_each requests each base (keep_screens requests each base keep) (last_base session opened base is last))
-    (λ requests none. last) act gave apart
-
-last_plugin : (session : Session) (caller : ℕ) (asks : Act) → HasApart session.views → AreLastTold session.views →
-    AreLastTold (plugin_outcome session.views session.styles caller asks).views
-last_plugin session caller asks apart last =
-    by_plugin_steps session.views session.styles caller (λ id. no_request) (λ id. refl) (λ after updates. AreLastTold after)
-    (λ each keep shown. last_each (λ id. no_request) each session.views keep last) apart asks
-
-last_entry : (session : Session) (entry : Entry) → HasApart session.views → AreLastTold session.views → AreLastTold (step session entry).views
-last_entry session entry apart last = by (is_front entry)
-  where
-    by : (front : Bool) → AreLastTold (step_by front session entry).views
-    by true = last_step session entry.command.act (given_by entry.shelf) apart last
-    by false = last_plugin session entry.caller entry.command.act apart last
-
-last_after : (session : Session) (entries : List Entry) → session.opened + length entries < 2 ^ 63 → AreNumbered 0 session.opened session.views →
-    AreLastTold session.views → AreLastTold (session_after session entries).views
-last_after session [] small are last = last
-last_after session (entry ∷ entries) small are last =
-    let apart = apart-numbered 0 session.opened session.views (omega (arith, small)) are in
-    last_after (step session entry) entries (omega (arith, small, (opened_entry session entry).1)) (numbered_entry session entry are)
-    (last_entry session entry apart last)
-
-pub last_of : (terms : Terms) (journal : List Entry) → length journal < 2 ^ 63 → AreLastTold (views_of terms journal)
-unfolding AreLastTold
-last_of terms journal small = last_after (first_session terms) journal (omega (arith, small)) (numbered_none 0 0) tt

@@ -47,7 +47,7 @@ outlets_of held faults failures files shelf_faults core = record {
 
 -- what is in memory is the session that these entries define
 abbrev pub HasSessionAfter : (terms : Terms) {K H : Type 0} → Core K H → List Entry → Type 0
-HasSessionAfter terms core journal = StandsForSession core.views core.ended core.opened core.config (session_of terms journal)
+HasSessionAfter terms core journal = StandsForSession core.views core.styles core.ended core.opened core.config (session_of terms journal)
 
 -- THE SESSION, which was made with these terms, TAKES LINES: all its entries were sent, and each is one that the session before it accepts;
 -- each saving asked the shelf exactly where its view was open; what they wrote shows them; and what is in memory is what they define
@@ -63,28 +63,36 @@ pub record IsServing (terms : Terms) {K H : Type 0} (core : Core K H) : Type 0 w
 abbrev pub piece_after : Terms → List Entry → Entry → List ℕ
 piece_after terms journal entry = piece_of (session_of terms journal) entry
 
--- the command is one more entry, which was sent: the shelf was asked for it, the sink gained its piece, and no call of that failed
-pub record AddsSentEntry (terms : Terms) {K H : Type 0} (tell : Core K H → Outlets) (old new : Core K H) (command : Command) : Type 0 where
-  pub note : ShelfNote
+-- one more entry, which was sent: the sink gained its piece, and no call of that failed
+pub record AddsSent (terms : Terms) {K H : Type 0} (tell : Core K H → Outlets) (old new : Core K H) (more : Entry) : Type 0 where
   pub serving : IsServing terms new
-  pub entry : journal_of new ≡ journal_of old ++ front_entry command note true ∷ []
-  pub noted : IsNoted (tell old).shelf (tell new).shelf (views_of terms (journal_of old)) command.act note
-  pub gains : Gains (tell old).sink.held (tell new).sink.held (piece_after terms (journal_of old) (front_entry command note true))
+  pub entry : journal_of new ≡ journal_of old ++ more ∷ []
+  pub gains : Gains (tell old).sink.held (tell new).sink.held (piece_after terms (journal_of old) more)
   pub faults_stay : (tell old).sink.faults ≤ (tell new).sink.faults
   pub failures_same : (tell new).sink.failures ≡ (tell old).sink.failures
 
--- the command is one more entry, which was not sent: the shelf was asked for it, and then one call of the sink failed after it had gained the
--- first n bytes of the piece, and not all. The documents and the configuration are those of the journal with it
-pub record AddsUnsentEntry (terms : Terms) {K H : Type 0} (tell : Core K H → Outlets) (old new : Core K H) (command : Command) (n : ℕ) : Type 0 where
-  pub note : ShelfNote
-  pub entry : journal_of new ≡ journal_of old ++ front_entry command note false ∷ []
+-- one more entry, which was not sent: one call of the sink failed after it had gained the first n bytes of the piece, and not all. What is in
+-- memory is the session of the journal with it
+pub record AddsUnsent (terms : Terms) {K H : Type 0} (tell : Core K H → Outlets) (old new : Core K H) (more : Entry) (n : ℕ) : Type 0 where
+  pub entry : journal_of new ≡ journal_of old ++ more ∷ []
   pub stands : HasSessionAfter terms new (journal_of new)
-  pub noted : IsNoted (tell old).shelf (tell new).shelf (views_of terms (journal_of old)) command.act note
-  pub part : n < length (piece_after terms (journal_of old) (front_entry command note false))
-  pub gains : Gains (tell old).sink.held (tell new).sink.held (take n (piece_after terms (journal_of old) (front_entry command note false)))
+  pub part : n < length (piece_after terms (journal_of old) more)
+  pub gains : Gains (tell old).sink.held (tell new).sink.held (take n (piece_after terms (journal_of old) more))
   pub faults_stay : (tell old).sink.faults ≤ (tell new).sink.faults
   pub rose : Rose (tell old).sink.faults (tell new).sink.faults
   pub failures_counted : (tell new).sink.failures ≡ counted (tell old).sink.failures
+
+-- the front end's command is one more entry, which was sent, and the shelf was asked for it before
+pub record AddsSentEntry (terms : Terms) {K H : Type 0} (tell : Core K H → Outlets) (old new : Core K H) (command : Command) : Type 0 where
+  pub note : ShelfNote
+  pub noted : IsNoted (tell old).shelf (tell new).shelf (views_of terms (journal_of old)) command.act note
+  pub adds : AddsSent terms tell old new (front_entry command note true)
+
+-- the same of one which was not sent, where the sink had gained the first n bytes of its piece
+pub record AddsUnsentEntry (terms : Terms) {K H : Type 0} (tell : Core K H → Outlets) (old new : Core K H) (command : Command) (n : ℕ) : Type 0 where
+  pub note : ShelfNote
+  pub noted : IsNoted (tell old).shelf (tell new).shelf (views_of terms (journal_of old)) command.act note
+  pub adds : AddsUnsent terms tell old new (front_entry command note false) n
 
 -- no entry is added, the session takes lines as before, and the shelf has the files that it had
 pub record ChangesNothing (terms : Terms) {K H : Type 0} (tell : Core K H → Outlets) (old new : Core K H) : Type 0 where

@@ -1,60 +1,54 @@
 -- What private functions say: what an act and a command come to in memory.
 use Rattle.session_step.specs.declared.terms.Terms.{Terms}
-use Rattle.std.specs.Prelude.{◌≡◌, ℕ, ◌<◌, ◌≤◌, true, false, List, [], ◌∷◌, ◌++◌, length, take}
+use Rattle.std.specs.Prelude.{◌≡◌, ℕ, Bool, true, false, List, unwrap_or}
 use Rattle.std.specs.Str.{encode_utf8_all}
 use Rattle.outside.specs.declared.shelf.Stored.{Stored}
 use Rattle.outside.specs.declared.shelf.Stored.TheVariants as stored
+use Rattle.plain_edits.specs.declared.style.Style.{Style}
+use Rattle.view_update.specs.declared.note.ViewUpdate.{ViewUpdate}
 use Rattle.core_session.specs.declared.ask.Asked.{Asked}
 use Rattle.core_session.specs.declared.session.Core.{Core}
 use Rattle.core_session.specs.declared.prepare.Prepared.{Prepared}
 use Rattle.xi_plain.specs.declared.command.Command.{Command}
-use Rattle.xi_plain.specs.declared.entry.ShelfNote.{ShelfNote}
-use Rattle.xi_plain.specs.declared.reply.Reply.{Reply}
-use Rattle.xi_plain.specs.declared.reply.Reply.TheVariants.{SinkFault, Taken}
-use Rattle.outside.specs.Faults.{Rose, counted}
-use Rattle.outside.specs.Sink.{SinkState, Gains}
+use Rattle.xi_plain.specs.declared.entry.Entry.{Entry}
+use Rattle.session_step.specs.declared.opened.Opened.{Opened}
+use Rattle.session_step.specs.Accepted.{Accepts}
+use Rattle.session_step.specs.News.{front_news, news_of}
+use Rattle.session_step.specs.PluginStep.{plugin_outcome}
+use Rattle.session_step.specs.Session.{Session, given_by, is_front, messages_by, opened_after, outcome, step}
 use Rattle.session_step.specs.Views.{IsDone}
-use Rattle.session_step.specs.Session.{Session, act_step, given_by, messages, opened_after, outcome}
+use Rattle.plugin_acts.specs.Effects.{views_with}
+use Rattle.entry_lines.specs.Notices.{AreNoticeTexts}
 use Rattle.entry_lines.specs.Piece.{AreLinesOf, UpdatesReadBack}
-use Rattle.core_session.specs.Kept.{StandsForSession, front_entry}
-use Rattle.core_session.specs.Core.{HasSessionAfter, IsServing, journal_of, piece_after, shelf_of, sink_of}
+use Rattle.core_session.specs.Kept.{StandsForSession, with_sent}
+use Rattle.core_session.specs.Core.{AddsSent, AddsUnsent, Outlets}
 
--- the same by the note that it has, with how many were opened by then
+-- a command by the note that it has: what it comes to, how many were opened by then, and the lines that tell plugins of it
 pub record IsAsked (session : Session) (command : Command) (asked : Asked) : Type 0 where
   pub done : IsDone session command (given_by asked.note) asked.piece asked.held
   pub opened : asked.opened ≡ opened_after session.opened command.act (given_by asked.note)
+  pub told : AreNoticeTexts (front_news session command.act (given_by asked.note)) asked.told
 
--- the same before it is an entry, with the configuration after it, where these plugins' sessions have ended
-pub record IsPrepared (ended : List ℕ) (session : Session) (made : Prepared) : Type 0 where
-  pub lines : AreLinesOf (messages session made.command (given_by made.note)) (encode_utf8_all made.piece)
-  pub reads_back : UpdatesReadBack (outcome session made.command.act (given_by made.note)).updates
-  pub stands : StandsForSession made.held ended made.opened made.config (act_step session made.command.act (given_by made.note))
+-- the updates that an entry tells, by whether it is the front end's
+abbrev pub updates_by : Bool → Session → Entry → List ViewUpdate
+updates_by true session entry = (outcome session entry.command.act (given_by entry.shelf)).updates
+updates_by false session entry = (plugin_outcome session.views session.styles entry.caller entry.command.act).updates
 
--- a command with this note was put in as an entry that was sent, and the shelf was not asked again
-pub record PutsSent (terms : Terms) {K H : Type 0} (tell : K → SinkState) (old new : Core K H) (command : Command) (note : ShelfNote) : Type 0 where
-  pub serving : IsServing terms new
-  pub entry : journal_of new ≡ journal_of old ++ front_entry command note true ∷ []
-  pub shelf : shelf_of new ≡ shelf_of old
-  pub gains : Gains (tell (sink_of old)).held (tell (sink_of new)).held (piece_after terms (journal_of old) (front_entry command note true))
-  pub faults_stay : (tell (sink_of old)).faults ≤ (tell (sink_of new)).faults
-  pub failures_same : (tell (sink_of new)).failures ≡ (tell (sink_of old)).failures
+-- WHAT AN ENTRY COMES TO before it is put in, where these views, these styles and these plugins whose sessions have ended are in memory: the
+-- session accepts it; it has the lines of its piece, whose updates read back, and those that tell plugins of it; and with what it changes the
+-- session after it is in memory
+pub record IsPrepared (held : List Opened) (table : List Style) (ended : List ℕ) (session : Session) (made : Prepared) : Type 0 where
+  pub accepted : Accepts session made.entry
+  pub lines : AreLinesOf (messages_by (is_front made.entry) session made.entry) (encode_utf8_all made.piece)
+  pub reads_back : UpdatesReadBack (updates_by (is_front made.entry) session made.entry)
+  pub told : AreNoticeTexts (news_of session made.entry) made.told
+  pub stands :
+      StandsForSession (views_with held made.next) (unwrap_or made.grown table) (unwrap_or made.gone ended) made.opened made.config (step session made.entry)
 
--- the same as an entry that was not sent, whose first n bytes the sink gained
-pub record PutsUnsent (terms : Terms) {K H : Type 0} (tell : K → SinkState) (old new : Core K H) (command : Command) (note : ShelfNote) (n : ℕ) : Type 0 where
-  pub entry : journal_of new ≡ journal_of old ++ front_entry command note false ∷ []
-  pub stands : HasSessionAfter terms new (journal_of new)
-  pub shelf : shelf_of new ≡ shelf_of old
-  pub part : n < length (piece_after terms (journal_of old) (front_entry command note false))
-  pub gains : Gains (tell (sink_of old)).held (tell (sink_of new)).held (take n (piece_after terms (journal_of old) (front_entry command note false)))
-  pub faults_stay : (tell (sink_of old)).faults ≤ (tell (sink_of new)).faults
-  pub rose : Rose (tell (sink_of old)).faults (tell (sink_of new)).faults
-  pub failures_counted : (tell (sink_of new)).failures ≡ counted (tell (sink_of old)).failures
-
--- what came of it, by the reply
-abbrev pub PutsAs : (terms : Terms) {K H : Type 0} → (K → SinkState) → Core K H → Core K H → Command → ShelfNote → Reply → Type 0
-PutsAs terms tell old new command note (Taken line) = (line ≡ []) × PutsSent terms tell old new command note
-PutsAs terms tell old new command note SinkFault = (n : ℕ) × PutsUnsent terms tell old new command note n
-PutsAs terms tell old new command note reply = ⊥
+-- an entry was put in, by whether it was sent
+abbrev pub PutsAs : (terms : Terms) {K H : Type 0} → (Core K H → Outlets) → Core K H → Core K H → Entry → Bool → Type 0
+PutsAs terms tell old new entry true = AddsSent terms tell old new (with_sent entry true)
+PutsAs terms tell old new entry false = (n : ℕ) × AddsUnsent terms tell old new (with_sent entry false) n
 
 -- what was made for a file that was written is kept, or what was made for one that could not be
 abbrev pub IsChosenBy : {A : Type 0} → Stored → A → A → A → Type 0

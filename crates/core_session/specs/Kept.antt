@@ -1,11 +1,17 @@
 -- What a session keeps of its journal, whatever becomes of it.
 use Rattle.session_step.specs.declared.terms.Terms.{Terms}
-use Rattle.std.specs.Prelude.{◌≡◌, ℕ, ◌<◌, ◌||◌, nat_le, Bool, true, false, not, if◌then◌else◌, List, [], ◌∷◌, Some}
+use Rattle.std.specs.Prelude.{◌≡◌, ℕ, ◌<◌, ◌||◌, nat_le, Bool, true, false, not, if◌then◌else◌, List, [], ◌∷◌, Some, ⊤}
 use Rattle.std.specs.List.{AllByRecursion, list_any}
+use Rattle.plain_edits.specs.declared.style.Style.{Style}
+use Rattle.plugin_wire.specs.Told.{stopped}
+use Rattle.entry_lines.specs.Notices.{AreNoticeTexts}
 use Rattle.xi_plain.specs.declared.command.Command.{Command}
+use Rattle.xi_plain.specs.declared.command.Act.TheVariants.{Ended}
+use Rattle.xi_plain.specs.declared.command.Id.TheVariants.{NoId}
 use Rattle.xi_plain.specs.declared.config.Config.{Config}
 use Rattle.xi_plain.specs.declared.entry.Entry.{Entry}
 use Rattle.xi_plain.specs.declared.entry.ShelfNote.{ShelfNote}
+use Rattle.xi_plain.specs.declared.entry.ShelfNote.TheVariants.{NoCall}
 use Rattle.xi_plain.specs.declared.reply.Reply.{Reply}
 use Rattle.xi_plain.specs.declared.reply.Reply.TheVariants.{SinkFault, Taken}
 use Rattle.xi_plain.specs.Journal.{is_closing, may_have_note}
@@ -23,6 +29,18 @@ use Rattle.core_session.specs.Shows.{Shows, rebuilt}
 -- the entry of a command of the front end
 abbrev pub front_entry : Command → ShelfNote → Bool → Entry
 front_entry command note sent = record { caller = 0; command = command; shelf = note; sent = sent }
+
+-- that of a command of the plugin with this number, for which the shelf is not asked
+abbrev pub plugin_entry : ℕ → Command → Bool → Entry
+plugin_entry caller command sent = record { caller = caller; command = command; shelf = NoCall; sent = sent }
+
+-- the same entry, by whether it was sent
+abbrev pub with_sent : Entry → Bool → Entry
+with_sent entry sent = record entry { sent = sent }
+
+-- the command that ends a plugin's session
+abbrev pub ending : Command
+ending = record { id = NoId; act = Ended }
 
 -- the entry is of the front end or of one of so many plugins, and does not close; it has a note of its own kind, and its piece was sent whole
 pub record IsOpen (plugins : ℕ) (entry : Entry) : Type 0 where
@@ -56,26 +74,32 @@ stage_by false false = Serves
 abbrev pub stage_of : List Entry → Stage
 stage_of journal = stage_by (has_closing journal) (is_over journal)
 
--- how it stands after an entry of a line, which was sent or not, and what the line is answered
+-- how it stands after an entry of a line, which was sent or not, and what comes of a line that is answered so
 abbrev pub stage_if : Bool → Stage
 stage_if true = Serves
 stage_if false = Broken
 
-abbrev pub reply_if : Bool → Reply
-reply_if true = Taken []
-reply_if false = SinkFault
+abbrev pub reply_if : List ℕ → Bool → Reply
+reply_if answer true = Taken answer
+reply_if answer false = SinkFault
 
 -- for how many entries there has to be room: for the closing one, until it stands
 abbrev pub reserved : Stage → ℕ
 reserved Closed = 0
 reserved stage = 1
 
+-- these lines tell plugins of the closing entry, until it stands
+abbrev pub StandBy : Stage → List (List ℕ) → Type 0
+StandBy Closed texts = ⊤
+StandBy stage texts = AreNoticeTexts (stopped ∷ []) texts
+
 -- ---- what is kept
 
--- the views, the plugins whose sessions have ended, the number of openings and the configuration in memory are those of the session; these
--- plugins are some of those that there are, and a tab has columns
-pub record StandsForSession (held : List Opened) (gone : List ℕ) (many : ℕ) (laid : Config) (session : Session) : Type 0 where
+-- the views, the styles, the plugins whose sessions have ended, the number of openings and the configuration in memory are those of the
+-- session; these plugins are some of those that there are, and a tab has columns
+pub record StandsForSession (held : List Opened) (table : List Style) (gone : List ℕ) (many : ℕ) (laid : Config) (session : Session) : Type 0 where
   pub views : Stands held session.views
+  pub styles : table ≡ session.styles
   pub ended : gone ≡ session.ended
   pub plugins : AreOfPlugins session.terms.plugins session.ended
   pub opened : many ≡ session.opened
@@ -95,8 +119,8 @@ pub record IsShowing (terms : Terms) (journal : List Entry) : Type 0 where
 
 -- WHAT IS KEPT: what is in memory is the session that the journal defines; what the entries write that were sent before any was not shows
 -- them; each saving asked the shelf exactly where its view was open; and each entry is one that the session before it accepts
-pub record IsOfJournal (terms : Terms) (held : List Opened) (ended : List ℕ) (many : ℕ) (laid : Config) (journal : List Entry) : Type 0 where
-  pub stands : StandsForSession held ended many laid (session_of terms journal)
+pub record IsOfJournal (terms : Terms) (held : List Opened) (table : List Style) (ended : List ℕ) (many : ℕ) (laid : Config) (journal : List Entry) : Type 0 where
+  pub stands : StandsForSession held table ended many laid (session_of terms journal)
   pub showing : IsShowing terms (sent_front journal)
   pub saves_asked : AreSavesAsked terms journal
   pub accepted : AreAccepted terms journal

@@ -11,7 +11,7 @@ ghost use Rattle.core_session.specs.Shelves.{IsNoted, KeepsFiles, NoteTells, she
 
 use crate::made::by_answer;
 use outside::{Shelf, Shelved};
-use plain_text::{Bytes, List, NoMemory, Text};
+use plain_text::{Bytes, List, NoMemory, Text, Texts};
 use session_step::{CommandEffects, Given, Opened, Terms, both, done, opened_after, place_of};
 use std::alloc::Global;
 use xi_plain::{Act, Command, Config, ShelfNote};
@@ -24,6 +24,8 @@ pub struct Asked {
     pub held: List<Opened>,
     /// How many were opened by then.
     pub opened: u64,
+    /// The lines that tell plugins of it.
+    pub told: Texts,
 }
 
 /// What a command comes to, for which the shelf is asked where it opens a file or saves a view. `ended` are the plugins whose sessions have
@@ -100,14 +102,13 @@ fn noted(
 {
     let then = opened_after(opened, &command.act, &given);
     let done = done(alloc, held, terms, ended, opened, config, command, given);
-    let (note, done) = both(note, done)?;
-    let CommandEffects { piece, held, told } = done;
-    drop(told);
+    let (note, CommandEffects { piece, held, told }) = both(note, done)?;
     Ok(Asked {
         note,
         piece,
         held,
         opened: then,
+        told,
     })
 }
 

@@ -1,8 +1,9 @@
-//! A session: its journal, the views that are open, its configuration, its shelf and its sink.
+//! A session: its journal, the views that are open, its styles and its configuration, its shelf and its sink.
 //!
 //! [`Core::front_line`] makes each line of the front end one entry of the journal and one piece of bytes, which is written before the entry
-//! stands. The plain session, which is a fold over the journal, is that of `session_step`; `specs/Shows.antt` says what a front end can
-//! make of the bytes that were written, and `specs/Core.antt` what a session in memory keeps.
+//! stands; [`Core::plugin_line`] does so with each line of a plugin that is not refused, and [`Core::notices`] tells plugins of all entries. The
+//! plain session, which is a fold over the journal, is that of `session_step`; `specs/Shows.antt` says what a front end can make of the bytes
+//! that were written, `specs/Core.antt` what a session in memory keeps, and `specs/Telling.antt` what a line of a plugin comes to.
 #![tactic(auto)]
 
 mod ask;
@@ -10,6 +11,7 @@ mod made;
 mod prepare;
 mod session;
 mod stage;
+mod telling;
 mod write;
 
 pub use session::Core;

@@ -1,15 +1,18 @@
 // What is put in place, and what is kept of two. These functions know nothing of what they hold, so to let it go is one step of their proof.
-ghost use Rattle.std.specs.Prelude.{◌≡◌, IfErr, IfOk};
+ghost use Rattle.std.specs.Prelude.{◌≡◌, IfErr, IfOk, unwrap_or};
 ghost use Rattle.core_session.specs.InnerSession.{IsChosenBy};
 
 use outside::Stored;
 use plain_text::NoMemory;
 
-/// Puts the next one in place.
-pub(crate) fn put<T: Drop>(place: &mut T, next: T)
-    ensures { place.new ≡ next }
+/// Puts the next one in place, where there is one.
+pub(crate) fn put_if<T: Drop>(place: &mut T, next: Option<T>)
+    ensures { place.new ≡ unwrap_or next place.old }
 {
-    *place = next;
+    match next {
+        Some(next) => *place = next,
+        None => {}
+    }
 }
 
 /// The first one where a file was written, and the second one where that failed; the other is let go.

@@ -23,7 +23,7 @@ use Rattle.core_session.specs.Kept.{IsOpen, front_entry}
 use Rattle.core_session.specs.Core.{AddsSentEntry, AddsUnsentEntry, IsServing, Outlets, journal_of, piece_after}
 use Rattle.session_step.specs.Views.{IsOfLine}
 use Rattle.core_session.specs.Shelves.{AreSavesAsked, HoldsSaves}
-use Rattle.core_session.proofs.ForCallers.{AreSavesAsked-closed, AreSavesAsked-push, HoldsSaves-closed, HoldsSaves-keeps, HoldsSaves-none, HoldsSaves-push, IsLegal-closed, IsLegal-front, IsLegal-push, IsOfLine-command_of, closing-push, open_not_over, shows_closed, written-push}
+use Rattle.core_session.proofs.ForCallers.{AreSavesAsked-closed, AreSavesAsked-push, HoldsSaves-closed, HoldsSaves-keeps, HoldsSaves-none, HoldsSaves-push, IsLegal-closed, IsLegal-front, IsLegal-push, IsOfLine-command_of, closing-push, open_front, open_not_over, shows_closed, written-push}
 use Rattle.xi_top.specs.declared.ending.Ending.{Ending}
 use Rattle.xi_top.specs.declared.ending.Ending.TheVariants.{NoMemory, SourceFault, SinkFault, TooMany, TooLong}
 use Rattle.xi_top.specs.Ending.{Outcome, most_lines, too_long}
@@ -53,8 +53,9 @@ legal_open entries each = IsLegal-front 0 entries (closing_entry ∷ []) each re
 legal_cut : (sent : List Entry) (command : Command) (note : ShelfNote) → AllByRecursion (IsOpen 0) sent → IsOfLine command.act →
     may_have_note command.act note ≡ true → IsLegal 0 ((sent ++ front_entry command note false ∷ []) ++ closing_entry ∷ [])
 legal_cut sent command note each asks kind =
-    IsLegal-closed 0 (sent ++ front_entry command note false ∷ []) (IsLegal-push 0 sent command note false each asks kind)
-    (closing-push sent command note false (open_not_over 0 sent each) asks)
+    let entry = front_entry command note true in
+    IsLegal-closed 0 (sent ++ front_entry command note false ∷ []) (IsLegal-push 0 sent entry false each (open_front 0 command note asks kind))
+    (closing-push sent entry false (open_not_over 0 sent each) asks)
 
 -- in a legal journal without plugins all entries are the front end's
 holds_front : (outcome : Outcome) (taken left : List ℕ) (entries : List Entry) → IsLegal 0 (entries ++ closing_entry ∷ []) →
@@ -142,18 +143,18 @@ module _ {K H : Type 0} (tell : Core K H → Outlets) (start : Start) where
       let At : List ℕ → Type 0 = λ gained. Gains start.sink.held (tell new).sink.held gained in
       let Saves : List Entry → Type 0 = λ entries. HoldsSaves alone_terms start.shelf (tell new).shelf entries in
       record {
-        serving = adds.serving;
+        serving = adds.adds.serving;
         gains =
-            subst At (sym (ap (written (first_session alone_terms)) adds.entry ∙ written-push alone_terms (journal_of old) entry))
+            subst At (sym (ap (written (first_session alone_terms)) adds.adds.entry ∙ written-push alone_terms (journal_of old) entry))
             (Gains-append start.sink.held (tell old).sink.held (tell new).sink.held (written (first_session alone_terms) (journal_of old))
-            (piece_after alone_terms (journal_of old) entry) whole.gains adds.gains);
-        stays = omega (arith, whole.stays, adds.faults_stay);
-        failures = adds.failures_same ∙ whole.failures;
+            (piece_after alone_terms (journal_of old) entry) whole.gains adds.adds.gains);
+        stays = omega (arith, whole.stays, adds.adds.faults_stay);
+        failures = adds.adds.failures_same ∙ whole.failures;
         saves =
-            subst Saves (sym adds.entry)
+            subst Saves (sym adds.adds.entry)
             (HoldsSaves-push alone_terms (journal_of old) entry start.shelf (tell old).shelf (tell new).shelf whole.saves adds.noted);
         later = whole.later ++ entry ∷ [];
-        goes_on = goes_further start.entries (journal_of old) (journal_of new) whole.later entry whole.goes_on adds.entry;
+        goes_on = goes_further start.entries (journal_of old) (journal_of new) whole.later entry whole.goes_on adds.adds.entry;
       }
 
   whole_same : (old new : Core K H) → IsWhole tell start old → KeepsAll tell old new → IsWhole tell start new
@@ -228,36 +229,36 @@ module _ {K H : Type 0} (tell : Core K H → Outlets) (start : Start) where
       let cut : IsCutOff start.sink (tell new).sink (journal_of new ++ closing_entry ∷ []) = record {
         sent = journal_of old;
         last = last;
-        cut = ap (λ entries. entries ++ closing_entry ∷ []) adds.entry ∙ append_assoc (journal_of old) (last ∷ []) (closing_entry ∷ []);
+        cut = ap (λ entries. entries ++ closing_entry ∷ []) adds.adds.entry ∙ append_assoc (journal_of old) (last ∷ []) (closing_entry ∷ []);
         each = subst AreSent (append-nil (journal_of old)) (sent_front (journal_of old) [] whole.serving.sent tt);
         unsent = refl;
-        failures = subst (λ (n : ℕ). (tell new).sink.failures ≡ counted n) whole.failures adds.failures_counted;
-        rose = Rose-earlier start.sink.faults (tell old).sink.faults (tell new).sink.faults whole.stays adds.rose;
+        failures = subst (λ (n : ℕ). (tell new).sink.failures ≡ counted n) whole.failures adds.adds.failures_counted;
+        rose = Rose-earlier start.sink.faults (tell old).sink.faults (tell new).sink.faults whole.stays adds.adds.rose;
         bytes = written (first_session alone_terms) (journal_of old);
         part = take n piece;
         gains =
             Gains-append start.sink.held (tell old).sink.held (tell new).sink.held (written (first_session alone_terms) (journal_of old)) (take n piece)
-            whole.gains adds.gains;
+            whole.gains adds.adds.gains;
         shows = whole.serving.showing.shows;
-        proper = (n, adds.part, refl);
+        proper = (n, adds.adds.part, refl);
       } in
       let legal : Legal (journal_of new) =
-      subst Legal (sym adds.entry)
+      subst Legal (sym adds.adds.entry)
       (legal_cut (journal_of old) command adds.note whole.serving.sent (IsOfLine-command_of line) adds.noted.kind) in
       record {
         lines = holds_front (Err SinkFault) taken left (journal_of new) legal lines;
         written = cut;
         saves =
-            subst Saves (sym adds.entry)
+            subst Saves (sym adds.adds.entry)
             (HoldsSaves-closed alone_terms start.shelf (tell new).shelf (journal_of old ++ last ∷ [])
             (HoldsSaves-push alone_terms (journal_of old) last start.shelf (tell old).shelf (tell new).shelf whole.saves adds.noted));
         legal = legal;
         saves_asked =
-            subst Asked (sym adds.entry)
+            subst Asked (sym adds.adds.entry)
             (AreSavesAsked-closed alone_terms (journal_of old ++ last ∷ []) (AreSavesAsked-push alone_terms (journal_of old) last whole.serving.saves_asked adds.noted.asked));
-        stays = omega (arith, whole.stays, adds.faults_stay);
+        stays = omega (arith, whole.stays, adds.adds.faults_stay);
         later = whole.later ++ last ∷ [];
-        goes_on = goes_further start.entries (journal_of old) (journal_of new) whole.later last whole.goes_on adds.entry;
+        goes_on = goes_further start.entries (journal_of old) (journal_of new) whole.later last whole.goes_on adds.adds.entry;
       }
 
   -- ---- a line that ends
@@ -283,7 +284,7 @@ module _ {K H : Type 0} (tell : Core K H → Outlets) (start : Start) where
     stops_line SinkFault fits fewer (n, adds) left =
         let At : List ℕ → Type 0 = λ all. HoldsLines (Err SinkFault) all left (commands (journal_of new)) in
         let asked : commands (journal_of new) ≡ map command_of (ended_lines [] (taken ++ bytes)) =
-        commands_push (journal_of old) (journal_of new) line adds.note (ended_lines [] taken) false at.asked adds.entry ∙ ap (map command_of) (sym one_more) in
+        commands_push (journal_of old) (journal_of new) line adds.note (ended_lines [] taken) false at.asked adds.adds.entry ∙ ap (map command_of) (sym one_more) in
         stops_sink (taken ++ bytes) left line old new n at.whole adds
         (subst At (append-nil (taken ++ bytes)) (holds_first (Err SinkFault) (taken ++ bytes) [] left (commands (journal_of new)) asked (within_one_more fits fewer) tt))
     stops_line NoMemory fits fewer same left =
@@ -301,7 +302,7 @@ module _ {K H : Type 0} (tell : Core K H → Outlets) (start : Start) where
         record {
           whole = whole_sent old new (command_of line) at.whole adds;
           asked =
-              commands_push (journal_of old) (journal_of new) line adds.note (ended_lines [] taken) true at.asked adds.entry ∙
+              commands_push (journal_of old) (journal_of new) line adds.note (ended_lines [] taken) true at.asked adds.adds.entry ∙
               ap (map command_of) (sym one_more);
           rest = none ∙ sym (unended-more taken bytes ends);
           short = subst (AllByRecursion IsShort) (sym one_more) (each_append IsShort (ended_lines [] taken) line at.short fits);
@@ -515,14 +516,14 @@ module _ {K H : Type 0} (tell : Core K H → Outlets) (start : Start) where
   finish_last taken old new begun (Ok done) at small some adds = (
     tt,
     stops_finished taken new (whole_sent old new (command_of begun.bytes) at.whole adds)
-        (commands_push (journal_of old) (journal_of new) begun.bytes adds.note (ended_lines [] taken) true at.asked adds.entry ∙
+        (commands_push (journal_of old) (journal_of new) begun.bytes adds.note (ended_lines [] taken) true at.asked adds.adds.entry ∙
         ap (map command_of) (sym (all_lines taken begun at.rest some))) (within_all taken old begun at small some),
   )
   finish_last taken old new begun (Err SinkFault) at small some (n, adds) = (
     tt,
     stops_sink taken [] begun.bytes old new n at.whole adds
         (holds_all (Err SinkFault) taken (commands (journal_of new))
-        (commands_push (journal_of old) (journal_of new) begun.bytes adds.note (ended_lines [] taken) false at.asked adds.entry ∙
+        (commands_push (journal_of old) (journal_of new) begun.bytes adds.note (ended_lines [] taken) false at.asked adds.adds.entry ∙
         ap (map command_of) (sym (all_lines taken begun at.rest some))) (within_all taken old begun at small some) tt),
   )
   finish_last taken old new begun (Err NoMemory) at small some same =

@@ -1,10 +1,13 @@
-use Rattle.std.proofs.Common.{◌≡◌, ◌<◌, ◌++◌, ◌∷◌, [], List, ap, sym, ◌∙◌, subst, arith, length}
+use Rattle.std.proofs.Common.{◌≡◌, ℕ, ◌<◌, ◌++◌, ◌∷◌, [], List, ap, sym, ◌∙◌, subst, arith, length}
 use Rattle.std.specs.Prelude.{◌^◌}
-use Rattle.std.proofs.Math.Logic.{∥∥₁_map}
+use Rattle.std.proofs.Math.Logic.{∥∥₁_elim, ∥∥₁_map, ∥∥₁_prop}
+use Rattle.plugin_wire.specs.Told.{stopped}
+use Rattle.entry_lines.specs.Notices.{AreNoticeTexts}
 use Rattle.xi_plain.specs.declared.entry.Entry.{Entry}
 use Rattle.xi_plain.specs.Journal.{IsLegal, closing_entry}
 use Rattle.core_session.specs.Kept.{IsOfJournal, stage_of}
-use Rattle.core_session.proofs.KeptLemmas.{IsLegal-closed, IsOfJournal-closed, not_closed_of, reserved_open, stage-closing}
+use Rattle.core_session.proofs.KeptLemmas.{IsLegal-closed, IsOfJournal-closed, not_closed_of, reserved_open, stage-closing, stands_by}
+use Rattle.core_session.proofs.ToldLemmas.{AreToldOf-push}
 use Rattle.core_session.proofs.session.Core.close_down.Goals as goal
 
 pub invariant_of-self : goal.invariant_of-self
@@ -15,14 +18,25 @@ invariant_of-self g c =
     let none = not_closed_of journal.items core.stage core.staged c.in-Serves.is in
     let items : c.push_reserved.new.self.items ≡ journal.items ++ closing_entry ∷ [] =
     c.push_reserved.ensures.items ∙ ap (λ e. journal.items ++ e ∷ []) c.closing.ensures in
-    let Kept : List Entry → Type 0 = λ entries. ∥ IsOfJournal c.args.self.now.terms core.views core.ended core.opened core.config entries ∥₁ in
+    let Stop : List (List ℕ) → Type 0 = λ texts. AreNoticeTexts (stopped ∷ []) texts in
+    let Kept : List Entry → Type 0 = λ entries. ∥ IsOfJournal core.terms core.views core.styles core.ended core.opened core.config entries ∥₁ in
     record {
       legal = subst (IsLegal core.terms.plugins) (sym items) (IsLegal-closed core.terms.plugins journal.items core.legal none);
       staged = stage-closing journal.items ∙ ap stage_of (sym items);
       room =
           omega (arith, c.push_reserved.ensures.len, c.push_reserved.ensures.capacity, core.room, reserved_open core.stage c.in-Serves.is);
+      told_room =
+          omega (arith, c.push_reserved-in-Serves.ensures.len, c.push_reserved-in-Serves.ensures.capacity, core.told_room, reserved_open core.stage c.in-Serves.is);
       limit = core.limit;
+      are_told =
+          rw (items, c.push_reserved-in-Serves.ensures.items)
+          (∥∥₁_elim core.are_told ∥∥₁_prop (λ are.
+          ∥∥₁_map core.stops (λ stop.
+          AreToldOf-push core.terms journal.items core.told.items closing_entry _ are
+          (subst Stop (sym c.replace-lines.ensures.value) (stands_by core.stage core.stop stop c.in-Serves.is)))));
+      stops = ∣ tt ∣₁;
       kept =
           subst Kept (sym items)
-          (∥∥₁_map core.kept (λ kept. IsOfJournal-closed c.args.self.now.terms core.views core.ended core.opened core.config journal.items few core.legal none kept));
+          (∥∥₁_map core.kept (λ kept.
+          IsOfJournal-closed core.terms core.views core.styles core.ended core.opened core.config journal.items few core.legal none kept));
     }

@@ -9,7 +9,7 @@ use Rattle.session_step.specs.declared.opened.Opened.{Opened}
 use Rattle.session_step.proofs.ForCallers.{named_at, none_named, serves_found}
 use Rattle.core_session.specs.Core.{IsDocOf}
 use Rattle.core_session.proofs.EnterLemmas.{never_prop, none_by, not_none}
-use Rattle.core_session.proofs.StepLemmas.{apart_of}
+use Rattle.core_session.proofs.AfterLemmas.{apart_of}
 use Rattle.core_session.proofs.session.Core.doc.Goals as goal
 
 pub returns-in-Some-clause-stands : goal.returns-in-Some-clause-stands
