@@ -45,7 +45,7 @@ impl Chunk {
     }
 
     /// The characters left of a gap and those right of it. Where each takes one byte, no character is read.
-    fn cut(&self, gap: u64) -> (&str, &str)
+    pub fn cut(&self, gap: u64) -> (&str, &str)
         requires { gap ≤ length self.now }
         ensures front { chars result.0.now ≡ take gap self.now }
         ensures back { chars result.1.now ≡ drop gap self.now }

@@ -151,7 +151,7 @@ fn between(alloc: Global, tree: &Tree<Chunk>, from: u64, to: u64) -> Result<Text
     let mut left = to - from;
     let mut walk = tree.walk(from);
     while let Some((chunk, start)) = walk.next() {
-        let (_, rest) = split_at_gap(chunk.text().as_str(), start);
+        let (_, rest) = chunk.cut(start);
         let count = chunk.len() - start;
         if left <= count {
             let (part, _) = split_at_gap(rest, left);

@@ -47,7 +47,7 @@ fn walked(alloc: Global, line: &str) -> Result<Offsets, NoMemory>
     ensures offsets { IfOk result (λ places. places ≡ map (place_of (chars line.now)) (range_with_len 0 (length (chars line.now) + 1))) }
     ensures small { length line.now < 2 ^ 63 }
 {
-    let mut places = Offsets::new(alloc);
+    let mut places = Offsets::from_vec(Vec::with_capacity(alloc, line.len() + 1)?);
     let mut place: u64 = 0;
     places.push(place)?;
     for c in line.chars() {
