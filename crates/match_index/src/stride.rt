@@ -61,7 +61,7 @@ impl Measure<Reach> for Chars {
     }
 }
 
-/// At most 64 strides side by side.
+/// At most 128 strides side by side.
 #[derive(Drop)]
 pub struct Strides {
     numbers: Vec<u64>,
@@ -74,12 +74,12 @@ impl Model for Strides {
 
     ghost view = { λ own. own.numbers.items };
 
-    ghost invariant = { λ own. length own.numbers.items ≤ 64 };
+    ghost invariant = { λ own. length own.numbers.items ≤ 128 };
 }
 
 impl Strides {
     pub(crate) fn of_numbers(alloc: Global, numbers: &[u64]) -> Result<Strides, AllocError>
-        requires { length numbers.now ≤ 64 }
+        requires { length numbers.now ≤ 128 }
         ensures { IfOk result (λ made. made ≡ numbers.now) }
     {
         Ok(Strides {
@@ -137,7 +137,7 @@ impl Leaf for Strides {
     }
 
     fn glued(&self, alloc: Global, other: &Self) -> Result<Option<Self>, AllocError> {
-        if self.numbers.len() + other.numbers.len() > 64 {
+        if self.numbers.len() + other.numbers.len() > 128 {
             return Ok(None);
         }
         Ok(Some(Strides {
@@ -154,7 +154,7 @@ impl Leaf for Strides {
     ) -> Result<Option<Self>, AllocError> {
         let (front, _) = self.numbers.split_at(from as usize);
         let (_, back) = self.numbers.split_at(to as usize);
-        if front.len() + other.numbers.len() + back.len() > 64 {
+        if front.len() + other.numbers.len() + back.len() > 128 {
             return Ok(None);
         }
         Ok(Some(Strides {

@@ -49,14 +49,14 @@ pub(crate) fn run_behind(strides: &Tree<Strides>, len: u64, index: u64, end: u64
     })
 }
 
-/// Puts strides behind those of the tree, 64 in a leaf.
+/// Puts strides behind those of the tree, 128 in a leaf.
 pub(crate) fn put(tree: &mut Tree<Strides>, alloc: Global, numbers: &[u64]) -> Result<(), NoMemory>
     requires { IsTrue (is_countable (reach_of (strides_under tree.old ++ numbers.now))) }
     ensures { OnOk result (strides_under tree.new ≡ strides_under tree.old ++ numbers.now) }
 {
     let mut rest = numbers;
     while !rest.is_empty() {
-        let (leaf, later) = rest.split_at(rest.len().min(64));
+        let (leaf, later) = rest.split_at(rest.len().min(128));
         tree.push_leaf(alloc, Strides::of_numbers(alloc, leaf)?)?;
         rest = later;
     }
