@@ -21,7 +21,7 @@ ghost use Rattle.rev_engine.specs.State.{IsHistoryOf, shown_at};
 ghost use Rattle.rev_engine.specs.Inner.{IsAnswered, IsFitting, IsNext, IsNextLeft, IsPutIn, IsUnitsFor};
 
 use crate::flat::{alive, whole};
-use crate::step::{Fitting, PutIn, put_in, units_from, units_of_heads, without};
+use crate::step::{Fitting, PutIn, put_in, shown_after, units_from, units_of_heads, without};
 use crate::undo::{are_known, frozen, has_number, is_set_known};
 use crate::{Change, Edit, EditFault, UndoFault, UnitEdit, short};
 use delta_core::{fits, to_units};
@@ -394,8 +394,8 @@ impl Engine {
         let Fitting { edit, spent } = fitting;
         let made = put_in(alloc, &self.union, &self.revs, rev, &edit)?;
         let units = self.units_to(alloc, rev, edit, &made)?;
-        let text = self.text.edited(alloc, &units)?;
         let PutIn { union, revs } = made;
+        let text = shown_after(alloc, &union, &revs, &self.text, &units)?;
         let rev = revs.head();
         Ok(Next {
             engine: Engine {
@@ -536,7 +536,7 @@ impl Engine {
         let mut revs = self.revs.copy(alloc)?;
         let rev = revs.push_undo_by(alloc, groups, dead)?;
         let units = units_of_heads(alloc, &self.union, &self.revs, &revs)?;
-        let shown = self.text.edited(alloc, &units)?;
+        let shown = shown_after(alloc, &self.union, &revs, &self.text, &units)?;
         let union = self.union.copy(alloc)?;
         Ok(Next {
             engine: Engine {

@@ -4,6 +4,7 @@ ghost use Rattle.plain_text.specs.Text.{byte_len};
 ghost use Rattle.plain_edits.specs.History.{head};
 ghost use Rattle.plain_edits.specs.UnitDelta.{IsUnitDelta};
 ghost use Rattle.delta_core.specs.Synthesis.{IsBetween};
+ghost use Rattle.delta_core.specs.Units.{text_after};
 ghost use Rattle.subset_runs.specs.Subset.{items_outside};
 ghost use Rattle.rev_list.specs.Hidden.{hidden_at};
 ghost use Rattle.rev_rebase.specs.Rebase.{added_text};
@@ -135,6 +136,28 @@ pub(crate) fn without(alloc: Global, union: &Rope, dropped: &Subset) -> Result<R
     let none = Subset::none(alloc, union.len());
     let units = units_between(alloc, union, &none, dropped)?;
     union.edited(alloc, &units)
+}
+
+// What the head shows after a change of the text before it: where no character of the union is dead it is the union, which is shared
+// then, so that its characters are kept once.
+pub(crate) fn shown_after(
+    alloc: Global,
+    union: &Rope,
+    revs: &RevList,
+    text: &Rope,
+    units: &UnitDelta,
+) -> Result<Rope, NoMemory>
+    requires well_formed { IsUnitDelta units.now }
+    requires base { units.now.base ≡ length text.now }
+    requires fits { byte_len (text_after units.now text.now) < 2 ^ 64 }
+    requires positions { length union.now ≡ length revs.now.characters }
+    requires shown { text_after units.now text.now ≡ items_outside (hidden_at revs.now (head revs.now)) union.now }
+    ensures { IfOk result (λ made. made ≡ text_after units.now text.now) }
+{
+    if revs.dead().count() == 0 {
+        return union.copy(alloc);
+    }
+    text.edited(alloc, units)
 }
 
 // What of the union is not visible at a kept revision.

@@ -1,4 +1,4 @@
-use Rattle.std.proofs.Common.{subst, sym}
+use Rattle.std.proofs.Common.{refl, subst, sym}
 use Rattle.plain_edits.specs.History.{History}
 use Rattle.plain_edits.specs.Edits.{edited}
 use Rattle.rev_engine.specs.Given.{MayAsk}
@@ -26,19 +26,33 @@ units_to-requires-clause-positions c =
     positions-after _ _ c.args.rev c.args.fitting c.self.invariant (subst (λ s. IsFitting s c.args.rev c.args.fitting) (sym c.self.view_is) c.requires.fits)
     _ _ c.in_ok-made.ensures
 
-pub edited-requires-clause-base : goal.edited-requires-clause-base
-edited-requires-clause-base c =
+pub shown_after-requires-clause-base : goal.shown_after-requires-clause-base
+shown_after-requires-clause-base c =
     (goes-on _ _ c.args.rev c.args.fitting c.self.invariant (subst (λ s. IsFitting s c.args.rev c.args.fitting) (sym c.self.view_is) c.requires.fits)
     _ _ c.in_ok-made.ensures (subst (λ (s : State). MayAsk s.revisions c.args.fitting.edit.group) (sym c.self.view_is) c.requires.may) _
     (subst (λ (s : State). (h : History) → IsHistoryOf s.union s.revisions h → IsChangeBy h (edited h (in_characters c.args.rev c.args.fitting.edit)) c.in_ok-units.units)
     (sym c.self.view_is) c.in_ok-units.ensures.change)).base
 
-pub edited-requires-clause-fits : goal.edited-requires-clause-fits
-edited-requires-clause-fits c =
+pub shown_after-requires-clause-fits : goal.shown_after-requires-clause-fits
+shown_after-requires-clause-fits c =
     (goes-on _ _ c.args.rev c.args.fitting c.self.invariant (subst (λ s. IsFitting s c.args.rev c.args.fitting) (sym c.self.view_is) c.requires.fits)
     _ _ c.in_ok-made.ensures (subst (λ (s : State). MayAsk s.revisions c.args.fitting.edit.group) (sym c.self.view_is) c.requires.may) _
     (subst (λ (s : State). (h : History) → IsHistoryOf s.union s.revisions h → IsChangeBy h (edited h (in_characters c.args.rev c.args.fitting.edit)) c.in_ok-units.units)
     (sym c.self.view_is) c.in_ok-units.ensures.change)).short
+
+pub shown_after-requires-clause-positions : goal.shown_after-requires-clause-positions
+shown_after-requires-clause-positions c =
+    ((goes-on _ _ c.args.rev c.args.fitting c.self.invariant (subst (λ s. IsFitting s c.args.rev c.args.fitting) (sym c.self.view_is) c.requires.fits)
+    _ _ c.in_ok-made.ensures (subst (λ (s : State). MayAsk s.revisions c.args.fitting.edit.group) (sym c.self.view_is) c.requires.may) _
+    (subst (λ (s : State). (h : History) → IsHistoryOf s.union s.revisions h → IsChangeBy h (edited h (in_characters c.args.rev c.args.fitting.edit)) c.in_ok-units.units)
+    (sym c.self.view_is) c.in_ok-units.ensures.change)).holds _ refl).positions
+
+pub shown_after-requires-clause-shown : goal.shown_after-requires-clause-shown
+shown_after-requires-clause-shown c =
+    ((goes-on _ _ c.args.rev c.args.fitting c.self.invariant (subst (λ s. IsFitting s c.args.rev c.args.fitting) (sym c.self.view_is) c.requires.fits)
+    _ _ c.in_ok-made.ensures (subst (λ (s : State). MayAsk s.revisions c.args.fitting.edit.group) (sym c.self.view_is) c.requires.may) _
+    (subst (λ (s : State). (h : History) → IsHistoryOf s.union s.revisions h → IsChangeBy h (edited h (in_characters c.args.rev c.args.fitting.edit)) c.in_ok-units.units)
+    (sym c.self.view_is) c.in_ok-units.ensures.change)).holds _ refl).shown
 
 pub invariant_of-result : goal.invariant_of-result
 invariant_of-result c =

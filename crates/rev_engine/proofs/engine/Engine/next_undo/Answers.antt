@@ -1,4 +1,4 @@
-use Rattle.std.proofs.Common.{◌-◌, ◌^◌, ◌<◌, subst, sym}
+use Rattle.std.proofs.Common.{◌-◌, ◌^◌, ◌<◌, refl, subst, sym}
 use Rattle.plain_edits.specs.History.{History, head}
 use Rattle.plain_edits.specs.Undo.{undone_now}
 use Rattle.plain_text.specs.Numbers.{IsRising}
@@ -19,19 +19,33 @@ push_undo_by-requires-clause-may c =
       has_number = subst (λ (s : State). head s.revisions < 2 ^ 63 - 1) (sym c.self.view_is) c.requires.may.has_number;
     })
 
-pub edited-requires-clause-base : goal.edited-requires-clause-base
-edited-requires-clause-base c =
+pub shown_after-requires-clause-base : goal.shown_after-requires-clause-base
+shown_after-requires-clause-base c =
     (goes-on-pushed _ c.args.self.now _ c.args.groups.now c.self.view_is c.self.invariant c.requires.may c.requires.agrees
     (rw c.undone-undone.ensures.groups at c.undone-undone.ensures.rising) c.in_ok-revs.revs c.push_undo_by.new.self c.in_ok-revs.ensures
     c.in_ok-rev.ensures.ok c.in_ok-units.units
     c.in_ok-units.ensures).base
 
-pub edited-requires-clause-fits : goal.edited-requires-clause-fits
-edited-requires-clause-fits c =
+pub shown_after-requires-clause-fits : goal.shown_after-requires-clause-fits
+shown_after-requires-clause-fits c =
     (goes-on-pushed _ c.args.self.now _ c.args.groups.now c.self.view_is c.self.invariant c.requires.may c.requires.agrees
     (rw c.undone-undone.ensures.groups at c.undone-undone.ensures.rising) c.in_ok-revs.revs c.push_undo_by.new.self c.in_ok-revs.ensures
     c.in_ok-rev.ensures.ok c.in_ok-units.units
     c.in_ok-units.ensures).short
+
+pub shown_after-requires-clause-positions : goal.shown_after-requires-clause-positions
+shown_after-requires-clause-positions c =
+    ((goes-on-pushed _ c.args.self.now _ c.args.groups.now c.self.view_is c.self.invariant c.requires.may c.requires.agrees
+    (rw c.undone-undone.ensures.groups at c.undone-undone.ensures.rising) c.in_ok-revs.revs c.push_undo_by.new.self c.in_ok-revs.ensures
+    c.in_ok-rev.ensures.ok c.in_ok-units.units
+    c.in_ok-units.ensures).holds _ refl).positions
+
+pub shown_after-requires-clause-shown : goal.shown_after-requires-clause-shown
+shown_after-requires-clause-shown c =
+    ((goes-on-pushed _ c.args.self.now _ c.args.groups.now c.self.view_is c.self.invariant c.requires.may c.requires.agrees
+    (rw c.undone-undone.ensures.groups at c.undone-undone.ensures.rising) c.in_ok-revs.revs c.push_undo_by.new.self c.in_ok-revs.ensures
+    c.in_ok-rev.ensures.ok c.in_ok-units.units
+    c.in_ok-units.ensures).holds _ refl).shown
 
 pub invariant_of-result : goal.invariant_of-result
 invariant_of-result c =
