@@ -17,7 +17,11 @@ pub(crate) fn long(text: &[u8], m: Measure) -> u64
     if m.is_plain() {
         return text.len() as u64;
     }
-    memchr_iter(b'\n', text).count() as u64
+    let mut count: u64 = 0;
+    for _ in memchr_iter(b'\n', text) {
+        count += 1;
+    }
+    count
 }
 
 /// The text, cut at the first gap with this offset. No byte is read but where LFs are counted.

@@ -1,4 +1,4 @@
-use Rattle.std.proofs.Common.{ap, sym, ◌∙◌, length}
+use Rattle.std.proofs.Common.{add-zero, ap, sym, ◌∙◌, ◌+◌, length}
 use Rattle.memchr.specs.Find.{is_byte}
 use Rattle.memchr.proofs.lemmas.CallerLemmas.{length-places}
 use Rattle.rope_metrics.proofs.PlainLemmas.{lines-long, plain-whole}
@@ -9,5 +9,6 @@ returns-then-is_plain c = sym (plain-whole c.args.text.now c.requires c.args.m (
 
 pub returns : goal.returns
 returns c =
-    c.count.ensures ∙ ap length c.memchr_iter.ensures.value ∙ length-places (is_byte 10) c.args.text.now ∙
+    sym (add-zero c.loop.count) ∙ ap (λ rest. c.loop.count + length rest) (sym c.in-None.ensures.steps.0) ∙ c.loop.invariant.counted ∙
+    length-places (is_byte 10) c.args.text.now ∙
     sym (lines-long c.args.m (sym c.is_plain.ensures ∙ c.if-is_plain.false) c.args.text.now)
