@@ -24,7 +24,7 @@ use Rattle.cluster_core.proofs.ColumnLemmas.{chars-encoded}
 
 -- ---- what the rule cuts
 
-concat-cut : (rule : Rule) (before cs : List ℕ) → concat (cut rule before cs []) ≡ cs
+pub concat-cut : (rule : Rule) (before cs : List ℕ) → concat (cut rule before cs []) ≡ cs
 unfolding cut
 concat-cut rule before [] = refl
 concat-cut rule before (c ∷ cs) = by (rule (c ∷ before) (cs ++ [])) (cut rule (c ∷ before) cs []) (concat-cut rule (c ∷ before) cs)
@@ -36,7 +36,7 @@ concat-cut rule before (c ∷ cs) = by (rule (c ∷ before) (cs ++ [])) (cut rul
 
 module _ (rule : Rule) (stops : (before : List ℕ) → rule before [] ≡ true) where
   -- where the pieces are parted the rule breaks
-  cut-parted : (before cs first : List ℕ) (front back : List (List ℕ)) → cut rule before cs [] ≡ first ∷ (front ++ back) →
+  pub cut-parted : (before cs first : List ℕ) (front back : List (List ℕ)) → cut rule before cs [] ≡ first ∷ (front ++ back) →
       rule (onto (concat (first ∷ front)) before) (concat back) ≡ true
   unfolding cut
   cut-parted before [] first front back is = let broken = is in cc
@@ -75,7 +75,7 @@ module _ (rule : Rule) (stops : (before : List ℕ) → rule before [] ≡ true)
 
   -- where the rule breaks, the characters before and after are cut apart, if it reads of those after a place the first alone
   module _ (near : (before cs ds : List ℕ) (c : ℕ) → rule before (c ∷ cs) ≡ rule before (c ∷ ds)) where
-    cut-append : (before front back : List ℕ) → rule (onto front before) back ≡ true →
+    pub cut-append : (before front back : List ℕ) → rule (onto front before) back ≡ true →
         cut rule before (front ++ back) [] ≡ cut rule before front [] ++ cut rule (onto front before) back []
     unfolding cut
     cut-append before [] back breaks = refl
@@ -99,7 +99,7 @@ module _ (rule : Rule) (stops : (before : List ℕ) → rule before [] ≡ true)
 
 -- ---- the clusters of a line
 
-clusters_in-cut : (line : List ℕ) → all_scalars line ≡ true → clusters_in line ≡ cut cluster_rule [] line []
+pub clusters_in-cut : (line : List ℕ) → all_scalars line ≡ true → clusters_in line ≡ cut cluster_rule [] line []
 unfolding segments
 clusters_in-cut line scalars =
     let bytes = encode_utf8_all line in
@@ -112,7 +112,7 @@ return_feed-joined : (before after : List ℕ) → cluster_rule (13 ∷ before) 
 unfolding unicode_segmentation
 return_feed-joined before after = refl
 
-onto-push : (cs before : List ℕ) (c : ℕ) → onto (cs ++ c ∷ []) before ≡ c ∷ onto cs before
+pub onto-push : (cs before : List ℕ) (c : ℕ) → onto (cs ++ c ∷ []) before ≡ c ∷ onto cs before
 onto-push [] before c = refl
 onto-push (d ∷ cs) before c = onto-push cs (d ∷ before) c
 
@@ -185,7 +185,7 @@ before_return V = refl
 before_return Other = refl
 before_return Zwj = refl
 
-near : (before cs ds : List ℕ) (c : ℕ) → cluster_rule before (c ∷ cs) ≡ cluster_rule before (c ∷ ds)
+pub near : (before cs ds : List ℕ) (c : ℕ) → cluster_rule before (c ∷ cs) ≡ cluster_rule before (c ∷ ds)
 unfolding is_grapheme_break
 near [] cs ds c = refl
 near (last ∷ before) cs ds c = refl

@@ -1,5 +1,9 @@
 pub mod BoundaryLemmas
 pub mod CursorLemmas
+pub mod RestartLemmas
+pub mod PlainLemmas
+pub mod FirstLemmas
+pub mod PrintableLemmas
 pub mod RisingLemmas
 pub mod ColumnLemmas
 pub mod WalkLemmas

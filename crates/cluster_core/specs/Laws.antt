@@ -1,5 +1,6 @@
 -- Laws: what the definitions of columns come to, whatever the line.
-use Rattle.std.specs.Prelude.{◌≡◌, ℕ, List, ◌++◌, length}
+use Rattle.std.specs.Prelude.{◌≡◌, ℕ, List, ◌∷◌, ◌++◌, length, true}
+use Rattle.std.specs.Str.{all_scalars}
 use Rattle.std.specs.List.{AllByRecursion, concat}
 use Rattle.cluster_core.specs.Boundaries.{clusters_in}
 use Rattle.cluster_core.specs.Columns.{columns_between}
@@ -12,3 +13,8 @@ pub record WalksTell : Type 0 where
       AllByRecursion (λ item. item.column ≡ columns_between tab line (length (concat front)) item.end)
       (placed tab (length (concat front)) 0 back)
   pub anew : (tab gap column : ℕ) (clusters : List (List ℕ)) → counted_anew tab 0 (placed tab gap column clusters) ≡ placed tab gap 0 clusters
+
+-- a line from the end of its first cluster on has its other clusters
+pub record LinesGoOn : Type 0 where
+  pub others : (line : List ℕ) → all_scalars line ≡ true → (first : List ℕ) (others : List (List ℕ)) → clusters_in line ≡ first ∷ others →
+      others ≡ clusters_in (concat others)

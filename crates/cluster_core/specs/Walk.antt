@@ -1,8 +1,8 @@
 -- A walk along a logical line, cluster by cluster.
-use Rattle.std.specs.Prelude.{◌≡◌, ℕ, ◌+◌, List, [], ◌∷◌, length, map, Option}
+use Rattle.std.specs.Prelude.{◌≡◌, ℕ, ◌+◌, List, [], ◌∷◌, length, Option}
 use Rattle.std.specs.Iterator.{YieldsFirstBy}
 use Rattle.std.specs.Str.{chars}
-use Rattle.unicode_segmentation.specs.Iter.{graphemes_left}
+use Rattle.cluster_core.specs.Boundaries.{clusters_in}
 use Rattle.cluster_core.specs.Columns.{column_after}
 use Rattle.cluster_core.specs.declared.walk.Placed.{Placed}
 use Rattle.cluster_core.specs.declared.walk.Walk.{Walk}
@@ -32,7 +32,7 @@ abbrev pub placed_view : Placed → ClusterAt
 placed_view item = record { cluster = chars item.cluster.now; end = item.end; column = item.column }
 
 unfoldable pub walk_left : Walk → List ClusterAt
-walk_left walk = placed walk.tab walk.gap walk.column (map chars (graphemes_left walk.clusters))
+walk_left walk = placed walk.tab walk.gap walk.column (clusters_in (chars walk.rest.now))
 
 unfoldable pub walk_tab : Walk → ℕ
 walk_tab walk = walk.tab

@@ -11,6 +11,7 @@
 
 mod boundaries;
 mod classes;
+mod first;
 pub mod laws;
 pub mod rows;
 mod walk;

@@ -1,11 +1,9 @@
 ghost use Rattle.std.specs.Prelude.{◌≡◌, ◌+◌, ◌*◌, ◌^◌, ◌<◌, ◌≤◌, length};
-ghost use Rattle.std.specs.List.{concat};
 ghost use Rattle.std.specs.Iterator.{item_count};
 ghost use Rattle.std.specs.Str.{chars};
-ghost use Rattle.unicode_segmentation.specs.Iter.{graphemes_left};
 
+use crate::first::first_cluster;
 use crate::widths::{char_count, column_after};
-use unicode_segmentation::{Graphemes, UnicodeSegmentation};
 
 /// A cluster of a line, with the gap where it ends and the column after it.
 #[derive(Clone, Copy, Debug, PartialEq, Eq)]
@@ -18,12 +16,12 @@ pub struct Placed<'a> {
 /// A walk along a logical line, cluster by cluster. It takes no memory.
 #[derive(Drop)]
 pub struct Walk<'a> {
-    clusters: Graphemes<'a>,
+    rest: &'a str,
     tab: u32,
     gap: u64,
     column: u128,
-    ghost room: { gap + length (concat (graphemes_left clusters)) < 2 ^ 64 },
-    ghost bound: { column + 2 ^ 32 * length (concat (graphemes_left clusters)) ≤ 2 ^ 96 },
+    ghost room: { gap + length rest.now < 2 ^ 64 },
+    ghost bound: { column + 2 ^ 32 * length rest.now ≤ 2 ^ 96 },
 }
 
 impl<'a> Walk<'a> {
@@ -36,7 +34,7 @@ impl<'a> Walk<'a> {
         ensures tab { walk_tab result ≡ tab }
     {
         Walk {
-            clusters: line.graphemes(true),
+            rest: line,
             tab,
             gap: 0,
             column: 0,
@@ -48,14 +46,11 @@ impl<'a> Walk<'a> {
         ensures left { walk_left result ≡ walk_left self.now }
         ensures tab { walk_tab result ≡ walk_tab self.now }
     {
-        match self.clusters.clone() {
-            Ok(clusters) => Walk {
-                clusters,
-                tab: self.tab,
-                gap: self.gap,
-                column: self.column,
-            },
-            Err(_) => unreachable!(),
+        Walk {
+            rest: self.rest,
+            tab: self.tab,
+            gap: self.gap,
+            column: self.column,
         }
     }
 
@@ -78,10 +73,11 @@ impl<'a> Iterator for Walk<'a> {
     ghost remaining = { item_count walk_left };
 
     fn next(&mut self) -> Option<Placed<'a>> {
-        match self.clusters.next() {
-            Some(cluster) => {
+        match first_cluster(self.rest) {
+            Some((cluster, rest)) => {
                 self.gap += char_count(cluster);
                 self.column = column_after(self.tab, self.column, cluster);
+                self.rest = rest;
                 Some(Placed {
                     cluster,
                     end: self.gap,

@@ -1,6 +1,7 @@
-ghost use Rattle.std.specs.Prelude.{◌≡◌, ◌+◌, ◌-◌, ◌*◌, ◌^◌, ◌<◌, ◌≤◌, length, slice_range};
+ghost use Rattle.std.specs.Prelude.{◌≡◌, ◌+◌, ◌-◌, ◌*◌, ◌^◌, ◌<◌, ◌≤◌, length, slice_range, IsTrue};
 ghost use Rattle.std.specs.Str.{chars};
 ghost use Rattle.cluster_core.specs.Columns.{tab_stop, column_after, columns_between};
+ghost use Rattle.cluster_core.specs.Plain.{IsPrintable};
 
 use plain_text::split_at_gap;
 use unicode_segmentation::UnicodeSegmentation;
@@ -58,6 +59,29 @@ pub(crate) fn char_count(text: &str) -> u64
 
 /// The column after a cluster, or after what is left of one, that begins at `column`.
 pub(crate) fn column_after(tab: u32, column: u128, cluster: &str) -> u128
+    requires { column < 2 ^ 100 }
+    ensures value { result ≡ column_after tab column (chars cluster.now) }
+    ensures bound { result ≤ column + 2 ^ 32 * length cluster.now }
+{
+    if is_printable(cluster.as_bytes()) {
+        column + 1
+    } else {
+        column_by_width(tab, column, cluster)
+    }
+}
+
+/// Whether this is one character from a space to `~`, which takes one column.
+fn is_printable(bytes: &[u8]) -> bool
+    ensures { IsTrue result → IsPrintable bytes.now }
+{
+    match bytes {
+        [byte] => b' ' <= *byte && *byte <= b'~',
+        _ => false,
+    }
+}
+
+/// The same of any cluster, by its first character and its width.
+fn column_by_width(tab: u32, column: u128, cluster: &str) -> u128
     requires { column < 2 ^ 100 }
     ensures value { result ≡ column_after tab column (chars cluster.now) }
     ensures bound { result ≤ column + 2 ^ 32 * length cluster.now }

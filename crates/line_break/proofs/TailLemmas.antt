@@ -5,35 +5,35 @@ use Rattle.std.proofs.lemmas.List.{reverse-append, reverse-reverse, length-rever
 use Rattle.std.proofs.lemmas.List.Sums.{prefix_len-le-length}
 use Rattle.std.proofs.lemmas.Bool.{cases_Bool as bool_cases, eqb-true}
 use Rattle.std.proofs.lemmas.Bool.Decides.{nat_tests}
-use Rattle.line_break.specs.Breaks.{is_blank, is_breaking, past_return, past_line_end, past_blanks, shown_len}
+use Rattle.line_break.specs.Breaks.{is_space_or_tab, is_breaking, past_return, past_line_end, past_blanks, shown_len}
 use Rattle.line_break.specs.Inner.{solid_len, ended_len, breaks_first}
 
 -- ---- characters that are read from the back
 
-past_blanks-blank : (c : ℕ) (text : List ℕ) → is_blank c ≡ true → past_blanks (c ∷ text) ≡ past_blanks text
+past_blanks-blank : (c : ℕ) (text : List ℕ) → is_space_or_tab c ≡ true → past_blanks (c ∷ text) ≡ past_blanks text
 past_blanks-blank c text blank =
-    let same : length (c ∷ text) - (1 + prefix_len is_blank text) ≡ past_blanks text = omega (arith, prefix_len-le-length is_blank text) in
-    ap (λ b. length (c ∷ text) - cond b (1 + prefix_len is_blank text) 0) blank ∙ same
+    let same : length (c ∷ text) - (1 + prefix_len is_space_or_tab text) ≡ past_blanks text = omega (arith, prefix_len-le-length is_space_or_tab text) in
+    ap (λ b. length (c ∷ text) - cond b (1 + prefix_len is_space_or_tab text) 0) blank ∙ same
 
-past_blanks-solid : (c : ℕ) (text : List ℕ) → is_blank c ≡ false → past_blanks (c ∷ text) ≡ length text + 1
+past_blanks-solid : (c : ℕ) (text : List ℕ) → is_space_or_tab c ≡ false → past_blanks (c ∷ text) ≡ length text + 1
 past_blanks-solid c text solid =
     let same : length (c ∷ text) - 0 ≡ length text + 1 = omega arith in
-    ap (λ b. length (c ∷ text) - cond b (1 + prefix_len is_blank text) 0) solid ∙ same
+    ap (λ b. length (c ∷ text) - cond b (1 + prefix_len is_space_or_tab text) 0) solid ∙ same
 
 past_blanks-none : (front back : List ℕ) → past_blanks front ≡ 0 → past_blanks (front ++ back) ≡ past_blanks back
 past_blanks-none [] back none = refl
-past_blanks-none (c ∷ front) back none = by (past_blanks-none front back) (bool_cases (is_blank c))
+past_blanks-none (c ∷ front) back none = by (past_blanks-none front back) (bool_cases (is_space_or_tab c))
   where
-    by : (past_blanks front ≡ 0 → past_blanks (front ++ back) ≡ past_blanks back) → (is_blank c ≡ true) ⊎ (is_blank c ≡ false) →
+    by : (past_blanks front ≡ 0 → past_blanks (front ++ back) ≡ past_blanks back) → (is_space_or_tab c ≡ true) ⊎ (is_space_or_tab c ≡ false) →
         past_blanks (c ∷ front ++ back) ≡ past_blanks back
     by rest (inl blank) = past_blanks-blank c (front ++ back) blank ∙ rest (sym (past_blanks-blank c front blank) ∙ none)
     by rest (inr solid) = let some = past_blanks-solid c front solid in absurd (omega arith)
 
 past_blanks-some : (front back : List ℕ) → 0 < past_blanks front → past_blanks (front ++ back) ≡ length back + past_blanks front
 past_blanks-some [] back some = absurd (omega arith)
-past_blanks-some (c ∷ front) back some = by (past_blanks-some front back) (bool_cases (is_blank c))
+past_blanks-some (c ∷ front) back some = by (past_blanks-some front back) (bool_cases (is_space_or_tab c))
   where
-    by : (0 < past_blanks front → past_blanks (front ++ back) ≡ length back + past_blanks front) → (is_blank c ≡ true) ⊎ (is_blank c ≡ false) →
+    by : (0 < past_blanks front → past_blanks (front ++ back) ≡ length back + past_blanks front) → (is_space_or_tab c ≡ true) ⊎ (is_space_or_tab c ≡ false) →
         past_blanks (c ∷ front ++ back) ≡ length back + past_blanks (c ∷ front)
     by rest (inl blank) =
         let own = past_blanks-blank c front blank in
@@ -89,15 +89,15 @@ past_return-le (c ∷ text) = by (c == 13)
     by true = omega arith
     by false = omega arith
 
-feed_blank : (c : ℕ) → c == 10 ≡ true → is_blank c ≡ true → ⊥
+feed_blank : (c : ℕ) → c == 10 ≡ true → is_space_or_tab c ≡ true → ⊥
 feed_blank c feed blank = grind (arith, nat_tests)
 
 -- without the line end there is no more
 past_line_end-le : (text : List ℕ) → past_blanks (past_line_end text) ≤ past_blanks text
 past_line_end-le [] = omega arith
-past_line_end-le (c ∷ text) = by (bool_cases (c == 10)) (bool_cases (is_blank c))
+past_line_end-le (c ∷ text) = by (bool_cases (c == 10)) (bool_cases (is_space_or_tab c))
   where
-    by : (c == 10 ≡ true) ⊎ (c == 10 ≡ false) → (is_blank c ≡ true) ⊎ (is_blank c ≡ false) → past_blanks (past_line_end (c ∷ text)) ≤ past_blanks (c ∷ text)
+    by : (c == 10 ≡ true) ⊎ (c == 10 ≡ false) → (is_space_or_tab c ≡ true) ⊎ (is_space_or_tab c ≡ false) → past_blanks (past_line_end (c ∷ text)) ≤ past_blanks (c ∷ text)
     by (inl feed) (inl blank) = absurd (feed_blank c feed blank)
     by (inl feed) (inr solid) =
         rw feed (let own = past_blanks-solid c text solid in omega (arith, past_return-le text))
@@ -106,9 +106,9 @@ past_line_end-le (c ∷ text) = by (bool_cases (c == 10)) (bool_cases (is_blank 
 -- where the first character is a blank it is no LF
 past_line_end-blank : (text : List ℕ) → past_blanks text < length text → past_line_end text ≡ text
 past_line_end-blank [] less = refl
-past_line_end-blank (c ∷ text) less = by (bool_cases (c == 10)) (bool_cases (is_blank c))
+past_line_end-blank (c ∷ text) less = by (bool_cases (c == 10)) (bool_cases (is_space_or_tab c))
   where
-    by : (c == 10 ≡ true) ⊎ (c == 10 ≡ false) → (is_blank c ≡ true) ⊎ (is_blank c ≡ false) → past_line_end (c ∷ text) ≡ c ∷ text
+    by : (c == 10 ≡ true) ⊎ (c == 10 ≡ false) → (is_space_or_tab c ≡ true) ⊎ (is_space_or_tab c ≡ false) → past_line_end (c ∷ text) ≡ c ∷ text
     by (inr other) both = ap (λ b. cond b (past_return text) (c ∷ text)) other
     by (inl feed) (inr solid) = let own = past_blanks-solid c text solid in absurd (omega arith)
     by (inl feed) (inl blank) = absurd (feed_blank c feed blank)
@@ -164,20 +164,20 @@ shown_len-some front back some shown =
 push : (text : List ℕ) (c : ℕ) → reverse (text ++ c ∷ []) ≡ c ∷ reverse text
 push text c = reverse-append text (c ∷ [])
 
-pub solid_len-push : (text : List ℕ) (c : ℕ) → solid_len (text ++ c ∷ []) ≡ cond (is_blank c) (solid_len text) (length text + 1)
-solid_len-push text c = ap past_blanks (push text c) ∙ by (bool_cases (is_blank c))
+pub solid_len-push : (text : List ℕ) (c : ℕ) → solid_len (text ++ c ∷ []) ≡ cond (is_space_or_tab c) (solid_len text) (length text + 1)
+solid_len-push text c = ap past_blanks (push text c) ∙ by (bool_cases (is_space_or_tab c))
   where
-    by : (is_blank c ≡ true) ⊎ (is_blank c ≡ false) → past_blanks (c ∷ reverse text) ≡ cond (is_blank c) (solid_len text) (length text + 1)
+    by : (is_space_or_tab c ≡ true) ⊎ (is_space_or_tab c ≡ false) → past_blanks (c ∷ reverse text) ≡ cond (is_space_or_tab c) (solid_len text) (length text + 1)
     by (inl blank) = past_blanks-blank c (reverse text) blank ∙ sym (ap (λ b. cond b (solid_len text) (length text + 1)) blank)
     by (inr solid) =
         past_blanks-solid c (reverse text) solid ∙ ap (λ n. n + 1) (length-reverse text) ∙
         sym (ap (λ b. cond b (solid_len text) (length text + 1)) solid)
 
-blanks-push : (text : List ℕ) (c : ℕ) → past_blanks (c ∷ reverse text) ≡ cond (is_blank c) (solid_len text) (length text + 1)
+blanks-push : (text : List ℕ) (c : ℕ) → past_blanks (c ∷ reverse text) ≡ cond (is_space_or_tab c) (solid_len text) (length text + 1)
 blanks-push text c = ap past_blanks (sym (push text c)) ∙ solid_len-push text c
 
-pub ended_len-push : (text : List ℕ) (c : ℕ) → ended_len (text ++ c ∷ []) ≡ cond (is_blank c || c == 13) (solid_len text) (length text + 1)
-ended_len-push text c = ap (λ t. past_blanks (past_return t)) (push text c) ∙ by (c == 13) (is_blank c) (blanks-push text c)
+pub ended_len-push : (text : List ℕ) (c : ℕ) → ended_len (text ++ c ∷ []) ≡ cond (is_space_or_tab c || c == 13) (solid_len text) (length text + 1)
+ended_len-push text c = ap (λ t. past_blanks (past_return t)) (push text c) ∙ by (c == 13) (is_space_or_tab c) (blanks-push text c)
   where
     by : (return blank : Bool) → past_blanks (c ∷ reverse text) ≡ cond blank (solid_len text) (length text + 1) →
         past_blanks (cond return (reverse text) (c ∷ reverse text)) ≡ cond (blank || return) (solid_len text) (length text + 1)
@@ -187,11 +187,11 @@ ended_len-push text c = ap (λ t. past_blanks (past_return t)) (push text c) ∙
     by false false is = is
 
 pub shown_len-push : (text : List ℕ) (c : ℕ) →
-    shown_len (text ++ c ∷ []) ≡ cond (c == 10) (ended_len text) (cond (is_blank c) (solid_len text) (length text + 1))
+    shown_len (text ++ c ∷ []) ≡ cond (c == 10) (ended_len text) (cond (is_space_or_tab c) (solid_len text) (length text + 1))
 shown_len-push text c = ap (λ t. past_blanks (past_line_end t)) (push text c) ∙ by (c == 10)
   where
     by : (feed : Bool) → past_blanks (cond feed (past_return (reverse text)) (c ∷ reverse text))
-        ≡ cond feed (ended_len text) (cond (is_blank c) (solid_len text) (length text + 1))
+        ≡ cond feed (ended_len text) (cond (is_space_or_tab c) (solid_len text) (length text + 1))
     by true = refl
     by false = blanks-push text c
 

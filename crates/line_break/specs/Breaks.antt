@@ -10,8 +10,8 @@ abbrev pub cluster_ends : List ℕ → List ℕ
 cluster_ends line = ends_from 0 (clusters_in line)
 
 -- a space or a tab
-abbrev pub is_blank : ℕ → Bool
-is_blank c = c == 32 || c == 9
+abbrev pub is_space_or_tab : ℕ → Bool
+is_space_or_tab c = c == 32 || c == 9
 
 -- these characters without a CR that stands first
 abbrev pub past_return : List ℕ → List ℕ
@@ -26,7 +26,7 @@ past_line_end (c ∷ text) = if c == 10 then past_return text else c ∷ text
 
 -- how many characters stand before the blanks that come first, where they are read from the back
 abbrev pub past_blanks : List ℕ → ℕ
-past_blanks text = length text - prefix_len is_blank text
+past_blanks text = length text - prefix_len is_space_or_tab text
 
 -- how many characters of a piece count: those before its line end, and then before its trailing spaces and tabs
 abbrev pub shown_len : List ℕ → ℕ
@@ -46,7 +46,7 @@ fits width tab line start end = nat_le (piece_columns tab line start end) width
 
 -- a line may be broken after these characters
 abbrev pub is_breaking : ℕ → Bool
-is_breaking c = is_blank c || c == 45
+is_breaking c = is_space_or_tab c || c == 45
 
 -- a candidate: the line's end, or a gap directly after a space, a tab or `-`
 abbrev pub is_candidate : List ℕ → ℕ → Bool

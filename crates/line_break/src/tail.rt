@@ -1,6 +1,6 @@
 ghost use Rattle.std.specs.Prelude.{◌≡◌, ◌+◌, ◌^◌, ◌<◌, cond, length};
 ghost use Rattle.std.specs.Str.{chars};
-ghost use Rattle.line_break.specs.Breaks.{is_blank};
+ghost use Rattle.line_break.specs.Breaks.{is_space_or_tab};
 ghost use Rattle.line_break.specs.Inner.{IsTail};
 
 /// What the last characters of a cluster mean to a piece that ends there. Lengths are in characters.
@@ -26,7 +26,7 @@ impl Tail {
         ensures { (text : List ℕ) → IsTail text self → IsTail (text ++ c ∷ []) result }
     {
         let len = self.len + 1;
-        let blank = is_blank(c);
+        let blank = is_space_or_tab(c);
         let solid = stays(blank, self.solid, len);
         Tail {
             len,
@@ -55,8 +55,8 @@ pub(crate) fn tail_of(cluster: &str) -> Tail
     tail
 }
 
-fn is_blank(c: char) -> bool
-    ensures { result ≡ is_blank c }
+fn is_space_or_tab(c: char) -> bool
+    ensures { result ≡ is_space_or_tab c }
 {
     c == ' ' || c == '\t'
 }
