@@ -38,7 +38,7 @@ IsRead-start n text spans room = record {
 }
 
 -- what stands after a name and its space
-after-place : (text rest name after : List ℕ) → drop (length text - length rest) text ≡ rest → length rest ≤ length text → rest ≡ name ++ 32 ∷ after → (length rest ≡ length name + 1 + length after) × (drop (length text - length after) text ≡ after) × (get_or text (length text - length rest + length name) 0 ≡ 32)
+pub after-place : (text rest name after : List ℕ) → drop (length text - length rest) text ≡ rest → length rest ≤ length text → rest ≡ name ++ 32 ∷ after → (length rest ≡ length name + 1 + length after) × (drop (length text - length after) text ≡ after) × (get_or text (length text - length rest + length name) 0 ≡ 32)
 after-place text rest name after place fits whole =
     let start = length text - length rest in
     let len : length rest ≡ length name + 1 + length after = omega (arith, length-append name (32 ∷ after), ap length whole) in
@@ -49,7 +49,7 @@ after-place text rest name after place fits whole =
     )
 
 -- the span of a name shows it
-ShowsPiece-name : (text rest name after : List ℕ) → drop (length text - length rest) text ≡ rest → length rest ≤ length text → rest ≡ name ++ 32 ∷ after → IsUtf8 rest → ShowsPiece text (length text - length rest) (length text - length rest + length name) name
+pub ShowsPiece-name : (text rest name after : List ℕ) → drop (length text - length rest) text ≡ rest → length rest ≤ length text → rest ≡ name ++ 32 ∷ after → IsUtf8 rest → ShowsPiece text (length text - length rest) (length text - length rest + length name) name
 ShowsPiece-name text rest name after place fits whole utf8 =
     let start = length text - length rest in
     let moved = after-place text rest name after place fits whole in

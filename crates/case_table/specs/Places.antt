@@ -1,7 +1,16 @@
 -- Where the names of a text stand in it.
-use Rattle.std.specs.Prelude.{◌≡◌, ℕ, ◌-◌, ◌<◌, ◌≤◌, List, length, take, drop, slice_index_or}
+use Rattle.std.specs.Prelude.{◌≡◌, ℕ, ◌+◌, ◌-◌, ◌<◌, ◌≤◌, List, [], ◌∷◌, length, take, drop, slice_index_or}
 use Rattle.std.specs.Str.{IsCharBoundary}
 use Rattle.case_table.specs.Table.{pieces, names_of, piece_at, NamesRise}
+
+-- where names stand that follow one another from this place on, each before one space
+abbrev pub places_from : ℕ → List (List ℕ) → List (ℕ × ℕ)
+places_from start [] = []
+places_from start (name ∷ names) = (start, start + length name) ∷ places_from (start + length name + 1) names
+
+-- where the names of a text stand in it
+abbrev pub places_of : List ℕ → List (ℕ × ℕ)
+places_of text = places_from 0 (names_of text)
 
 -- the text between two places, where it may be cut, is this piece
 pub record ShowsPiece (text : List ℕ) (from to : ℕ) (piece : List ℕ) : Type 0 where

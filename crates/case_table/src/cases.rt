@@ -32,6 +32,7 @@ impl<'a, const N: usize> Model for Cases<'a, N> {
 
 impl<'a, const N: usize> Cases<'a, N> {
     ghost use Rattle.case_table.specs.Table.{names_of, text_of_names, bad_case, NamesRise};
+    ghost use Rattle.case_table.specs.Places.{places_of};
 
     /// Reads a table from its text: `N` names that rise by their bytes, each followed by one space.
     pub fn new(text: &'a str) -> Result<Self, BadCase>
@@ -61,6 +62,20 @@ impl<'a, const N: usize> Cases<'a, N> {
             Ok(Cases { text, places })
         } else {
             Err(BadCase(N))
+        }
+    }
+
+    /// The table of a text whose names stand at these places: each from its first byte to past its last one. Nothing of the
+    /// text is read.
+    #[tactic(auto, using(crate::proofs::Standing::table_at_places))]
+    pub fn standing(text: &'a str, places: [(usize, usize); N]) -> Self
+        requires table { bad_case N text.now ≡ None }
+        requires places { places ≡ places_of text.now }
+        ensures names { result ≡ names_of text.now }
+    {
+        Cases {
+            text,
+            places: Places::of(places),
         }
     }
 

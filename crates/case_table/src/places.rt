@@ -28,6 +28,12 @@ impl<const N: usize> Places<N> {
         }
     }
 
+    pub(crate) fn of(spans: [(usize, usize); N]) -> Self
+        ensures { result ≡ spans.entry }
+    {
+        Places { spans }
+    }
+
     pub(crate) fn len(&self) -> usize
         ensures { result ≡ N }
     {
