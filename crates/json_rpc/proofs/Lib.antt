@@ -1,5 +1,6 @@
 pub mod Proper
 pub mod Lines
+pub mod Tokens
 pub mod Members
 pub mod Requests
 pub mod Responses

@@ -10,6 +10,7 @@
 
 mod fault;
 pub mod laws;
+mod line_writer;
 mod read;
 mod refusal;
 mod rpc;
@@ -17,6 +18,7 @@ mod value;
 mod write;
 
 pub use fault::RpcFault;
+pub use line_writer::LineWriter;
 pub use read::read_line;
 pub use refusal::{code_of, message_of};
 pub use rpc::Rpc;

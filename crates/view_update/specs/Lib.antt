@@ -1,4 +1,5 @@
 pub mod Written
+pub mod Parts
 pub mod Reading
 pub mod Fair
 pub mod Notes

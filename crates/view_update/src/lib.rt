@@ -8,7 +8,7 @@
 
 pub mod laws;
 mod note;
-mod values;
+mod parts;
 mod write;
 
 pub use note::{NumberedStyle, Scroll, ViewUpdate};

@@ -1,0 +1,9 @@
+use Rattle.view_update.proofs.Made.{OnOk-gives}
+use Rattle.view_update.proofs.Joined.{copy_tokens}
+use Rattle.view_update.proofs.parts.put_copy.Goals as goal
+
+pub returns-clause-added : goal.returns-clause-added
+returns-clause-added c =
+    OnOk-gives _ _ c.put_end.result
+    (copy_tokens c.args.n c.args.ln c.args.out.now c.begin_object.new.self c.put_count.new.out c.put_end.new.out c.in_ok-begin_object.ensures.added c.in_ok-put_count.ensures.added)
+    c.put_end.ensures.added

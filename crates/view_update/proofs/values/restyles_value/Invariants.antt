@@ -1,8 +1,0 @@
-use Rattle.std.proofs.Common.{map}
-use Rattle.view_update.specs.Written.{restyle_data}
-use Rattle.view_update.specs.Fair.{IsFairRestyle}
-use Rattle.view_update.proofs.Made.{Made}
-use Rattle.view_update.proofs.values.restyles_value.Given as goal
-
-abbrev pub invariant-loop-restyle : goal.invariant-loop-restyle
-invariant-loop-restyle l = Made (map restyle_data) IsFairRestyle l.restyles l.restyle-index l.made.items
