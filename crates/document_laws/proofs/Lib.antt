@@ -6,3 +6,4 @@ pub mod UnseenLemmas
 pub mod StyleLemmas
 pub mod SavingLemmas
 pub mod ReadingLemmas
+pub mod MarkLemmas

@@ -1,6 +1,7 @@
 //! Laws of the steps of a document. The functions do nothing: their clauses are the laws.
 
 ghost use Rattle.document_laws.specs.Laws.{AcknowledgementsAreUnseen, AskingIsUnseen, CollectionIsUnseen, LayersFollow, NewGroupEndsRedo, ReadingGivesTheText, RedoTakesUndoBack, SavingIsSeen, StepsAreFew, UndoTakesNewest, UndoTakesRunBack};
+ghost use Rattle.document_laws.specs.Marks.{LayoutsTellMarks};
 ghost use Rattle.doc_session.specs.Touched.{ChangesTouchLines};
 
 /// An undo takes a run of typing back whole: however many insertions it has, the text is the one before the first.
@@ -63,4 +64,9 @@ pub fn reading_gives_the_text()
 /// The lines that the change of a revision touches, which are broken anew, are those that the revision touches in the history.
 pub fn changes_touch_lines()
     ensures { ChangesTouchLines }
+{}
+
+/// What is told of a text tells which characters are selected and which are found, where no layer has the ids of these.
+pub fn layouts_tell_marks()
+    ensures { LayoutsTellMarks }
 {}

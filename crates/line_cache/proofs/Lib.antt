@@ -10,3 +10,6 @@ mod LawLemmas
 mod NearLemmas
 mod OpsLemmas
 mod ToldLemmas
+mod NextLemmas
+mod ScreenLemmas
+pub mod ForCallers

@@ -5,10 +5,12 @@ use Rattle.plain_text.specs.declared.run.Run.{Run}
 use Rattle.plain_screen.specs.declared.screen.Line.{Line}
 use Rattle.plain_screen.specs.Plan.{with_standings, joined_ops, ops_for, update_plan, is_near, is_within, margin, ArePartners, AreNumberedFrom}
 use Rattle.plain_screen.specs.Screen.{Screen, screen_after}
+use Rattle.plain_screen.specs.Touched.{valid_partners}
 use Rattle.subset_runs.specs.Subset.{contains}
 use Rattle.line_cache.specs.Mirror.{valid_lines}
 use Rattle.line_cache.specs.Runs.{run_count}
 use Rattle.line_cache.specs.Standings.{standings}
+use Rattle.line_cache.specs.Stays.{valid_by}
 use Rattle.line_cache.specs.Ops.{lines_at, numbers_at, ops_by}
 use Rattle.line_cache.specs.Steps.{AreLongest, ArePlacedFrom, TakesFrom, lines_in, standings_of, shown_by}
 use Rattle.line_cache.specs.declared.step.Step.{Step}
@@ -43,3 +45,8 @@ pub record MirrorsStayNear : Type 0 where
 pub record OperationsGoBySteps : Type 0 where
   pub same : (count : ℕ) (plan : List Step) (lines : List Line) → AreLongest plan → ArePlacedFrom 0 plan → TakesFrom 0 count plan →
       length lines ≡ lines_in plan → ops_by 0 plan (numbers_at plan lines) (lines_at plan lines) ≡ joined_ops (ops_for 0 (zip (standings_of plan) lines))
+
+-- of partners those are valid by the truths of a screen that are valid on it
+abbrev pub PartnersAreOfScreens : Type 0
+PartnersAreOfScreens = (screen : Screen) (partners : List (Option (ℕ × Bool))) →
+    valid_by (valid_lines screen) partners ≡ valid_partners screen partners

@@ -1,6 +1,6 @@
 //! Laws of the definitions, each the contract of a function: they tie runs to the lists of `plain_screen`.
 
-ghost use Rattle.line_cache.specs.Laws.{MirrorsAreScreens, MirrorsStayNear, OperationsGoBySteps, StandingsNeedNoLines};
+ghost use Rattle.line_cache.specs.Laws.{MirrorsAreScreens, MirrorsStayNear, OperationsGoBySteps, PartnersAreOfScreens, StandingsNeedNoLines};
 
 /// How lines stand is told without them.
 pub fn standings_need_no_lines()
@@ -20,4 +20,9 @@ pub fn mirrors_stay_near()
 /// The operations of an update are told by the steps of its plan.
 pub fn operations_go_by_steps()
     ensures { OperationsGoBySteps }
+{}
+
+/// Of partners those are valid by a mirror that are valid on the screen.
+pub fn partners_are_of_screens()
+    ensures { PartnersAreOfScreens }
 {}

@@ -9,6 +9,7 @@
 mod edges;
 pub mod laws;
 mod mirror;
+mod next;
 mod old_lines;
 mod ops;
 mod partner;

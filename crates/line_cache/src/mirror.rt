@@ -1,10 +1,11 @@
-ghost use Rattle.std.specs.Prelude.{◌≡◌, ◌+◌, ◌*◌, ◌^◌, ◌<◌, ◌≤◌, [], length, IfOk};
+ghost use Rattle.std.specs.Prelude.{◌≡◌, ℕ, ◌+◌, ◌*◌, ◌^◌, ◌<◌, ◌≤◌, false, [], length, IfNone, IfOk, IfSome};
 ghost use Rattle.subset_runs.specs.Subset.{contains};
-ghost use Rattle.line_cache.specs.Runs.{run_count};
+ghost use Rattle.line_cache.specs.Runs.{IsNextRun, has_all, run_count};
 ghost use Rattle.line_cache.specs.Stays.{AreStays, partners_by, valid_by};
 ghost use Rattle.line_cache.specs.Standings.{standings};
 ghost use Rattle.line_cache.specs.Steps.{AreLongest, ArePlacedFrom, TakesFrom, lines_in, shown_by, standings_of};
 
+use crate::next::next_run;
 use crate::plan::planned;
 use crate::stay::Stay;
 use crate::step::Plan;
@@ -37,6 +38,17 @@ impl Mirror {
         Mirror { lines: None }
     }
 
+    /// A second mirror of the same screen, which shares the runs, in O(1).
+    pub fn share(&self) -> Result<Mirror, NoMemory>
+        ensures { IfOk result (λ mirror. mirror ≡ self.now) }
+    {
+        let lines = match &self.lines {
+            None => None,
+            Some(lines) => Some(Arc::try_clone(lines)?),
+        };
+        Ok(Mirror { lines })
+    }
+
     /// How many lines the screen has, in O(1).
     pub fn len(&self) -> u64
         ensures { result ≡ length self.now }
@@ -54,6 +66,31 @@ impl Mirror {
         match &self.lines {
             None => false,
             Some(lines) => lines.contains(i),
+        }
+    }
+
+    /// The first valid lines from one on, as a run; `None` exactly where none is valid there. It takes the time of the runs before it.
+    pub fn next_run(&self, from: u64) -> Option<Run>
+        ensures some { IfSome result (IsNextRun self.now from) }
+        ensures none { IfNone result ((index : ℕ) → from ≤ index → contains self.now index ≡ false) }
+    {
+        match &self.lines {
+            None => None,
+            Some(lines) => next_run(lines, from),
+        }
+    }
+
+    /// Whether each line of a run is valid; lines past the end of the screen don't count. It takes the time of the runs before it.
+    pub fn has_all(&self, run: Run) -> bool
+        ensures { result ≡ has_all self.now run }
+    {
+        let end = run.end.min(self.len());
+        if end <= run.start {
+            return true;
+        }
+        match self.next_run(run.start) {
+            Some(valid) => valid.start == run.start && end <= valid.end,
+            None => false,
         }
     }
 
@@ -101,10 +138,6 @@ impl Mirror {
 impl TryClone for Mirror {
     /// Shares the runs, in O(1).
     fn copy(&self, _alloc: Global) -> Result<Mirror, NoMemory> {
-        let lines = match &self.lines {
-            None => None,
-            Some(lines) => Some(Arc::try_clone(lines)?),
-        };
-        Ok(Mirror { lines })
+        self.share()
     }
 }

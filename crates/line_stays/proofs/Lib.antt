@@ -1,0 +1,5 @@
+mod GroupLemmas
+mod LineLemmas
+mod TouchLemmas
+mod ShowLemmas
+mod PartLemmas

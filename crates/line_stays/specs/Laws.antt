@@ -1,0 +1,54 @@
+-- Laws of layouts, of all texts, however their lines are cut and whatever is drawn of them.
+use Rattle.std.specs.Prelude.{◌≡◌, ◌≢◌, ℕ, Bool, true, ◌||◌, List, ◌++◌, length, Option, Some, option_map, slice_get}
+use Rattle.plain_text.specs.declared.run.Run.{Run}
+use Rattle.std.specs.List.{AllByRecursion}
+use Rattle.plain_text.specs.Lines.{logical_lines}
+use Rattle.plain_screen.specs.declared.piece.Piece.{Piece}
+use Rattle.plain_screen.specs.declared.screen.Line.{Line}
+use Rattle.plain_screen.specs.Plan.{AreNumberedFrom, is_within, planned_screen}
+use Rattle.plain_screen.specs.Touched.{TouchesNoOthers, by_logical_lines}
+use Rattle.plain_screen.specs.View.{AreEnds}
+use Rattle.line_stays.specs.Drawn.{IsDrawnOf, drawn_by, lines_between}
+use Rattle.line_stays.specs.Parts.{HaveParts, RiseAbove}
+
+-- a rule says where each logical line of a text is cut
+abbrev pub CutsLines : (List ℕ → List ℕ) → List ℕ → Type 0
+CutsLines ends_of text = AllByRecursion (λ line. AreEnds (length line) (ends_of line)) (logical_lines text)
+
+-- a layout has as many logical lines as its text
+abbrev pub LayoutsHaveLines : Type 0
+LayoutsHaveLines = (ends_of : List ℕ → List ℕ) (text : List ℕ) (draw : Piece → Line) → CutsLines ends_of text → IsDrawnOf text draw →
+    length (by_logical_lines (drawn_by ends_of draw text)) ≡ length (logical_lines text)
+
+-- its lines are numbered from 1
+abbrev pub LayoutsAreNumbered : Type 0
+LayoutsAreNumbered = (ends_of : List ℕ → List ℕ) (text : List ℕ) (draw : Piece → Line) → CutsLines ends_of text → IsDrawnOf text draw →
+    AreNumberedFrom 1 (drawn_by ends_of draw text)
+
+-- AN EDIT TOUCHES BY TEXT the logical lines from that of its first gap to that of its last: each other one is cut as its counterpart is, and has
+-- its text
+abbrev pub LayoutsAreTouched : Type 0
+LayoutsAreTouched = (ends_of : List ℕ → List ℕ) (front gone come back : List ℕ) (draw other : Piece → Line) →
+    CutsLines ends_of (front ++ (gone ++ back)) → CutsLines ends_of (front ++ (come ++ back)) → IsDrawnOf (front ++ (gone ++ back)) draw → IsDrawnOf (front ++ (come ++ back)) other →
+    TouchesNoOthers (lines_between front come) (drawn_by ends_of draw (front ++ (gone ++ back))) (drawn_by ends_of other (front ++ (come ++ back)))
+
+-- where the text is the same none is touched by text
+abbrev pub TextsTouchNone : Type 0
+TextsTouchNone = (ends_of : List ℕ → List ℕ) (text : List ℕ) (draw other : Piece → Line) → CutsLines ends_of text → IsDrawnOf text draw → IsDrawnOf text other →
+    TouchesNoOthers (record { start = 0; end = 0 }) (drawn_by ends_of draw text) (drawn_by ends_of other text)
+
+-- THE SCREEN OF A PLAN shows the layout: it has as many lines, each that is valid is the line of the layout, and each line of the window and each
+-- that is requested is valid
+pub record PlannedScreensShow : Type 0 where
+  pub length : (window request : Run) (lines : List Line) (partners : List (Option (ℕ × Bool))) →
+      length (planned_screen window request lines partners) ≡ length lines
+  pub equal : (window request : Run) (lines : List Line) (partners : List (Option (ℕ × Bool))) (index : ℕ) (line : Line) →
+      slice_get (planned_screen window request lines partners) index ≡ Some (Some line) → slice_get lines index ≡ Some line
+  pub valid : (window request : Run) (lines : List Line) (partners : List (Option (ℕ × Bool))) (index : ℕ) →
+      (is_within window index || is_within request index) ≡ true →
+      slice_get (planned_screen window request lines partners) index ≡ option_map Some (slice_get lines index)
+
+-- two rising lists that are others are one up to where they begin to differ, and one from where they do no more; neither reaches into the other. So the
+-- characters that two revisions show, by their places, are a front, what goes or comes, and a back
+abbrev pub RisingListsHaveParts : Type 0
+RisingListsHaveParts = (xs ys : List ℕ) → RiseAbove 0 xs → RiseAbove 0 ys → xs ≢ ys → HaveParts xs ys
