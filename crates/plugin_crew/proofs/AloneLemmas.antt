@@ -13,7 +13,8 @@ use Rattle.xi_plain.specs.declared.reply.Reply.{Reply}
 use Rattle.xi_plain.specs.declared.reply.Answer.{Answer}
 use Rattle.xi_plain.specs.declared.reply.Reply.TheVariants as reply
 use Rattle.xi_plain.specs.Reply.{has_entry}
-use Rattle.xi_plain.specs.Room.{AddsEntryIf}
+use Rattle.xi_plain.specs.Room.{AddsEntryIf, Begins}
+use Rattle.plugin_session.specs.Seat.{Begins-same}
 use Rattle.xi_plain.specs.Journal.{front_entries}
 use Rattle.plugin_session.specs.Alone.{OnlyAdds}
 use Rattle.plugin_session.specs.Call.{Went}
@@ -308,6 +309,14 @@ module _ {O P : Type 0} (journal : O → List Entry) (serves : O → List Entry 
           );
         }
 
+    -- by then the front end has no entry
+    pub begins_empty : (first object : O) (plugins : List P) (members nexts : List (Member P)) → grown first first → journal first ≡ []
+        → AreNew 1 plugins members → HasRound journal serves answers grown told first members nexts object → front_entries (journal object) ≡ []
+    begins_empty first object plugins members nexts same empty new round =
+        let (news, is, are) = round first (replicate (length members) []) (crew_new first plugins members same empty new) in
+        round_leaves (serves first) (answers first) 0 1 [] (replicate (length members) []) news (journal object) (omega arith)
+        (subst (λ x. IsRound (serves first) (answers first) 1 x (replicate (length members) []) news (journal object)) empty is)
+
     -- the run goes on where an entry was made and not sent
     pub goes_unsent : (first before after : O) (members : List (Member P)) (entry : Entry) → grown before after
         → journal after ≡ journal before ++ entry ∷ [] → entry.caller ≡ 0 → entry.sent ≡ false
@@ -425,11 +434,12 @@ module _ {O P : Type 0} (journal : O → List Entry) (serves : O → List Entry 
     pub line_sent : (first before middle after : O) (members nexts : List (Member P)) (line : List ℕ) (given : Reply) (took : Took) → took ≡ took_of given
         → is_sent took ≡ true → grown before middle → AddsEntryIf (has_entry given) (journal before) 0 (journal middle)
         → serves before (journal before) 0 (FrontLine line) given (journal middle) → length nexts ≡ length members
-        → HasRound journal serves answers grown told middle members nexts after → IsRunning journal serves answers grown told fits first before members
+        → Begins (journal middle) (journal after) → HasRound journal serves answers grown told middle members nexts after
+        → IsRunning journal serves answers grown told fits first before members
         → IsRunning journal serves answers grown told fits first after nexts
         × HasTaken (front_entries (journal before)) took (front_entries (journal after))
-        × IsTakenBy (serves first) line (front_entries (journal before)) took (front_entries (journal after))
-    line_sent first before middle after members nexts line given took is sent_is grows adds served long round run =
+        × IsTakenBy (serves first) line (journal before) took (journal after)
+    line_sent first before middle after members nexts line given took is sent_is grows adds served long further round run =
         let came = came_by first before middle members (FrontLine line) given took is adds served run in
         let (same, made) = came_sent took (journal before) (journal middle) sent_is came in
         let (entry, last, own, sent) = made in
@@ -441,6 +451,8 @@ module _ {O P : Type 0} (journal : O → List Entry) (serves : O → List Entry 
             journal middle,
             given,
             serve first before (journal before) 0 (FrontLine line) given (journal middle) run.members_are.0 served,
+            Begins-same (journal before),
+            further,
             refl,
             front_gains (journal before) (journal middle) entry last own ∙ sym gains,
             is,
@@ -453,7 +465,7 @@ module _ {O P : Type 0} (journal : O → List Entry) (serves : O → List Entry 
         → serves before (journal before) 0 (FrontLine line) given (journal after) → IsRunning journal serves answers grown told fits first before members
         → IsRunning journal serves answers grown told fits first after members
         × HasTaken (front_entries (journal before)) took (front_entries (journal after))
-        × IsTakenBy (serves first) line (front_entries (journal before)) took (front_entries (journal after))
+        × IsTakenBy (serves first) line (journal before) took (journal after)
     line_unsent first before after members line given took is unsent grows adds served run =
         let came = came_by first before after members (FrontLine line) given took is adds served run in
         let (runs, taken) = goes_on took first before after members unsent grows came run in (
@@ -464,6 +476,8 @@ module _ {O P : Type 0} (journal : O → List Entry) (serves : O → List Entry 
             journal after,
             given,
             serve first before (journal before) 0 (FrontLine line) given (journal after) run.members_are.0 served,
+            Begins-same (journal before),
+            Begins-same (journal after),
             refl,
             refl,
             is,
@@ -474,13 +488,14 @@ module _ {O P : Type 0} (journal : O → List Entry) (serves : O → List Entry 
     pub closing_made : (first before middle after : O) (members nexts : List (Member P)) (given : Reply) (took : Took) → took ≡ took_of given
         → adds_entry took ≡ true → grown before middle → AddsEntryIf (has_entry given) (journal before) 0 (journal middle)
         → serves before (journal before) 0 CloseDown given (journal middle) → length nexts ≡ length members
-        → HasRound journal serves answers grown told middle members nexts after → IsRunning journal serves answers grown told fits first before members
+        → Begins (journal middle) (journal after) → HasRound journal serves answers grown told middle members nexts after
+        → IsRunning journal serves answers grown told fits first before members
         → MatchBool (adds_entry took) (IsClosed journal serves answers grown told first after nexts (front_entries (journal before)))
         (IsRunning journal serves answers grown told fits first after nexts)
         × HasTaken (front_entries (journal before)) took (front_entries (journal after))
-        × IsEnteredBy (serves first) CloseDown (front_entries (journal before)) took (front_entries (journal after))
+        × IsEnteredBy (serves first) CloseDown (journal before) took (journal after)
     unfolding closes came_entry
-    closing_made first before middle after members nexts given took is made grows adds served long round run =
+    closing_made first before middle after members nexts given took is made grows adds served long further round run =
         let came = came_by first before middle members CloseDown given took is adds served run in
         let (entry, last, own) = came_entry took (journal before) (journal middle) made came in
         let closed = closes first before middle after members nexts entry grows last own long round run in
@@ -494,6 +509,8 @@ module _ {O P : Type 0} (journal : O → List Entry) (serves : O → List Entry 
             journal middle,
             given,
             serve first before (journal before) 0 CloseDown given (journal middle) run.members_are.0 served,
+            Begins-same (journal before),
+            further,
             refl,
             sym leaves,
             is,
@@ -506,7 +523,7 @@ module _ {O P : Type 0} (journal : O → List Entry) (serves : O → List Entry 
         → MatchBool (adds_entry took) (IsClosed journal serves answers grown told first after members (front_entries (journal before)))
         (IsRunning journal serves answers grown told fits first after members)
         × HasTaken (front_entries (journal before)) took (front_entries (journal after))
-        × IsEnteredBy (serves first) CloseDown (front_entries (journal before)) took (front_entries (journal after))
+        × IsEnteredBy (serves first) CloseDown (journal before) took (journal after)
     closing_none first before after members given took is none grows adds served run =
         let came = came_by first before after members CloseDown given took is adds served run in (
           subst (λ b. MatchBool b (IsClosed journal serves answers grown told first after members (front_entries (journal before)))
@@ -518,6 +535,8 @@ module _ {O P : Type 0} (journal : O → List Entry) (serves : O → List Entry 
             journal after,
             given,
             serve first before (journal before) 0 CloseDown given (journal after) run.members_are.0 served,
+            Begins-same (journal before),
+            Begins-same (journal after),
             refl,
             refl,
             is,

@@ -11,7 +11,7 @@ use Rattle.xi_plain.specs.declared.reply.Answer.{Answer}
 use Rattle.xi_plain.specs.Room.{Begins}
 use Rattle.room_lock.specs.Room.{Known, IsSamePass}
 use Rattle.plugin_session.specs.declared.errand.Errand.{Errand}
-use Rattle.plugin_session.specs.declared.errand.Errand.TheVariants.{Serve, Leave}
+use Rattle.plugin_session.specs.declared.errand.Errand.TheVariants.{Leave}
 use Rattle.plugin_session.specs.declared.worker.Worked.{Worked}
 use Rattle.plugin_session.specs.Turn.{Turned, TellsMore}
 use Rattle.plugin_session.specs.Call.{Went}
@@ -26,7 +26,7 @@ use Rattle.plugin_crew.specs.Member.{IsNew}
 use Rattle.plugin_crew.specs.Standing.{HasStanding, is_going, standing_after}
 use Rattle.plugin_crew.specs.Session.{IsSession}
 use Rattle.plugin_crew.specs.Place.{HasTurnHere, IsVisitHere, first_place, place_at}
-use Rattle.plugin_crew.specs.Post.{EndsBy, HasServed, IsStay, gathered_of, standing_of}
+use Rattle.plugin_crew.specs.Post.{HasServed, IsStay, gathered_of, standing_of}
 use Rattle.plugin_crew.proofs.SessionLemmas.{open_as, port_caller, port_ended, session_further, session_new}
 
 -- it is the same pass
@@ -46,13 +46,9 @@ handed_as serves answers told pass plugin errand to handed is same here back =
     subst (λ e. IsHandedBack serves answers told pass plugin e is) same (subst (IsHandedBack serves answers told pass plugin errand) here back)
 
 -- its session is over
-ends_over : (errand : Errand) (over : Bool) → EndsBy errand (standing_of over)
-ends_over Serve true = refl
-ends_over Serve false = refl
-ends_over Leave over = tt
-
-ends_here : (errand : Errand) (standing : Standing) → errand ≡ Leave → EndsBy errand standing
-ends_here errand standing leaves = subst (λ e. EndsBy e standing) (sym leaves) tt
+ends_over : (over : Bool) → is_going (standing_of over) ≡ false
+ends_over true = refl
+ends_over false = refl
 
 module _ {O P : Type 0} (serves : O → List Entry → ℕ → Ask → Reply → List Entry → Type 0)
     (answers : O → List Entry → ℕ → Query → Answer → Type 0) (told : P → Option (List Turned)) where
@@ -68,7 +64,7 @@ module _ {O P : Type 0} (serves : O → List Entry → ℕ → Ask → Reply →
         served = is.served;
         tells = is.tells;
         stands = stands_ended worked.over is.visits is.ended;
-        ends = ends_over given.errand worked.over;
+        ends = ends_over worked.over;
       }
 
 module _ {O P : Type 0} (fits : O → ℕ → Ask → Type 0) (legal : O → List Entry → Type 0)
@@ -157,10 +153,11 @@ module _ {O P : Type 0} (fits : O → ℕ → Ask → Type 0) (legal : O → Lis
       subst (λ goes. MatchBool goes (IsVisitHere (serves given.first) (answers given.first) old new) (new ≡ old)) (sym going)
       (record { visit = visit; fits = fits_it; moved = moved; stands = standing; went = by_caller })
 
-  -- what it came to
-  pub stay_served : (given : Hiring O P) (member : Member P) (door : Seated O) → IsStay fits legal serves answers told given member door
+  -- what it came to, where its session goes on no more
+  pub stay_served : (given : Hiring O P) (member : Member P) (door : Seated O) → is_going member.standing ≡ false
+      → IsStay fits legal serves answers told given member door
       → HasServed serves answers told given (record { pass = door.pass; plugin = member.plugin; standing = member.standing })
-  stay_served given member door stay =
+  stay_served given member door over stay =
       record {
         same = stay.same;
         seen = stay.seen;
@@ -168,5 +165,5 @@ module _ {O P : Type 0} (fits : O → ℕ → Ask → Type 0) (legal : O → Lis
         served = stay.session.served;
         tells = stay.session.tells;
         stands = stay.session.stands;
-        ends = ends_here given.errand member.standing stay.leaves;
+        ends = over;
       }

@@ -15,6 +15,7 @@ use Rattle.xi_plain.specs.declared.reply.Receipt.{Receipt}
 use Rattle.xi_plain.specs.declared.reply.Answer.{Answer}
 use Rattle.xi_plain.specs.Reply.{has_entry}
 use Rattle.xi_plain.specs.Room.{Begins}
+use Rattle.plugin_session.specs.Seat.{Begins-same}
 use Rattle.xi_plain.specs.Journal.{entries_of, front_entries}
 use Rattle.room_lock.specs.Room.{Known, IsSamePass, IsKnownOf, AreAll, AreAllFrom, GainsEntry, GainsNone, Tells, before_call, next_pass, own}
 use Rattle.plugin_session.specs.Turn.{Turned}
@@ -76,7 +77,7 @@ module _ (serves : List Entry → ℕ → Ask → Reply → List Entry → Type 
   pub front_entered : (ask : Ask) (given : Reply) (receipt : Receipt) (before after : Known) (took : Took) → before.caller ≡ 0
       → IsSamePass before after → Begins before.seen after.seen → Tells receipt before after → took ≡ took_of given
       → serves (before_call receipt after.seen) 0 ask given after.seen
-      → IsEnteredBy serves ask (front_entries before.seen) took (front_entries after.seen)
+      → IsEnteredBy serves ask before.seen took after.seen
   front_entered ask given receipt before after took is same begins tells took_is served =
       let (others, none, there) = others_of receipt before after same.caller begins tells in
       let left : front_entries others ≡ [] = ap (λ who. entries_of who others) (sym is) ∙ none in (
@@ -84,6 +85,8 @@ module _ (serves : List Entry → ℕ → Ask → Reply → List Entry → Type 
         after.seen,
         given,
         served,
+        (others, there),
+        Begins-same after.seen,
         ap front_entries there ∙ filter-append (λ entry. entry.caller == 0) before.seen others
             ∙ ap (λ x. front_entries before.seen ++ x) left ∙ append-nil (front_entries before.seen),
         refl,
@@ -217,7 +220,9 @@ module _ {O P : Type 0} (serves : O → List Entry → ℕ → Ask → Reply →
         let (front, others) = subst (AllByRecursion (IsKnownOf (journal object))) back.passes_are known in
         record {
           object_grown = grows;
-          front = ap (λ who. entries_of who (journal object)) (sym staffed.caller) ∙ front.2 ∙ own_front back.front staffed.caller ∙ back.entered;
+          begins = subst (λ log. Begins log (journal object)) back.saw (front.0, front.1);
+          front =
+              ap (λ who. entries_of who (journal object)) (sym staffed.caller) ∙ front.2 ∙ own_front back.front staffed.caller ∙ ap front_entries back.saw;
           cames = back.cames;
           served = served_back room first 1 (journal object) givens back.cames staffed.given back.served others;
           plugins_are = back.plugins_are;

@@ -7,7 +7,6 @@ use Rattle.xi_plain.specs.declared.reply.Reply.{Reply}
 use Rattle.xi_plain.specs.declared.reply.Answer.{Answer}
 use Rattle.xi_plain.specs.Room.{Begins}
 use Rattle.room_lock.specs.Room.{IsSamePass}
-use Rattle.plugin_session.specs.declared.errand.Errand.{Errand}
 use Rattle.plugin_session.specs.declared.errand.Errand.TheVariants.{Serve, Leave}
 use Rattle.plugin_session.specs.declared.worker.Worked.{Worked}
 use Rattle.plugin_session.specs.Turn.{Turned, TellsMore}
@@ -32,15 +31,10 @@ standing_of false = Short
 abbrev pub gathered_of : {P : Type 0} → Worked P → Gathered P
 gathered_of worked = record { pass = worked.pass; plugin = worked.plugin; standing = standing_of worked.over }
 
--- a worker's session is over when it comes back
-abbrev pub EndsBy : Errand → Standing → Type 0
-EndsBy Serve standing = is_going standing ≡ false
-EndsBy Leave standing = Unit {0}
-
 module _ {O P : Type 0} (serves : O → List Entry → ℕ → Ask → Reply → List Entry → Type 0)
     (answers : O → List Entry → ℕ → Query → Answer → Type 0) (told : P → Option (List Turned)) where
   -- WHAT BECAME of a plugin: the pass that it was given may have seen more, and this serves the visits whose turns it tells more; its session
-  -- stands so, and is over where a worker served it
+  -- stands so, and goes on no more
   pub record HasServed (given : Hiring O P) (came : Gathered P) : Type 0 where
     pub same : IsSamePass given.pass came.pass
     pub seen : Begins given.pass.seen came.pass.seen
@@ -48,7 +42,7 @@ module _ {O P : Type 0} (serves : O → List Entry → ℕ → Ask → Reply →
     pub served : IsServed (serves given.first) (answers given.first) given.pass.caller came.pass.seen visits
     pub tells : TellsMore (told given.plugin) (told came.plugin) (turns_of visits)
     pub stands : HasStanding came.standing visits
-    pub ends : EndsBy given.errand came.standing
+    pub ends : is_going came.standing ≡ false
 
 module _ {O P : Type 0} (fits : O → ℕ → Ask → Type 0) (legal : O → List Entry → Type 0)
     (serves : O → List Entry → ℕ → Ask → Reply → List Entry → Type 0) (answers : O → List Entry → ℕ → Query → Answer → Type 0)

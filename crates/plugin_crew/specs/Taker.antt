@@ -6,6 +6,7 @@ use Rattle.xi_plain.specs.declared.ask.Ask.TheVariants.{FrontLine}
 use Rattle.xi_plain.specs.declared.reply.Reply.{Reply}
 use Rattle.xi_plain.specs.declared.reply.Reply.TheVariants as reply
 use Rattle.xi_plain.specs.Journal.{front_entries}
+use Rattle.xi_plain.specs.Room.{Begins}
 use Rattle.plugin_crew.specs.declared.took.Took.{Took}
 use Rattle.plugin_crew.specs.declared.took.Took.TheVariants.{Taken, Fault, Closed, NoMemory}
 
@@ -38,11 +39,12 @@ HasTaken before Fault after = (entry : Entry) × (after ≡ before ++ entry ∷ 
 HasTaken before Closed after = after ≡ before
 HasTaken before NoMemory after = after ≡ before
 
--- the ask was served as one of the front end, between journals with these entries of it
+-- the ask was served as one of the front end, where this journal had been seen before it and that one was seen after it: by a journal that
+-- begins with the former, and of which the latter begins with what it became. What else is new is not the front end's
 abbrev pub IsEnteredBy : (List Entry → ℕ → Ask → Reply → List Entry → Type 0) → Ask → List Entry → Took → List Entry → Type 0
 IsEnteredBy serves ask old took new =
-    (before after : List Entry) × (given : Reply) × serves before 0 ask given after
-    × (front_entries before ≡ old) × (front_entries after ≡ new) × (took ≡ took_of given)
+    (before after : List Entry) × (given : Reply) × serves before 0 ask given after × Begins old before × Begins after new
+    × (front_entries before ≡ front_entries old) × (front_entries after ≡ front_entries new) × (took ≡ took_of given)
 
 -- so was the line
 abbrev pub IsTakenBy : (List Entry → ℕ → Ask → Reply → List Entry → Type 0) → List ℕ → List Entry → Took → List Entry → Type 0

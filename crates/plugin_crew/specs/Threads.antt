@@ -1,5 +1,5 @@
 -- A RUN ON THREADS: a room, whose front takes lines, and plugins that have their turns at it.
-use Rattle.std.specs.Prelude.{◌≡◌, ℕ, ◌+◌, Bool, true, ◌&&◌, List, [], ◌∷◌, map, Option, length}
+use Rattle.std.specs.Prelude.{◌≡◌, ℕ, ◌+◌, Bool, true, false, ◌&&◌, List, [], ◌∷◌, map, Option, length}
 use Rattle.atomic_table.specs.Seated.{TableId}
 use Rattle.xi_plain.specs.declared.entry.Entry.{Entry}
 use Rattle.xi_plain.specs.declared.ask.Ask.{Ask}
@@ -8,14 +8,15 @@ use Rattle.xi_plain.specs.declared.reply.Reply.{Reply}
 use Rattle.xi_plain.specs.declared.reply.Answer.{Answer}
 use Rattle.xi_plain.specs.Journal.{front_entries}
 use Rattle.room_lock.specs.Room.{Known}
+use Rattle.xi_plain.specs.Room.{Begins}
 use Rattle.plugin_session.specs.Turn.{Turned, TellsMore}
 use Rattle.plugin_session.specs.Visit.{Visit, IsServed, turns_of}
 use Rattle.plugin_session.specs.Hired.{Hiring}
 use Rattle.plugin_crew.specs.declared.post.Gathered.{Gathered}
-use Rattle.plugin_crew.specs.Standing.{HasStanding, is_served}
+use Rattle.plugin_crew.specs.Standing.{HasStanding, is_going, is_served}
 use Rattle.plugin_crew.specs.Alone.{MayServe}
 use Rattle.plugin_crew.specs.Place.{Posted, givens_of}
-use Rattle.plugin_crew.specs.Post.{EndsBy, HasServed}
+use Rattle.plugin_crew.specs.Post.{HasServed}
 
 -- the plugin of this number was given a pass of the room
 pub record IsGiven {O P : Type 0} (room : TableId) (first : O) (caller : ℕ) (given : Hiring O P) : Type 0 where
@@ -67,13 +68,13 @@ module _ {O P : Type 0} (serves : O → List Entry → ℕ → Ask → Reply →
   HaveServed (given ∷ givens) (came ∷ cames) =
       HasServed serves answers told given came × HaveServed givens cames
 
-  -- ALL CAME BACK: the pass of the front, by which it has these entries, and then each plugin's, in order; so came the plugins
-  pub record AreBack (room : TableId) (first : O) (entries : List Entry) (givens : List (Hiring O P)) (passes : List Known) (plugins : List P)
+  -- ALL CAME BACK: the pass of the front, which has seen this of the journal, and then each plugin's, in order; so came the plugins
+  pub record AreBack (room : TableId) (first : O) (seen : List Entry) (givens : List (Hiring O P)) (passes : List Known) (plugins : List P)
       (all : Bool) : Type 0 where
     pub front : Known
     pub cames : List (Gathered P)
     pub staffed : IsStaffed room first front givens
-    pub entered : front_entries front.seen ≡ entries
+    pub saw : front.seen ≡ seen
     pub served : HaveServed givens cames
     pub passes_are : passes ≡ front ∷ passes_in cames
     pub plugins_are : plugins ≡ plugins_in cames
@@ -81,14 +82,13 @@ module _ {O P : Type 0} (serves : O → List Entry → ℕ → Ask → Reply →
 
 module _ {O P : Type 0} (told : P → Option (List Turned)) (serves : List Entry → ℕ → Ask → Reply → List Entry → Type 0)
     (answers : List Entry → ℕ → Query → Answer → Type 0) where
-  -- the plugin was served by the journal: by these visits, whose turns it tells more than at first; its session stands so, and is over where a
-  -- worker served it
+  -- the plugin was served by the journal: by these visits, whose turns it tells more than at first; its session stands so, and goes on no more
   pub record WasServed (caller : ℕ) (journal : List Entry) (given : Hiring O P) (came : Gathered P) : Type 0 where
     pub visits : List Visit
     pub served : IsServed serves answers caller journal visits
     pub tells : TellsMore (told given.plugin) (told came.plugin) (turns_of visits)
     pub stands : HasStanding came.standing visits
-    pub ends : EndsBy given.errand came.standing
+    pub ends : is_going came.standing ≡ false
 
   -- so was each, from this number on
   abbrev pub WereServed : ℕ → List Entry → List (Hiring O P) → List (Gathered P) → Type 0
@@ -99,11 +99,12 @@ module _ {O P : Type 0} (told : P → Option (List Turned)) (serves : List Entry
 
 module _ {O P : Type 0} (journal : O → List Entry) (serves : O → List Entry → ℕ → Ask → Reply → List Entry → Type 0)
     (answers : O → List Entry → ℕ → Query → Answer → Type 0) (grown : O → O → Type 0) (told : P → Option (List Turned)) where
-  -- A RUN ON THREADS THAT ENDED: the object is grown from the one that the room was made with; the front end has these entries; and every
-  -- plugin was served by the journal, and came back, in order
-  pub record HasEnded (first object : O) (entries : List Entry) (givens : List (Hiring O P)) (plugins : List P) (all : Bool) : Type 0 where
+  -- A RUN ON THREADS THAT ENDED: the object is grown from the one that the room was made with; its journal begins with what the front had seen,
+  -- which has all entries of the front end; and every plugin was served by the journal, and came back, in order
+  pub record HasEnded (first object : O) (seen : List Entry) (givens : List (Hiring O P)) (plugins : List P) (all : Bool) : Type 0 where
     pub object_grown : grown first object
-    pub front : front_entries (journal object) ≡ entries
+    pub begins : Begins seen (journal object)
+    pub front : front_entries (journal object) ≡ front_entries seen
     pub cames : List (Gathered P)
     pub served : WereServed told (serves first) (answers first) 1 (journal object) givens cames
     pub plugins_are : plugins ≡ plugins_in cames

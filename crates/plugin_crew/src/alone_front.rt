@@ -32,6 +32,7 @@ impl<O: Object, P: Plugin> AloneFront<O, P> {
         requires new { (plugins : List P) × AreNew 1 plugins crew.members.items }
         ensures first { result.first.value ≡ object }
         ensures begun { begun_of result.crew.members.items ≡ begun_of crew.members.items }
+        ensures none { front_entries (O.journal result.object) ≡ [] }
         ensures running { IsRunning O.journal O.serves O.answers O.grown P.told O.fits result.first.value result.object
             result.crew.members.items }
     {
@@ -59,8 +60,8 @@ impl<O: Object, P: Plugin> AloneFront<O, P> {
             (IsRunning O.journal O.serves O.answers O.grown P.told O.fits self.new.first.value self.new.object
             self.new.crew.members.items) }
         ensures took { HasTaken (front_entries (O.journal self.old.object)) result (front_entries (O.journal self.new.object)) }
-        ensures served { IsEnteredBy (O.serves self.old.first.value) CloseDown
-            (front_entries (O.journal self.old.object)) result (front_entries (O.journal self.new.object)) }
+        ensures served { IsEnteredBy (O.serves self.old.first.value) CloseDown (O.journal self.old.object) result
+            (O.journal self.new.object) }
     {
         let reply = self.object.serve(0, Ask::CloseDown);
         let took = took_of(&reply);
@@ -87,11 +88,10 @@ impl<O: Object, P: Plugin> AloneFront<O, P> {
 impl<O: Object, P: Plugin> LineTaker for AloneFront<O, P> {
     ghost use Rattle.std.specs.Prelude.{◌≡◌, refl};
     ghost use Rattle.std.proofs.Common.{◌∙◌, subst};
-    ghost use Rattle.xi_plain.specs.Journal.{front_entries};
-    ghost use Rattle.plugin_crew.specs.Alone.{IsRunning, fronts_begin};
+    ghost use Rattle.plugin_crew.specs.Alone.{IsRunning};
     ghost use Rattle.plugin_crew.specs.Member.{begun_of};
 
-    ghost entries = { λ f. front_entries (O.journal f.object) };
+    ghost seen = { λ f. O.journal f.object };
 
     ghost serves = { λ f. O.serves f.first.value };
 
@@ -113,7 +113,7 @@ impl<O: Object, P: Plugin> LineTaker for AloneFront<O, P> {
 
     ghost onward = { λ a b c first then. (O.onward a.object b.object c.object first.0 then.0, then.1 ∙ first.1, then.2 ∙ first.2) };
 
-    ghost prefix = { λ a b later. fronts_begin (O.journal a.object) (O.journal b.object) (O.prefix a.object b.object later.0) };
+    ghost prefix = { λ a b later. O.prefix a.object b.object later.0 };
 
     ghost serves_on = { λ a b before caller ask reply after later served. subst (λ o. O.serves o before caller ask reply after)
         later.1 served };

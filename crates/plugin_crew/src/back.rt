@@ -68,8 +68,9 @@ fn put<P>(back: Back<P>, came: Gathered<P>) -> Back<P>
     }
 }
 
-// Puts the passes and the plugins behind those that are there, once all threads have ended.
+// Puts the passes and the plugins behind those that are there, once all sessions are over and all threads have ended.
 pub(crate) fn gather<O: Object, R: Threads + Wait, P: Plugin>(
+    alloc: Global,
     rt: &R,
     posts: Vec<Post<'_, O, R, P>>,
     back: Back<P>,
@@ -83,7 +84,7 @@ pub(crate) fn gather<O: Object, R: Threads + Wait, P: Plugin>(
 {
     let mut back = back;
     for post in posts {
-        let came = post.gathered(rt);
+        let came = post.gathered(alloc, rt);
         back = put(back, came);
     }
     back
@@ -102,13 +103,13 @@ pub struct Finished<O, P> {
 impl<P: Plugin> Back<P> {
     /// Ends the room, to which all came back.
     pub fn finish<O: Object>(self, room: Room<O>) -> Finished<O, P>
-        requires { (entries : List Entry) × (givens : List (Hiring O P))
-            × AreBack O.serves O.answers P.told room.table.shared.table_id room.table.shared.key.first.value entries givens
+        requires { (seen : List Entry) × (givens : List (Hiring O P))
+            × AreBack O.serves O.answers P.told room.table.shared.table_id room.table.shared.key.first.value seen givens
             self.passes.items self.plugins.items self.all_served }
-        ensures { (entries : List Entry) (givens : List (Hiring O P))
-            → AreBack O.serves O.answers P.told room.table.shared.table_id room.table.shared.key.first.value entries givens
+        ensures { (seen : List Entry) (givens : List (Hiring O P))
+            → AreBack O.serves O.answers P.told room.table.shared.table_id room.table.shared.key.first.value seen givens
             self.passes.items self.plugins.items self.all_served
-            → HasEnded O.journal O.serves O.answers O.grown P.told room.table.shared.key.first.value result.object entries givens
+            → HasEnded O.journal O.serves O.answers O.grown P.told room.table.shared.key.first.value result.object seen givens
             result.plugins.items result.all_served }
     {
         let Back {

@@ -1,11 +1,12 @@
 // A plugin of a run on threads.
-ghost use Rattle.std.specs.Prelude.{◌≡◌, Some, IsSomeAnd};
+ghost use Rattle.std.specs.Prelude.{◌≡◌, false, Some, IsSomeAnd};
 ghost use Rattle.plugin_session.specs.declared.errand.Errand.TheVariants.{Serve, Leave};
 ghost use Rattle.plugin_session.specs.Hired.{Hiring};
 ghost use Rattle.plugin_session.specs.Worker.{HasWorked, MayWork};
 ghost use Rattle.plugin_crew.specs.declared.standing.Standing.TheVariants.{Going};
 ghost use Rattle.plugin_crew.specs.Place.{HasTurnAt, HasTurnHere, IsPlaced, IsVisited, first_place, place_at, place_by, place_for, place_in};
 ghost use Rattle.plugin_crew.specs.Post.{HasServed, IsStay, IsWork, gathered_of, standing_of};
+ghost use Rattle.plugin_crew.specs.Standing.{is_going};
 
 use crate::member::Member;
 use crate::standing::{Standing, standing_after};
@@ -197,6 +198,29 @@ fn stayed<'a, O: Object, R: Wait, P: Plugin>(
     }
 }
 
+// Visits until the session goes on no more. It may wait: where the journal is not closed, for what comes.
+fn stayed_to_end<'a, O: Object, R: Wait, P: Plugin>(
+    alloc: Global,
+    rt: &R,
+    member: Member<P>,
+    door: RoomDoor<'a, O, R>,
+) -> (Member<P>, RoomDoor<'a, O, R>)
+    requires { (given : Hiring O P) × IsStay O.fits O.legal O.serves O.answers P.told given member door }
+    ensures stays { (given : Hiring O P) → IsStay O.fits O.legal O.serves O.answers P.told given member door.entry
+        → IsStay O.fits O.legal O.serves O.answers P.told given result.0 result.1 }
+    ensures over { is_going result.0.standing ≡ false }
+{
+    let mut member = member;
+    let mut door = door;
+    for _ in rt.forever() {
+        if !member.standing.is_going() {
+            return (member, door);
+        }
+        (member, door) = stay_once(alloc, member, door);
+    }
+    unreachable!()
+}
+
 // One visit of a plugin that has its turns here.
 fn visited<'a, O: Object, R: Wait, P: Plugin>(
     alloc: Global,
@@ -234,8 +258,9 @@ fn visited_in<'a, O: Object, R: Wait, P: Plugin>(
     }
 }
 
-// What the work came to. Where it is on a thread, that has ended then.
+// What the work came to, once the session is over. Where it is on a thread, that has ended then.
 fn work_gathered<O: Object, R: Threads + Wait, P: Plugin>(
+    alloc: Global,
     rt: &R,
     work: Work<'_, O, R, P>,
 ) -> Gathered<P>
@@ -245,7 +270,10 @@ fn work_gathered<O: Object, R: Threads + Wait, P: Plugin>(
 {
     match work {
         Work::Runs(hired) => gathered_of(served_by(rt, hired)),
-        Work::Stays(member, door) => left(member, door),
+        Work::Stays(member, door) => {
+            let (member, door) = stayed_to_end(alloc, rt, member, door);
+            left(member, door)
+        }
     }
 }
 
@@ -278,13 +306,13 @@ impl<'a, O: Object, R: Threads + Wait, P: Plugin> Post<'a, O, R, P> {
         self.work = visited_in(alloc, work);
     }
 
-    // What became of the plugin. Where it has a thread, that has ended then.
-    pub(crate) fn gathered(self, rt: &R) -> Gathered<P>
+    // What became of the plugin, once its session is over. Where it has a thread, that has ended then.
+    pub(crate) fn gathered(self, alloc: Global, rt: &R) -> Gathered<P>
         ensures { HasServed O.serves O.answers P.told self.entry.given result }
     {
         let Post { given: _, work } = self;
         match work {
-            Some(work) => work_gathered(rt, work),
+            Some(work) => work_gathered(alloc, rt, work),
             None => unreachable!(),
         }
     }

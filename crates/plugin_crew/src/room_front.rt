@@ -134,8 +134,7 @@ fn enter_front<O: Object, R: Wait>(rt: &R, room: &Room<O>, pass: &mut Pass, ask:
     ensures same { IsSamePass pass.old pass.new }
     ensures seen { Begins pass.old.seen pass.new.seen }
     ensures took { HasTaken (front_entries pass.old.seen) result (front_entries pass.new.seen) }
-    ensures served { IsEnteredBy (O.serves room.now.table.shared.key.first.value) ask (front_entries pass.old.seen) result
-        (front_entries pass.new.seen) }
+    ensures served { IsEnteredBy (O.serves room.now.table.shared.key.first.value) ask pass.old.seen result pass.new.seen }
 {
     let (reply, _receipt) = room.enter(rt, pass, ask);
     took_of(&reply)
@@ -189,26 +188,28 @@ impl<'a, O: Object, R: Threads + Wait, P: Plugin> RoomFront<'a, O, R, P> {
         requires ready { MayTake O.fits O.serves self.old.room.now.table.shared.table_id
             self.old.room.now.table.shared.key.first.value self.old.pass self.old.posts.items }
         ensures same { (self.new.room.now ≡ self.old.room.now) × (givens_of self.new.posts.items ≡ givens_of self.old.posts.items) }
+        ensures seen { Begins self.old.pass.seen self.new.pass.seen }
         ensures round { AreVisitedIf O.serves O.answers (adds_entry result) self.old.posts.items self.new.posts.items }
         ensures ready { MayTake O.fits O.serves self.new.room.now.table.shared.table_id
             self.new.room.now.table.shared.key.first.value self.new.pass self.new.posts.items }
         ensures took { HasTaken (front_entries self.old.pass.seen) result (front_entries self.new.pass.seen) }
         ensures served { IsEnteredBy (O.serves self.old.room.now.table.shared.key.first.value) CloseDown
-            (front_entries self.old.pass.seen) result (front_entries self.new.pass.seen) }
+            self.old.pass.seen result self.new.pass.seen }
     {
         let took = enter_front(self.rt, self.room, &mut self.pass, Ask::CloseDown);
         round_where(self.alloc, &mut self.posts, took.adds_entry());
         took
     }
 
-    /// The passes and the plugins, in the order of callers, once all threads have ended. What comes back has room for them.
+    /// The passes and the plugins, in the order of callers, once all sessions are over and all threads have ended. What comes back has room
+    /// for them. It may wait: where the room was not closed, for plugins that go on.
     pub fn gather_all(self, back: Back<P>) -> Back<P>
         requires empty { (back.passes.items ≡ []) × (back.plugins.items ≡ []) }
         requires reserved { (length self.posts.items < vec_capacity back.passes) × (length self.posts.items ≤ vec_capacity back.plugins) }
         requires staffed { IsStaffed self.room.now.table.shared.table_id self.room.now.table.shared.key.first.value self.pass
             (givens_of self.posts.items) }
         ensures { AreBack O.serves O.answers P.told self.entry.room.now.table.shared.table_id
-            self.entry.room.now.table.shared.key.first.value (front_entries self.entry.pass.seen)
+            self.entry.room.now.table.shared.key.first.value self.entry.pass.seen
             (givens_of self.entry.posts.items) result.passes.items result.plugins.items result.all_served }
     {
         let RoomFront {
@@ -216,26 +217,24 @@ impl<'a, O: Object, R: Threads + Wait, P: Plugin> RoomFront<'a, O, R, P> {
             room: _,
             pass,
             posts,
-            alloc: _,
+            alloc,
         } = self;
         let mut back = back;
         back.passes.push_reserved(pass);
         back.all_served = true;
-        gather(rt, posts, back)
+        gather(alloc, rt, posts, back)
     }
 }
 
 impl<O: Object, R: Threads + Wait, P: Plugin> LineTaker for RoomFront<'_, O, R, P> {
     ghost use Rattle.std.specs.Prelude.{◌≡◌, refl};
     ghost use Rattle.std.proofs.Common.{◌∙◌, subst};
-    ghost use Rattle.xi_plain.specs.Journal.{front_entries};
     ghost use Rattle.xi_plain.specs.Room.{Begins};
     ghost use Rattle.plugin_session.specs.Seat.{Begins-same, Begins-trans};
-    ghost use Rattle.plugin_crew.specs.Alone.{fronts_begin};
     ghost use Rattle.plugin_crew.specs.Place.{givens_of};
     ghost use Rattle.plugin_crew.specs.Threads.{MayTake};
 
-    ghost entries = { λ f. front_entries f.pass.seen };
+    ghost seen = { λ f. f.pass.seen };
 
     ghost serves = { λ f. O.serves f.room.now.table.shared.key.first.value };
 
@@ -254,7 +253,7 @@ impl<O: Object, R: Threads + Wait, P: Plugin> LineTaker for RoomFront<'_, O, R, 
             × (givens_of self.new.posts.items ≡ givens_of self.old.posts.items) }
         ensures took { HasTaken (front_entries self.old.pass.seen) result (front_entries self.new.pass.seen) }
         ensures served { IsTakenBy (O.serves self.old.room.now.table.shared.key.first.value) line
-            (front_entries self.old.pass.seen) result (front_entries self.new.pass.seen) }
+            self.old.pass.seen result self.new.pass.seen }
         ensures round { AreVisitedIf O.serves O.answers (is_sent result) self.old.posts.items self.new.posts.items }
     {
         let took = enter_front(self.rt, self.room, &mut self.pass, Ask::FrontLine(line));
@@ -270,7 +269,7 @@ impl<O: Object, R: Threads + Wait, P: Plugin> LineTaker for RoomFront<'_, O, R, 
       then.2 ∙ first.2,
     ) };
 
-    ghost prefix = { λ a b later. fronts_begin a.pass.seen b.pass.seen later.1 };
+    ghost prefix = { λ a b later. later.1 };
 
     ghost serves_on = { λ a b before caller ask reply after later served.
         subst (λ r. O.serves r.table.shared.key.first.value before caller ask reply after) later.0 served };

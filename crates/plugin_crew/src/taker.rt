@@ -1,9 +1,11 @@
+ghost use Rattle.xi_plain.specs.Journal.{front_entries};
 ghost use Rattle.plugin_crew.specs.Taker.{HasTaken, IsTakenBy};
 
 use crate::took::Took;
 use xi_plain::Bytes;
 
-/// Where lines of the front end go in. To a contract it is the front end's entries, which each line may make one more of.
+/// Where lines of the front end go in. To a contract it is the journal as far as it has seen it. Each line may make one more entry of the front
+/// end.
 pub trait LineTaker {
     ghost use Rattle.std.specs.Prelude.{ℕ, List};
     ghost use Rattle.xi_plain.specs.declared.entry.Entry.{Entry};
@@ -11,8 +13,8 @@ pub trait LineTaker {
     ghost use Rattle.xi_plain.specs.declared.reply.Reply.{Reply};
     ghost use Rattle.xi_plain.specs.Room.{Begins};
 
-    /// The entries of the front end so far.
-    ghost entries: { Self → List Entry };
+    /// The journal, as far as it has seen it. All entries of the front end are in it.
+    ghost seen: { Self → List Entry };
 
     /// What an ask does: the journal before, the caller, its ask and the reply, and the journal after.
     ghost serves: { Self → List Entry → ℕ → Ask → Reply → List Entry → Type 0 };
@@ -28,15 +30,15 @@ pub trait LineTaker {
         requires ready { ready self.old }
         ensures ready { ready self.new }
         ensures later { later self.old self.new }
-        ensures took { HasTaken (entries self.old) result (entries self.new) }
-        ensures served { IsTakenBy (serves self.old) line (entries self.old) result (entries self.new) };
+        ensures took { HasTaken (front_entries (seen self.old)) result (front_entries (seen self.new)) }
+        ensures served { IsTakenBy (serves self.old) line (seen self.old) result (seen self.new) };
 
     ghost same: { (a : Self) → later a a };
 
     ghost onward: { (a b c : Self) → later a b → later b c → later a c };
 
-    /// The entries of the former are the beginning of the latter's.
-    ghost prefix: { (a b : Self) → later a b → Begins (entries a) (entries b) };
+    /// What the former has seen is the beginning of what the latter has.
+    ghost prefix: { (a b : Self) → later a b → Begins (seen a) (seen b) };
 
     ghost serves_on: { (a b : Self) (before : List Entry) (caller : ℕ) (ask : Ask) (reply : Reply) (after : List Entry)
         → later a b → serves b before caller ask reply after → serves a before caller ask reply after };

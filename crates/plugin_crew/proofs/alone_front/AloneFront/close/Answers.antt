@@ -55,7 +55,7 @@ returns-clause-closed g c =
           (IsRunning o.journal o.serves o.answers o.grown g.P.Plugin.told o.fits x.first.value x.object x.crew.members.items)) (sym w.self-is)
           (closing_made o.journal o.serves o.answers o.grown g.P.Plugin.told law.onward law.serves_on law.answers_on o.fits f.first.value f.object next w.round.new.object
           f.crew.members.items w.round.new.self.members.items given took c.took_of-took.ensures (sym c.adds_entry.ensures ∙ w.if-adds_entry.true) c.serve-reply.ensures.grown adds
-          c.serve-reply.ensures.served w.round.ensures.length w.round.ensures.round run).0
+          c.serve-reply.ensures.served w.round.ensures.length (law.prefix next w.round.new.object w.round.ensures.grown) w.round.ensures.round run).0
       | else-adds_entry w ↦ subst (λ x. MatchBool (adds_entry took) (IsClosed o.journal o.serves o.answers o.grown g.P.Plugin.told x.first.value x.object x.crew.members.items entries)
           (IsRunning o.journal o.serves o.answers o.grown g.P.Plugin.told o.fits x.first.value x.object x.crew.members.items)) (sym w.self-is)
           (closing_none o.journal o.serves o.answers o.grown g.P.Plugin.told law.onward law.serves_on law.answers_on o.fits f.first.value f.object next
@@ -78,7 +78,7 @@ returns-clause-took g c =
       | then-adds_entry w ↦ subst (λ x. HasTaken entries took (front_entries (o.journal x.object))) (sym w.self-is)
           (closing_made o.journal o.serves o.answers o.grown g.P.Plugin.told law.onward law.serves_on law.answers_on o.fits f.first.value f.object next w.round.new.object
           f.crew.members.items w.round.new.self.members.items given took c.took_of-took.ensures (sym c.adds_entry.ensures ∙ w.if-adds_entry.true) c.serve-reply.ensures.grown adds
-          c.serve-reply.ensures.served w.round.ensures.length w.round.ensures.round run).1
+          c.serve-reply.ensures.served w.round.ensures.length (law.prefix next w.round.new.object w.round.ensures.grown) w.round.ensures.round run).1
       | else-adds_entry w ↦ subst (λ x. HasTaken entries took (front_entries (o.journal x.object))) (sym w.self-is)
           (closing_none o.journal o.serves o.answers o.grown g.P.Plugin.told law.onward law.serves_on law.answers_on o.fits f.first.value f.object next
           f.crew.members.items given took c.took_of-took.ensures (sym c.adds_entry.ensures ∙ w.if-adds_entry.false) c.serve-reply.ensures.grown adds
@@ -97,11 +97,11 @@ returns-clause-served g c =
     let entries = front_entries (o.journal f.object) in
     let adds = law.one_entry f.object (o.journal f.object) 0 CloseDown given (o.journal next) c.serve-reply.ensures.served in
     elim c.if-adds_entry.branch [
-      | then-adds_entry w ↦ subst (λ x. IsEnteredBy (o.serves f.first.value) CloseDown entries took (front_entries (o.journal x.object))) (sym w.self-is)
+      | then-adds_entry w ↦ subst (λ x. IsEnteredBy (o.serves f.first.value) CloseDown (o.journal f.object) took (o.journal x.object)) (sym w.self-is)
           (closing_made o.journal o.serves o.answers o.grown g.P.Plugin.told law.onward law.serves_on law.answers_on o.fits f.first.value f.object next w.round.new.object
           f.crew.members.items w.round.new.self.members.items given took c.took_of-took.ensures (sym c.adds_entry.ensures ∙ w.if-adds_entry.true) c.serve-reply.ensures.grown adds
-          c.serve-reply.ensures.served w.round.ensures.length w.round.ensures.round run).2
-      | else-adds_entry w ↦ subst (λ x. IsEnteredBy (o.serves f.first.value) CloseDown entries took (front_entries (o.journal x.object))) (sym w.self-is)
+          c.serve-reply.ensures.served w.round.ensures.length (law.prefix next w.round.new.object w.round.ensures.grown) w.round.ensures.round run).2
+      | else-adds_entry w ↦ subst (λ x. IsEnteredBy (o.serves f.first.value) CloseDown (o.journal f.object) took (o.journal x.object)) (sym w.self-is)
           (closing_none o.journal o.serves o.answers o.grown g.P.Plugin.told law.onward law.serves_on law.answers_on o.fits f.first.value f.object next
           f.crew.members.items given took c.took_of-took.ensures (sym c.adds_entry.ensures ∙ w.if-adds_entry.false) c.serve-reply.ensures.grown adds
           c.serve-reply.ensures.served run).2

@@ -1,7 +1,7 @@
 use Rattle.std.proofs.Common.{sym, subst}
 use Rattle.std.specs.Prelude.{replicate, length, []}
 use Rattle.plugin_crew.specs.Alone.{IsRunning}
-use Rattle.plugin_crew.proofs.AloneLemmas.{crew_new, begins}
+use Rattle.plugin_crew.proofs.AloneLemmas.{crew_new, begins, begins_empty}
 use Rattle.plugin_crew.proofs.alone_front.AloneFront.start.Goals as goal
 
 pub round-requires : goal.round-requires
@@ -27,3 +27,11 @@ returns-clause-running g c =
     subst (λ f. IsRunning o.journal o.serves o.answers o.grown g.P.Plugin.told o.fits f c.round.new.object c.round.new.self.members.items) (sym c.of-first.ensures)
     (begins o.journal o.serves o.answers o.grown g.P.Plugin.told law.onward law.serves_on law.answers_on o.fits c.args.object c.round.new.object plugins
     c.args.crew.members.items c.round.new.self.members.items c.requires.may (law.same c.args.object) c.requires.empty new c.round.ensures.length c.round.ensures.round)
+
+pub returns-clause-none : goal.returns-clause-none
+returns-clause-none g c =
+    let o = g.O.Object in
+    let law = g.met.O.Object in
+    let (plugins, new) = c.requires.new in
+    begins_empty o.journal o.serves o.answers o.grown g.P.Plugin.told law.onward law.serves_on law.answers_on o.fits c.args.object c.round.new.object plugins
+    c.args.crew.members.items c.round.new.self.members.items (law.same c.args.object) c.requires.empty new c.round.ensures.round

@@ -53,7 +53,7 @@ returns-clause-ready g c =
       | then-is_sent w ↦ subst (λ x. IsRunning o.journal o.serves o.answers o.grown g.P.Plugin.told o.fits x.first.value x.object x.crew.members.items) (sym w.self-is)
           (line_sent o.journal o.serves o.answers o.grown g.P.Plugin.told law.onward law.serves_on law.answers_on o.fits f.first.value f.object next w.round.new.object
           f.crew.members.items w.round.new.self.members.items line given took c.took_of-took.ensures (sym c.is_sent.ensures ∙ w.if-is_sent.true) c.serve-reply.ensures.grown adds
-          c.serve-reply.ensures.served w.round.ensures.length w.round.ensures.round run).0
+          c.serve-reply.ensures.served w.round.ensures.length (law.prefix next w.round.new.object w.round.ensures.grown) w.round.ensures.round run).0
       | else-is_sent w ↦ subst (λ x. IsRunning o.journal o.serves o.answers o.grown g.P.Plugin.told o.fits x.first.value x.object x.crew.members.items) (sym w.self-is)
           (line_unsent o.journal o.serves o.answers o.grown g.P.Plugin.told law.onward law.serves_on law.answers_on o.fits f.first.value f.object next
           f.crew.members.items line given took c.took_of-took.ensures (sym c.is_sent.ensures ∙ w.if-is_sent.false) c.serve-reply.ensures.grown adds
@@ -75,7 +75,7 @@ returns-clause-took g c =
       | then-is_sent w ↦ subst (λ x. HasTaken (front_entries (o.journal f.object)) took (front_entries (o.journal x.object))) (sym w.self-is)
           (line_sent o.journal o.serves o.answers o.grown g.P.Plugin.told law.onward law.serves_on law.answers_on o.fits f.first.value f.object next w.round.new.object
           f.crew.members.items w.round.new.self.members.items line given took c.took_of-took.ensures (sym c.is_sent.ensures ∙ w.if-is_sent.true) c.serve-reply.ensures.grown adds
-          c.serve-reply.ensures.served w.round.ensures.length w.round.ensures.round run).1
+          c.serve-reply.ensures.served w.round.ensures.length (law.prefix next w.round.new.object w.round.ensures.grown) w.round.ensures.round run).1
       | else-is_sent w ↦ subst (λ x. HasTaken (front_entries (o.journal f.object)) took (front_entries (o.journal x.object))) (sym w.self-is)
           (line_unsent o.journal o.serves o.answers o.grown g.P.Plugin.told law.onward law.serves_on law.answers_on o.fits f.first.value f.object next
           f.crew.members.items line given took c.took_of-took.ensures (sym c.is_sent.ensures ∙ w.if-is_sent.false) c.serve-reply.ensures.grown adds
@@ -94,11 +94,11 @@ returns-clause-served g c =
     let line = c.args.line in
     let adds = law.one_entry f.object (o.journal f.object) 0 (FrontLine line) given (o.journal next) c.serve-reply.ensures.served in
     elim c.if-is_sent.branch [
-      | then-is_sent w ↦ subst (λ x. IsTakenBy (o.serves f.first.value) line (front_entries (o.journal f.object)) took (front_entries (o.journal x.object))) (sym w.self-is)
+      | then-is_sent w ↦ subst (λ x. IsTakenBy (o.serves f.first.value) line (o.journal f.object) took (o.journal x.object)) (sym w.self-is)
           (line_sent o.journal o.serves o.answers o.grown g.P.Plugin.told law.onward law.serves_on law.answers_on o.fits f.first.value f.object next w.round.new.object
           f.crew.members.items w.round.new.self.members.items line given took c.took_of-took.ensures (sym c.is_sent.ensures ∙ w.if-is_sent.true) c.serve-reply.ensures.grown adds
-          c.serve-reply.ensures.served w.round.ensures.length w.round.ensures.round run).2
-      | else-is_sent w ↦ subst (λ x. IsTakenBy (o.serves f.first.value) line (front_entries (o.journal f.object)) took (front_entries (o.journal x.object))) (sym w.self-is)
+          c.serve-reply.ensures.served w.round.ensures.length (law.prefix next w.round.new.object w.round.ensures.grown) w.round.ensures.round run).2
+      | else-is_sent w ↦ subst (λ x. IsTakenBy (o.serves f.first.value) line (o.journal f.object) took (o.journal x.object)) (sym w.self-is)
           (line_unsent o.journal o.serves o.answers o.grown g.P.Plugin.told law.onward law.serves_on law.answers_on o.fits f.first.value f.object next
           f.crew.members.items line given took c.took_of-took.ensures (sym c.is_sent.ensures ∙ w.if-is_sent.false) c.serve-reply.ensures.grown adds
           c.serve-reply.ensures.served run).2
