@@ -7,5 +7,7 @@ pub use Rattle.core_session.proofs.AfterLemmas.{all_base, all_without}
 pub use Rattle.core_session.proofs.RevisionLemmas.{revisions_few, sessions_of}
 pub use Rattle.core_session.proofs.ShownLemmas.{updates_in-push}
 pub use Rattle.core_session.proofs.ShowsLemmas.{updates_in-lines, updates_of-some}
-pub use Rattle.core_session.proofs.ClosedLemmas.{serving_of, shows_closed, shows_none}
+pub use Rattle.core_session.proofs.ClosedLemmas.{shows_none}
 pub use Rattle.core_session.proofs.KeptLemmas.{absurd_of, IsLegal-closed, IsLegal-front, IsLegal-push, closing-push, closing_last, open_not_over}
+pub use Rattle.core_session.proofs.GrownLemmas.{AreWritten-sent, failures_with-sent}
+pub use Rattle.core_session.proofs.ServesLemmas.{nothing_stops_it, refused_exactly}

@@ -15,4 +15,7 @@ pub mod ToldLemmas
 pub mod EnterLemmas
 pub mod PluginLemmas
 pub mod ClosedLemmas
+pub mod NotedLemmas
+pub mod GrownLemmas
+pub mod ServesLemmas
 pub mod ForCallers

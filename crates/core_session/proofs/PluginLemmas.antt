@@ -1,6 +1,6 @@
 -- Lemmas on a line of a plugin, and on its entry.
-use Rattle.std.proofs.Common.{◌≡◌, ℕ, ◌≤◌, arith, inl, inr, Bool, true, false, List, [], ◌∷◌, ◌++◌, length, None, Some, refl, ap, sym, ◌∙◌, subst}
-use Rattle.std.specs.Prelude.{◌⊎◌, ◌==◌, if◌then◌else◌, unwrap_or, Option}
+use Rattle.std.proofs.Common.{◌≡◌, ℕ, ◌≤◌, arith, Bool, true, false, List, [], ◌∷◌, ◌++◌, length, None, refl, ap, sym, ◌∙◌, subst}
+use Rattle.std.specs.Prelude.{◌==◌, if◌then◌else◌, unwrap_or}
 use Rattle.std.specs.Arc.{arc_value}
 use Rattle.std.specs.Coded.{le_prop}
 use Rattle.std.specs.List.{AllByRecursion, AllByRecursion-prop, list_any}
@@ -15,11 +15,9 @@ use Rattle.xi_plain.specs.declared.command.Command.{Command}
 use Rattle.xi_plain.specs.declared.config.Config.{Config}
 use Rattle.xi_plain.specs.declared.entry.Entry.{Entry}
 use Rattle.xi_plain.specs.declared.entry.ShelfNote.TheVariants.{NoCall}
-use Rattle.xi_plain.specs.declared.reply.Reply.{Reply}
-use Rattle.xi_plain.specs.declared.reply.Reply.TheVariants.{Closed, NoMemory, Refused, SinkFault, Taken}
+use Rattle.xi_plain.specs.declared.reply.Reply.TheVariants.{Taken}
 use Rattle.entry_lines.specs.Notices.{AreNoticeTexts}
 use Rattle.entry_lines.specs.Piece.{AreLinesOf, UpdatesReadBack}
-use Rattle.entry_lines.specs.PluginAnswer.{IsAnswerText, plugin_answer}
 use Rattle.entry_lines.proofs.ForCallers.{all_append}
 use Rattle.session_step.specs.Accepted.{Accepts, AcceptsBy, is_of_plugin}
 use Rattle.session_step.specs.News.{news_by, news_of}
@@ -27,7 +25,6 @@ use Rattle.session_step.specs.PluginStep.{plugin_messages, plugin_outcome, plugi
 use Rattle.session_step.specs.Session.{OpenView, Session, ended_after, ended_with, is_front, messages_by, plugin_act_step, step, step_by}
 use Rattle.session_step.specs.Views.{AreOfPlugins, AreThere, HasSession, HaveSessions, Stands}
 use Rattle.session_step.specs.declared.opened.Opened.{Opened}
-use Rattle.session_step.specs.declared.terms.Terms.{Terms}
 use Rattle.plugin_acts.specs.Effects.{HasPlace, views_with}
 use Rattle.plugin_acts.specs.Made.{IsPluginMade, IsPluginPrepared}
 use Rattle.plugin_acts.specs.declared.made.PluginMade.TheVariants as made_of
@@ -35,13 +32,9 @@ use Rattle.plugin_acts.specs.declared.made.PluginPrepared.{PluginPrepared}
 use Rattle.plugin_acts.specs.declared.next.NextViews.{NextViews}
 use Rattle.plugin_acts.specs.declared.next.NextViews.TheVariants.{All, One, Same}
 use Rattle.plugin_acts.proofs.ForCallers.{closes_of-plugin, note_of-plugin}
-use Rattle.core_session.specs.declared.session.Core.{Core}
-use Rattle.core_session.specs.Core.{AddsSent, AddsUnsent, Outlets, journal_of, outlets_of, shelf_of, sink_of}
-use Rattle.core_session.specs.InnerSession.{IsPrepared, PutsAs, updates_by}
-use Rattle.core_session.specs.Kept.{IsOpen, StandsForSession, plugin_entry, reply_if, with_sent}
-use Rattle.core_session.specs.Shelves.{Files, asks_as}
-use Rattle.core_session.specs.Telling.{KeepsAll, PluginComesTo, refusal_after, verdict_after}
-use Rattle.core_session.proofs.EnterLemmas.{AddsSent-from, AddsUnsent-from, replies_by}
+use Rattle.core_session.specs.InnerSession.{IsPrepared, updates_by}
+use Rattle.core_session.specs.Kept.{IsOpen, StandsForSession, plugin_entry}
+use Rattle.core_session.specs.Shelves.{asks_as}
 
 -- ---- an entry of a plugin is none of the front end's
 
@@ -173,56 +166,6 @@ HasPlace-prop held Same = hlevel le_prop
 HasPlace-prop held (One at opened) = le_prop
 HasPlace-prop held (All next) = hlevel le_prop
 
--- ---- a call that took memory before
-
-module _ (terms : Terms) {K H : Type 0} (held : K → Option (List ℕ)) (faults failures : K → ℕ) (files : H → Option Files) (shelf_faults : H → ℕ)
-    (old middle new : Core K H) (journal : journal_of middle ≡ journal_of old) (sink : sink_of middle ≡ sink_of old)
-    (shelf : shelf_of middle ≡ shelf_of old) where
-  keeps_over : KeepsAll terms middle new → KeepsAll terms old new
-  keeps_over keeps =
-      record { serving = keeps.serving; journal = keeps.journal ∙ journal; sink = keeps.sink ∙ sink; shelf = keeps.shelf ∙ shelf }
-
-  -- what a command comes to after that, it comes to from the start
-  pub PluginComesTo-over : (caller : ℕ) (command : Command) (reply : Reply) →
-      PluginComesTo terms (outlets_of held faults failures files shelf_faults) middle new caller command reply →
-      PluginComesTo terms (outlets_of held faults failures files shelf_faults) old new caller command reply
-  PluginComesTo-over caller command (Taken line) came =
-      let Accepted : List Entry → Type 0 = λ before. refusal_after terms before caller command ≡ None in
-      let Answered : List Entry → Type 0 =
-      λ before. IsAnswerText (plugin_answer command.id (verdict_after terms before caller command)) (encode_utf8_all line) in
-      record {
-        accepted = subst Accepted journal came.accepted;
-        answer = subst Answered journal came.answer;
-        adds = AddsSent-from terms held faults failures files shelf_faults old middle new journal sink (plugin_entry caller command true) came.adds;
-        shelf = came.shelf ∙ shelf;
-      }
-  PluginComesTo-over caller command (Refused line) came =
-      let Named : List Entry → Type 0 = λ before. refusal_after terms before caller command ≡ Some came.verdict in
-      record { verdict = came.verdict; refused = subst Named journal came.refused; answer = came.answer; unchanged = keeps_over came.unchanged }
-  PluginComesTo-over caller command SinkFault came =
-      let Accepted : List Entry → Type 0 = λ before. refusal_after terms before caller command ≡ None in (
-        came.0,
-        record {
-          accepted = subst Accepted journal came.1.accepted;
-          adds = AddsUnsent-from terms held faults failures files shelf_faults old middle new journal sink (plugin_entry caller command false) came.0 came.1.adds;
-          shelf = came.1.shelf ∙ shelf;
-        },
-      )
-  PluginComesTo-over caller command NoMemory came = keeps_over came
-  PluginComesTo-over caller command Closed came = absurd came
-
--- ---- what a line is answered that was put in
-
-some_answer : (answer : List ℕ) (reply : Reply) → (reply ≡ Taken answer) ⊎ (reply ≡ NoMemory) → ((line : List ℕ) × (reply ≡ Taken line)) ⊎ (reply ≡ NoMemory)
-some_answer answer reply (inl is) = inl (answer, is)
-some_answer answer reply (inr none) = inr none
-
--- it was sent, or the sink failed
-pub answers_by : (answer : List ℕ) (sent : Bool) (reply : Reply) (failed : Type 0) → reply ≡ reply_if answer sent → (reply ≡ SinkFault → failed) →
-    (failed → ⊥) → ((line : List ℕ) × (reply ≡ Taken line)) ⊎ (reply ≡ NoMemory)
-answers_by answer sent reply failed is rose calm =
-    some_answer answer reply (replies_by answer sent reply failed is (λ no. rose (is ∙ ap (reply_if answer) no)) calm)
-
 -- ---- what comes of a command of a plugin
 
 -- what was made of it, by its own command and the styles of the session
@@ -247,18 +190,3 @@ taken_from views here table ended gone session caller command made here_is gone_
     let Gone : List ℕ → Type 0 = λ over. IsPluginMade here session.views table over caller command (made_of.Taken made) in
     let There : List Opened → Type 0 = λ held. AreThere held session.views in
     taken_of views table ended session caller command made same (subst Here here_is (subst Gone gone_is (gave (subst There (sym here_is) there))))
-
--- its entry was put in
-pub PluginComesTo-put : (terms : Terms) {K H : Type 0} (tell : Core K H → Outlets) (old new : Core K H) (caller : ℕ) (command : Command) (answer : List ℕ)
-    (entry : Entry) (sent : Bool) (reply : Reply) → entry ≡ plugin_entry caller command true → reply ≡ reply_if answer sent →
-    refusal_after terms (journal_of old) caller command ≡ None →
-    IsAnswerText (plugin_answer command.id (verdict_after terms (journal_of old) caller command)) (encode_utf8_all answer) →
-    shelf_of new ≡ shelf_of old → PutsAs terms tell old new entry sent → PluginComesTo terms tell old new caller command reply
-PluginComesTo-put terms tell old new caller command answer entry true reply is said taken answers shelf puts =
-    let Adds : Entry → Type 0 = λ added. AddsSent terms tell old new (with_sent added true) in
-    subst (PluginComesTo terms tell old new caller command) (sym said)
-    (record { accepted = taken; answer = answers; adds = subst Adds is puts; shelf = shelf })
-PluginComesTo-put terms tell old new caller command answer entry false reply is said taken answers shelf puts =
-    let Adds : Entry → Type 0 = λ added. AddsUnsent terms tell old new (with_sent added false) puts.0 in
-    subst (PluginComesTo terms tell old new caller command) (sym said)
-    (puts.0, record { accepted = taken; adds = subst Adds is puts.1; shelf = shelf })

@@ -1,12 +1,10 @@
 -- The lines that stand beside entries, and what they tell.
-use Rattle.std.proofs.Common.{◌≡◌, ℕ, zero, suc, ◌<◌, arith, Bool, true, false, List, [], ◌∷◌, ◌++◌, length, drop, refl, ap, sym, ◌∙◌, subst}
-use Rattle.std.specs.Prelude.{◌&&◌, ◌||◌, ◌==◌, nat_le, if◌then◌else◌, ⊤}
+use Rattle.std.proofs.Common.{◌≡◌, ℕ, zero, suc, ◌<◌, arith, Bool, true, false, List, [], ◌∷◌, ◌++◌, length, drop, refl, ap, sym, ◌∙◌}
+use Rattle.std.specs.Prelude.{◌&&◌, ◌||◌, ◌==◌, nat_le, if◌then◌else◌}
 use Rattle.std.specs.List.{list_all}
 use Rattle.std.proofs.lemmas.Bool.Decides.{nat_tests}
 use Rattle.plugin_wire.specs.Told.{Told}
 use Rattle.xi_plain.specs.declared.entry.Entry.{Entry}
-use Rattle.xi_plain.specs.declared.reply.Answer.{Answer}
-use Rattle.xi_plain.specs.declared.reply.Answer.TheVariants.{NoMemory, Nothing, Notices}
 use Rattle.xi_plain.specs.Journal.{IsLegal, has_own_note, is_closing, is_ordered, may_follow}
 use Rattle.entry_lines.specs.Notices.{AreNoticeTexts}
 use Rattle.session_step.specs.declared.terms.Terms.{Terms}
@@ -114,27 +112,3 @@ pub closing-drop : (plugins : ℕ) (journal : List Entry) (from : ℕ) → IsLeg
     has_closing (drop from journal) ≡ has_closing journal
 closing-drop plugins journal from legal inside =
     closing_later plugins journal from (first_of (is_ordered plugins journal) (list_all has_own_note journal) legal) inside
-
--- what is so of the parts of an answer is so of the parts that it is said to have
-abbrev ArePartsOf : (List (List ℕ) → ℕ → Bool → Type 0) → Answer → Type 0
-ArePartsOf P (Notices lines next over) = P lines next over
-ArePartsOf P answer = ⊤
-
-pub parts_same : (P : List (List ℕ) → ℕ → Bool → Type 0) (lines others : List (List ℕ)) (next place : ℕ) (over ends : Bool) →
-    Notices lines next over ≡ Notices others place ends → P lines next over → P others place ends
-parts_same P lines others next place over ends is so = subst (ArePartsOf P) is so
-
-len_in : Answer → ℕ
-len_in (Nothing len) = len
-len_in answer = zero
-
-pub nothing_same : (len place : ℕ) → Nothing len ≡ Nothing place → len ≡ place
-unfolding len_in
-nothing_same len place is = ap len_in is
-
--- what has lines, or had no memory for them, is not nothing
-pub lines_not_nothing : (lines : List (List ℕ)) (next len : ℕ) (over : Bool) → Notices lines next over ≡ Nothing len → ⊥
-lines_not_nothing lines next len over is = cc
-
-pub lack_not_nothing : (len : ℕ) → NoMemory ≡ Nothing len → ⊥
-lack_not_nothing len is = cc

@@ -1,5 +1,4 @@
 -- What private functions say: what an act and a command come to in memory.
-use Rattle.session_step.specs.declared.terms.Terms.{Terms}
 use Rattle.std.specs.Prelude.{◌≡◌, ℕ, Bool, true, false, List, unwrap_or}
 use Rattle.std.specs.Str.{encode_utf8_all}
 use Rattle.outside.specs.declared.shelf.Stored.{Stored}
@@ -7,7 +6,6 @@ use Rattle.outside.specs.declared.shelf.Stored.TheVariants as stored
 use Rattle.plain_edits.specs.declared.style.Style.{Style}
 use Rattle.view_update.specs.declared.note.ViewUpdate.{ViewUpdate}
 use Rattle.core_session.specs.declared.ask.Asked.{Asked}
-use Rattle.core_session.specs.declared.session.Core.{Core}
 use Rattle.core_session.specs.declared.prepare.Prepared.{Prepared}
 use Rattle.xi_plain.specs.declared.command.Command.{Command}
 use Rattle.xi_plain.specs.declared.entry.Entry.{Entry}
@@ -20,8 +18,7 @@ use Rattle.session_step.specs.Views.{IsDone}
 use Rattle.plugin_acts.specs.Effects.{views_with}
 use Rattle.entry_lines.specs.Notices.{AreNoticeTexts}
 use Rattle.entry_lines.specs.Piece.{AreLinesOf, UpdatesReadBack}
-use Rattle.core_session.specs.Kept.{StandsForSession, with_sent}
-use Rattle.core_session.specs.Core.{AddsSent, AddsUnsent, Outlets}
+use Rattle.core_session.specs.Kept.{StandsForSession}
 
 -- a command by the note that it has: what it comes to, how many were opened by then, and the lines that tell plugins of it
 pub record IsAsked (session : Session) (command : Command) (asked : Asked) : Type 0 where
@@ -44,11 +41,6 @@ pub record IsPrepared (held : List Opened) (table : List Style) (ended : List �
   pub told : AreNoticeTexts (news_of session made.entry) made.told
   pub stands :
       StandsForSession (views_with held made.next) (unwrap_or made.grown table) (unwrap_or made.gone ended) made.opened made.config (step session made.entry)
-
--- an entry was put in, by whether it was sent
-abbrev pub PutsAs : (terms : Terms) {K H : Type 0} → (Core K H → Outlets) → Core K H → Core K H → Entry → Bool → Type 0
-PutsAs terms tell old new entry true = AddsSent terms tell old new (with_sent entry true)
-PutsAs terms tell old new entry false = (n : ℕ) × AddsUnsent terms tell old new (with_sent entry false) n
 
 -- what was made for a file that was written is kept, or what was made for one that could not be
 abbrev pub IsChosenBy : {A : Type 0} → Stored → A → A → A → Type 0

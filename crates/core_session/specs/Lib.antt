@@ -3,5 +3,12 @@ pub mod Shows
 pub mod Kept
 pub mod Notes
 pub mod Core
-pub mod Telling
 pub mod InnerSession
+pub mod Grown
+pub mod GrownLaws
+pub mod Serves
+pub mod ServesLaws
+pub mod Answers
+pub mod InnerObject
+pub mod Object
+pub mod ObjectLaws

@@ -1,8 +1,7 @@
-ghost use Rattle.std.specs.Prelude.{◌≡◌, ◌≢◌, ◌+◌, ◌≤◌, ◌^◌, ◌++◌, ◌∷◌, ◌⊎◌, ◌↔◌, ℕ, List, length, drop, [], Bool, None, IfOk, OnOk, IfErr, IfSome, true, false, vec_len, vec_capacity};
-ghost use Rattle.outside.specs.Faults.{Rose};
+ghost use Rattle.std.specs.Prelude.{◌≡◌, ◌+◌, ◌≤◌, ◌^◌, ◌∷◌, ◌↔◌, List, length, drop, [], None, IfOk, OnOk, IfErr, IfSome, true, false, vec_len, vec_capacity};
 ghost use Rattle.xi_plain.specs.declared.command.Command.{Command};
 ghost use Rattle.xi_plain.specs.Journal.{IsLegal, closing_entry};
-ghost use Rattle.front_wire.specs.Front.{command_of};
+ghost use Rattle.xi_plain.specs.Reply.{has_entry};
 ghost use Rattle.plugin_wire.specs.Asked.{ask_of};
 ghost use Rattle.plugin_wire.specs.FairAsk.{IsFairCommand};
 ghost use Rattle.plugin_wire.specs.Told.{stopped};
@@ -11,9 +10,15 @@ ghost use Rattle.plugin_acts.specs.Effects.{HasPlace};
 ghost use Rattle.plugin_acts.specs.Made.{IsPluginPrepared};
 ghost use Rattle.session_step.specs.Accepted.{is_of_plugin};
 ghost use Rattle.session_step.specs.Session.{named_view, session_of, views_of};
-ghost use Rattle.core_session.specs.Kept.{IsOfJournal, IsOpen, StandBy, ending, has_closing, is_over, plugin_entry, reply_if, reserved, stage_if, stage_of, with_sent};
-ghost use Rattle.core_session.specs.Notes.{AreToldOf, told_from};
+ghost use Rattle.core_session.specs.Kept.{IsOfJournal, IsOpen, StandBy, ending, has_closing, plugin_entry, reply_if, reserved, stage_if, stage_of, with_sent};
+ghost use Rattle.core_session.specs.Notes.{AreToldOf};
 ghost use Rattle.core_session.specs.Shelves.{asks_as};
+ghost use Rattle.core_session.specs.Grown.{IsGrown};
+ghost use Rattle.core_session.specs.Serves.{Serves, outcome_in, refusal_in};
+ghost use Rattle.core_session.specs.Answers.{Answers};
+ghost use Rattle.core_session.specs.InnerObject.{PutsIn, ServesCommand};
+ghost use Rattle.xi_plain.specs.declared.ask.Ask.TheVariants as Ask;
+ghost use Rattle.xi_plain.specs.declared.ask.Query.TheVariants as Query;
 
 use crate::made::put_if;
 use crate::prepare::{Prepared, prepare};
@@ -62,10 +67,10 @@ pub struct Core<K, H> {
 }
 
 impl<K: Sink, H: Shelf> Core<K, H> {
-    ghost use Rattle.core_session.specs.Core.{ComesTo, IsDocOf, IsServing, journal_of, outlets_of, shelf_of, sink_of, terms_of};
+    ghost use Rattle.core_session.specs.Core.{IsDocOf, journal_of, shelf_of, sink_of, terms_of};
     ghost use Rattle.session_step.specs.declared.terms.Terms.{Terms};
-    ghost use Rattle.core_session.specs.Telling.{PluginComesTo, outcome_after, refusal_after};
-    ghost use Rattle.core_session.specs.InnerSession.{IsPrepared, PutsAs};
+    ghost use Rattle.core_session.specs.InnerSession.{IsPrepared};
+    ghost use Rattle.core_session.specs.Object.{state_of};
 
     /// A session without entries, with so many plugins, and a limit of characters that may be inserted into each document. For want of memory
     /// the sink and the shelf are given back.
@@ -77,7 +82,7 @@ impl<K: Sink, H: Shelf> Core<K, H> {
         limit: u64,
     ) -> Result<Core<K, H>, (K, H)>
         requires limit { limit ≤ 2 ^ 60 }
-        ensures serving { IfOk result (IsServing (record { plugins = plugins; limit = limit })) }
+        ensures terms { IfOk result (λ core. terms_of core ≡ record { plugins = plugins; limit = limit }) }
         ensures empty { IfOk result (λ core. journal_of core ≡ []) }
         ensures sink { IfOk result (λ core. sink_of core ≡ sink) }
         ensures shelf { IfOk result (λ core. shelf_of core ≡ shelf) }
@@ -106,13 +111,10 @@ impl<K: Sink, H: Shelf> Core<K, H> {
     /// Takes a line of the front end, with or without its LF, and writes its piece. The shelf is asked before, where the line opens a file or
     /// saves a view. A session that was closed, or has an entry that was not sent, takes none.
     pub fn front_line(&mut self, line: &[u8]) -> Reply
-        ensures closed { (result ≡ Reply.Closed) ↔ (is_over (journal_of self.old) ≡ true) }
         ensures stays { result ≡ Reply.Closed → self.new ≡ self.old }
-        ensures served { (terms : Terms) → IsServing terms self.old
-            → ComesTo terms (outlets_of K.held K.faults K.failures H.files H.faults) self.old self.new (command_of line.now) result }
-        ensures terms { terms_of self.new ≡ terms_of self.old }
-        ensures complete { (Rose (K.faults (sink_of self.old)) (K.faults (sink_of self.new)) → ⊥) → is_over (journal_of self.old) ≡ false
-            → (result ≡ Reply.Taken []) ⊎ (result ≡ Reply.NoMemory) }
+        ensures sink { has_entry result ≡ false → sink_of self.new ≡ sink_of self.old }
+        ensures serves { Serves (terms_of self.old) (journal_of self.old) 0 (Ask.FrontLine line.now) result (journal_of self.new) }
+        ensures grown { IsGrown (state_of K.held K.faults K.failures H.files H.faults self.old) (state_of K.held K.faults K.failures H.files H.faults self.new) }
     {
         match self.stage {
             Stage::Serves => self.take_line(line),
@@ -123,13 +125,9 @@ impl<K: Sink, H: Shelf> Core<K, H> {
     /// The same of a session that takes lines.
     fn take_line(&mut self, line: &[u8]) -> Reply
         requires { self.old.stage ≡ Stage.Serves }
-        ensures answers { result ≢ Reply.Closed }
-        ensures served { IsServing (terms_of self.old) self.old
-            → ComesTo (terms_of self.old) (outlets_of K.held K.faults K.failures H.files H.faults) self.old self.new
-            (command_of line.now) result }
-        ensures terms { terms_of self.new ≡ terms_of self.old }
-        ensures complete { (Rose (K.faults (sink_of self.old)) (K.faults (sink_of self.new)) → ⊥)
-            → (result ≡ Reply.Taken []) ⊎ (result ≡ Reply.NoMemory) }
+        ensures sink { has_entry result ≡ false → sink_of self.new ≡ sink_of self.old }
+        ensures serves { Serves (terms_of self.old) (journal_of self.old) 0 (Ask.FrontLine line.now) result (journal_of self.new) }
+        ensures grown { IsGrown (state_of K.held K.faults K.failures H.files H.faults self.old) (state_of K.held K.faults K.failures H.files H.faults self.new) }
     {
         if reserve(&mut self.journal, &mut self.told).is_err() {
             return Reply::NoMemory;
@@ -161,12 +159,8 @@ impl<K: Sink, H: Shelf> Core<K, H> {
         requires asked { asks_as (views_of (terms_of self.old) (journal_of self.old)) made.entry.command.act made.entry.shelf ≡ true }
         requires place { HasPlace self.old.views made.next }
         requires prepared { ∥ IsPrepared self.old.views self.old.styles self.old.ended (session_of (terms_of self.old) (journal_of self.old)) made ∥₁ }
-        ensures puts { IsServing (terms_of self.old) self.old
-            → IsPrepared self.old.views self.old.styles self.old.ended (session_of (terms_of self.old) (journal_of self.old)) made
-            → PutsAs (terms_of self.old) (outlets_of K.held K.faults K.failures H.files H.faults) self.old self.new made.entry result }
-        ensures terms { terms_of self.new ≡ terms_of self.old }
         ensures shelf { shelf_of self.new ≡ shelf_of self.old }
-        ensures rose { result ≡ false → Rose (K.faults (sink_of self.old)) (K.faults (sink_of self.new)) }
+        ensures puts_in { PutsIn (state_of K.held K.faults K.failures H.files H.faults self.old) (state_of K.held K.faults K.failures H.files H.faults self.new) (with_sent made.entry result) }
     {
         let Prepared {
             entry,
@@ -197,14 +191,11 @@ impl<K: Sink, H: Shelf> Core<K, H> {
     /// closed, or has an entry that was not sent, takes none.
     pub fn plugin_line(&mut self, caller: u32, line: &[u8]) -> Reply
         requires caller { (1 ≤ caller) × (caller ≤ (terms_of self.old).plugins) }
-        ensures closed { (result ≡ Reply.Closed) ↔ (is_over (journal_of self.old) ≡ true) }
         ensures stays { result ≡ Reply.Closed → self.new ≡ self.old }
-        ensures served { (terms : Terms) → IsServing terms self.old
-            → PluginComesTo terms (outlets_of K.held K.faults K.failures H.files H.faults) self.old self.new caller (ask_of line.now) result }
-        ensures terms { terms_of self.new ≡ terms_of self.old }
-        ensures complete { (Rose (K.faults (sink_of self.old)) (K.faults (sink_of self.new)) → ⊥) → is_over (journal_of self.old) ≡ false
-            → refusal_after (terms_of self.old) (journal_of self.old) caller (ask_of line.now) ≡ None
-            → ((answer : List ℕ) × (result ≡ Reply.Taken answer)) ⊎ (result ≡ Reply.NoMemory) }
+        ensures sink { has_entry result ≡ false → sink_of self.new ≡ sink_of self.old }
+        ensures shelf { shelf_of self.new ≡ shelf_of self.old }
+        ensures serves { Serves (terms_of self.old) (journal_of self.old) caller (Ask.PluginLine line.now) result (journal_of self.new) }
+        ensures grown { IsGrown (state_of K.held K.faults K.failures H.files H.faults self.old) (state_of K.held K.faults K.failures H.files H.faults self.new) }
     {
         match self.stage {
             Stage::Serves => self.take_plugin_line(caller, line),
@@ -216,13 +207,10 @@ impl<K: Sink, H: Shelf> Core<K, H> {
     fn take_plugin_line(&mut self, caller: u32, line: &[u8]) -> Reply
         requires serves { self.old.stage ≡ Stage.Serves }
         requires caller { (1 ≤ caller) × (caller ≤ (terms_of self.old).plugins) }
-        ensures answers { result ≢ Reply.Closed }
-        ensures served { IsServing (terms_of self.old) self.old → PluginComesTo (terms_of self.old)
-            (outlets_of K.held K.faults K.failures H.files H.faults) self.old self.new caller (ask_of line.now) result }
-        ensures terms { terms_of self.new ≡ terms_of self.old }
-        ensures complete { (Rose (K.faults (sink_of self.old)) (K.faults (sink_of self.new)) → ⊥)
-            → refusal_after (terms_of self.old) (journal_of self.old) caller (ask_of line.now) ≡ None
-            → ((answer : List ℕ) × (result ≡ Reply.Taken answer)) ⊎ (result ≡ Reply.NoMemory) }
+        ensures sink { has_entry result ≡ false → sink_of self.new ≡ sink_of self.old }
+        ensures shelf { shelf_of self.new ≡ shelf_of self.old }
+        ensures serves { ServesCommand (terms_of self.old) (journal_of self.old) caller (ask_of line.now) result (journal_of self.new) }
+        ensures grown { IsGrown (state_of K.held K.faults K.failures H.files H.faults self.old) (state_of K.held K.faults K.failures H.files H.faults self.new) }
     {
         match ask_of(self.alloc, line) {
             Ok(command) => self.take_command(caller, command),
@@ -233,13 +221,11 @@ impl<K: Sink, H: Shelf> Core<K, H> {
     /// Ends the session of the plugin with this number, by an entry that is never refused. In a view that is opened later it has ended too.
     pub fn plugin_end(&mut self, caller: u32) -> Reply
         requires caller { (1 ≤ caller) × (caller ≤ (terms_of self.old).plugins) }
-        ensures closed { (result ≡ Reply.Closed) ↔ (is_over (journal_of self.old) ≡ true) }
         ensures stays { result ≡ Reply.Closed → self.new ≡ self.old }
-        ensures served { (terms : Terms) → IsServing terms self.old
-            → PluginComesTo terms (outlets_of K.held K.faults K.failures H.files H.faults) self.old self.new caller ending result }
-        ensures terms { terms_of self.new ≡ terms_of self.old }
-        ensures complete { (Rose (K.faults (sink_of self.old)) (K.faults (sink_of self.new)) → ⊥) → is_over (journal_of self.old) ≡ false
-            → ((answer : List ℕ) × (result ≡ Reply.Taken answer)) ⊎ (result ≡ Reply.NoMemory) }
+        ensures sink { has_entry result ≡ false → sink_of self.new ≡ sink_of self.old }
+        ensures shelf { shelf_of self.new ≡ shelf_of self.old }
+        ensures serves { Serves (terms_of self.old) (journal_of self.old) caller Ask.PluginEnd result (journal_of self.new) }
+        ensures grown { IsGrown (state_of K.held K.faults K.failures H.files H.faults self.old) (state_of K.held K.faults K.failures H.files H.faults self.new) }
     {
         match self.stage {
             Stage::Serves => self.take_command(caller, ending()),
@@ -252,14 +238,11 @@ impl<K: Sink, H: Shelf> Core<K, H> {
         requires serves { self.old.stage ≡ Stage.Serves }
         requires caller { (1 ≤ caller) × (caller ≤ (terms_of self.old).plugins) }
         requires fair { IsFairCommand command }
-        requires asks { refusal_after (terms_of self.old) (journal_of self.old) caller command ≡ None → is_of_plugin command.act ≡ true }
-        ensures answers { result ≢ Reply.Closed }
-        ensures served { IsServing (terms_of self.old) self.old → PluginComesTo (terms_of self.old)
-            (outlets_of K.held K.faults K.failures H.files H.faults) self.old self.new caller command result }
-        ensures terms { terms_of self.new ≡ terms_of self.old }
-        ensures complete { (Rose (K.faults (sink_of self.old)) (K.faults (sink_of self.new)) → ⊥)
-            → refusal_after (terms_of self.old) (journal_of self.old) caller command ≡ None
-            → ((answer : List ℕ) × (result ≡ Reply.Taken answer)) ⊎ (result ≡ Reply.NoMemory) }
+        requires asks { refusal_in (session_of (terms_of self.old) (journal_of self.old)) caller command ≡ None → is_of_plugin command.act ≡ true }
+        ensures sink { has_entry result ≡ false → sink_of self.new ≡ sink_of self.old }
+        ensures shelf { shelf_of self.new ≡ shelf_of self.old }
+        ensures serves { ServesCommand (terms_of self.old) (journal_of self.old) caller command result (journal_of self.new) }
+        ensures grown { IsGrown (state_of K.held K.faults K.failures H.files H.faults self.old) (state_of K.held K.faults K.failures H.files H.faults self.new) }
     {
         if reserve(&mut self.journal, &mut self.told).is_err() {
             return Reply::NoMemory;
@@ -286,16 +269,13 @@ impl<K: Sink, H: Shelf> Core<K, H> {
         requires caller { (1 ≤ caller) × (caller ≤ (terms_of self.old).plugins) }
         requires asks { is_of_plugin made.command.act ≡ true }
         requires place { HasPlace self.old.views made.next }
-        requires prepared { ∥ (refusal_after (terms_of self.old) (journal_of self.old) caller made.command ≡ None)
+        requires prepared { ∥ (refusal_in (session_of (terms_of self.old) (journal_of self.old)) caller made.command ≡ None)
             × IsPluginPrepared self.old.views self.old.styles self.old.ended caller made.command
-            (outcome_after (terms_of self.old) (journal_of self.old) caller made.command) made ∥₁ }
-        ensures replies { (sent : Bool) × (result ≡ reply_if made.answer sent) }
-        ensures served { IsServing (terms_of self.old) self.old → refusal_after (terms_of self.old) (journal_of self.old) caller made.command ≡ None
-            → IsPluginPrepared self.old.views self.old.styles self.old.ended caller made.command
-            (outcome_after (terms_of self.old) (journal_of self.old) caller made.command) made
-            → PluginComesTo (terms_of self.old) (outlets_of K.held K.faults K.failures H.files H.faults) self.old self.new caller made.command result }
-        ensures terms { terms_of self.new ≡ terms_of self.old }
-        ensures rose { result ≡ Reply.SinkFault → Rose (K.faults (sink_of self.old)) (K.faults (sink_of self.new)) }
+            (outcome_in (session_of (terms_of self.old) (journal_of self.old)) caller made.command) made ∥₁ }
+        ensures entry { has_entry result ≡ true }
+        ensures shelf { shelf_of self.new ≡ shelf_of self.old }
+        ensures serves { ServesCommand (terms_of self.old) (journal_of self.old) caller made.command result (journal_of self.new) }
+        ensures grown { IsGrown (state_of K.held K.faults K.failures H.files H.faults self.old) (state_of K.held K.faults K.failures H.files H.faults self.new) }
     {
         let PluginPrepared {
             command,
@@ -322,10 +302,7 @@ impl<K: Sink, H: Shelf> Core<K, H> {
     /// The lines that tell what happened from the entry at this place on, which all plugins are told alike. The cost is that of the lines.
     pub fn notices(&self, _caller: u32, from: u64) -> Answer
         requires { from ≤ length (journal_of self.now) }
-        ensures nothing { (len : ℕ) → (result ≡ Answer.Nothing len) ↔ ((from ≡ length (journal_of self.now)) × (len ≡ length (journal_of self.now))) }
-        ensures told { (lines : List (List ℕ)) (next : ℕ) (over : Bool) → result ≡ Answer.Notices lines next over
-            → (next ≡ length (journal_of self.now)) × (over ≡ has_closing (drop from (journal_of self.now)))
-            × ∥ AreNoticeTexts (told_from (terms_of self.now) (journal_of self.now) from) lines ∥₁ }
+        ensures { Answers (terms_of self.now) (journal_of self.now) (Query.Notices from) result }
     {
         let len = self.len();
         if from == len {
@@ -359,6 +336,13 @@ impl<K: Sink, H: Shelf> Core<K, H> {
         }
     }
 
+    /// The entries so far, to look at.
+    pub fn journal(&self) -> &[Entry]
+        ensures { result.now ≡ journal_of self.now }
+    {
+        &self.journal
+    }
+
     /// The sink, to look at.
     pub fn sink(&self) -> &K
         ensures { result.now ≡ sink_of self.now }
@@ -380,13 +364,11 @@ impl<K: Sink, H: Shelf> Core<K, H> {
 
     /// Puts in the closing entry, which takes no memory and writes nothing, unless there is one.
     pub fn close_down(&mut self) -> Reply
-        ensures closed { (result ≡ Reply.Closed) ↔ (has_closing (journal_of self.old) ≡ true) }
         ensures stays { result ≡ Reply.Closed → self.new ≡ self.old }
-        ensures reply { result ≢ Reply.Closed → result ≡ Reply.Taken [] }
-        ensures entry { result ≢ Reply.Closed → journal_of self.new ≡ journal_of self.old ++ closing_entry ∷ [] }
-        ensures terms { terms_of self.new ≡ terms_of self.old }
         ensures sink { sink_of self.new ≡ sink_of self.old }
         ensures shelf { shelf_of self.new ≡ shelf_of self.old }
+        ensures serves { Serves (terms_of self.old) (journal_of self.old) 0 Ask.CloseDown result (journal_of self.new) }
+        ensures grown { IsGrown (state_of K.held K.faults K.failures H.files H.faults self.old) (state_of K.held K.faults K.failures H.files H.faults self.new) }
     {
         match self.stage {
             Stage::Closed => Reply::Closed,

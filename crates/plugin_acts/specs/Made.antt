@@ -1,5 +1,5 @@
 -- What a command of a plugin comes to in memory, with its lines.
-use Rattle.std.specs.Prelude.{◌≡◌, ℕ, List, map, Option, Some, None, unwrap_or}
+use Rattle.std.specs.Prelude.{◌≡◌, ℕ, List, map, Option, Some, None, unwrap_or, ⊤}
 use Rattle.std.specs.Str.{encode_utf8_all}
 use Rattle.plain_edits.specs.declared.style.Style.{Style}
 use Rattle.xi_plain.specs.declared.command.Command.{Command}
@@ -56,3 +56,8 @@ IsPluginMade held views styles ended caller command (Refused line) = IsRefusal c
 IsPluginMade held views styles ended caller command (Taken made) =
     (plugin_refusal views styles caller command.act ≡ None) ×
     IsPluginPrepared held styles ended caller command (plugin_outcome views styles caller command.act) made
+
+-- what is taken is this command
+abbrev pub HasCommand : Command → PluginMade → Type 0
+HasCommand command (Refused line) = ⊤
+HasCommand command (Taken made) = made.command ≡ command

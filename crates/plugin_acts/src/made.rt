@@ -9,7 +9,7 @@ ghost use Rattle.session_step.specs.Session.{OpenView, ended_after, ended_with};
 ghost use Rattle.session_step.specs.Views.{AreThere, HaveSessions, MayBeAsked};
 ghost use Rattle.session_step.specs.declared.opened.Opened.{Opened as HeldView};
 ghost use Rattle.plugin_acts.specs.Effects.{IsPluginOutcome};
-ghost use Rattle.plugin_acts.specs.Made.{AreLinesBy, IsEndedNext, IsPluginMade};
+ghost use Rattle.plugin_acts.specs.Made.{AreLinesBy, HasCommand, IsEndedNext, IsPluginMade};
 
 use crate::act::{Acted, PluginEffects, plugin_act};
 use crate::next::NextViews;
@@ -67,8 +67,9 @@ pub fn plugin_command(
     requires caller { HaveSessions caller held.now }
     requires fair { IsFairAsk command.act }
     requires id { IsWireId command.id }
-    ensures { (views : List OpenView) → AreThere held.now views
+    ensures made { (views : List OpenView) → AreThere held.now views
         → IfOk result (IsPluginMade held.now views table.now ended.now caller command) }
+    ensures command { IfOk result (HasCommand command) }
 {
     match plugin_act(alloc, held, table, caller, &command.act)? {
         Acted::Refused(reply) => refused(alloc, command, reply),
@@ -79,9 +80,10 @@ pub fn plugin_command(
 // The line of a refusal.
 fn refused(alloc: Global, command: Command, reply: PluginReply) -> Result<PluginMade, NoMemory>
     requires id { IsWireId command.id }
-    ensures { (held : List HeldView) (views : List OpenView) (styles : List Style) (ended : List ℕ) (caller : ℕ)
+    ensures made { (held : List HeldView) (views : List OpenView) (styles : List Style) (ended : List ℕ) (caller : ℕ)
         → plugin_refusal views styles caller command.act ≡ Some (verdict_of reply)
         → IfOk result (IsPluginMade held views styles ended caller command) }
+    ensures command { IfOk result (HasCommand command) }
 {
     let line = answer_of(alloc, &command.id, &reply);
     drop((command, reply));
@@ -97,10 +99,11 @@ fn taken(
     effects: PluginEffects,
 ) -> Result<PluginMade, NoMemory>
     requires id { IsWireId command.id }
-    ensures { (held : List HeldView) (views : List OpenView) (styles : List Style) → plugin_refusal views styles caller command.act ≡ None
+    ensures made { (held : List HeldView) (views : List OpenView) (styles : List Style) → plugin_refusal views styles caller command.act ≡ None
         → IsPluginOutcome held (plugin_outcome views styles caller command.act) effects
         → table_after styles effects.grown ≡ styles_after styles command.act
         → IfOk result (IsPluginMade held views styles ended.now caller command) }
+    ensures command { IfOk result (HasCommand command) }
 {
     let lines = lines_of(alloc, &command.id, &effects);
     let gone = ended_after(alloc, ended, caller, &command.act);

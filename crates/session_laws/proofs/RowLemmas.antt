@@ -1,5 +1,7 @@
 -- Worked rows of sessions, computed, and of runs.
-use Rattle.xi_top.specs.Alone.{alone_terms}
+use Rattle.std.proofs.Math.Logic.{∥∥₁_elim}
+use Rattle.std.specs.Coded.{Coded-set, coded_list, coded_ℕ}
+use Rattle.xi_top.specs.Alone.{terms_for}
 use Rattle.std.proofs.Common.{◌≡◌, ℕ, ◌+◌, ◌<◌, ◌≤◌, true, inl, inr, List, [], ◌∷◌, ◌++◌, length, map, drop, codes, Option, Some, Ok, Err, refl, ap, sym, ◌∙◌, subst, length-append, arith}
 use Rattle.std.proofs.lemmas.List.{length-map, nil_from_length}
 use Rattle.std.specs.Fmt.{digits}
@@ -72,7 +74,7 @@ none_entered entries lines asked none =
     (omega (arith, length-map entries (λ (entry : Entry). entry.command), ap length asked, length-map lines command_of, ap length none))
 
 source_failed : (passage : Passage) (journal : List Entry) (outcome : Outcome) (bytes : List ℕ) → 4 ≡ status_of outcome →
-    passage.before.source.left ≡ Some bytes → passage.after.source.left ≡ Some bytes → IsRun passage journal outcome → journal ≡ closing_entry ∷ []
+    passage.before.source.left ≡ Some bytes → passage.after.source.left ≡ Some bytes → IsRun 0 passage journal outcome → journal ≡ closing_entry ∷ []
 source_failed passage journal (Err SourceFault) bytes is before after run =
     let left : bytes ≡ run.left = subst (λ o. IfSome o (λ rest. rest ≡ run.left)) after run.leaves in
     let all = told_input _ _ bytes run.taken run.left before run.gives run.leaves in
@@ -107,10 +109,10 @@ two_before a b c d (x ∷ y ∷ z ∷ sent) last is =
 pub third_write_fails : ThirdWriteFails
 third_write_fails before after gained none some cut =
     let parts = two_before opening (insertion (97 ∷ [])) unsent_insertion closing_entry cut.sent cut.last cut.cut in
-    let bytes : cut.bytes ≡ opening_bytes ++ first_bytes = cut.shows.pieces ∙ ap (written (first_session alone_terms)) parts.0 ∙ first_insertion in
+    let bytes : cut.bytes ≡ opening_bytes ++ first_bytes = ∥∥₁_elim cut.shows (Coded-set (coded_list coded_ℕ) _ _) (λ shows. shows.pieces) ∙ ap (written (first_session (terms_for 0))) parts.0 ∙ first_insertion in
     let At : Option (List ℕ) → Option (List ℕ) → Type 0 = λ from to. Gains from to (cut.bytes ++ cut.part) in
     let all : gained ≡ cut.bytes ++ cut.part = subst (At (Some [])) some (subst (λ from. At from after.held) none cut.gains) in
-    let Proper : List Entry → Entry → Type 0 = λ sent last. IsProperPart cut.part (piece_after alone_terms sent last) in (
+    let Proper : List Entry → Entry → Type 0 = λ sent last. IsProperPart cut.part (piece_after (terms_for 0) sent last) in (
       cut.part,
       all ∙ ap (λ b. b ++ cut.part) bytes,
       subst (Proper (opening ∷ insertion (97 ∷ []) ∷ [])) parts.1 (subst (λ sent. Proper sent cut.last) parts.0 cut.proper),
@@ -136,7 +138,7 @@ long : 10 < length opening_line
 long = omega arith
 
 half_run : (passage : Passage) (entry : Entry) (outcome : Outcome) → passage.before.source.left ≡ Some opening_line →
-    passage.after.source.left ≡ Some (drop 10 opening_line) → IsRun passage (entry ∷ closing_entry ∷ []) outcome → ⊥
+    passage.after.source.left ≡ Some (drop 10 opening_line) → IsRun 0 passage (entry ∷ closing_entry ∷ []) outcome → ⊥
 half_run passage entry outcome before after run =
     let left : drop 10 opening_line ≡ run.left = subst (λ o. IfSome o (λ rest. rest ≡ run.left)) after run.leaves in
     let all = told_input _ _ opening_line run.taken run.left before run.gives run.leaves in

@@ -1,5 +1,5 @@
 -- Worked rows: what a session writes, what a run comes to, and what is none.
-use Rattle.xi_top.specs.Alone.{alone_terms}
+use Rattle.xi_top.specs.Alone.{terms_for}
 use Rattle.std.specs.Prelude.{◌≡◌, ℕ, ◌^◌, pos, List, [], ◌∷◌, ◌++◌, drop, map, codes, true, false, Some, None}
 use Rattle.xi_plain.specs.declared.command.Id.{Id}
 use Rattle.xi_plain.specs.declared.command.Id.TheVariants.{NoId, Num}
@@ -60,11 +60,11 @@ third_bytes =
 
 -- the first view is answered, and has one empty line with the caret; the closing entry writes nothing
 abbrev pub FirstView : Type 0
-FirstView = written (first_session alone_terms) (opening ∷ closing_entry ∷ []) ≡ opening_bytes
+FirstView = written (first_session (terms_for 0)) (opening ∷ closing_entry ∷ []) ≡ opening_bytes
 
 -- an insertion after it tells its line, and where the caret is
 abbrev pub FirstInsertion : Type 0
-FirstInsertion = written (first_session alone_terms) (opening ∷ insertion (97 ∷ []) ∷ []) ≡ opening_bytes ++ first_bytes
+FirstInsertion = written (first_session (terms_for 0)) (opening ∷ insertion (97 ∷ []) ∷ []) ≡ opening_bytes ++ first_bytes
 
 -- an update of a second view
 abbrev pub second_view_bytes : List ℕ
@@ -77,13 +77,13 @@ pub record StrangeNotes : Type 0 where
 
 -- each of three insertions tells its line and where the caret is; the last begins a line
 abbrev pub ThreeInsertions : Type 0
-ThreeInsertions = written (session_of alone_terms (opening ∷ [])) (insertion (97 ∷ []) ∷ insertion (233 ∷ []) ∷ insertion (10 ∷ []) ∷ []) ≡
+ThreeInsertions = written (session_of (terms_for 0) (opening ∷ [])) (insertion (97 ∷ []) ∷ insertion (233 ∷ []) ∷ insertion (10 ∷ []) ∷ []) ≡
     first_bytes ++ (second_bytes ++ third_bytes)
 
 -- a run whose first read fails has the closing entry alone
 abbrev pub FirstReadFails : Type 0
 FirstReadFails = (passage : Passage) (journal : List Entry) (bytes : List ℕ) → passage.before.source.left ≡ Some bytes →
-    passage.after.source.left ≡ Some bytes → RunsAlone passage journal 4 → journal ≡ closing_entry ∷ []
+    passage.after.source.left ≡ Some bytes → RunsAlone 0 passage journal 4 → journal ≡ closing_entry ∷ []
 
 -- an insertion that was not sent
 abbrev pub unsent_insertion : Entry
@@ -92,9 +92,9 @@ unsent_insertion = record (insertion (233 ∷ [])) { sent = false }
 -- where the third of three entries was not sent, the sink holds what the first two write, and a part of the third piece
 abbrev pub ThirdWriteFails : Type 0
 ThirdWriteFails = (before after : SinkState) (gained : List ℕ) → before.held ≡ Some [] → after.held ≡ Some gained →
-    IsCutOff before after (opening ∷ (insertion (97 ∷ []) ∷ (unsent_insertion ∷ (closing_entry ∷ [])))) →
+    IsCutOff (terms_for 0) before after (opening ∷ (insertion (97 ∷ []) ∷ (unsent_insertion ∷ (closing_entry ∷ [])))) →
     (part : List ℕ) × (gained ≡ (opening_bytes ++ first_bytes) ++ part) ×
-    IsProperPart part (piece_after alone_terms (opening ∷ insertion (97 ∷ []) ∷ []) unsent_insertion)
+    IsProperPart part (piece_after (terms_for 0) (opening ∷ insertion (97 ∷ []) ∷ []) unsent_insertion)
 
 -- a line of the input
 abbrev pub opening_line : List ℕ
@@ -103,7 +103,7 @@ opening_line = codes "{\"id\":0,\"method\":\"new_view\"}\n"
 -- no run that took the first ten bytes of it alone has an entry, whatever that is: half a line is none
 abbrev pub HalfLine : Type 0
 HalfLine = (passage : Passage) (entry : Entry) → passage.before.source.left ≡ Some opening_line →
-    passage.after.source.left ≡ Some (drop 10 opening_line) → RunsAlone passage (entry ∷ closing_entry ∷ []) 3 → ⊥
+    passage.after.source.left ≡ Some (drop 10 opening_line) → RunsAlone 0 passage (entry ∷ closing_entry ∷ []) 3 → ⊥
 
 -- an entry of the plugin with this number
 abbrev pub entry_by : ℕ → Id → Act → Entry

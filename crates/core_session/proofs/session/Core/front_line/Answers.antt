@@ -1,29 +1,26 @@
-use Rattle.std.proofs.Common.{refl, sym, ◌∙◌, subst}
-use Rattle.front_wire.specs.Front.{command_of}
-use Rattle.session_step.specs.declared.terms.Terms.{Terms}
-use Rattle.core_session.specs.Core.{ComesTo, IsServing, outlets_of}
-use Rattle.core_session.proofs.KeptLemmas.{absurd_of, open_not_over, over_of}
+use Rattle.std.proofs.Common.{refl, sym, ◌∙◌}
+use Rattle.core_session.proofs.KeptLemmas.{over_of, stage_serves}
+use Rattle.xi_plain.specs.declared.ask.Ask.TheVariants.{FrontLine}
+use Rattle.core_session.specs.GrownLaws.{IsGrown-same}
+use Rattle.core_session.proofs.ServesLemmas.{serves_late, never}
+use Rattle.core_session.specs.Kept.{is_over}
 use Rattle.core_session.proofs.session.Core.front_line.Goals as goal
 
-pub returns-in-Broken-clause-closed : goal.returns-in-Broken-clause-closed
-returns-in-Broken-clause-closed g c =
-    let over = over_of c.args.self.now.journal.items c.args.self.now.stage c.args.self.now.staged c.in-Broken.is in
-    ((λ is. over), λ is. refl)
-
-pub returns-in-Broken-clause-served : goal.returns-in-Broken-clause-served
-returns-in-Broken-clause-served g c = λ terms serving.
-    let journal = c.args.self.now.journal.items in
-    let over = over_of journal c.args.self.now.stage c.args.self.now.staged c.in-Broken.is in
-    absurd_of (sym (open_not_over terms.plugins journal serving.sent) ∙ over)
-
-pub returns-in-Broken-clause-complete : goal.returns-in-Broken-clause-complete
-returns-in-Broken-clause-complete g c = λ calm goes.
-    absurd_of (sym goes ∙ over_of c.args.self.now.journal.items c.args.self.now.stage c.args.self.now.staged c.in-Broken.is)
-
-pub returns-in-Serves-clause-served : goal.returns-in-Serves-clause-served
-returns-in-Serves-clause-served g c = λ terms serving.
+pub returns-in-Broken-clause-serves : goal.returns-in-Broken-clause-serves
+returns-in-Broken-clause-serves g c =
     let core = c.args.self.now in
-    let tell = outlets_of g.K.Sink.held g.K.Sink.faults g.K.Sink.failures g.H.Shelf.files g.H.Shelf.faults in
-    let At : Terms → Type 0 = λ t. ComesTo t tell core c.take_line.new.self (command_of c.args.line.now) c.take_line.result in
-    let Serving : Terms → Type 0 = λ t. IsServing t core in
-    subst At serving.made_with (c.take_line.ensures.served (subst Serving (sym serving.made_with) serving))
+    serves_late core.terms core.journal.items 0 (FrontLine c.args.line.now) _ (over_of core.journal.items core.stage core.staged c.in-Broken.is) refl
+
+pub returns-in-Broken-clause-grown : goal.returns-in-Broken-clause-grown
+returns-in-Broken-clause-grown g c = IsGrown-same _
+
+pub returns-in-Serves-clause-serves : goal.returns-in-Serves-clause-serves
+returns-in-Serves-clause-serves g c = c.take_line.ensures.serves
+
+pub returns-in-Serves-clause-grown : goal.returns-in-Serves-clause-grown
+returns-in-Serves-clause-grown g c = c.take_line.ensures.grown
+
+pub returns-in-Serves-clause-stays : goal.returns-in-Serves-clause-stays
+returns-in-Serves-clause-stays g c = λ is.
+    let core = c.args.self.now in
+    never (is_over core.journal.items) (stage_serves core.journal.items (sym c.in-Serves.is ∙ core.staged)) (c.take_line.ensures.serves.closed.0 is)
