@@ -1,0 +1,2 @@
+mod ReadyLemmas
+mod VisitLemmas
