@@ -54,18 +54,18 @@ told_input before after bytes taken left is gives leaves = by after (subst (λ b
     by None gives leaves = absurd gives
     by (Some rest) gives leaves = gives ∙ ap (λ r. taken ++ r) leaves
 
-ends_well : (passage : Passage) (journal : List Entry) (outcome : Outcome) → IsRun passage journal outcome → IsCalm passage → EndsWell (status_of outcome)
-ends_well passage journal (Ok done) run calm = inl refl
-ends_well passage journal (Err NoMemory) run calm = inr refl
-ends_well passage journal (Err SourceFault) run calm = absurd (calm.source_calm run.source_failed)
-ends_well passage journal (Err SinkFault) run calm = absurd (calm.sink_calm run.written.rose)
-ends_well passage journal (Err TooMany) run calm =
+ends_well : (plugins : ℕ) (passage : Passage) (journal : List Entry) (outcome : Outcome) → IsRun plugins passage journal outcome → IsCalm passage → EndsWell (status_of outcome)
+ends_well plugins passage journal (Ok done) run calm = inl refl
+ends_well plugins passage journal (Err NoMemory) run calm = inr refl
+ends_well plugins passage journal (Err SourceFault) run calm = absurd (calm.source_calm run.source_failed)
+ends_well plugins passage journal (Err SinkFault) run calm = absurd (calm.sink_calm run.written.rose)
+ends_well plugins passage journal (Err TooMany) run calm =
     let input = told_input _ _ calm.bytes run.taken run.left calm.input run.gives run.leaves in
     absurd (not_many run.taken run.left run.lines.lines run.lines.later (subst IsModest input calm.modest) run.lines.first run.lines.so_many)
-ends_well passage journal (Err TooLong) run calm =
+ends_well plugins passage journal (Err TooLong) run calm =
     let input = told_input _ _ calm.bytes run.taken run.left calm.input run.gives run.leaves in
     absurd (not_long run.taken run.left run.lines.lines (subst IsModest input calm.modest) run.lines.so_many)
 
-pub EndsWell-calm : (passage : Passage) (journal : List Entry) (status : ℕ) → RunsAlone passage journal status → IsCalm passage → EndsWell status
-EndsWell-calm passage journal status (inl (outcome, is, run)) calm = subst EndsWell (sym is) (ends_well passage journal outcome run calm)
-EndsWell-calm passage journal status (inr (is, none)) calm = inr is
+pub EndsWell-calm : (plugins : ℕ) (passage : Passage) (journal : List Entry) (status : ℕ) → RunsAlone plugins passage journal status → IsCalm passage → EndsWell status
+EndsWell-calm plugins passage journal status (inl (outcome, is, run)) calm = subst EndsWell (sym is) (ends_well plugins passage journal outcome run calm)
+EndsWell-calm plugins passage journal status (inr (is, none)) calm = inr is

@@ -1,7 +1,14 @@
 pub mod LineLemmas
 pub mod IntakeLemmas
 pub mod EnterLemmas
+pub mod CoreLemmas
+pub mod WrittenLemmas
+pub mod CloseLemmas
+pub mod TurnLemmas
+pub mod RanLemmas
+pub mod ClosedLemmas
 pub mod CalmLemmas
 pub mod RunLemmas
+pub mod UnstartedLemmas
 pub mod ReadLemmas
 pub mod ForCallers

@@ -1,7 +1,7 @@
--- What a session is made with that serves one front end alone.
-use Rattle.std.specs.Prelude.{◌^◌}
+-- What a session is made with that serves one front end and some plugins.
+use Rattle.std.specs.Prelude.{ℕ, ◌^◌}
 use Rattle.session_step.specs.declared.terms.Terms.{Terms}
 
--- no plugin, and at most so many characters that are inserted into each document
-abbrev pub alone_terms : Terms
-alone_terms = record { plugins = 0; limit = 2 ^ 40 }
+-- so many plugins, and at most so many characters that are inserted into each document
+abbrev pub terms_for : ℕ → Terms
+terms_for plugins = record { plugins = plugins; limit = 2 ^ 40 }

@@ -1,5 +1,5 @@
 -- How a run ends, and the status that says so.
-use Rattle.std.specs.Prelude.{ℕ, ◌^◌, Result, Ok, Err}
+use Rattle.std.specs.Prelude.{ℕ, ◌^◌, Bool, if◌then◌else◌, Result, Ok, Err}
 use Rattle.xi_top.specs.declared.ending.Ending.{Ending}
 use Rattle.xi_top.specs.declared.ending.Ending.TheVariants.{NoMemory, SourceFault, SinkFault, TooMany, TooLong}
 
@@ -22,3 +22,8 @@ status_of (Err SourceFault) = 4
 status_of (Err SinkFault) = 5
 status_of (Err TooMany) = 6
 status_of (Err TooLong) = 7
+
+-- how a run ended that ended so, by whether every entry of its journal was sent: one that was not ends it for that, and not with its input
+abbrev pub settled : Outcome → Bool → Outcome
+settled (Ok done) sent = if sent then Ok done else Err SinkFault
+settled (Err ending) sent = Err ending

@@ -1,77 +1,72 @@
 -- What private functions say: how a run goes on within the bytes of a read, and how it stops.
-use Rattle.xi_top.specs.Alone.{alone_terms}
-use Rattle.std.specs.Prelude.{◌≡◌, ℕ, ◌+◌, ◌*◌, ◌<◌, ◌≤◌, List, [], ◌∷◌, ◌++◌, length, IfSome, Ok, Err, ⊤}
+use Rattle.std.specs.Prelude.{◌≡◌, ℕ, ◌+◌, ◌*◌, ◌<◌, ◌≤◌, Bool, true, false, List, [], ◌∷◌, ◌++◌, length, Ok, Err, ⊤, ◌⊎◌}
 use Rattle.std.specs.List.{AllByRecursion}
-use Rattle.xi_plain.specs.declared.command.Command.{Command}
-use Rattle.xi_plain.specs.declared.reply.Reply.{Reply}
-use Rattle.xi_plain.specs.declared.reply.Reply.TheVariants as reply
-use Rattle.outside.specs.Faults.{counted}
-use Rattle.outside.specs.Source.{SourceState, Gives}
+use Rattle.front_wire.specs.Front.{command_of}
 use Rattle.xi_plain.specs.declared.entry.Entry.{Entry}
-use Rattle.core_session.specs.declared.session.Core.{Core}
-use Rattle.core_session.specs.Core.{AddsSentEntry, AddsUnsentEntry, ChangesNothing, IsServing, Outlets, journal_of}
-use Rattle.xi_top.specs.declared.step.Run.{Run}
+use Rattle.xi_plain.specs.Journal.{front_entries}
+use Rattle.core_session.specs.Kept.{is_over}
+use Rattle.plugin_crew.specs.declared.took.Took.{Took}
+use Rattle.plugin_crew.specs.declared.took.Took.TheVariants as took
+use Rattle.xi_top.specs.declared.feed.Intake.{Intake}
 use Rattle.xi_top.specs.declared.step.Stepped.{Stepped}
 use Rattle.xi_top.specs.declared.step.Stepped.TheVariants.{Goes, Ends}
 use Rattle.xi_top.specs.declared.ending.Ending.{Ending}
-use Rattle.xi_top.specs.declared.ending.Ending.TheVariants.{NoMemory, SourceFault, SinkFault, TooMany, TooLong}
+use Rattle.xi_top.specs.declared.ending.Ending.TheVariants.{NoMemory, SinkFault, TooMany, TooLong}
 use Rattle.xi_top.specs.Ending.{Outcome, most_lines, too_long}
-use Rattle.xi_top.specs.Run.{Outside, HasFailedIf}
-pub use Rattle.xi_top.specs.Step.{Begun, begun_of, IsSmall, IsWhole, HasTaken, HasAnswered, IsNoSourceFault, Start, Stops, Finishes, run_journal, start_of}
-use Rattle.xi_top.specs.InTime.{Moment, IsAnswered, AreMoments, IsLastRead}
+pub use Rattle.xi_top.specs.Step.{AsksOnce, Begun, begun_of, IsSmall, HasTaken, HasAnswered, IsCutBy, IsNoSourceFault, Stops, Finishes}
 
 -- a number that rises with each byte that is taken
 abbrev pub weight : Begun → ℕ
 weight begun = 16_777_216 * begun.count + length begun.bytes
 
 -- the run goes on after these bytes, or it stopped, whatever is left
-abbrev pub GoesOn : {K H : Type 0} → (Core K H → Outlets) → Start → List ℕ → Core K H → Begun → Outcome → Type 0
-GoesOn tell start taken core begun (Ok done) = HasTaken tell start taken core begun
-GoesOn tell start taken core begun (Err ending) =
-    IsNoSourceFault (Err ending) × ((more : List ℕ) → Stops tell start taken more core (Err ending))
+abbrev pub GoesOn : List Entry → List ℕ → Begun → Outcome → Type 0
+GoesOn journal taken begun (Ok done) = HasTaken journal taken begun
+GoesOn journal taken begun (Err ending) =
+    IsNoSourceFault (Err ending) × ((more : List ℕ) → Stops journal taken more (Err ending))
 
--- a run that goes on takes lines, has room for the line that it began, and weighs more by the bytes that it took
-pub record IsFed {K H : Type 0} (core : Core K H) (old new : Begun) (bytes : List ℕ) : Type 0 where
-  pub serving : IsServing alone_terms core
+-- a run that goes on has room for the line that it began, and weighs more by the bytes that it took
+pub record IsFed (old new : Begun) (bytes : List ℕ) : Type 0 where
   pub small : IsSmall new
   pub heavier : weight old + length bytes ≤ weight new
 
 -- a run that goes on weighs more
-abbrev pub IsHeavier : {K H : Type 0} → Run K H → Run K H → Type 0
-IsHeavier old new = weight (begun_of old.intake) < weight (begun_of new.intake)
+abbrev pub IsHeavier : Intake → Intake → Type 0
+IsHeavier old new = weight (begun_of old) < weight (begun_of new)
 
 -- what a step comes to whose bytes were taken so
 abbrev pub step_after : Outcome → Stepped
 step_after (Ok done) = Goes
 step_after (Err ending) = Ends (Err ending)
 
--- nothing was changed, and the sink tells what it told
-abbrev pub KeepsAll : {K H : Type 0} → (Core K H → Outlets) → Core K H → Core K H → Type 0
-KeepsAll tell old new = ChangesNothing alone_terms tell old new × ((tell new).sink ≡ (tell old).sink)
+-- ---- one line
 
--- why a line was not taken
-abbrev pub FailsBy : {K H : Type 0} → (Core K H → Outlets) → Core K H → Core K H → Command → Ending → Type 0
-FailsBy tell old new command SinkFault = (n : ℕ) × AddsUnsentEntry alone_terms tell old new command n
-FailsBy tell old new command NoMemory = KeepsAll tell old new
-FailsBy tell old new command ending = ⊥
+-- the front end has one entry more, which asks what the line does, and was sent or not
+pub record IsEntry (old new : List Entry) (line : List ℕ) (sent : Bool) : Type 0 where
+  pub entry : Entry
+  pub added : front_entries new ≡ front_entries old ++ entry ∷ []
+  pub asks : entry.command ≡ command_of line
+  pub sent_is : entry.sent ≡ sent
 
--- the command was taken, or it was not
-abbrev pub Enters : {K H : Type 0} → (Core K H → Outlets) → Core K H → Core K H → Command → Outcome → Type 0
-Enters tell old new command (Ok done) = AddsSentEntry alone_terms tell old new command
-Enters tell old new command (Err ending) = FailsBy tell old new command ending
+-- why a line was not taken: for a fault of the sink, of its own entry or one before it; or for want of memory
+abbrev pub FailsBy : List Entry → List Entry → List ℕ → Ending → Type 0
+FailsBy old new line SinkFault = (is_over new ≡ true) × (IsEntry old new line false ⊎ (front_entries new ≡ front_entries old))
+FailsBy old new line NoMemory = front_entries new ≡ front_entries old
+FailsBy old new line ending = ⊥
 
--- what a session that takes lines answers one
-abbrev pub IsAnswer : Reply → Type 0
-IsAnswer (reply.Refused line) = ⊥
-IsAnswer reply.Closed = ⊥
-IsAnswer told = ⊤
+-- the line was taken, or it was not
+abbrev pub Enters : List Entry → List Entry → List ℕ → Outcome → Type 0
+Enters old new line (Ok done) = IsEntry old new line true
+Enters old new line (Err ending) = FailsBy old new line ending
 
--- how a run ends by that, if it does
-abbrev pub IsToldBy : Reply → Outcome → Type 0
-IsToldBy (reply.Taken line) outcome = outcome ≡ Ok tt
-IsToldBy reply.SinkFault outcome = outcome ≡ Err SinkFault
-IsToldBy reply.NoMemory outcome = outcome ≡ Err NoMemory
-IsToldBy told outcome = ⊥
+-- how a run ends by what came of a line, if it does
+abbrev pub ended_by : Took → Outcome
+ended_by took.Taken = Ok tt
+ended_by took.Fault = Err SinkFault
+ended_by took.Closed = Err SinkFault
+ended_by took.NoMemory = Err NoMemory
+
+-- ---- bytes
 
 -- why bytes were not kept
 abbrev pub KeepsNot : List ℕ → Ending → Type 0
@@ -102,42 +97,3 @@ EndsLine bytes = (front : List ℕ) × (bytes ≡ front ++ 10 ∷ []) × AllByRe
 -- no byte is an LF
 abbrev pub HasNoEnd : List ℕ → Type 0
 HasNoEnd bytes = AllByRecursion (λ b. b ≡ 10 → ⊥) bytes
-
--- how often the source failed, by how the run ended
-abbrev pub FailsOnceIf : Outcome → SourceState → SourceState → Type 0
-FailsOnceIf (Err SourceFault) before after = after.failures ≡ counted before.failures
-FailsOnceIf outcome before after = after.failures ≡ before.failures
-
--- the moments of a run so far that has this journal, the latest first
-pub record IsInTime (start : Outside) (journal : List Entry) (latest : Moment) : Type 0 where
-  pub earlier : List Moment
-  pub one_a_read : AreMoments start (latest ∷ earlier)
-  pub answered : AllByRecursion (IsAnswered start journal) (latest ∷ earlier)
-
--- what a source and the outlets of a session tell, put together
-abbrev pub all_tell : SourceState → Outlets → Outside
-all_tell source outlets = record { source = source; sink = outlets.sink; shelf = outlets.shelf }
-
--- a run so far: what it took, and its moments, of which the latest is now
-pub record IsSoFar {S K H : Type 0} (tell_source : S → SourceState) (tell : Core K H → Outlets) (first : Outlets) (before now : S) (run : Run K H) : Type 0 where
-  pub taken : List ℕ
-  pub answered : HasAnswered tell (start_of first) taken run
-  pub gives : Gives (tell_source before).left (tell_source now).left taken
-  pub stays : (tell_source before).faults ≤ (tell_source now).faults
-  pub failures : (tell_source now).failures ≡ (tell_source before).failures
-  pub in_time : IsInTime (all_tell (tell_source before) first) (run_journal run)
-      (record { taken = taken; outside = all_tell (tell_source now) (tell run.core) })
-
--- a source was served from here to where the run stopped
-pub record IsServed {S K H : Type 0} (tell_source : S → SourceState) (tell : Core K H → Outlets) (before after : S) (old new : Core K H) (outcome : Outcome) : Type 0 where
-  pub taken : List ℕ
-  pub left : List ℕ
-  pub gives : Gives (tell_source before).left (tell_source after).left taken
-  pub leaves : IfSome (tell_source after).left (λ bytes. bytes ≡ left)
-  pub stops : Stops tell (start_of (tell old)) taken left new outcome
-  pub source_failed : HasFailedIf outcome (tell_source before) (tell_source after)
-  pub stays : (tell_source before).faults ≤ (tell_source after).faults
-  pub source_failures : FailsOnceIf outcome (tell_source before) (tell_source after)
-  pub latest : Moment
-  pub in_time : IsInTime (all_tell (tell_source before) (tell old)) (journal_of new) latest
-  pub last : IsLastRead latest (tell_source after)

@@ -2,8 +2,12 @@ pub mod Alone
 pub mod Ending
 pub mod Lines
 pub mod Written
+pub mod Reads
+pub mod Turns
 pub mod Run
 pub mod Step
+pub mod Served
 pub mod InTime
 pub mod Calm
+pub mod Unstarted
 pub mod InnerRun

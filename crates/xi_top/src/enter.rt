@@ -1,30 +1,30 @@
-ghost use Rattle.xi_top.specs.Alone.{alone_terms};
-ghost use Rattle.front_wire.specs.Front.{command_of};
-ghost use Rattle.core_session.specs.Core.{IsServing, outlets_of};
-ghost use Rattle.xi_top.specs.InnerRun.{Enters, IsAnswer, IsToldBy};
+ghost use Rattle.std.specs.Prelude.{◌≡◌};
+ghost use Rattle.plugin_crew.specs.declared.took.Took.{Took};
+ghost use Rattle.xi_top.specs.Reads.{ReadsLines};
+ghost use Rattle.xi_top.specs.InnerRun.{Enters, ended_by};
 
 use crate::ending::Ending;
-use core_session::{Core, Reply};
-use outside::{Shelf, Sink};
+use plugin_crew::{LineTaker, Took};
+use xi_plain::Bytes;
 
-/// Enters a line. After an `Err` it was not taken, or not answered whole, and the run ends so.
-pub fn enter<K: Sink, H: Shelf>(core: &mut Core<K, H>, line: &[u8]) -> Result<(), Ending>
-    requires { IsServing alone_terms core.old }
-    ensures { Enters (outlets_of K.held K.faults K.failures H.files H.faults) core.old core.new (command_of line.now) result }
+/// Enters a line. After an `Err` it was not taken, or its entry was not sent, and the run ends so.
+pub fn enter<L: LineTaker>(taker: &mut L, line: Bytes) -> Result<(), Ending>
+    requires ready { L.ready taker.old }
+    requires reads { ReadsLines (L.serves taker.old) }
+    ensures ready { L.ready taker.new }
+    ensures later { L.later taker.old taker.new }
+    ensures entered { Enters (L.seen taker.old) (L.seen taker.new) line result }
 {
-    let reply = core.front_line(line);
-    told_by(&reply)
+    ended_by(taker.take(line))
 }
 
-/// How a run ends by the answer to a line, if it does.
-fn told_by(reply: &Reply) -> Result<(), Ending>
-    requires { IsAnswer reply.now }
-    ensures { IsToldBy reply.now result }
+/// How a run ends by what came of a line, if it does.
+fn ended_by(took: Took) -> Result<(), Ending>
+    ensures { result ≡ ended_by took }
 {
-    match reply {
-        Reply::Taken(_) => Ok(()),
-        Reply::SinkFault => Err(Ending::SinkFault),
-        Reply::NoMemory => Err(Ending::NoMemory),
-        Reply::Refused(_) | Reply::Closed => unreachable!(),
+    match took {
+        Took::Taken => Ok(()),
+        Took::Fault | Took::Closed => Err(Ending::SinkFault),
+        Took::NoMemory => Err(Ending::NoMemory),
     }
 }

@@ -3,13 +3,13 @@ use Rattle.xi_top.proofs.RunLemmas.{HasCauses-run, HoldsSaves-run, IsWrittenByCo
 use Rattle.xi_top.proofs.run.run_alone.Goals as goal
 
 pub returns-clause-causes : goal.returns-clause-causes
-returns-clause-causes g c = HasCauses-run _ _ _ c.run.ensures.alone
+returns-clause-causes g c = HasCauses-run _ _ _ _ c.run.ensures.alone
 
 pub returns-clause-saves : goal.returns-clause-saves
-returns-clause-saves g c = HoldsSaves-run _ _ _ c.run.ensures.alone
+returns-clause-saves g c = HoldsSaves-run _ _ _ _ c.run.ensures.alone
 
 pub returns-clause-writes : goal.returns-clause-writes
-returns-clause-writes g c = IsWrittenByCount-run _ _ _ c.run.ensures.alone
+returns-clause-writes g c = IsWrittenByCount-run _ _ _ _ c.run.ensures.alone
 
 pub returns-clause-complete : goal.returns-clause-complete
-returns-clause-complete g c = EndsWell-calm _ _ _ c.run.ensures.alone
+returns-clause-complete g c = EndsWell-calm _ _ _ _ c.run.ensures.alone
