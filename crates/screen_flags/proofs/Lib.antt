@@ -1,0 +1,6 @@
+mod CutLemmas
+pub mod ForCallers
+mod LawLemmas
+mod NextLemmas
+mod SameLemmas
+mod ToldLemmas

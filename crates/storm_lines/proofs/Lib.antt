@@ -1,0 +1,7 @@
+mod DrawLemmas
+pub mod ForCallers
+mod PushLemmas
+mod ReadLemmas
+mod WholeLemmas
+mod LineLemmas
+mod SummaryLemmas

@@ -1,0 +1,4 @@
+mod PieceLemmas
+mod ScreenLemmas
+mod StormLemmas
+mod SummaryLemmas

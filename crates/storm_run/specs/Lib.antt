@@ -1,0 +1,4 @@
+pub mod Inner
+pub mod Runs
+pub mod Storm
+pub mod Summary
