@@ -9,5 +9,5 @@ mod words;
 use std::process::ExitCode;
 
 fn main(rt: HostRuntime) -> ExitCode {
-    program::status(&rt)
+    program::status(&rt, &rt)
 }

@@ -5,12 +5,20 @@ use crate::words::Invocation;
 
 const VERSION: &str = "xi_core 0.1.0";
 
-const USAGE: &str = "usage: xi_core alone";
+const USAGE: &str = "usage: xi_core [alone | storm N SEED]";
 
-const HELP: &str = "usage: xi_core alone
+const HELP: &str = "usage: xi_core [alone | storm N SEED]
 
-Serves one front end: reads its JSON lines from standard input, and answers on standard output.
-Files are read and written under the paths that it names; a relative one counts from where the core was started.
+Without words it serves one front end: reads its JSON lines from standard input, and answers on standard output.
+The front end is served on the first thread, and each plugin on a thread of its own; the output is written by whichever entry comes.
+With alone all are served on one thread: after each line each plugin has its turn, and then the next line is read.
+Files are opened and saved under the paths that it names; a relative one counts from where the core was started.
+A plugin marks each TODO in bold, in the first 1,048,576 bytes of a text.
+
+storm N SEED types N lines of its own, at most 1,000,000, drawn by SEED, below 2^64, and tells what they came to.
+All is in memory: nothing is read, and no file is opened. A plugin types a * beside them after each eighth update.
+
+With --no-plugins before these words there is no plugin.
 Ends with status 0 at the input's end; 2 for other words; 3 where memory runs out; 4 and 5 where
 the input or the output failed; 6 after 2^40 lines; 7 for a line of 2^24 bytes without LF.
 
@@ -30,7 +38,7 @@ pub fn text_of(invocation: Invocation) -> &'static str
     match invocation {
         Invocation::Help => HELP,
         Invocation::Version => VERSION,
-        Invocation::Methods | Invocation::Alone => "",
+        Invocation::Methods | Invocation::Run(_, _) => "",
         Invocation::Misused => USAGE,
     }
 }

@@ -1,12 +1,13 @@
 ghost use Rattle.std.specs.Prelude.{◌≡◌, ◌↔◌, [], ◌∷◌, IsTrue, IfOk, codes, drop, map, string_bytes};
 ghost use Rattle.std.specs.Str.{chars};
 ghost use Rattle.std.specs.Vec.Iter.{into_iter_items};
-ghost use Rattle.xi_core.specs.Words.{AsksFor};
+ghost use Rattle.xi_core.specs.Words.{AsksFor, run_of};
 
 use plain_text::{List, NoMemory, Text, Texts};
 use std::alloc::Global;
 use std::rt::Env;
 use std::{env, io};
+use xi_forms::{Form, form_of};
 
 /// What the words ask of the program.
 #[derive(Clone, Copy)]
@@ -15,10 +16,18 @@ pub enum Invocation {
     Version,
     /// The table of methods.
     Methods,
-    /// A run that serves one front end.
-    Alone,
+    /// A run of this form, beside these plugins.
+    Run(Form, Handed),
     /// They are no form.
     Misused,
+}
+
+/// The plugins that a run is handed.
+#[derive(Clone, Copy)]
+pub enum Handed {
+    /// The one that ships for its form.
+    Shipped,
+    Nothing,
 }
 
 /// The words after the program's name, one text each; one empty word where they can't be read as text.
@@ -60,7 +69,7 @@ fn one_empty(alloc: Global) -> Result<Texts, NoMemory>
     Ok(words)
 }
 
-/// What the words ask for: each form is one word.
+/// What the words ask for: a run by the words of its form, before which it may be told to go without plugins.
 pub fn invocation_of(words: &[Text]) -> Invocation
     ensures { AsksFor words.now result }
 {
@@ -68,8 +77,18 @@ pub fn invocation_of(words: &[Text]) -> Invocation
         [word] if is_help(word) => Invocation::Help,
         [word] if is_version(word) => Invocation::Version,
         [word] if is_methods(word) => Invocation::Methods,
-        [word] if is_alone(word) => Invocation::Alone,
-        _ => Invocation::Misused,
+        [flag, form @ ..] if is_without(flag) => run_of(form_of(form), Handed::Nothing),
+        _ => run_of(form_of(words), Handed::Shipped),
+    }
+}
+
+/// The run of this form, if there is one.
+fn run_of(form: Option<Form>, handed: Handed) -> Invocation
+    ensures { result ≡ run_of form handed }
+{
+    match form {
+        Some(form) => Invocation::Run(form, handed),
+        None => Invocation::Misused,
     }
 }
 
@@ -91,8 +110,8 @@ fn is_methods(word: &Text) -> bool
     word.as_str() == "--methods"
 }
 
-fn is_alone(word: &Text) -> bool
-    ensures { IsTrue result ↔ (word.now ≡ codes "alone") }
+fn is_without(word: &Text) -> bool
+    ensures { IsTrue result ↔ (word.now ≡ codes "--no-plugins") }
 {
-    word.as_str() == "alone"
+    word.as_str() == "--no-plugins"
 }
