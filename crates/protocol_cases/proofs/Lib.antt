@@ -1,4 +1,5 @@
 mod CaseLemmas
-mod CutLemmas
-mod ScriptLemmas
+mod JudgeLemmas
+mod PlayerLemmas
+mod TurnLemmas
 mod VerdictLemmas

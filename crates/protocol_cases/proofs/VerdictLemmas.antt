@@ -1,34 +1,40 @@
 -- Lemmas on the first line at which two outputs differ.
 use Rattle.std.proofs.Common.{◌≡◌, ℕ, ◌+◌, ◌<◌, ◌≤◌, Bool, true, false, List, [], ◌∷◌, length, Option, None, Some, refl, ap, sym, ◌∙◌, subst, length-append, arith}
-use Rattle.std.specs.Prelude.{◌↔◌, if◌then◌else◌, ◌==◌, ⊤}
+use Rattle.std.specs.Prelude.{◌↔◌, if◌then◌else◌, ◌==◌, ⊤, option_map, unwrap_or}
 use Rattle.std.proofs.lemmas.Bool.Decides.{nat_tests}
 use Rattle.std.specs.Str.{bytes_eq}
 use Rattle.std.proofs.lemmas.Slice.Eq.{bytes_eq-Decides}
-use Rattle.std.specs.List.{concat}
+use Rattle.std.specs.List.{AllByRecursion, concat}
 use Rattle.plain_text.specs.InputLines.{lines_of}
 use Rattle.plain_text.proofs.callers.InputLemmas.{concat-lines_of}
 use Rattle.protocol_cases.specs.declared.verdict.Difference.{Difference}
-use Rattle.protocol_cases.specs.declared.verdict.Verdict.{Verdict}
-use Rattle.protocol_cases.specs.declared.verdict.Verdict.TheVariants.{Passes, BadLine, Differs, Status}
-use Rattle.protocol_cases.proofs.CutLemmas.{IsCut}
-use Rattle.protocol_cases.specs.Verdict.{first_difference, on_status}
+use Rattle.outside.specs.Shelf.{bytes_of}
+use Rattle.case_scripts.specs.declared.shelf.FileSaid.{FileSaid}
+use Rattle.protocol_cases.specs.declared.verdict.Fault.{Fault}
+use Rattle.protocol_cases.specs.declared.verdict.Fault.TheVariants.{Absent, Differs, FileCount, Present}
+use Rattle.protocol_cases.specs.declared.verdict.Place.{Place}
+use Rattle.protocol_cases.specs.declared.verdict.Place.TheVariants.{File}
+use Rattle.case_scripts.specs.Shelf.{Files, may_hold}
+use Rattle.protocol_cases.specs.Shelf.{AreAsSaid, IsAsSaid, count_after, counts, end_of}
+use Rattle.case_scripts.proofs.ForCallers.{IsCut}
+use Rattle.protocol_cases.specs.Verdict.{bytes_fault, count_fault, file_fault, files_fault, first_difference, first_of, found_fault, shelf_fault}
 
 -- ---- lines are the same exactly where there is no difference
 
 bytes_eq-same : (line : List ℕ) → bytes_eq line line ≡ true
 bytes_eq-same line = (bytes_eq-Decides line line).1 refl
 
-first_difference-same : (number : ℕ) (lines : List (List ℕ)) → first_difference number lines lines ≡ None
+pub first_difference-same : (number : ℕ) (lines : List (List ℕ)) → first_difference number lines lines ≡ None
 first_difference-same number [] = refl
 first_difference-same number (line ∷ lines) =
     ap (λ same. if same then first_difference (number + 1) lines lines else Some (record { line = number; expected = line; got = line }))
     (bytes_eq-same line) ∙ first_difference-same (number + 1) lines
 
-IsNone : Option Difference → Type 0
+unfoldable pub IsNone : {A : Type 0} → Option A → Type 0
 IsNone None = ⊤
-IsNone (Some difference) = ⊥
+IsNone (Some a) = ⊥
 
-first_difference-none : (number : ℕ) (lines others : List (List ℕ)) → IsNone (first_difference number lines others) → lines ≡ others
+pub first_difference-none : (number : ℕ) (lines others : List (List ℕ)) → IsNone (first_difference number lines others) → lines ≡ others
 unfolding IsNone
 first_difference-none number [] [] none = refl
 first_difference-none number [] (other ∷ others) none = absurd none
@@ -45,50 +51,97 @@ first_difference-none number (line ∷ lines) (other ∷ others) none =
 same_bytes : (expected got : List ℕ) → lines_of expected ≡ lines_of got → got ≡ expected
 same_bytes expected got same = sym (concat-lines_of got) ∙ ap concat (sym same) ∙ concat-lines_of expected
 
-same-none : (expected got : List ℕ) → first_difference 1 (lines_of expected) (lines_of got) ≡ None → got ≡ expected
-unfolding IsNone
-same-none expected got none = same_bytes expected got (first_difference-none 1 (lines_of expected) (lines_of got) (subst IsNone (sym none) tt))
+-- ---- a fault is told exactly where something is wrong
 
-differ-some : (expected got : List ℕ) (difference : Difference) →
-    first_difference 1 (lines_of expected) (lines_of got) ≡ Some difference → got ≡ expected → ⊥
-unfolding IsNone
-differ-some expected got difference found same =
-    subst IsNone (sym (first_difference-same 1 (lines_of expected)) ∙ ap (λ b. first_difference 1 (lines_of expected) (lines_of b)) (sym same) ∙ found) tt
+unfoldable pub IsExact : Option Fault → Type 0 → Type 0
+IsExact fault Fact = IsNone fault ↔ Fact
 
--- ---- verdicts
+pub bytes_fault-exact : (place : Place) (expected got : List ℕ) → IsExact (bytes_fault place expected got) (got ≡ expected)
+unfolding IsNone IsExact
+bytes_fault-exact place expected got = (
+  λ none. same_bytes expected got (first_difference-none 1 (lines_of expected) (lines_of got) (no_difference (first_difference 1 (lines_of expected) (lines_of got)) none)),
+  λ same. subst IsNone (ap (λ b. option_map (Differs place) (first_difference 1 (lines_of expected) (lines_of b))) (sym same))
+      (subst IsNone (ap (option_map (Differs place)) (sym (first_difference-same 1 (lines_of expected)))) tt),
+)
+  where
+    no_difference : (found : Option Difference) → IsNone (option_map (Differs place) found) → IsNone found
+    no_difference None none = tt
+    no_difference (Some difference) none = none
 
-IsPass : Verdict → Type 0
-IsPass Passes = ⊤
-IsPass (BadLine number) = ⊥
-IsPass (Differs difference) = ⊥
-IsPass (Status expected got) = ⊥
+pub first_of-exact : (a b : Option Fault) (Fact Other : Type 0) → IsExact a Fact → IsExact b Other → IsExact (first_of a b) (Fact × Other)
+unfolding IsNone IsExact
+first_of-exact None b Fact Other one other = (λ none. (one.0 tt, other.0 none), λ both. other.1 both.1)
+first_of-exact (Some fault) b Fact Other one other = (λ none. absurd none, λ both. absurd (one.1 both.0))
 
-pub differs-no_pass : (expected got : List ℕ) (status got_status : ℕ) (difference : Difference) →
-    first_difference 1 (lines_of expected) (lines_of got) ≡ Some difference →
-    (Differs difference ≡ Passes) ↔ ((got ≡ expected) × (got_status ≡ status))
-unfolding IsPass
-differs-no_pass expected got status got_status difference found =
-    (λ is. absurd (subst IsPass (sym is) tt), λ same. absurd (differ-some expected got difference found same.0))
+-- ---- files
 
-on_status-same : (status got_status : ℕ) → on_status status got_status ≡ Passes → got_status ≡ status
-unfolding IsPass
-on_status-same status got_status is =
-    elim (status == got_status) as (λ same. (status == got_status) ≡ same →
-    (if same then Passes else Status status got_status) ≡ Passes → got_status ≡ status) [
-      | true ↦ λ same pass. grind (arith, nat_tests)
-      | false ↦ λ same pass. absurd (subst IsPass (sym pass) tt)
-    ] refl is
+abbrev no_bytes : Option (List ℕ)
+no_bytes = None
 
-on_status-pass : (status got_status : ℕ) → got_status ≡ status → on_status status got_status ≡ Passes
-on_status-pass status got_status same =
-    let equal : (status == got_status) ≡ true = grind (arith, nat_tests) in
-    ap (λ test. if test then Passes else Status status got_status) equal
+-- no file is found
+none_found : (file : FileSaid) (holds : Bool) →
+    IsExact (if holds then Some (Absent file.path) else None) (no_bytes ≡ (if holds then Some file.bytes else None))
+unfolding IsNone IsExact
+none_found file true = (λ none. absurd none, λ is. absurd (subst IsNone is tt))
+none_found file false = (λ none. refl, λ is. tt)
 
-pub passes-on_status : (expected got : List ℕ) (status got_status : ℕ) (verdict : Verdict) →
-    first_difference 1 (lines_of expected) (lines_of got) ≡ None → verdict ≡ on_status status got_status →
-    (verdict ≡ Passes) ↔ ((got ≡ expected) × (got_status ≡ status))
-passes-on_status expected got status got_status verdict none is =
-    (λ pass. (same-none expected got none, on_status-same status got_status (sym is ∙ pass)), λ same. is ∙ on_status-pass status got_status same.1)
+-- one is
+some_found : (file : FileSaid) (got : List ℕ) (holds : Bool) →
+    IsExact (if holds then bytes_fault (File file.path) file.bytes got else Some (Present file.path))
+    (Some got ≡ (if holds then Some file.bytes else None))
+unfolding IsNone IsExact
+some_found file got true =
+    let exact = bytes_fault-exact (File file.path) file.bytes got in
+    (λ none. ap Some (exact.0 none), λ is. exact.1 (ap (λ o. unwrap_or o []) is))
+some_found file got false = (λ none. absurd none, λ is. absurd (subst IsNone (sym is) tt))
+
+found_fault-exact : (file : FileSaid) (found : Option (List ℕ)) → IsExact (found_fault file found) (found ≡ end_of file)
+found_fault-exact file None = none_found file (may_hold file.when)
+found_fault-exact file (Some got) = some_found file got (may_hold file.when)
+
+-- of what counts alone
+counted-exact : (does : Bool) (fault : Option Fault) (Fact : Type 0) → IsExact fault Fact →
+    IsExact (if does then fault else None) (does ≡ true → Fact)
+unfolding IsNone IsExact
+counted-exact true fault Fact exact = (λ none is. exact.0 none, λ fact. exact.1 (fact refl))
+counted-exact false fault Fact exact = (λ none is. absurd (untrue is), λ fact. tt)
+  where
+    Holds : Bool → Type 0
+    Holds true = ⊥
+    Holds false = ⊤
+
+    untrue : false ≡ true → ⊥
+    untrue is = subst Holds is tt
+
+file_fault-exact : (said : List FileSaid) (shelf : Files) (file : FileSaid) → IsExact (file_fault said shelf file) (IsAsSaid said shelf file)
+file_fault-exact said shelf file =
+    counted-exact (counts said file) (found_fault file (bytes_of shelf file.path)) (bytes_of shelf file.path ≡ end_of file)
+    (found_fault-exact file (bytes_of shelf file.path))
+
+files_fault-exact : (said : List FileSaid) (shelf : Files) (files : List FileSaid) →
+    IsExact (files_fault said shelf files) (AllByRecursion (IsAsSaid said shelf) files)
+unfolding IsNone IsExact
+files_fault-exact said shelf [] = (λ none. tt, λ all. tt)
+files_fault-exact said shelf (file ∷ files) =
+    first_of-exact (file_fault said shelf file) (files_fault said shelf files) (IsAsSaid said shelf file) (AllByRecursion (IsAsSaid said shelf) files)
+    (file_fault-exact said shelf file) (files_fault-exact said shelf files)
+
+-- ---- numbers
+
+pub number-exact : (expected got : ℕ) (fault : Fault) (same : Bool) → (expected == got) ≡ same →
+    IsExact (if same then None else Some fault) (got ≡ expected)
+unfolding IsNone IsExact
+number-exact expected got fault true is = (λ none. grind (arith, nat_tests), λ same. tt)
+number-exact expected got fault false is = (λ none. absurd none, λ same. absurd (grind (arith, nat_tests)))
+
+pub shelf_fault-exact : (said : List FileSaid) (shelf : Files) → IsExact (shelf_fault said shelf) (AreAsSaid said shelf)
+unfolding IsExact
+shelf_fault-exact said shelf =
+    let exact =
+    first_of-exact (files_fault said shelf said) (count_fault (count_after said said) (length shelf)) (AllByRecursion (IsAsSaid said shelf) said)
+    (length shelf ≡ count_after said said) (files_fault-exact said shelf said)
+    (number-exact (count_after said said) (length shelf) (FileCount (count_after said said) (length shelf)) (count_after said said == length shelf) refl) in
+    (λ none. record { each = (exact.0 none).0; count = (exact.0 none).1 }, λ are. exact.1 (are.each, are.count))
 
 -- ---- the lines that were cut off
 

@@ -1,6 +1,8 @@
-pub mod Said
-pub mod Stream
-pub mod Script
+pub mod Shelf
+pub mod Turns
+pub mod Played
+pub mod Player
+pub mod Difference
+pub mod TurnFault
 pub mod Verdict
 pub mod Case
-pub mod Inner

@@ -1,19 +1,21 @@
-ghost use Rattle.std.specs.Prelude.{◌≡◌, IfOk};
+ghost use Rattle.std.specs.Prelude.{◌≤◌, IfOk, length, vec_len};
 ghost use Rattle.xi_top.specs.Run.{RunsAlone};
-ghost use Rattle.protocol_cases.specs.Case.{IsJudged, IsCaseOutcome, IsVerdictOn, passage_between};
+ghost use Rattle.xi_top.specs.Turns.{TakesTurns};
+ghost use Rattle.protocol_cases.specs.Case.{IsJudged, IsCaseOutcome, IsVerdictOn, passage_between, told_by};
 
-use crate::script::{ReadFault, Script, read_script};
-use crate::verdict::{Verdict, judge};
-use outside::{CalmShelf, MemSink, MemSource};
-use plain_text::NoMemory;
+use crate::player::{Player, players_of};
+use crate::verdict::{Expected, Verdict, judge};
+use case_scripts::{MOST_PLUGINS, ReadFault, Script, read_script};
+use outside::{MemShelf, MemSink, MemSource};
+use plain_text::{List, NoMemory};
 use std::alloc::Global;
 use xi_top::{Report, run_alone};
 
-/// A run that was made, with a shelf without files: its source after it, and its report.
+/// A run that was made: its source after it, and its report.
 #[derive(Drop)]
 pub struct Run {
     pub source: MemSource,
-    pub report: Report<MemSink, CalmShelf>,
+    pub report: Report<MemSink, MemShelf, Player>,
 }
 
 /// What became of a case: the run, where the script could be read, and the verdict on it.
@@ -44,30 +46,57 @@ fn run_script(alloc: Global, script: Script) -> Result<Outcome, NoMemory>
         input,
         output,
         status,
+        shelf,
+        turns,
     } = script;
-    let (sink, expected) = output.into_sink(alloc);
-    let run = made(alloc, input.into_source(), sink);
-    let verdict = run.verdict(alloc, &expected, status)?;
+    let shelf_before = shelf.shelf(alloc)?;
+    let count = turns.count.min(MOST_PLUGINS);
+    let players = players_of(alloc, turns.turns.as_slice(), count)?;
+    let (sink, bytes) = output.into_sink(alloc);
+    let expected = Expected {
+        output: List::from_vec(bytes),
+        turns: turns.turns,
+        files: shelf.into_files(),
+        status,
+    };
+    let run = made(alloc, input.into_source(), sink, shelf_before, players);
+    let verdict = run.verdict(alloc, &expected)?;
     Ok(Outcome {
         run: Some(run),
         verdict,
     })
 }
 
-fn made(alloc: Global, source: MemSource, sink: MemSink) -> Run
-    ensures { RunsAlone (passage_between source sink result) result.report.journal.items result.report.status }
+fn made(
+    alloc: Global,
+    source: MemSource,
+    sink: MemSink,
+    shelf: MemShelf,
+    players: Vec<Player>,
+) -> Run
+    requires { vec_len players ≤ 64 }
+    ensures runs { RunsAlone (length players.items) (passage_between source sink shelf result) result.report.journal.items result.report.status }
+    ensures turns { TakesTurns told_by players.items result.report.plugins.items result.report.journal.items result.report.all_served }
 {
     let mut source = source;
-    let report = run_alone(alloc, &mut source, sink, CalmShelf::new(alloc));
+    let report = run_alone(alloc, &mut source, sink, shelf, players);
     Run { source, report }
 }
 
 impl Run {
-    fn verdict(&self, alloc: Global, expected: &[u8], status: u8) -> Result<Verdict, NoMemory>
-        ensures { IfOk result (λ verdict. IsVerdictOn self.now expected.now status verdict) }
+    fn verdict(&self, alloc: Global, expected: &Expected) -> Result<Verdict, NoMemory>
+        ensures { IfOk result (λ verdict. IsVerdictOn self.now expected.now verdict) }
     {
+        let shelf = self.report.shelf.files();
         match self.report.sink.bytes() {
-            Some(got) => judge(alloc, expected, status, got, self.report.status),
+            Some(got) => judge(
+                alloc,
+                expected,
+                got,
+                &self.report.plugins,
+                shelf,
+                self.report.status,
+            ),
             None => Err(NoMemory),
         }
     }

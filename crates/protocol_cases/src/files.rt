@@ -1,7 +1,7 @@
 //! The scripts of a folder.
 
 use crate::case::{Outcome, run_case};
-use crate::verdict::{Difference, Verdict};
+use crate::verdict::{Difference, Fault, Place, Verdict};
 use case_lines::content_of;
 use std::alloc::Global;
 use std::fs;
@@ -56,25 +56,53 @@ fn print_verdict(rt: &HostRuntime, name: &str, verdict: &Verdict) -> anyhow::Res
     match verdict {
         Verdict::Passes => println!(rt; "pass {name}")?,
         Verdict::BadLine(line) => println!(rt; "FAIL {name}: line {line} of the script is bad")?,
-        Verdict::Status { expected, got } => {
-            println!(rt; "FAIL {name}: status {got}, expected {expected}")?;
+        Verdict::Fails(fault) => print_fault(rt, name, fault)?,
+    }
+    Ok(())
+}
+
+fn print_fault(rt: &HostRuntime, name: &str, fault: &Fault) -> anyhow::Result<()> {
+    match fault {
+        Fault::Differs(place, difference) => print_difference(rt, name, place, difference)?,
+        Fault::Absent(path) => println!(rt; "FAIL {name}: there is no file {path}")?,
+        Fault::Present(path) => println!(rt; "FAIL {name}: there is a file {path}")?,
+        Fault::FileCount { expected, got } => {
+            println!(rt; "FAIL {name}: {got} files, expected {expected}")?;
         }
-        Verdict::Differs(
-            Difference {
-                line,
-                expected,
-                got,
-            },
-        ) => {
-            println!(rt; "FAIL {name}: line {line} of the output")?;
-            println!(rt; "  expected {}", shown(rt.alloc(), expected.as_slice())?)?;
-            println!(rt; "  got      {}", shown(rt.alloc(), got.as_slice())?)?;
+        Fault::Gave { plugin, turn } => {
+            println!(rt; "FAIL {name}: what plugin {plugin} gave back in its turn {turn}")?;
+        }
+        Fault::Status { expected, got } => {
+            println!(rt; "FAIL {name}: status {got}, expected {expected}")?;
         }
     }
     Ok(())
 }
 
-/// A line of an output as it is printed.
+fn print_difference(
+    rt: &HostRuntime,
+    name: &str,
+    place: &Place,
+    difference: &Difference,
+) -> anyhow::Result<()> {
+    let Difference {
+        line,
+        expected,
+        got,
+    } = difference;
+    match place {
+        Place::Output => println!(rt; "FAIL {name}: line {line} of the output")?,
+        Place::Turn { plugin, turn } => {
+            println!(rt; "FAIL {name}: line {line} of turn {turn} of plugin {plugin}")?;
+        }
+        Place::File(path) => println!(rt; "FAIL {name}: line {line} of the file {path}")?,
+    }
+    println!(rt; "  expected {}", shown(rt.alloc(), expected.as_slice())?)?;
+    println!(rt; "  got      {}", shown(rt.alloc(), got.as_slice())?)?;
+    Ok(())
+}
+
+/// A line of an output or of a file as it is printed.
 fn shown(alloc: Global, line: &[u8]) -> anyhow::Result<String> {
     if line.is_empty() {
         return Ok(String::from_str(alloc, "nothing more")?);

@@ -2,7 +2,7 @@ use Rattle.std.proofs.Common.{◌≡◌, ◌+◌, ◌<◌, true, false, Some, le
 use Rattle.std.proofs.lemmas.Grind.{common_steps}
 use Rattle.std.proofs.lemmas.Bool.Decides.{nat_tests}
 use Rattle.std.specs.Str.{bytes_eq}
-use Rattle.protocol_cases.proofs.CutLemmas.{is_cut}
+use Rattle.case_scripts.proofs.ForCallers.{is_cut}
 use Rattle.protocol_cases.proofs.VerdictLemmas.{first_difference-other, first_difference-same_line}
 use Rattle.protocol_cases.proofs.verdict.first_difference.Goals as goal
 use Rattle.protocol_cases.proofs.verdict.first_difference.Goals.{then-not-is_empty, else-not-is_empty+then-not-is_empty-2}

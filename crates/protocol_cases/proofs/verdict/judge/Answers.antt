@@ -1,13 +1,14 @@
-use Rattle.std.proofs.Common.{sym, ◌∙◌}
-use Rattle.protocol_cases.proofs.VerdictLemmas.{differs-no_pass, passes-on_status}
+use Rattle.std.proofs.Common.{ap, sym, ◌∙◌}
+use Rattle.protocol_cases.specs.declared.verdict.Verdict.TheVariants.{Fails, Passes}
+use Rattle.protocol_cases.specs.Verdict.{verdict_from}
+use Rattle.protocol_cases.proofs.JudgeLemmas.{passes_exact}
 use Rattle.protocol_cases.proofs.verdict.judge.Goals as goal
 
 pub returns-in-Some-clause-passes : goal.returns-in-Some-clause-passes
 returns-in-Some-clause-passes c =
-    differs-no_pass c.args.expected.now c.args.got.now c.args.expected_status c.args.got_status c.in-Some.difference
-    (sym c.in_ok-difference.ensures ∙ c.in-Some.is)
+    passes_exact c.args.expected.now c.args.got.now c.args.players.now c.args.shelf.now c.args.status (Fails c.in-Some.fault)
+    (ap verdict_from (sym c.in-Some.is ∙ c.in_ok-fault.ensures))
 
-pub returns-clause-passes : goal.returns-clause-passes
-returns-clause-passes c =
-    passes-on_status c.args.expected.now c.args.got.now c.args.expected_status c.args.got_status c.on_status.result
-    (sym c.in_ok-difference.ensures ∙ c.in_default.is) c.on_status.ensures
+pub returns-in-None-clause-passes : goal.returns-in-None-clause-passes
+returns-in-None-clause-passes c =
+    passes_exact c.args.expected.now c.args.got.now c.args.players.now c.args.shelf.now c.args.status Passes (ap verdict_from (sym c.in-None.is ∙ c.in_ok-fault.ensures))

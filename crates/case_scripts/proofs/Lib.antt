@@ -1,0 +1,4 @@
+mod CutLemmas
+pub mod ForCallers
+mod ScriptLemmas
+mod TextLemmas
