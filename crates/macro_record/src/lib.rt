@@ -8,5 +8,5 @@ pub mod laws;
 mod playing;
 mod tape_source;
 
-pub use playing::{line_count, played};
+pub use playing::{cut_line, line_count, played};
 pub use tape_source::TapeSource;

@@ -87,8 +87,8 @@ fn push_line(made: &mut Vec<u8>, line: &[u8]) -> Result<(), NoMemory>
     }
 }
 
-/// The first line of an input, and what stands after it.
-fn cut_line(bytes: &[u8]) -> (&[u8], &[u8])
+/// The first line of an input, and what stands after it, with no copy.
+pub fn cut_line(bytes: &[u8]) -> (&[u8], &[u8])
     requires { 0 < length bytes.now }
     ensures lines { lines_of bytes.now ≡ result.0.now ∷ lines_of result.1.now }
     ensures shorter { length result.1.now < length bytes.now }

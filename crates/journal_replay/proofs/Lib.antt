@@ -1,0 +1,7 @@
+mod PointLemmas
+mod EnterLemmas
+mod FollowLemmas
+mod PlayLemmas
+mod ReplayLemmas
+mod ShowLemmas
+mod LawLemmas
