@@ -1,5 +1,6 @@
 //! Runs over files: what is opened, refused and saved, and what the shelf has in the end.
 
+use crate::player::no_plugins;
 use core_session::ShelfNote;
 use outside::{CalmShelf, MemShelf, MemSink, MemSource};
 use plain_text::{List, NoMemory, Text};
@@ -45,7 +46,7 @@ fn played(alloc: Global, play: Play) -> Result<Report<MemSink, MemShelf>, NoMemo
         Vec::from_slice(alloc, play.refused)?,
     );
     let sink = MemSink::new(alloc, 4096, Vec::from_slice(alloc, play.cut)?);
-    Ok(run_alone(alloc, &mut source, sink, shelf))
+    Ok(run_alone(alloc, &mut source, sink, shelf, no_plugins(alloc)))
 }
 
 // Whether the run ends so: with this status, these bytes written, and this file in the shelf.
@@ -205,7 +206,7 @@ const TWO_WRITES: &str = r#"{"id":0,"result":"view-id-1"}
 "#;
 
 // A usual session.
-const USUAL: &str = r#"{"method":"client_started","params":{}}
+pub(crate) const USUAL: &str = r#"{"method":"client_started","params":{}}
 {"method":"set_theme","params":{"theme_name":"InspiredGitHub"}}
 {"id":0,"method":"new_view","params":{"file_path":"notes.txt"}}
 {"method":"edit","params":{"method":"scroll","params":[0,40],"view_id":"view-id-1"}}
@@ -215,7 +216,7 @@ const USUAL: &str = r#"{"method":"client_started","params":{}}
 {"method":"close_view","params":{"view_id":"view-id-1"}}
 "#;
 
-const USUAL_WRITES: &str = r#"{"id":0,"result":"view-id-1"}
+pub(crate) const USUAL_WRITES: &str = r#"{"id":0,"result":"view-id-1"}
 {"method":"update","params":{"update":{"ops":[{"lines":[{"cursor":[0],"ln":1,"styles":[],"text":"hello\n"},{"cursor":[],"ln":2,"styles":[],"text":"world\n"},{"cursor":[],"ln":3,"styles":[],"text":""}],"n":3,"op":"ins"}],"pristine":true},"view_id":"view-id-1"}}
 {"method":"update","params":{"update":{"ops":[{"lines":[{"cursor":[],"ln":1,"styles":[],"text":"hello\n"},{"cursor":[5],"ln":2,"styles":[],"text":"world\n"},{"cursor":[],"ln":3,"styles":[],"text":""}],"n":3,"op":"ins"}],"pristine":true},"view_id":"view-id-1"}}
 {"method":"scroll_to","params":{"col":5,"line":1,"view_id":"view-id-1"}}

@@ -9,6 +9,16 @@ mod closing;
 #[cfg(test)]
 mod files;
 #[cfg(test)]
+mod player;
+#[cfg(test)]
+mod replaced;
+#[cfg(test)]
+mod rooms;
+#[cfg(test)]
 mod runs;
 #[cfg(test)]
 mod tapes;
+#[cfg(test)]
+mod turns;
+#[cfg(test)]
+mod usual;

@@ -3,6 +3,7 @@
 ghost use Rattle.std.specs.Prelude.{◌<◌};
 
 use crate::awaiting::{Awaiting, Counting};
+use crate::player::no_plugins;
 use outside::{CalmShelf, CalmSink, MemSink, MemSource};
 use std::alloc::{AllocError, Global};
 use std::cell::Cell;
@@ -68,6 +69,7 @@ fn ran(
         &mut source,
         MemSink::new(alloc, 4096, writes),
         CalmShelf::new(alloc),
+        no_plugins(alloc),
     );
     Ok((
         report.status,
@@ -159,7 +161,13 @@ fn answers_in_time(alloc: Global, piece: usize) -> Result<bool, AllocError>
     let source = MemSource::new(hundred_lines(alloc)?, piece, Vec::new(alloc));
     let mut source = Awaiting::new(source, &written);
     let sink = Counting::new(CalmSink::new(alloc), &written);
-    let report = run_alone(alloc, &mut source, sink, CalmShelf::new(alloc));
+    let report = run_alone(
+        alloc,
+        &mut source,
+        sink,
+        CalmShelf::new(alloc),
+        no_plugins(alloc),
+    );
     Ok(report.status == 0 && report.journal.len() == 101 && written.get() == 200)
 }
 
@@ -184,6 +192,7 @@ fn a_failed_read_is_the_last(rt: HostRuntime) -> Result<(), Fail> {
         &mut source,
         CalmSink::new(alloc),
         CalmShelf::new(alloc),
+        no_plugins(alloc),
     );
     assert_eq!(rt; report.status, 4);
     assert_eq!(rt; source.calls(), 3);

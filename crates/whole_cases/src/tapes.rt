@@ -2,6 +2,7 @@
 
 ghost use Rattle.std.specs.Prelude.{◌<◌};
 
+use crate::player::no_plugins;
 use crate::runs::{FIVE_LINES, FIVE_PIECES, joined};
 use macro_record::{TapeSource, line_count, played};
 use outside::{CalmShelf, MemSink, MemSource, Pulled, Source};
@@ -165,9 +166,15 @@ fn insertions_are_played_again(rt: HostRuntime) -> Result<(), Fail> {
 // What a run over a source writes.
 fn written<S: Source>(alloc: Global, source: &mut S) -> Option<Vec<u8>> {
     let sink = MemSink::new(alloc, 4096, Vec::new(alloc));
-    run_alone(alloc, source, sink, CalmShelf::new(alloc))
-        .sink
-        .into_bytes()
+    run_alone(
+        alloc,
+        source,
+        sink,
+        CalmShelf::new(alloc),
+        no_plugins(alloc),
+    )
+    .sink
+    .into_bytes()
 }
 
 #[test]
