@@ -11,7 +11,7 @@ import os, re, sys
 
 TOP = os.path.dirname(os.path.dirname(os.path.abspath(__file__)))
 PAGE, MARK = f"{TOP}/docs/READING.md", "<!-- below: python3 docs/reading.py --write -->\n"
-ROOT = "xi_top/src/run.rt"  # the clauses of `run_alone` and `xi_main`
+ROOT = "xi_forms/src/forms.rt"  # the clauses of `xi_main`, which are those of `run_alone` and of `run_storm`
 HEAD = re.compile(r"(?:  )?(?:abbrev |unfoldable )?pub (?:record |data )?([A-Za-z_]\w*) ?[:({]")
 kit, types, below, seen = set(), set(), {}, set()
 
@@ -29,17 +29,21 @@ def imports(text):
     return found
 
 
+def depth(text): return len(text) - len(text.lstrip(" "))
+
+
 def definitions(path):
     """The definitions of a file, by name: the line in words, which several may share, and the text."""
     found, words, name, fresh = {}, "", None, False
     for line in text_of(path).split("\n"):
-        is_field = line.startswith("  ") and name is not None and "record" in found[name][1].split("\n")[0]
-        m = None if is_field else HEAD.match(line)
+        is_inner = name is not None and depth(line) > depth(found[name][1])
+        m = None if is_inner and "record" in found[name][1].split("\n")[0] else HEAD.match(line)
         if m:
             name, fresh = m[1], False
             found[name] = (words, line)
-        elif line.startswith("--") or line.startswith("  --") and name is None:
+        elif line.startswith(("--", "  --")) and not is_inner:
             words, name, fresh = (words + " " if fresh else "") + line.strip("- "), None, True
+        elif line.startswith("module "): name, fresh = None, False
         elif not line.strip() or line.startswith(("use ", "pub use ")): fresh = False
         elif name: found[name] = (found[name][0], found[name][1] + "\n" + line)
     return found
@@ -77,7 +81,7 @@ def main():
     root = text_of(ROOT)
     for word in words_in(" ".join(re.findall(r"ensures \w+ \{(.*?)\}\n", root, re.S))): follow(ROOT, imports(root), word)
     rank = [it.split(":")[0] for it in open(f"{TOP}/crates.txt", encoding="utf-8")]
-    files = [it for it in ordered(sorted(below, key=lambda it: (rank.index(it.split("/")[0]), it)), []) if it != ROOT]
+    files = [it for it in ordered(sorted(below, key=lambda it: (rank.index(it.split("/")[0]), it)), []) if it in {path for path, _ in seen}]
     out = [f"{len(seen)} definitions in {len(files)} files. They speak of {len(types)} types of the code, and of {len(kit)} words of the kit.", ""]
     for path in files:
         rows = {}

@@ -262,7 +262,7 @@ class Situation:
         return f"one line of {size}" if self.shape == "line" else f"{size}, {STEPS:,} steps {self.past}" if self.past else size
 
     def opened(self, words, end):
-        script, core = Script(self.shape, self.size, self.width), Core([words.core, "alone"], end)
+        script, core = Script(self.shape, self.size, self.width), Core([words.core, "--no-plugins", "alone"], end)
         try:
             core.ask(list(script.opening()), script.line("client_started", {}))
             self.memory = self.memory or core.memory()
@@ -417,7 +417,7 @@ def run_of(command, whole):
 def instructions(core, whole):
     """The instructions of a run, counted by a profiler, or None where there is none: a number that load does not move."""
     if not shutil.which("valgrind"): return None
-    command = ["valgrind", "--tool=callgrind", "--callgrind-out-file=/dev/null", core, "alone"]
+    command = ["valgrind", "--tool=callgrind", "--callgrind-out-file=/dev/null", core, "--no-plugins", "alone"]
     ran = subprocess.run(command, input=whole, stdout=subprocess.DEVNULL, stderr=subprocess.PIPE)
     counted = re.search(rb"Collected : (\d+)", ran.stderr)
     return int(counted[1]) if counted and ran.returncode == 0 else None
@@ -432,7 +432,7 @@ def pipelined(words):
         if found is None: continue
         before, whole, count = found
         # the least of three runs each
-        runs = [[run_of([words.core, "alone"], it) for _ in range(3)] for it in (before, whole)]
+        runs = [[run_of([words.core, "--no-plugins", "alone"], it) for _ in range(3)] for it in (before, whole)]
         took, used = (min(it[at] for it in runs[1]) - min(it[at] for it in runs[0]) for at in (0, 1))
         echo = min(run_of(["cat"], whole)[0] for _ in range(3))
         few = lines_of(name, 100)
@@ -445,7 +445,7 @@ def pipelined(words):
 
 
 def empty_memory(core):
-    it = Core([core, "alone"], time.monotonic() + 5)
+    it = Core([core, "--no-plugins", "alone"], time.monotonic() + 5)
     script = Script("lines", 0, 0)
     it.ask([script.line("new_view", {})], script.line("client_started", {}))
     found = it.memory()
