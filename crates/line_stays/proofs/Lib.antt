@@ -3,3 +3,6 @@ mod LineLemmas
 mod TouchLemmas
 mod ShowLemmas
 mod PartLemmas
+mod CountLemmas
+mod RevisionLemmas
+pub mod ForCallers

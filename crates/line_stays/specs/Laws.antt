@@ -1,12 +1,12 @@
 -- Laws of layouts, of all texts, however their lines are cut and whatever is drawn of them.
-use Rattle.std.specs.Prelude.{◌≡◌, ◌≢◌, ℕ, Bool, true, ◌||◌, List, ◌++◌, length, Option, Some, option_map, slice_get}
+use Rattle.std.specs.Prelude.{◌≡◌, ◌≢◌, ℕ, Bool, true, ◌||◌, List, ◌++◌, length, map, Option, Some, option_map, slice_get}
 use Rattle.plain_text.specs.declared.run.Run.{Run}
 use Rattle.std.specs.List.{AllByRecursion}
 use Rattle.plain_text.specs.Lines.{logical_lines}
 use Rattle.plain_screen.specs.declared.piece.Piece.{Piece}
 use Rattle.plain_screen.specs.declared.screen.Line.{Line}
 use Rattle.plain_screen.specs.Plan.{AreNumberedFrom, is_within, planned_screen}
-use Rattle.plain_screen.specs.Touched.{TouchesNoOthers, by_logical_lines}
+use Rattle.plain_screen.specs.Touched.{TouchesNoOthers, by_logical_lines, touched_by_text}
 use Rattle.plain_screen.specs.View.{AreEnds}
 use Rattle.line_stays.specs.Drawn.{IsDrawnOf, drawn_by, lines_between}
 use Rattle.line_stays.specs.Parts.{HaveParts, RiseAbove}
@@ -52,3 +52,10 @@ pub record PlannedScreensShow : Type 0 where
 -- characters that two revisions show, by their places, are a front, what goes or comes, and a back
 abbrev pub RisingListsHaveParts : Type 0
 RisingListsHaveParts = (xs ys : List ℕ) → RiseAbove 0 xs → RiseAbove 0 ys → xs ≢ ys → HaveParts xs ys
+
+-- A REVISION TOUCHES BY TEXT the logical lines that `touched_by_text` says, and no others, where the characters that are shown before and after are named
+-- by numbers that rise, as their places among all characters do
+abbrev pub RevisionsTouchLines : Type 0
+RevisionsTouchLines = (ends_of : List ℕ → List ℕ) (char : ℕ → ℕ) (xs ys : List ℕ) (draw other : Piece → Line) → RiseAbove 0 xs → RiseAbove 0 ys →
+    CutsLines ends_of (map char xs) → CutsLines ends_of (map char ys) → IsDrawnOf (map char xs) draw → IsDrawnOf (map char ys) other →
+    TouchesNoOthers (touched_by_text xs ys (map char ys)) (drawn_by ends_of draw (map char xs)) (drawn_by ends_of other (map char ys))

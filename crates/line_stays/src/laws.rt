@@ -1,6 +1,6 @@
 //! Laws of layouts, each the contract of a function: they hold of all texts, however their lines are cut, and whatever is drawn of them.
 
-ghost use Rattle.line_stays.specs.Laws.{LayoutsAreTouched, LayoutsAreNumbered, LayoutsHaveLines, PlannedScreensShow, RisingListsHaveParts, TextsTouchNone};
+ghost use Rattle.line_stays.specs.Laws.{LayoutsAreTouched, LayoutsAreNumbered, LayoutsHaveLines, PlannedScreensShow, RevisionsTouchLines, RisingListsHaveParts, TextsTouchNone};
 
 /// A layout has the logical lines of its text.
 pub fn layouts_have_lines()
@@ -30,4 +30,9 @@ pub fn planned_screens_show()
 /// Two lists that rise are parted by where they begin to differ and where they end to.
 pub fn rising_lists_have_parts()
     ensures { RisingListsHaveParts }
+{}
+
+/// A revision touches by text the logical lines from that of the first character that is not shown before and after to that of the last.
+pub fn revisions_touch_lines()
+    ensures { RevisionsTouchLines }
 {}
