@@ -5,4 +5,5 @@ mod ShowLemmas
 mod PartLemmas
 mod CountLemmas
 mod RevisionLemmas
+mod PartnerLemmas
 pub mod ForCallers

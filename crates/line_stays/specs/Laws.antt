@@ -1,14 +1,15 @@
 -- Laws of layouts, of all texts, however their lines are cut and whatever is drawn of them.
-use Rattle.std.specs.Prelude.{◌≡◌, ◌≢◌, ℕ, Bool, true, ◌||◌, List, ◌++◌, length, map, Option, Some, option_map, slice_get}
+use Rattle.std.specs.Prelude.{◌≡◌, ◌≢◌, ℕ, ◌+◌, ◌<◌, Bool, true, ◌||◌, List, ◌++◌, length, map, Option, Some, option_map, slice_get}
 use Rattle.plain_text.specs.declared.run.Run.{Run}
 use Rattle.std.specs.List.{AllByRecursion}
 use Rattle.plain_text.specs.Lines.{logical_lines}
 use Rattle.plain_screen.specs.declared.piece.Piece.{Piece}
 use Rattle.plain_screen.specs.declared.screen.Line.{Line}
-use Rattle.plain_screen.specs.Plan.{AreNumberedFrom, is_within, planned_screen}
-use Rattle.plain_screen.specs.Touched.{TouchesNoOthers, by_logical_lines, touched_by_text}
+use Rattle.plain_screen.specs.Plan.{AreNumberedFrom, is_within, partner_at, planned_screen}
+use Rattle.plain_screen.specs.Touched.{TouchesNoOthers, by_logical_lines, counterpart, first_of, partners_of, touched_by_text}
 use Rattle.plain_screen.specs.View.{AreEnds}
 use Rattle.line_stays.specs.Drawn.{IsDrawnOf, drawn_by, lines_between}
+use Rattle.line_stays.specs.Partners.{partner_in}
 use Rattle.line_stays.specs.Parts.{HaveParts, RiseAbove}
 
 -- a rule says where each logical line of a text is cut
@@ -59,3 +60,11 @@ abbrev pub RevisionsTouchLines : Type 0
 RevisionsTouchLines = (ends_of : List ℕ → List ℕ) (char : ℕ → ℕ) (xs ys : List ℕ) (draw other : Piece → Line) → RiseAbove 0 xs → RiseAbove 0 ys →
     CutsLines ends_of (map char xs) → CutsLines ends_of (map char ys) → IsDrawnOf (map char xs) draw → IsDrawnOf (map char ys) other →
     TouchesNoOthers (touched_by_text xs ys (map char ys)) (drawn_by ends_of draw (map char xs)) (drawn_by ends_of other (map char ys))
+
+-- the partner of each line of a layout is the line at its place in the counterpart of its logical line, if that has one, and tells whether the logical line is
+-- not touched
+abbrev pub PartnersAreCounterparts : Type 0
+PartnersAreCounterparts = (touched : Run) (before after : List Line) (index place : ℕ) (lines : List Line) →
+    slice_get (by_logical_lines after) index ≡ Some lines → place < length lines →
+    partner_at (partners_of touched before after) (first_of (by_logical_lines after) index + place) ≡
+    partner_in (by_logical_lines before) (counterpart touched (length (by_logical_lines before)) (length (by_logical_lines after)) index) lines place

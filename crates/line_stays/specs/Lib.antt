@@ -1,3 +1,4 @@
 pub mod Drawn
 pub mod Parts
+pub mod Partners
 pub mod Laws

@@ -1,6 +1,6 @@
 //! Laws of layouts, each the contract of a function: they hold of all texts, however their lines are cut, and whatever is drawn of them.
 
-ghost use Rattle.line_stays.specs.Laws.{LayoutsAreTouched, LayoutsAreNumbered, LayoutsHaveLines, PlannedScreensShow, RevisionsTouchLines, RisingListsHaveParts, TextsTouchNone};
+ghost use Rattle.line_stays.specs.Laws.{LayoutsAreTouched, LayoutsAreNumbered, LayoutsHaveLines, PartnersAreCounterparts, PlannedScreensShow, RevisionsTouchLines, RisingListsHaveParts, TextsTouchNone};
 
 /// A layout has the logical lines of its text.
 pub fn layouts_have_lines()
@@ -35,4 +35,9 @@ pub fn rising_lists_have_parts()
 /// A revision touches by text the logical lines from that of the first character that is not shown before and after to that of the last.
 pub fn revisions_touch_lines()
     ensures { RevisionsTouchLines }
+{}
+
+/// The partner of a line is the line at its place in the counterpart of its logical line.
+pub fn partners_are_counterparts()
+    ensures { PartnersAreCounterparts }
 {}
