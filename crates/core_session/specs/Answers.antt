@@ -1,5 +1,5 @@
 -- WHAT A QUERY IS ANSWERED, by the journal alone.
-use Rattle.std.specs.Prelude.{◌≡◌, ◌≢◌, ℕ, Bool, List, length, drop, ⊤}
+use Rattle.std.specs.Prelude.{◌≡◌, ◌≢◌, ℕ, Bool, List, length, drop}
 use Rattle.std.proofs.Common.{subst}
 use Rattle.xi_plain.specs.declared.ask.Query.{Query}
 use Rattle.xi_plain.specs.declared.ask.Query.TheVariants.{Notices}
@@ -20,11 +20,11 @@ pub record AreNotices (terms : Terms) (journal : List Entry) (from : ℕ) (lines
   pub next_is : next ≡ length journal
   pub over_is : over ≡ has_closing (drop from journal)
 
--- THE ANSWER, by what it is; there is nothing exactly where the place is the journal's end
+-- THE ANSWER, by what it is; there is nothing exactly where the place is the journal's end, and there memory does not want
 abbrev pub Answers : Terms → List Entry → Query → Answer → Type 0
 Answers terms journal (Notices from) (answer.Notices lines next over) = AreNotices terms journal from lines next over
 Answers terms journal (Notices from) (answer.Nothing len) = (len ≡ length journal) × (from ≡ length journal)
-Answers terms journal (Notices from) answer.NoMemory = ⊤
+Answers terms journal (Notices from) answer.NoMemory = from ≢ length journal
 
 -- it says how long the journal is
 pub Answers-length : (terms : Terms) (journal : List Entry) (query : Query) (told : Answer) → Answers terms journal query told →

@@ -53,3 +53,8 @@ returns-in-Ok g c =
       next_is = all;
       over_is = c.is_closed-over.ensures ∙ sym (closing-drop core.terms.plugins journal from core.legal below);
     }
+
+pub returns-in-Err : goal.returns-in-Err
+returns-in-Err g c =
+    let all : c.len-len.result ≡ length c.args.self.now.journal.items = c.len-len.ensures in
+    λ same. omega (arith, same, c.if-from-len.false, all)
