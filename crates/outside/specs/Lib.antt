@@ -7,5 +7,6 @@ pub mod MemSource
 pub mod CalmSink
 pub mod MemSink
 pub mod Shelf
+pub mod Paths
 pub mod MemShelf
 pub mod ShelfLaws

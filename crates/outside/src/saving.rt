@@ -1,6 +1,7 @@
-ghost use Rattle.std.specs.Prelude.{◌≡◌, length, take, IfOk, IfSome, OnOk};
+ghost use Rattle.std.specs.Prelude.{◌≡◌, IfOk, IfSome, OnOk, string_bytes};
 ghost use Rattle.std.specs.Io.KnownBytes.{Appends};
 ghost use Rattle.std.specs.Fs.{file_type, IsFile};
+ghost use Rattle.outside.specs.Paths.{IsFolder, IsFront, StandsBeside};
 
 use crate::file_fault::FileFault;
 use crate::reading::ordinary;
@@ -89,13 +90,18 @@ fn linked<R: Files>(files: &R, alloc: Global, link: &str) -> Result<String, File
 
 /// A path up to its last slash, with it.
 fn front_of(path: &str) -> &str
-    ensures { result.now ≡ take (length result.now) path.now }
+    ensures { IsFront path.now result.now }
 {
-    path.trim_end_matches(|c: char| c != '/')
+    match path.rfind('/') {
+        Some(slash) => &path[..slash + 1],
+        None => "",
+    }
 }
 
 /// The folder in which the path stands.
-fn folder_of(path: &str) -> &str {
+fn folder_of(path: &str) -> &str
+    ensures { IsFolder path.now result.now }
+{
     match front_of(path) {
         "" => ".",
         front => front,
@@ -117,7 +123,9 @@ fn new_draft<R: Files>(
     files: &R,
     alloc: Global,
     target: &Target,
-) -> Result<Draft<R::File>, FileFault> {
+) -> Result<Draft<R::File>, FileFault>
+    ensures beside { IfOk result (λ draft. StandsBeside (string_bytes target.now.path) (string_bytes draft.path)) }
+{
     let mut how = OpenOptions::new();
     how.write(true).create_new(true);
     if target.old.is_some() {
