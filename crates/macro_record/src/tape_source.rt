@@ -1,7 +1,7 @@
 //! A source that keeps what it gives.
 
 ghost use Rattle.std.specs.Prelude.{◌≡◌, ◌^◌, ◌<◌, ◌≤◌, length, [], true, ◌++◌, IfSome, OnOk, OnErr};
-ghost use Rattle.outside.specs.Source.{Gives, IsPiece, pulled, failures_after};
+ghost use Rattle.outside.specs.Source.{Gives, IsPiece, pulled, failures_after, reads_after};
 ghost use Rattle.outside.specs.Faults.{Rose};
 ghost use Rattle.macro_record.specs.Tape.{Keeps};
 
@@ -114,6 +114,8 @@ impl<S: Source + Drop> Source for TapeSource<S> {
 
     ghost failures = { λ s. S.failures s.inner };
 
+    ghost reads = { λ s. S.reads s.inner };
+
     /// Reads once from the source inside, into the same buffer, and answers what that does.
     fn read(&mut self, buf: &mut [u8]) -> Pulled
         requires { 0 < length buf.old }
@@ -126,6 +128,7 @@ impl<S: Source + Drop> Source for TapeSource<S> {
         ensures failed { result ≡ Pulled.Failed → Rose (S.faults self.old.inner) (S.faults self.new.inner) }
         ensures failures { S.failures self.new.inner ≡ failures_after result (S.failures self.old.inner) }
         ensures failures_fit { S.failures self.new.inner < 2 ^ 64 }
+        ensures reads { S.reads self.new.inner ≡ reads_after (S.reads self.old.inner) }
     {
         let room = self.make_room(buf.len());
         let answer = self.inner.read(buf);

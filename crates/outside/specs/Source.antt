@@ -1,5 +1,5 @@
 -- What a call of a source does.
-use Rattle.std.specs.Prelude.{◌≡◌, ℕ, ◌<◌, ◌≤◌, List, [], ◌++◌, take, drop, Option, Some, None}
+use Rattle.std.specs.Prelude.{◌≡◌, ℕ, ◌<◌, ◌≤◌, List, [], ◌++◌, take, drop, Option, Some, None, option_map}
 use Rattle.outside.specs.Faults.{counted}
 use Rattle.outside.specs.declared.source.Pulled.{Pulled}
 use Rattle.outside.specs.declared.source.Pulled.TheVariants.{Got, End, Failed}
@@ -30,16 +30,23 @@ failures_after (Got n) failures = failures
 failures_after End failures = failures
 failures_after Failed failures = counted failures
 
+-- how often it was asked, after one call more, where it tells that
+abbrev pub reads_after : Option ℕ → Option ℕ
+reads_after reads = option_map counted reads
+
 -- the buffer with the first n of these bytes at its front
 abbrev pub filled : List ℕ → List ℕ → ℕ → List ℕ
 filled buf bytes n = take n bytes ++ drop n buf
 
--- what a source tells of itself: the bytes that it has left, where it tells them, its faults, and how often it answered `Failed`
+-- what a source tells of itself: the bytes that it has left, where it tells them, its faults, how often it answered `Failed`, and how often it was
+-- asked, where it tells that
 pub record SourceState : Type 0 where
   pub left : Option (List ℕ)
   pub faults : ℕ
   pub failures : ℕ
+  pub reads : Option ℕ
 
 -- the same, put together from what each of them is for the source
-abbrev pub source_state : {S : Type 0} → (S → Option (List ℕ)) → (S → ℕ) → (S → ℕ) → S → SourceState
-source_state left faults failures source = record { left = left source; faults = faults source; failures = failures source }
+abbrev pub source_state : {S : Type 0} → (S → Option (List ℕ)) → (S → ℕ) → (S → ℕ) → (S → Option ℕ) → S → SourceState
+source_state left faults failures reads source =
+    record { left = left source; faults = faults source; failures = failures source; reads = reads source }

@@ -1,5 +1,5 @@
 ghost use Rattle.std.specs.Prelude.{◌≡◌, ℕ, ◌^◌, ◌<◌, ◌≤◌, ◌++◌, Some, min, length, take, drop, [], IfSome};
-ghost use Rattle.outside.specs.Source.{Gives, IsPiece, pulled, filled, failures_after};
+ghost use Rattle.outside.specs.Source.{Gives, IsPiece, pulled, filled, failures_after, reads_after};
 ghost use Rattle.outside.specs.MemSource.{given_len, answer, stock_after};
 ghost use Rattle.outside.specs.Schedule.{schedule_of};
 ghost use Rattle.outside.specs.Faults.{Rose};
@@ -72,6 +72,8 @@ impl Source for MemSource {
     ghost faults = { λ s. s.schedule.faults };
 
     ghost failures = { λ s. s.schedule.faults };
+
+    ghost reads = { λ s. Some s.schedule.calls };
 
     fn read(&mut self, buf: &mut [u8]) -> Pulled
         requires { 0 < length buf.old }

@@ -1,5 +1,5 @@
-ghost use Rattle.std.specs.Prelude.{◌≡◌, ℕ, ◌^◌, ◌<◌, ◌≤◌, List, Option, length, IfSome, []};
-ghost use Rattle.outside.specs.Source.{Gives, IsPiece, pulled, failures_after};
+ghost use Rattle.std.specs.Prelude.{◌≡◌, ℕ, ◌^◌, ◌<◌, ◌≤◌, List, Option, None, length, IfSome, []};
+ghost use Rattle.outside.specs.Source.{Gives, IsPiece, pulled, failures_after, reads_after};
 ghost use Rattle.outside.specs.Faults.{Rose};
 
 /// What a call of a source answers.
@@ -24,6 +24,9 @@ pub trait Source {
     /// How often it answered `Failed` so far. The count stands still at the end of `u64`.
     ghost failures: { Self → ℕ };
 
+    /// How often it was asked so far, where it tells that. The count stands still at the end of `u64`.
+    ghost reads: { Self → Option ℕ } = { λ _. None };
+
     /// Gives the first bytes that are left. It may give fewer than there is room for, and may wait for them.
     fn read(&mut self, buf: &mut [u8]) -> Pulled
         requires { 0 < length buf.old }
@@ -34,5 +37,6 @@ pub trait Source {
         ensures faults_fit { faults self.new < 2 ^ 64 }
         ensures failed { result ≡ Pulled.Failed → Rose (faults self.old) (faults self.new) }
         ensures failures { failures self.new ≡ failures_after result (failures self.old) }
-        ensures failures_fit { failures self.new < 2 ^ 64 };
+        ensures failures_fit { failures self.new < 2 ^ 64 }
+        ensures reads { reads self.new ≡ reads_after (reads self.old) };
 }
