@@ -11,11 +11,13 @@ use Rattle.plain_screen.specs.View.{ArePieces, LogicalLine, layout_line_of}
 use Rattle.plain_screen.proofs.callers.ViewLemmas.{concat-logical_lines}
 use Rattle.cluster_core.specs.Boundaries.{clusters_in, text_boundaries}
 use Rattle.movement_core.specs.Places.{IsPlace, IsGreatestPlace, greatest_place, least_place, left_of, right_of, outward_left, outward_right}
-use Rattle.movement_core.specs.declared.lines.LineText.{LineText}
-use Rattle.movement_core.specs.Lines.{IsTextOf, line_under}
+use Rattle.movement_core.specs.declared.nearby.Stretch.{Stretch}
+use Rattle.movement_core.specs.Lines.{line_under}
 use Rattle.movement_core.specs.Inner.{IsNextGap, IsGapUpTo}
-use Rattle.movement_core.proofs.PlaceLemmas.{AreParts, ends_from-le, find-none, first_or_later, greatest_place-is, least_place-is, least_place-none, lines-whole, place-from_line, place-in_line, end-le}
-use Rattle.movement_core.proofs.LineLemmas.{under-ahead, under-parts}
+use Rattle.movement_core.specs.Nearby.{IsStretchOf}
+use Rattle.movement_core.proofs.PlaceLemmas.{AreParts, ends_from-le, find-none, first_or_later, greatest_place-is, least_place-is, least_place-none, lines-whole, place-from_line, place-in_line, end-le, scalars-line}
+use Rattle.movement_core.proofs.LineLemmas.{under-ahead, under-le, under-parts}
+use Rattle.movement_core.proofs.StretchLemmas.{IsGapUpTo-stretch, IsNextGap-stretch, shift, stretch-inside, stretch-shift, stretch-to-le, stretch-to-lt}
 
 -- a boundary lies in the text
 pub place-inside : (text : List ℕ) (place : ℕ) → all_scalars text ≡ true → IsPlace text place → place ≤ length text
@@ -111,43 +113,65 @@ right_of-outward text gap some = ap (λ p. least_place p text) (fun_ext same)
         (λ (ge : gap ≤ place). lt-ltb (gap - 1) place (omega arith) ∙ sym (le-leb gap place ge))
         (cases_lt place gap)
 
--- ---- the same of a logical line that is held
+-- ---- the same by a stretch of the logical line that is held
 
 module _ (text : List ℕ) (pieces : List Piece) (gap : ℕ) (are : ArePieces text pieces) (scalars : all_scalars text ≡ true)
-    (line : ℕ) (is : line ≡ layout_line_of pieces gap) (held : LineText) (held_is : IsTextOf (line_under text pieces line) held) where
-  held-own : IsTextOf (line_under text pieces (layout_line_of pieces gap)) held
-  held-own = subst (λ l. IsTextOf (line_under text pieces l) held) is held_is
+    (line : ℕ) (is : line ≡ layout_line_of pieces gap) where
+  pub near-low : (line_under text pieces line).start ≤ gap
+  near-low = subst (λ l. (line_under text pieces l).start ≤ gap) (sym is) (own-start-le text pieces gap are scalars)
 
-  pub held-start-le : held.start ≤ gap
-  held-start-le = let start = held-own.start in let le = own-start-le text pieces gap are scalars in omega arith
+  pub near-high : gap ≤ length text → gap ≤ (line_under text pieces line).start + length (line_under text pieces line).text
+  near-high inside =
+      let low = own-start-le text pieces gap are scalars in
+      subst (λ l. gap ≤ (line_under text pieces l).start + length (line_under text pieces l).text) (sym is)
+      (let high = own-end-le text pieces gap are scalars inside in omega arith)
 
-  pub held-end-le : gap ≤ length text → gap - held.start ≤ length held.text
-  held-end-le inside =
-      let start = held-own.start in
-      let le = own-end-le text pieces gap are scalars inside in omega (arith, ap length held-own.text)
+  module _ (held : Stretch) (near : IsStretchOf (line_under text pieces line) gap gap held) where
+    abbrev around : LogicalLine
+    around = line_under text pieces (layout_line_of pieces gap)
 
-  pub held-end-lt : gap < length text → gap - held.start < length held.text
-  held-end-lt inside =
-      let start = held-own.start in
-      let lt = own-end-lt text pieces gap are scalars inside in omega (arith, ap length held-own.text)
+    near-own : IsStretchOf around gap gap held
+    near-own = subst (λ l. IsStretchOf (line_under text pieces l) gap gap held) is near
 
-  pub held-fits : (n : ℕ) → n ≤ length held.text → held.start + n ≤ length text
-  held-fits n le =
-      let start = held-own.start in
-      let long = ap length held-own.text in
-      let fits = own-fits text pieces gap are scalars n (omega arith) in omega arith
+    near-scalars : all_scalars around.text ≡ true
+    near-scalars = scalars-line text around (under-parts text pieces (layout_line_of pieces gap)) scalars
 
-  pub held-greatest : (n : ℕ) → gap ≤ length text → IsGapUpTo held.text (gap - held.start) n → IsGreatestPlace (λ place. nat_le place gap) text (held.start + n)
-  held-greatest n inside up_to =
-      let own = line_under text pieces (layout_line_of pieces gap) in
-      let own_up_to = subst (λ s. IsGapUpTo own.text (gap - s) n) held-own.start (subst (λ t. IsGapUpTo t (gap - held.start) n) held-own.text up_to) in
-      subst (λ s. IsGreatestPlace (λ place. nat_le place gap) text (s + n)) (sym held-own.start) (IsGreatestPlace-own text pieces gap are scalars n inside own_up_to)
+    pub held-start-le : held.start ≤ gap
+    held-start-le = near.before
 
-  pub held-outward : (n : ℕ) → gap ≤ length text → IsGapUpTo held.text (gap - held.start) n → held.start + n ≡ outward_left text gap
-  held-outward n inside up_to = sym (greatest_place-is (λ place. nat_le place gap) text (held.start + n) (held-greatest n inside up_to))
+    pub held-end-le : gap ≤ length text → gap - held.start ≤ length held.text
+    held-end-le inside =
+        let low = own-start-le text pieces gap are scalars in
+        let high = own-end-le text pieces gap are scalars inside in
+        let end = stretch-to-le around gap gap held near-scalars near-own (omega arith) in omega arith
 
-  pub held-right : (n : ℕ) → gap < length text → IsNextGap held.text (gap - held.start) n → held.start + n ≡ right_of text gap
-  held-right n inside next =
-      let own = line_under text pieces (layout_line_of pieces gap) in
-      let own_next = subst (λ s. IsNextGap own.text (gap - s) n) held-own.start (subst (λ t. IsNextGap t (gap - held.start) n) held-own.text next) in
-      ap (λ s. s + n) held-own.start ∙ right_of-own text pieces gap are scalars n inside own_next
+    pub held-end-lt : gap < length text → gap - held.start < length held.text
+    held-end-lt inside =
+        let before = near.before in
+        let low = own-start-le text pieces gap are scalars in
+        let high = own-end-lt text pieces gap are scalars inside in
+        let end = stretch-to-lt around gap gap held near-scalars near-own (omega arith) in omega arith
+
+    pub held-fits : (n : ℕ) → n ≤ length held.text → held.start + n ≤ length text
+    held-fits n le =
+        let end = stretch-inside around gap gap held near-scalars near-own in
+        let all = under-le text pieces (layout_line_of pieces gap) in omega arith
+
+    moved : (n : ℕ) → around.start + (shift around gap gap held near-scalars near-own + n) ≡ held.start + n
+    moved n = let start = stretch-shift around gap gap held near-scalars near-own in omega arith
+
+    pub held-greatest : (n : ℕ) → gap ≤ length text → IsGapUpTo held.text (gap - held.start) n → IsGreatestPlace (λ place. nat_le place gap) text (held.start + n)
+    held-greatest n inside up_to =
+        let end = held-end-le inside in
+        subst (IsGreatestPlace (λ place. nat_le place gap) text) (moved n)
+        (IsGreatestPlace-own text pieces gap are scalars (shift around gap gap held near-scalars near-own + n) inside
+        (IsGapUpTo-stretch around gap gap held near-scalars near-own gap n near.before (let before = near.before in omega arith) up_to))
+
+    pub held-outward : (n : ℕ) → gap ≤ length text → IsGapUpTo held.text (gap - held.start) n → held.start + n ≡ outward_left text gap
+    held-outward n inside up_to = sym (greatest_place-is (λ place. nat_le place gap) text (held.start + n) (held-greatest n inside up_to))
+
+    pub held-right : (n : ℕ) → gap < length text → IsNextGap held.text (gap - held.start) n → held.start + n ≡ right_of text gap
+    held-right n inside next =
+        sym (moved n) ∙
+        right_of-own text pieces gap are scalars (shift around gap gap held near-scalars near-own + n) inside
+        (IsNextGap-stretch around gap gap held near-scalars near-own gap n near.before next)

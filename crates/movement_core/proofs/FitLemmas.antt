@@ -1,6 +1,6 @@
--- Caret places of a layout line, by a walk along its logical line.
+-- Caret places of a layout line, by a walk along a stretch of its logical line.
 use Rattle.std.proofs.Common.{◌≡◌, ◌≢◌, ◌⊎◌, inl, inr, ⊎_elim, ℕ, ◌+◌, ◌-◌, ◌<◌, ◌≤◌, Bool, true, false, List, [], ◌∷◌, ◌++◌, Some, Ok, Err, Result, length, refl, sym, ap, subst, ◌∙◌, arith, length-append}
-use Rattle.std.specs.Prelude.{◌&&◌, if◌then◌else◌, nat_le, slice_get, IfOk}
+use Rattle.std.specs.Prelude.{◌&&◌, if◌then◌else◌, min, nat_le, slice_get, IfOk}
 use Rattle.std.specs.List.{AllByRecursion, Contains, concat}
 use Rattle.std.specs.Str.{all_scalars}
 use Rattle.std.proofs.lemmas.Bool.{and_from, and_parts, both_ways, cases_lt, eq-eqb, eqb-true, le-leb, leb-true, lt-leb, le-ltb, lt-ltb, ne_eqb}
@@ -14,13 +14,15 @@ use Rattle.cluster_core.specs.Columns.{column_after, columns_between}
 use Rattle.cluster_core.specs.Walk.{ClusterAt, counted_anew, placed}
 use Rattle.cluster_core.proofs.ForCallers.{counted_anew-placed, walk_tells}
 use Rattle.movement_core.specs.Places.{IsPlace, IsGreatestPlace, greatest_place}
-use Rattle.movement_core.specs.Lines.{StartAtPlaces, above, below, belongs_to, column_of, line_end, line_start, place_at_column, start_of, IsLastGap, IsTextOf, line_under}
-use Rattle.movement_core.specs.declared.lines.LineText.{LineText}
+use Rattle.movement_core.specs.Lines.{StartAtPlaces, above, below, belongs_to, column_of, line_end, line_start, place_at_column, start_of, IsLastGap, line_under}
+use Rattle.movement_core.specs.declared.nearby.Stretch.{Stretch}
 use Rattle.movement_core.specs.Inner.{fitting, items_past}
-use Rattle.movement_core.proofs.PlaceLemmas.{AreParts, ends_from-append, ends_from-le, ends_from-rises, first, first_or_later, greatest_place-is, later, least_place-is, low-le, none_in, place-from_line, place-in_line}
+use Rattle.movement_core.specs.Nearby.{IsStretchOf}
+use Rattle.movement_core.proofs.PlaceLemmas.{AreParts, ends_from-append, ends_from-le, ends_from-rises, first, first_or_later, greatest_place-is, later, least_place-is, low-le, none_in, place-from_line, place-in_line, scalars-line}
 use Rattle.movement_core.proofs.LawLemmas.{IsInLine-place, columns_between-none, greatest_place-is_place, start-is_place_too}
-use Rattle.movement_core.proofs.LineLemmas.{under-ahead, under-own, under-parts, under-same}
+use Rattle.movement_core.proofs.LineLemmas.{IsLastGap-some, under-ahead, under-le, under-own, under-parts, under-same}
 use Rattle.movement_core.proofs.BoundaryLemmas.{place-inside}
+use Rattle.movement_core.proofs.StretchLemmas.{columns-stretch, gap-from, gap-in, shift, stretch-inside, stretch-shift, stretch-to-le}
 
 -- ---- what a walk gives after one of the ends
 
@@ -222,14 +224,14 @@ module _ (text : List ℕ) (pieces : List Piece) (line last : ℕ) (are : ArePie
             (cases_lt gap other);
       }))
 
-  own-from : own.start ≤ start
+  pub own-from : own.start ≤ start
   own-from =
       let sits = layout_line_of-start text pieces line are there in
       let ahead = under-ahead text pieces start are in
       let At : ℕ → Type 0 = λ l. (line_under text pieces l).start ≤ start_of pieces l in
       subst At sits ahead.0
 
-  own-to : last ≤ own.start + length own.text
+  pub own-to : last ≤ own.start + length own.text
   own-to =
       let ordered = gaps.ordered in
       let inside = gaps.inside in
@@ -238,144 +240,198 @@ module _ (text : List ℕ) (pieces : List Piece) (line last : ℕ) (are : ArePie
       let At : ℕ → Type 0 = λ l. (last < (line_under text pieces l).start + length (line_under text pieces l).text) ⊎ ((line_under text pieces l).start + length (line_under text pieces l).text ≡ length text) in
       ⊎_elim (λ less. omega arith) (λ all. omega arith) (subst At sits ahead.2)
 
-  pub walk-from-le : own.start ≤ start
-  walk-from-le = own-from
+  -- ---- by a stretch of its logical line
 
-  pub walk-last-le : own.start ≤ last
-  walk-last-le = let low = own-from in let ordered = gaps.ordered in omega arith
+  module _ (held : Stretch) (near : IsStretchOf own start last held) where
+    near-scalars : all_scalars own.text ≡ true
+    near-scalars = scalars-line text own parts scalars
 
-  abbrev from : ℕ
-  from = start - own.start
+    near-to : last ≤ held.start + length held.text
+    near-to = stretch-to-le own start last held near-scalars near own-to
 
-  from-gap : Contains (0 ∷ ends_from 0 (clusters_in own.text)) from
-  from-gap =
-      let low = own-from in
-      let high = own-to in
-      let ordered = gaps.ordered in
-      place-in_line text own parts scalars start low (omega arith) start-place
+    near-shift : held.start ≡ own.start + shift own start last held near-scalars near
+    near-shift = stretch-shift own start last held near-scalars near
 
-  column-own : (tab gap : ℕ) → layout_line_of pieces gap ≡ line → column_of tab text pieces gap ≡ columns_between tab own.text from (gap - own.start)
-  column-own tab gap same =
-      ap (λ (l : LogicalLine). columns_between tab l.text (start_of pieces (layout_line_of pieces gap) - l.start) (gap - l.start)) (under-same text pieces line gap are there same) ∙
-      ap (λ (n : ℕ). columns_between tab own.text (start_of pieces n - own.start) (gap - own.start)) same
+    place-near : (gap : ℕ) → held.start ≤ gap → gap ≤ last → IsPlace text gap → Contains (0 ∷ ends_from 0 (clusters_in held.text)) (gap - held.start)
+    place-near gap low high place =
+        let by = near-shift in
+        let end = own-to in
+        let more = near-to in
+        let same : gap - own.start - shift own start last held near-scalars near ≡ gap - held.start = omega arith in
+        subst (Contains (0 ∷ ends_from 0 (clusters_in held.text))) same
+        (gap-in own start last held near-scalars near (gap - own.start) (omega arith) (omega arith) (place-in_line text own parts scalars gap (omega arith) (omega arith) place))
 
-  pub place_at_column-is : (tab column kept : ℕ) →
-      kept ≡ fitting (last - own.start) column from (counted_anew tab 0 (items_past from 0 (placed tab 0 0 (clusters_in own.text)))) →
-      own.start + kept ≡ place_at_column tab text pieces line column
-  place_at_column-is tab column kept is =
-      let past = IsPast-end tab from 0 0 (clusters_in own.text) from-gap in
-      let long : length (concat past.front) ≡ from = let sum = past.long in omega arith in
-      let columns : ℕ → ℕ = columns_between tab own.text from in
-      let tells = subst (λ (n : ℕ). AllByRecursion (λ item. item.column ≡ columns_between tab own.text n item.end) (placed tab n 0 past.back)) long
-      (walk_tells tab own.text past.front past.back past.parts) in
-      let fits = IsFitting-walk (last - own.start) column columns from tab from 0 past.back (omega arith) tells in
-      let same : kept ≡ fitting (last - own.start) column from (placed tab from 0 past.back) =
-      is ∙ ap (λ items. fitting (last - own.start) column from (counted_anew tab 0 items)) past.items ∙
-      ap (fitting (last - own.start) column from) (counted_anew-placed tab from past.reached 0 past.back) in
-      found-place tab column kept past.front past.back past.parts long
-      (subst (IsFitting (last - own.start) column columns from (ends_from from past.back)) (sym same) fits)
-    where
-      found-place : (tab column kept : ℕ) (front back : List (List ℕ)) → clusters_in own.text ≡ front ++ back → length (concat front) ≡ from →
-          IsFitting (last - own.start) column (columns_between tab own.text from) from (ends_from from back) kept →
-          own.start + kept ≡ place_at_column tab text pieces line column
-      found-place tab column kept front back cut long fits =
-          let low_own = own-from in
-          let high_own = own-to in
-          let ordered = gaps.ordered in
-          let low = fits.low in
-          let ends : ends_from 0 (clusters_in own.text) ≡ ends_from 0 front ++ ends_from from back =
-          ap (ends_from 0) cut ∙ ends_from-append 0 front back ∙ ap (λ n. ends_from 0 front ++ ends_from n back) (let sum : 0 + length (concat front) ≡ from = omega arith in sum) in
-          let known : IsPlace text (own.start + kept) × (kept ≤ last - own.start) × (columns_between tab own.text from kept ≤ column) =
-          ⊎_elim
-          (λ one.
-          let at : start ≡ own.start + kept = omega arith in
-          let none : columns_between tab own.text from kept ≡ 0 = ap (columns_between tab own.text from) one ∙ columns_between-none tab own.text from in
-          (subst (IsPlace text) at start-place, omega arith, omega arith))
-          (λ one.
-          let gap = later 0 _ kept (subst (λ xs. Contains xs kept) (sym ends) (Contains-append_right (ends_from 0 front) (ends_from from back) kept one.0)) in
-          (place-from_line text own parts scalars kept gap, one.1, one.2))
-          fits.found in
-          let less : own.start + kept - own.start ≡ kept = omega arith in
-          let inside = known.1 in
-          let narrow = known.2 in
-          let sits = gaps.own (own.start + kept) (omega arith) (omega arith) in
-          sym (greatest_place-is (λ place. belongs_to pieces line place && nat_le (column_of tab text pieces place) column) text (own.start + kept) (record {
-            place = known.0;
-            passed = and_from _ _ (belongs (own.start + kept) (omega arith) (omega arith))
-                (le-leb _ column (let is = column-own tab (own.start + kept) sits ∙ ap (columns_between tab own.text from) less in omega arith));
-            greatest = λ other place passes.
-                let both = and_parts _ _ passes in
-                let within = range other place both.0 in
-                let at_least = within.0 in
-                let at_most = within.1 in
-                let there_too = eqb-true (layout_line_of pieces other) line both.0 in
-                let fit : columns_between tab own.text from (other - own.start) ≤ column =
-                let le = leb-true _ column both.1 in omega (arith, column-own tab other there_too) in
-                let gap = place-in_line text own parts scalars other (omega arith) (omega arith) place in
-                let more : other - own.start ≤ kept =
-                ⊎_elim
-                (λ here. omega arith)
-                (λ beyond. ⊎_elim
-                (λ before. let le = ends_from-le 0 front (other - own.start) before in omega arith)
-                (λ after. fits.greatest (other - own.start) after (omega arith) fit)
-                (Contains-append_cases (ends_from 0 front) (ends_from from back) (other - own.start) (subst (λ xs. Contains xs (other - own.start)) ends beyond)))
-                (first_or_later 0 (ends_from 0 (clusters_in own.text)) (other - own.start) gap) in
-                omega arith;
-          }))
+    near-place : (n : ℕ) → Contains (0 ∷ ends_from 0 (clusters_in held.text)) n → IsPlace text (held.start + n)
+    near-place n found =
+        let by = near-shift in
+        let same : own.start + (shift own start last held near-scalars near + n) ≡ held.start + n = omega arith in
+        subst (IsPlace text) same (place-from_line text own parts scalars (shift own start last held near-scalars near + n) (gap-from own start last held near-scalars near n found))
 
--- ---- the column of a gap, by the logical line that is held
+    abbrev from : ℕ
+    from = start - held.start
+
+    from-gap : Contains (0 ∷ ends_from 0 (clusters_in held.text)) from
+    from-gap = place-near start near.before gaps.ordered start-place
+
+    column-near : (tab gap : ℕ) → layout_line_of pieces gap ≡ line → gap ≤ last → column_of tab text pieces gap ≡ columns_between tab held.text from (gap - held.start)
+    column-near tab gap same inside =
+        let end = near-to in
+        ap (λ (l : LogicalLine). columns_between tab l.text (start_of pieces (layout_line_of pieces gap) - l.start) (gap - l.start)) (under-same text pieces line gap are there same) ∙
+        ap (λ (n : ℕ). columns_between tab own.text (start_of pieces n - own.start) (gap - own.start)) same ∙
+        columns-stretch own start last held near-scalars near tab start gap near.before (inl (omega arith))
+
+    pub place_at_column-is : (tab column kept : ℕ) →
+        kept ≡ fitting (last - held.start) column from (counted_anew tab 0 (items_past from 0 (placed tab 0 0 (clusters_in held.text)))) →
+        held.start + kept ≡ place_at_column tab text pieces line column
+    place_at_column-is tab column kept is =
+        let past = IsPast-end tab from 0 0 (clusters_in held.text) from-gap in
+        let long : length (concat past.front) ≡ from = let sum = past.long in omega arith in
+        let columns : ℕ → ℕ = columns_between tab held.text from in
+        let tells = subst (λ (n : ℕ). AllByRecursion (λ item. item.column ≡ columns_between tab held.text n item.end) (placed tab n 0 past.back)) long
+        (walk_tells tab held.text past.front past.back past.parts) in
+        let fits = IsFitting-walk (last - held.start) column columns from tab from 0 past.back (omega arith) tells in
+        let same : kept ≡ fitting (last - held.start) column from (placed tab from 0 past.back) =
+        is ∙ ap (λ items. fitting (last - held.start) column from (counted_anew tab 0 items)) past.items ∙
+        ap (fitting (last - held.start) column from) (counted_anew-placed tab from past.reached 0 past.back) in
+        found-place tab column kept past.front past.back past.parts long
+        (subst (IsFitting (last - held.start) column columns from (ends_from from past.back)) (sym same) fits)
+      where
+        found-place : (tab column kept : ℕ) (front back : List (List ℕ)) → clusters_in held.text ≡ front ++ back → length (concat front) ≡ from →
+            IsFitting (last - held.start) column (columns_between tab held.text from) from (ends_from from back) kept →
+            held.start + kept ≡ place_at_column tab text pieces line column
+        found-place tab column kept front back cut long fits =
+            let low_near = near.before in
+            let ordered = gaps.ordered in
+            let low = fits.low in
+            let ends : ends_from 0 (clusters_in held.text) ≡ ends_from 0 front ++ ends_from from back =
+            ap (ends_from 0) cut ∙ ends_from-append 0 front back ∙ ap (λ n. ends_from 0 front ++ ends_from n back) (let sum : 0 + length (concat front) ≡ from = omega arith in sum) in
+            let known : IsPlace text (held.start + kept) × (kept ≤ last - held.start) × (columns_between tab held.text from kept ≤ column) =
+            ⊎_elim
+            (λ one.
+            let at : start ≡ held.start + kept = omega arith in
+            let none : columns_between tab held.text from kept ≡ 0 = ap (columns_between tab held.text from) one ∙ columns_between-none tab held.text from in
+            (subst (IsPlace text) at start-place, omega arith, omega arith))
+            (λ one.
+            let gap = later 0 _ kept (subst (λ xs. Contains xs kept) (sym ends) (Contains-append_right (ends_from 0 front) (ends_from from back) kept one.0)) in
+            (near-place kept gap, one.1, one.2))
+            fits.found in
+            let less : held.start + kept - held.start ≡ kept = omega arith in
+            let inside = known.1 in
+            let narrow = known.2 in
+            let sits = gaps.own (held.start + kept) (omega arith) (omega arith) in
+            sym (greatest_place-is (λ place. belongs_to pieces line place && nat_le (column_of tab text pieces place) column) text (held.start + kept) (record {
+              place = known.0;
+              passed = and_from _ _ (belongs (held.start + kept) (omega arith) (omega arith))
+                  (le-leb _ column (let is = column-near tab (held.start + kept) sits (omega arith) ∙ ap (columns_between tab held.text from) less in omega arith));
+              greatest = λ other place passes.
+                  let both = and_parts _ _ passes in
+                  let within = range other place both.0 in
+                  let at_least = within.0 in
+                  let at_most = within.1 in
+                  let there_too = eqb-true (layout_line_of pieces other) line both.0 in
+                  let fit : columns_between tab held.text from (other - held.start) ≤ column =
+                  let le = leb-true _ column both.1 in omega (arith, column-near tab other there_too at_most) in
+                  let gap = place-near other (omega arith) at_most place in
+                  let more : other - held.start ≤ kept =
+                  ⊎_elim
+                  (λ here. omega arith)
+                  (λ beyond. ⊎_elim
+                  (λ before. let le = ends_from-le 0 front (other - held.start) before in omega arith)
+                  (λ after. fits.greatest (other - held.start) after (omega arith) fit)
+                  (Contains-append_cases (ends_from 0 front) (ends_from from back) (other - held.start) (subst (λ xs. Contains xs (other - held.start)) ends beyond)))
+                  (first_or_later 0 (ends_from 0 (clusters_in held.text)) (other - held.start) gap) in
+                  omega arith;
+            }))
+
+-- ---- the column of a gap, by the stretch that is held
 
 module _ (text : List ℕ) (pieces : List Piece) (gap : ℕ) (are : ArePieces text pieces) (line : ℕ) (is : line ≡ layout_line_of pieces gap)
-    (held : LineText) (held_is : IsTextOf (line_under text pieces line) held) (piece : Piece) (found : slice_get pieces line ≡ Some piece) where
+    (piece : Piece) (found : slice_get pieces line ≡ Some piece) (to : ℕ) (capped : to ≡ min gap (length text)) where
   gap-start : start_of pieces (layout_line_of pieces gap) ≡ piece.start
   gap-start = ap (start_of pieces) (sym is) ∙ start_of-get pieces line piece found
 
-  gap-own : IsTextOf (line_under text pieces (layout_line_of pieces gap)) held
-  gap-own = subst (λ l. IsTextOf (line_under text pieces l) held) is held_is
+  abbrev gap-own : LogicalLine
+  gap-own = line_under text pieces (layout_line_of pieces gap)
 
-  pub held-from-le : held.start ≤ piece.start
-  held-from-le = let low = (under-ahead text pieces gap are).0 in let start = gap-own.start in let at = gap-start in omega arith
+  same-own : gap-own ≡ line_under text pieces line
+  same-own = ap (line_under text pieces) (sym is)
 
-  pub held-to-le : held.start ≤ gap
-  held-to-le = let low = (under-ahead text pieces gap are).0 in let high = (under-ahead text pieces gap are).1 in let start = gap-own.start in omega arith
+  pub column-low : (line_under text pieces line).start ≤ piece.start
+  column-low =
+      let start = gap-start in
+      subst (λ (own : LogicalLine). own.start ≤ piece.start) same-own (let low = (under-ahead text pieces gap are).0 in omega arith)
 
-  pub held-column : (tab : ℕ) → columns_between tab held.text (piece.start - held.start) (gap - held.start) ≡ column_of tab text pieces gap
-  held-column tab =
-      let own = line_under text pieces (layout_line_of pieces gap) in
-      ap (λ t. columns_between tab t (piece.start - held.start) (gap - held.start)) gap-own.text ∙
-      ap (λ (s : ℕ). columns_between tab own.text (piece.start - s) (gap - s)) gap-own.start ∙
-      ap (λ (n : ℕ). columns_between tab own.text (n - own.start) (gap - own.start)) (sym gap-start) ∙
-      sym (ap (λ (l : LogicalLine). columns_between tab l.text (start_of pieces (layout_line_of pieces gap) - l.start) (gap - l.start)) (under-own text pieces gap are))
+  pub column-ordered : piece.start ≤ to
+  column-ordered =
+      let start = gap-start in
+      let high = (under-ahead text pieces gap are).1 in
+      let gaps = (IsLastGap-some text pieces (layout_line_of pieces gap) are (IsLayoutLineOf-layout_line_of text pieces gap are).inside).1 in
+      let ordered = gaps.ordered in
+      let inside = gaps.inside in omega arith
 
--- ---- the place at a column, by the logical line that is held
+  to-inside : to ≤ gap-own.start + length gap-own.text
+  to-inside = ⊎_elim (λ less. omega arith) (λ all. omega arith) (under-ahead text pieces gap are).2
+
+  pub column-inside : to ≤ (line_under text pieces line).start + length (line_under text pieces line).text
+  column-inside = subst (λ (own : LogicalLine). to ≤ own.start + length own.text) same-own to-inside
+
+  module _ (scalars : all_scalars text ≡ true) (held : Stretch) (near : IsStretchOf (line_under text pieces line) piece.start to held) where
+    pub held-from-le : held.start ≤ piece.start
+    held-from-le = near.before
+
+    pub held-to-le : held.start ≤ gap
+    held-to-le = let low = near.before in let high = (under-ahead text pieces gap are).1 in let start = gap-start in omega arith
+
+    pub held-column : (tab : ℕ) → columns_between tab held.text (piece.start - held.start) (gap - held.start) ≡ column_of tab text pieces gap
+    held-column tab = by (subst (λ (own : LogicalLine). IsStretchOf own piece.start to held) (sym same-own) near)
+      where
+        by : IsStretchOf gap-own piece.start to held → columns_between tab held.text (piece.start - held.start) (gap - held.start) ≡ column_of tab text pieces gap
+        by own_near =
+            let own_scalars = scalars-line text gap-own (under-parts text pieces (layout_line_of pieces gap)) scalars in
+            let all = under-le text pieces (layout_line_of pieces gap) in
+            let inside = stretch-inside gap-own piece.start to held own_scalars own_near in
+            sym (columns-stretch gap-own piece.start to held own_scalars own_near tab piece.start gap own_near.before
+            (⊎_elim (λ more. inl (omega arith)) (λ none. inr none) own_near.past)) ∙
+            ap (λ (n : ℕ). columns_between tab gap-own.text (n - gap-own.start) (gap - gap-own.start)) (sym gap-start) ∙
+            sym (ap (λ (l : LogicalLine). columns_between tab l.text (start_of pieces (layout_line_of pieces gap) - l.start) (gap - l.start)) (under-own text pieces gap are))
+
+-- ---- the place at a column, by the stretch that is held
 
 module _ (text : List ℕ) (pieces : List Piece) (line last : ℕ) (are : ArePieces text pieces) (scalars : all_scalars text ≡ true)
     (starts : StartAtPlaces text pieces) (there : line < length pieces) (gaps : IsLastGap text pieces line last)
-    (held : LineText) (held_is : IsTextOf (line_under text pieces line) held) (piece : Piece) (found : slice_get pieces line ≡ Some piece) where
-  pub held-walk-from : held.start ≤ piece.start
-  held-walk-from =
-      let low = walk-from-le text pieces line last are scalars starts there gaps in
-      let at = start_of-get pieces line piece found in
-      let start = held_is.start in omega arith
+    (piece : Piece) (found : slice_get pieces line ≡ Some piece) where
+  piece-start : start_of pieces line ≡ piece.start
+  piece-start = start_of-get pieces line piece found
 
-  pub held-walk-last : held.start ≤ last
-  held-walk-last = let low = walk-last-le text pieces line last are scalars starts there gaps in let start = held_is.start in omega arith
+  pub piece-low : (line_under text pieces line).start ≤ piece.start
+  piece-low = let low = own-from text pieces line last are scalars starts there gaps in let at = piece-start in omega arith
 
-  pub held-place : (tab column kept : ℕ) →
-      kept ≡ fitting (last - held.start) column (piece.start - held.start) (counted_anew tab 0 (items_past (piece.start - held.start) 0 (placed tab 0 0 (clusters_in held.text)))) →
-      held.start + kept ≡ place_at_column tab text pieces line column
-  held-place tab column kept is =
-      let own = line_under text pieces line in
-      let at = start_of-get pieces line piece found in
-      let Walked : ℕ → ℕ → List ℕ → ℕ = λ s p t. fitting (last - s) column (p - s) (counted_anew tab 0 (items_past (p - s) 0 (placed tab 0 0 (clusters_in t)))) in
-      ap (λ (s : ℕ). s + kept) held_is.start ∙
-      place_at_column-is text pieces line last are scalars starts there gaps tab column kept
-      (is ∙ ap (λ s. Walked s piece.start held.text) held_is.start ∙ ap (λ p. Walked own.start p held.text) (sym at) ∙ ap (Walked own.start (start_of pieces line)) held_is.text)
+  pub piece-ordered : piece.start ≤ last
+  piece-ordered = let ordered = gaps.ordered in let at = piece-start in omega arith
+
+  pub piece-inside : last ≤ (line_under text pieces line).start + length (line_under text pieces line).text
+  piece-inside = own-to text pieces line last are scalars starts there gaps
 
   pub held-place-le : (tab column : ℕ) → place_at_column tab text pieces line column ≤ last
   held-place-le tab column =
       let place = place_at_column tab text pieces line column in
       gaps.only place (place-inside text place scalars (greatest_place-is_place _ text)) (IsInLine-place tab column line text pieces are starts there).stands
+
+  module _ (held : Stretch) (near : IsStretchOf (line_under text pieces line) piece.start last held) where
+    pub held-walk-from : held.start ≤ piece.start
+    held-walk-from = near.before
+
+    pub held-walk-last : held.start ≤ last
+    held-walk-last = let low = near.before in let more = piece-ordered in omega arith
+
+    pub held-place : (tab column kept : ℕ) →
+        kept ≡ fitting (last - held.start) column (piece.start - held.start) (counted_anew tab 0 (items_past (piece.start - held.start) 0 (placed tab 0 0 (clusters_in held.text)))) →
+        held.start + kept ≡ place_at_column tab text pieces line column
+    held-place tab column kept is =
+        let own = line_under text pieces line in
+        let Walked : ℕ → ℕ = λ p. fitting (last - held.start) column (p - held.start) (counted_anew tab 0 (items_past (p - held.start) 0 (placed tab 0 0 (clusters_in held.text)))) in
+        place_at_column-is text pieces line last are scalars starts there gaps held (subst (λ (n : ℕ). IsStretchOf own n last held) (sym piece-start) near) tab column kept
+        (is ∙ ap Walked (sym piece-start))
 
 -- ---- up and down
 

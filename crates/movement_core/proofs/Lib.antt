@@ -1,5 +1,7 @@
 pub mod PlaceLemmas
 pub mod ByteLemmas
+pub mod ApartLemmas
+pub mod StretchLemmas
 pub mod LawLemmas
 pub mod LineLemmas
 pub mod HeadLemmas

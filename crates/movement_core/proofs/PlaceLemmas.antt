@@ -198,7 +198,7 @@ concat-flat_map-append (x ∷ xs) ys =
 
 -- ---- cuts of clusters, and those of the clusters of a line among them
 
-cuts-in : (front own back : List (List ℕ)) (n : ℕ) → length (concat front) ≤ n → n ≤ length (concat front) + length (concat own) →
+pub cuts-in : (front own back : List (List ℕ)) (n : ℕ) → length (concat front) ≤ n → n ≤ length (concat front) + length (concat own) →
     Contains (0 ∷ ends_from 0 (front ++ (own ++ back))) n → Contains (0 ∷ ends_from 0 own) (n - length (concat front))
 cuts-in front own back n low high found =
     let start = length (concat front) in
@@ -222,7 +222,7 @@ cuts-in front own back n low high found =
     (Contains-append_cases (ends_from 0 front) _ n (subst (λ zs. Contains zs n) parts past)))
     (first_or_later 0 _ n found)
 
-cuts-from : (front own back : List (List ℕ)) (n : ℕ) → Contains (0 ∷ ends_from 0 own) n →
+pub cuts-from : (front own back : List (List ℕ)) (n : ℕ) → Contains (0 ∷ ends_from 0 own) n →
     Contains (0 ∷ ends_from 0 (front ++ (own ++ back))) (length (concat front) + n)
 cuts-from front own back n found =
     let start = length (concat front) in

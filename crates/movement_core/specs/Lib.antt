@@ -3,5 +3,6 @@ pub mod Lines
 pub mod Words
 pub mod Motions
 pub mod Laws
+pub mod Nearby
 pub mod Inner
 pub mod Rows

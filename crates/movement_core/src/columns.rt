@@ -6,24 +6,26 @@ ghost use Rattle.cluster_core.specs.Walk.{counted_anew, placed, walk_left, walk_
 ghost use Rattle.movement_core.specs.Lines.{StartAtPlaces, above, below, column_of, line_end, line_start, place_at_column};
 ghost use Rattle.movement_core.specs.Inner.{fitting, items_past};
 
-use crate::lines::{last_gap, line_text, piece_at, text_end};
+use crate::lines::{last_gap, piece_at, text_end};
+use crate::nearby::text_around;
 use crate::places::outward_left;
 use cluster_core::{Walk, columns_between};
 use plain_screen::TextView;
 use plain_text::NoMemory;
 use std::alloc::Global;
 
-/// The column of a gap in its layout line. This reads the gap's logical line.
+/// The column of a gap in its layout line. This reads the layout line up to the gap, and beside it as far as to where plain characters
+/// stand.
 pub fn column_of<T: TextView>(alloc: Global, view: &T, gap: u64, tab: u32) -> Result<u128, NoMemory>
     requires { all_scalars (T.text_of view.now) ≡ true }
     ensures { IfOk result (λ column. column ≡ column_of tab (T.text_of view.now) (T.pieces_of view.now) gap) }
 {
     let line = view.line_of(gap);
-    let own = line_text(alloc, view, line)?;
     let start = piece_at(view, line).start;
-    let from = start - own.start;
-    let to = gap - own.start;
-    Ok(columns_between(own.text.as_str(), from, to, tab))
+    let near = text_around(alloc, view, line, start, gap.min(text_end(view)))?;
+    let from = start - near.start;
+    let to = gap - near.start;
+    Ok(columns_between(near.text.as_str(), from, to, tab))
 }
 
 /// The least caret place of a layout line.
@@ -104,13 +106,13 @@ fn place_at_column<T: TextView>(
     requires sound { ArePieces (T.text_of view.now) (T.pieces_of view.now) }
     ensures { IfOk result (λ place. place ≡ place_at_column tab (T.text_of view.now) (T.pieces_of view.now) line column) }
 {
-    let own = line_text(alloc, view, line)?;
     let end = last_gap(view, line);
     let start = piece_at(view, line).start;
-    let last = end - own.start;
-    let from = start - own.start;
-    let found = last_fitting(own.text.as_str(), tab, from, last, column);
-    Ok(own.start + found)
+    let near = text_around(alloc, view, line, start, end)?;
+    let last = end - near.start;
+    let from = start - near.start;
+    let found = last_fitting(near.text.as_str(), tab, from, last, column);
+    Ok(near.start + found)
 }
 
 /// Where a gap goes in the layout line above its own.

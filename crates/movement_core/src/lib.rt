@@ -6,15 +6,17 @@
 //! out too: [`text_end`], [`piece_at`], [`last_gap`], [`line_text`], [`column_of`], [`outward_left`], [`run_left`] and
 //! [`run_right`].
 //!
-//! For each region a motion asks the view for the lines of a gap, and reads the logical lines in which the caret stands and to which it
-//! goes. A motion by words reads at most twice the characters that it passes over, and one logical line. Nothing walks over pieces, and
-//! nothing asks a view for its whole text.
+//! For each region a motion asks the view for the lines of a gap, and reads a stretch of the logical line around the gap, or around the
+//! layout line to which it goes: it begins and ends where two plain characters stand side by side, since a cluster ends between them
+//! whatever stands beside them, and is sought in steps of 256 characters. A motion by words reads at most twice the characters that it
+//! passes over, and one such stretch. Nothing walks over pieces, and nothing asks a view for its whole text.
 #![tactic(auto)]
 
 mod columns;
 pub mod laws;
 mod lines;
 mod moves;
+mod nearby;
 mod places;
 pub mod rows;
 mod words;

@@ -4,7 +4,8 @@ ghost use Rattle.plain_text.specs.Text.{gap_at};
 ghost use Rattle.movement_core.specs.Places.{IsGreatestPlace, left_of, outward_left, outward_right, right_of};
 ghost use Rattle.movement_core.specs.Inner.{IsGapUpTo, IsNextGap};
 
-use crate::lines::{line_text, text_end};
+use crate::lines::text_end;
+use crate::nearby::text_around;
 use cluster_core::{next, prev};
 use plain_screen::TextView;
 use plain_text::{NoMemory, Text};
@@ -51,15 +52,15 @@ fn boundary_past(line: &Text, gap: u64) -> u64
     }
 }
 
-/// The boundary at a gap, or else the one left of it. This reads the gap's logical line.
+/// The boundary at a gap, or else the one left of it. This reads the gap's logical line as far as to where plain characters stand.
 pub fn outward_left<T: TextView>(alloc: Global, view: &T, gap: u64) -> Result<u64, NoMemory>
     requires characters { all_scalars (T.text_of view.now) ≡ true }
     requires inside { gap ≤ length (T.text_of view.now) }
     ensures value { IfOk result (λ place. place ≡ outward_left (T.text_of view.now) gap) }
     ensures greatest { IfOk result (IsGreatestPlace (λ place. nat_le place gap) (T.text_of view.now)) }
 {
-    let own = line_text(alloc, view, view.line_of(gap))?;
-    Ok(own.start + boundary_up_to(&own.text, gap - own.start))
+    let near = text_around(alloc, view, view.line_of(gap), gap, gap)?;
+    Ok(near.start + boundary_up_to(&near.text, gap - near.start))
 }
 
 /// The boundary right of a gap; the text's end has none.
@@ -71,8 +72,8 @@ pub(crate) fn right_of<T: TextView>(alloc: Global, view: &T, gap: u64) -> Result
     if gap == text_end(view) {
         return Ok(gap);
     }
-    let own = line_text(alloc, view, view.line_of(gap))?;
-    Ok(own.start + boundary_past(&own.text, gap - own.start))
+    let near = text_around(alloc, view, view.line_of(gap), gap, gap)?;
+    Ok(near.start + boundary_past(&near.text, gap - near.start))
 }
 
 /// The boundary left of a gap; the text's start has none.
