@@ -36,7 +36,7 @@ fn serve_front<S: Source, O: Object, R: Threads + Wait, P: Plugin>(
     requires reserved { (length taker.posts.items < vec_capacity back.passes) × (length taker.posts.items ≤ vec_capacity back.plugins) }
     ensures { AllCameBack O.serves O.answers P.told taker.entry.room.now.table.shared.table_id
         taker.entry.room.now.table.shared.key.first.value (begun_in (givens_of taker.entry.posts.items))
-        (source_state S.left S.faults S.failures source.old) (source_state S.left S.faults S.failures source.new)
+        (source_state S.left S.faults S.failures S.reads source.old) (source_state S.left S.faults S.failures S.reads source.new)
         result.0 result.1.passes.items result.1.plugins.items result.1.all_served }
 {
     let mut run = Run::new(alloc, taker);
@@ -77,7 +77,7 @@ fn serve_in_scope<
     requires empty { (back.passes.items ≡ []) × (back.plugins.items ≡ []) }
     requires reserved { (vec_len plugins < vec_capacity back.passes) × (vec_len plugins ≤ vec_capacity back.plugins) }
     ensures { AllCameBack O.serves O.answers P.told room.now.table.shared.table_id room.now.table.shared.key.first.value
-        plugins.items (source_state S.left S.faults S.failures source.old) (source_state S.left S.faults S.failures source.new)
+        plugins.items (source_state S.left S.faults S.failures S.reads source.old) (source_state S.left S.faults S.failures S.reads source.new)
         result.0 result.1.passes.items result.1.plugins.items result.1.all_served }
 {
     let taker = hire_all(scope, rt, alloc, room, front, plugins, said, posts, gate);
@@ -116,7 +116,7 @@ fn serve_on_threads<
     requires reserved { (vec_len plugins < vec_capacity back.passes) × (vec_len plugins ≤ vec_capacity back.plugins) }
     ensures came { IfOk result (λ came. AllCameBack O.serves O.answers P.told room.now.table.shared.table_id
         room.now.table.shared.key.first.value plugins.items
-        (source_state S.left S.faults S.failures source.old) (source_state S.left S.faults S.failures source.new)
+        (source_state S.left S.faults S.failures S.reads source.old) (source_state S.left S.faults S.failures S.reads source.new)
         came.0 came.1.passes.items came.1.plugins.items came.1.all_served) }
     ensures left { IfErr result (λ left. (left.0 ≡ front) × (left.1 ≡ plugins) × (left.2 ≡ back) × (source.new ≡ source.old)) }
 {
@@ -135,7 +135,7 @@ fn serve_on_threads<
             ensures goes { result.1.ghost_name ≡ source.entry.ghost_name }
             ensures came { IfOk result.0 (λ came. AllCameBack O.serves O.answers P.told room.entry.now.table.shared.table_id
                 room.entry.now.table.shared.key.first.value plugins.items
-                (source_state S.left S.faults S.failures source.entry.now) (source_state S.left S.faults S.failures result.1.now)
+                (source_state S.left S.faults S.failures S.reads source.entry.now) (source_state S.left S.faults S.failures S.reads result.1.now)
                 came.0 came.1.passes.items came.1.plugins.items came.1.all_served) }
             ensures left { IfErr result.0 (λ left. (left.0 ≡ front) × (left.1 ≡ plugins) × (left.2 ≡ back)
                 × (result.1.now ≡ source.entry.now)) }
@@ -225,7 +225,7 @@ fn serve_here<'a, S: Source, O: Object, P: Plugin, R: Threads + Wait>(
     requires empty { (back.passes.items ≡ []) × (back.plugins.items ≡ []) }
     requires reserved { (vec_len plugins < vec_capacity back.passes) × (vec_len plugins ≤ vec_capacity back.plugins) }
     ensures { AllCameBack O.serves O.answers P.told room.now.table.shared.table_id room.now.table.shared.key.first.value
-        plugins.items (source_state S.left S.faults S.failures source.old) (source_state S.left S.faults S.failures source.new)
+        plugins.items (source_state S.left S.faults S.failures S.reads source.old) (source_state S.left S.faults S.failures S.reads source.new)
         result.0 result.1.passes.items result.1.plugins.items result.1.all_served }
 {
     let taker = seat_all(rt, alloc, room, front, plugins, posts);
@@ -262,7 +262,7 @@ pub fn serve_all<
     requires empty { (back.passes.items ≡ []) × (back.plugins.items ≡ []) }
     requires reserved { (vec_len plugins < vec_capacity back.passes) × (vec_len plugins ≤ vec_capacity back.plugins) }
     ensures { AllCameBack O.serves O.answers P.told room.now.table.shared.table_id room.now.table.shared.key.first.value
-        plugins.items (source_state S.left S.faults S.failures source.old) (source_state S.left S.faults S.failures source.new)
+        plugins.items (source_state S.left S.faults S.failures S.reads source.old) (source_state S.left S.faults S.failures S.reads source.new)
         result.0 result.1.passes.items result.1.plugins.items result.1.all_served }
 {
     match serve_on_threads(rt, alloc, source, room, front, plugins, said, back, gate) {

@@ -46,11 +46,11 @@ pub fn run_threads<
 ) -> Report<K, H, P>
     requires few { vec_len plugins ≤ 64 }
     ensures headline { RunsAlone (length plugins.items)
-        (passage_of (source_state S.left S.faults S.failures) (sink_state K.held K.faults K.failures)
+        (passage_of (source_state S.left S.faults S.failures S.reads) (sink_state K.held K.faults K.failures)
         (shelf_state H.files H.faults) source.old source.new sink result.sink shelf result.shelf)
         result.journal.items result.status }
     ensures causes { HasCauses
-        (passage_of (source_state S.left S.faults S.failures) (sink_state K.held K.faults K.failures)
+        (passage_of (source_state S.left S.faults S.failures S.reads) (sink_state K.held K.faults K.failures)
         (shelf_state H.files H.faults) source.old source.new sink result.sink shelf result.shelf)
         result.journal.items result.status }
     ensures saves { HoldsSaves (terms_for (length plugins.items))
@@ -59,14 +59,14 @@ pub fn run_threads<
         (sink_state K.held K.faults K.failures sink) (sink_state K.held K.faults K.failures result.sink)
         result.journal.items result.status }
     ensures reads { IsReadByCount
-        (source_state S.left S.faults S.failures source.old) (source_state S.left S.faults S.failures source.new)
+        (source_state S.left S.faults S.failures S.reads source.old) (source_state S.left S.faults S.failures S.reads source.new)
         result.status }
     ensures in_time { EntersInTime
-        (source_state S.left S.faults S.failures source.old) (source_state S.left S.faults S.failures source.new)
+        (source_state S.left S.faults S.failures S.reads source.old) (source_state S.left S.faults S.failures S.reads source.new)
         result.journal.items }
     ensures turns { ServesPlugins P.told plugins.items result.plugins.items result.journal.items result.all_served }
     ensures complete { IsCalm
-        (passage_of (source_state S.left S.faults S.failures) (sink_state K.held K.faults K.failures)
+        (passage_of (source_state S.left S.faults S.failures S.reads) (sink_state K.held K.faults K.failures)
         (shelf_state H.files H.faults) source.old source.new sink result.sink shelf result.shelf)
         → EndsWell result.status }
 {
@@ -92,14 +92,14 @@ fn run<
 ) -> Report<K, H, P>
     requires few { vec_len plugins ≤ 64 }
     ensures ran { RunsAlone (length plugins.items)
-        (passage_of (source_state S.left S.faults S.failures) (sink_state K.held K.faults K.failures)
+        (passage_of (source_state S.left S.faults S.failures S.reads) (sink_state K.held K.faults K.failures)
         (shelf_state H.files H.faults) source.old source.new sink result.sink shelf result.shelf)
         result.journal.items result.status }
     ensures reads { IsReadByCount
-        (source_state S.left S.faults S.failures source.old) (source_state S.left S.faults S.failures source.new)
+        (source_state S.left S.faults S.failures S.reads source.old) (source_state S.left S.faults S.failures S.reads source.new)
         result.status }
     ensures in_time { EntersInTime
-        (source_state S.left S.faults S.failures source.old) (source_state S.left S.faults S.failures source.new)
+        (source_state S.left S.faults S.failures S.reads source.old) (source_state S.left S.faults S.failures S.reads source.new)
         result.journal.items }
     ensures turns { ServesPlugins P.told plugins.items result.plugins.items result.journal.items result.all_served }
 {
@@ -129,13 +129,13 @@ fn run_core<
 ) -> Result<Ran<K, H, P>, Report<K, H, P>>
     requires few { vec_len plugins ≤ 64 }
     ensures ran { IfOk result (λ ran. RunsAlone (length plugins.items)
-        (passage_of (source_state S.left S.faults S.failures) (sink_state K.held K.faults K.failures)
+        (passage_of (source_state S.left S.faults S.failures S.reads) (sink_state K.held K.faults K.failures)
         (shelf_state H.files H.faults) source.old source.new sink (sink_of ran.core) shelf (shelf_of ran.core))
         (journal_of ran.core) ran.status) }
-    ensures reads { IfOk result (λ ran. IsReadByCount (source_state S.left S.faults S.failures source.old)
-        (source_state S.left S.faults S.failures source.new) ran.status) }
-    ensures in_time { IfOk result (λ ran. EntersInTime (source_state S.left S.faults S.failures source.old)
-        (source_state S.left S.faults S.failures source.new) (journal_of ran.core)) }
+    ensures reads { IfOk result (λ ran. IsReadByCount (source_state S.left S.faults S.failures S.reads source.old)
+        (source_state S.left S.faults S.failures S.reads source.new) ran.status) }
+    ensures in_time { IfOk result (λ ran. EntersInTime (source_state S.left S.faults S.failures S.reads source.old)
+        (source_state S.left S.faults S.failures S.reads source.new) (journal_of ran.core)) }
     ensures turns { IfOk result (λ ran. ServesPlugins P.told plugins.items ran.plugins.items (journal_of ran.core) ran.all_served) }
     ensures unstarted { IfErr result (λ report. IsUnstarted sink shelf plugins.items report × (source.new ≡ source.old)) }
 {

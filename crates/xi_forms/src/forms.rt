@@ -35,10 +35,10 @@ pub fn xi_main<
 ) -> Report<K, H, P>
     requires few { vec_len plugins ≤ 64 }
     ensures threads { form_in words.now ≡ Some Form.Threads → ServesOnThreads P.told plugins.items result
-        (passage_of (source_state S.left S.faults S.failures) (sink_state K.held K.faults K.failures)
+        (passage_of (source_state S.left S.faults S.failures S.reads) (sink_state K.held K.faults K.failures)
         (shelf_state H.files H.faults) source.old source.new sink result.sink shelf result.shelf) }
     ensures alone { form_in words.now ≡ Some Form.Alone → ServesAlone P.told plugins.items result
-        (passage_of (source_state S.left S.faults S.failures) (sink_state K.held K.faults K.failures)
+        (passage_of (source_state S.left S.faults S.failures S.reads) (sink_state K.held K.faults K.failures)
         (shelf_state H.files H.faults) source.old source.new sink result.sink shelf result.shelf) }
     ensures storm { (count seed : ℕ) → form_in words.now ≡ Some (Form.Storm count seed)
         → RunsStorm P.told plugins.items result count seed (sink_state K.held K.faults K.failures sink)

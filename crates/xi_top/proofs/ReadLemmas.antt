@@ -6,7 +6,7 @@ use Rattle.xi_plain.specs.declared.entry.Entry.{Entry}
 use Rattle.outside.specs.Faults.{Rose, counted}
 use Rattle.outside.specs.declared.source.Pulled.{Pulled}
 use Rattle.outside.specs.declared.source.Pulled.TheVariants.{Got, End, Failed}
-use Rattle.outside.specs.Source.{SourceState, Gives}
+use Rattle.outside.specs.Source.{SourceState, Gives, reads_after}
 use Rattle.outside.proofs.ForCallers.{Gives-append, Rose-earlier}
 use Rattle.xi_top.specs.declared.step.Run.{Run}
 use Rattle.xi_top.specs.declared.step.Stepped.{Stepped}
@@ -24,13 +24,14 @@ use Rattle.xi_top.proofs.IntakeLemmas.{left_told, no_failure, stops_source}
 module _ {L : Type 0} (seen : L → List Entry) (taken : List ℕ) (before after : SourceState) (run : Run L) where
   -- where the source failed, the run stopped with what it had answered
   pub step_failed : Gives before.left after.left [] → before.faults ≤ after.faults → Rose before.faults after.faults →
-      after.failures ≡ counted before.failures → HasAnswered seen taken run → IsStep seen taken before after run (Ends (Err SourceFault))
-  step_failed gives stays rose failures at =
+      after.failures ≡ counted before.failures → after.reads ≡ reads_after before.reads → HasAnswered seen taken run →
+      IsStep seen taken before after run (Ends (Err SourceFault))
+  step_failed gives stays rose failures reads at =
       let At : List ℕ → List ℕ → Type 0 = λ left bytes. Stops (seen run.taker) bytes left (Err SourceFault) in
       record {
         answer = Failed;
         given = [];
-        asked = record { gives = gives; given_by = refl; stays = stays; rose = λ is. rose; failures = failures };
+        asked = record { gives = gives; given_by = refl; stays = stays; rose = λ is. rose; failures = failures; reads = reads };
         comes_to = (refl, λ left. subst (At left) (sym (append-nil taken)) (stops_source taken left (seen run.taker) (begun_of run.intake) at));
       }
 
@@ -41,14 +42,14 @@ module _ {L : Type 0} (seen : L → List Entry) (taken : List ℕ) (before after
 
   -- where it gave some bytes, the run goes on or stopped as they say
   pub step_got : (given : List ℕ) (n : ℕ) (outcome : Outcome) (stepped : Stepped) → Gives before.left after.left given → length given ≡ n → 0 < n →
-      n ≤ most_read → before.faults ≤ after.faults → after.failures ≡ before.failures → stepped ≡ step_after outcome →
-      GoesOn (seen run.taker) (taken ++ given) (begun_of run.intake) outcome → IsStep seen taken before after run stepped
-  step_got given n outcome stepped gives len some fits stays failures is goes =
+      n ≤ most_read → before.faults ≤ after.faults → after.failures ≡ before.failures → after.reads ≡ reads_after before.reads →
+      stepped ≡ step_after outcome → GoesOn (seen run.taker) (taken ++ given) (begun_of run.intake) outcome → IsStep seen taken before after run stepped
+  step_got given n outcome stepped gives len some fits stays failures reads is goes =
       let At : Stepped → Type 0 = λ s. IsStep seen taken before after run s in
       subst At (sym is) (record {
         answer = Got n;
         given = given;
-        asked = record { gives = gives; given_by = (len, some, fits); stays = stays; rose = λ same. absurd cc; failures = failures };
+        asked = record { gives = gives; given_by = (len, some, fits); stays = stays; rose = λ same. absurd cc; failures = failures; reads = reads };
         comes_to = got_comes_to given n outcome goes;
       })
 

@@ -6,7 +6,7 @@ use Rattle.front_wire.specs.Front.{command_of}
 use Rattle.outside.specs.Faults.{Rose}
 use Rattle.outside.specs.declared.source.Pulled.{Pulled}
 use Rattle.outside.specs.declared.source.Pulled.TheVariants.{Got, End, Failed}
-use Rattle.outside.specs.Source.{SourceState, Gives, failures_after}
+use Rattle.outside.specs.Source.{SourceState, Gives, failures_after, reads_after}
 use Rattle.xi_plain.specs.declared.entry.Entry.{Entry}
 use Rattle.xi_plain.specs.Journal.{commands, front_entries}
 use Rattle.xi_top.specs.declared.feed.Intake.{Intake}
@@ -87,6 +87,7 @@ pub record AsksOnce (before after : SourceState) (answer : Pulled) (given : List
   pub stays : before.faults ≤ after.faults
   pub rose : answer ≡ Failed → Rose before.faults after.faults
   pub failures : after.failures ≡ failures_after answer before.failures
+  pub reads : after.reads ≡ reads_after before.reads
 
 -- WHAT A STEP COMES TO by the answer, where all these bytes were taken by then: the run has answered them and goes on, or it stopped in
 -- them; at the input's end it stopped, and what stood after the last LF is a line too; and it stopped where the source failed

@@ -72,13 +72,13 @@ pub fn run_core<S: Source, K: Sink, H: Shelf, P: Plugin>(
 ) -> Result<Ran<K, H, P>, Report<K, H, P>>
     requires few { vec_len plugins ≤ 64 }
     ensures ran { IfOk result (λ ran. RunsAlone (length plugins.items)
-        (passage_of (source_state S.left S.faults S.failures) (sink_state K.held K.faults K.failures)
+        (passage_of (source_state S.left S.faults S.failures S.reads) (sink_state K.held K.faults K.failures)
         (shelf_state H.files H.faults) source.old source.new sink (sink_of ran.core) shelf (shelf_of ran.core))
         (journal_of ran.core) ran.status) }
-    ensures reads { IfOk result (λ ran. IsReadByCount (source_state S.left S.faults S.failures source.old)
-        (source_state S.left S.faults S.failures source.new) ran.status) }
+    ensures reads { IfOk result (λ ran. IsReadByCount (source_state S.left S.faults S.failures S.reads source.old)
+        (source_state S.left S.faults S.failures S.reads source.new) ran.status) }
     ensures in_time { IfOk result (λ ran. AnswersInTime (length plugins.items)
-        (passage_of (source_state S.left S.faults S.failures) (sink_state K.held K.faults K.failures)
+        (passage_of (source_state S.left S.faults S.failures S.reads) (sink_state K.held K.faults K.failures)
         (shelf_state H.files H.faults) source.old source.new sink (sink_of ran.core) shelf (shelf_of ran.core))
         (journal_of ran.core)) }
     ensures turns { IfOk result (λ ran. TakesTurns P.told plugins.items ran.plugins.items (journal_of ran.core) ran.all_served) }
@@ -121,13 +121,13 @@ fn serve_all<S: Source, K: Sink, H: Shelf, P: Plugin>(
     requires empty { journal_of core ≡ [] }
     requires new { (plugins : List P) × AreNew 1 plugins crew.members.items }
     ensures ran { RunsAlone (length crew.members.items)
-        (passage_of (source_state S.left S.faults S.failures) (sink_state K.held K.faults K.failures)
+        (passage_of (source_state S.left S.faults S.failures S.reads) (sink_state K.held K.faults K.failures)
         (shelf_state H.files H.faults) source.old source.new (sink_of core) (sink_of result.core) (shelf_of core) (shelf_of result.core))
         (journal_of result.core) result.status }
-    ensures reads { IsReadByCount (source_state S.left S.faults S.failures source.old)
-        (source_state S.left S.faults S.failures source.new) result.status }
+    ensures reads { IsReadByCount (source_state S.left S.faults S.failures S.reads source.old)
+        (source_state S.left S.faults S.failures S.reads source.new) result.status }
     ensures in_time { AnswersInTime (length crew.members.items)
-        (passage_of (source_state S.left S.faults S.failures) (sink_state K.held K.faults K.failures)
+        (passage_of (source_state S.left S.faults S.failures S.reads) (sink_state K.held K.faults K.failures)
         (shelf_state H.files H.faults) source.old source.new (sink_of core) (sink_of result.core) (shelf_of core) (shelf_of result.core))
         (journal_of result.core) }
     ensures turns { TakesTurns P.told (begun_of crew.members.items) result.plugins.items (journal_of result.core) result.all_served }

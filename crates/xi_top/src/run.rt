@@ -45,11 +45,11 @@ pub fn run_alone<S: Source, K: Sink, H: Shelf, P: Plugin>(
 ) -> Report<K, H, P>
     requires few { vec_len plugins ≤ 64 }
     ensures headline { RunsAlone (length plugins.items)
-        (passage_of (source_state S.left S.faults S.failures) (sink_state K.held K.faults K.failures)
+        (passage_of (source_state S.left S.faults S.failures S.reads) (sink_state K.held K.faults K.failures)
         (shelf_state H.files H.faults) source.old source.new sink result.sink shelf result.shelf)
         result.journal.items result.status }
     ensures causes { HasCauses
-        (passage_of (source_state S.left S.faults S.failures) (sink_state K.held K.faults K.failures)
+        (passage_of (source_state S.left S.faults S.failures S.reads) (sink_state K.held K.faults K.failures)
         (shelf_state H.files H.faults) source.old source.new sink result.sink shelf result.shelf)
         result.journal.items result.status }
     ensures saves { HoldsSaves (terms_for (length plugins.items))
@@ -58,15 +58,15 @@ pub fn run_alone<S: Source, K: Sink, H: Shelf, P: Plugin>(
         (sink_state K.held K.faults K.failures sink) (sink_state K.held K.faults K.failures result.sink)
         result.journal.items result.status }
     ensures reads { IsReadByCount
-        (source_state S.left S.faults S.failures source.old) (source_state S.left S.faults S.failures source.new)
+        (source_state S.left S.faults S.failures S.reads source.old) (source_state S.left S.faults S.failures S.reads source.new)
         result.status }
     ensures in_time { AnswersInTime (length plugins.items)
-        (passage_of (source_state S.left S.faults S.failures) (sink_state K.held K.faults K.failures)
+        (passage_of (source_state S.left S.faults S.failures S.reads) (sink_state K.held K.faults K.failures)
         (shelf_state H.files H.faults) source.old source.new sink result.sink shelf result.shelf)
         result.journal.items }
     ensures turns { TakesTurns P.told plugins.items result.plugins.items result.journal.items result.all_served }
     ensures complete { IsCalm
-        (passage_of (source_state S.left S.faults S.failures) (sink_state K.held K.faults K.failures)
+        (passage_of (source_state S.left S.faults S.failures S.reads) (sink_state K.held K.faults K.failures)
         (shelf_state H.files H.faults) source.old source.new sink result.sink shelf result.shelf)
         → EndsWell result.status }
 {
@@ -82,14 +82,14 @@ fn run<S: Source, K: Sink, H: Shelf, P: Plugin>(
 ) -> Report<K, H, P>
     requires few { vec_len plugins ≤ 64 }
     ensures alone { RunsAlone (length plugins.items)
-        (passage_of (source_state S.left S.faults S.failures) (sink_state K.held K.faults K.failures)
+        (passage_of (source_state S.left S.faults S.failures S.reads) (sink_state K.held K.faults K.failures)
         (shelf_state H.files H.faults) source.old source.new sink result.sink shelf result.shelf)
         result.journal.items result.status }
     ensures reads { IsReadByCount
-        (source_state S.left S.faults S.failures source.old) (source_state S.left S.faults S.failures source.new)
+        (source_state S.left S.faults S.failures S.reads source.old) (source_state S.left S.faults S.failures S.reads source.new)
         result.status }
     ensures in_time { AnswersInTime (length plugins.items)
-        (passage_of (source_state S.left S.faults S.failures) (sink_state K.held K.faults K.failures)
+        (passage_of (source_state S.left S.faults S.failures S.reads) (sink_state K.held K.faults K.failures)
         (shelf_state H.files H.faults) source.old source.new sink result.sink shelf result.shelf)
         result.journal.items }
     ensures turns { TakesTurns P.told plugins.items result.plugins.items result.journal.items result.all_served }

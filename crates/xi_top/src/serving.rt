@@ -17,8 +17,8 @@ pub fn serve<S: Source, L: LineTaker>(source: &mut S, run: &mut Run<L>) -> Resul
     requires first { HasAnswered L.seen [] run.old }
     ensures ready { L.ready run.new.taker }
     ensures later { L.later run.old.taker run.new.taker }
-    ensures served { IsServed L.seen L.later L.ready (source_state S.left S.faults S.failures source.old)
-        (source_state S.left S.faults S.failures source.new) run.old.taker run.new.taker result }
+    ensures served { IsServed L.seen L.later L.ready (source_state S.left S.faults S.failures S.reads source.old)
+        (source_state S.left S.faults S.failures S.reads source.new) run.old.taker run.new.taker result }
 {
     loop {
         match run.step(source) {

@@ -53,8 +53,8 @@ impl<L: LineTaker> Run<L> {
         ensures small { result ≡ Stepped.Goes → IsSmall (begun_of self.new.intake) }
         ensures heavier { result ≡ Stepped.Goes → IsHeavier self.old.intake self.new.intake }
         ensures step { (taken : List ℕ) → HasAnswered L.seen taken self.old
-            → IsStep L.seen taken (source_state S.left S.faults S.failures source.old)
-            (source_state S.left S.faults S.failures source.new) self.new result }
+            → IsStep L.seen taken (source_state S.left S.faults S.failures S.reads source.old)
+            (source_state S.left S.faults S.failures S.reads source.new) self.new result }
     {
         let mut buffer = [0; MOST_READ];
         match source.read(&mut buffer) {

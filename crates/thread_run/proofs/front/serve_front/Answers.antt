@@ -40,7 +40,7 @@ pub returns : goal.returns
 returns g c =
     let o = g.O.Object in
     let told = g.P.Plugin.told in
-    let tell = source_state g.S.Source.left g.S.Source.faults g.S.Source.failures in
+    let tell = source_state g.S.Source.left g.S.Source.faults g.S.Source.failures g.S.Source.reads in
     let start = c.args.taker in
     let begun = c.new-run.result.taker in
     let ran = c.serve-outcome.new.run.taker in

@@ -28,7 +28,7 @@ serve_front-requires g c =
 pub returns : goal.returns
 returns g c =
     let o = g.O.Object in
-    let tell = source_state g.S.Source.left g.S.Source.faults g.S.Source.failures in
+    let tell = source_state g.S.Source.left g.S.Source.faults g.S.Source.failures g.S.Source.reads in
     let res = c.serve_front.result in
     let Came : _ → _ → Type 0 =
     λ room handed. AllCameBack o.serves o.answers g.P.Plugin.told room.table.shared.table_id room.table.shared.key.first.value handed

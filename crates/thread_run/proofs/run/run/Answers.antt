@@ -21,19 +21,19 @@ returns-in-Ok-clause-turns g c =
 
 pub returns-in-Err-clause-ran : goal.returns-in-Err-clause-ran
 returns-in-Err-clause-ran g c =
-    let tell_source = source_state g.S.Source.left g.S.Source.faults g.S.Source.failures in
+    let tell_source = source_state g.S.Source.left g.S.Source.faults g.S.Source.failures g.S.Source.reads in
     let tell_sink = sink_state g.K.Sink.held g.K.Sink.faults g.K.Sink.failures in
     let tell_shelf = shelf_state g.H.Shelf.files g.H.Shelf.faults in
     RunsAlone-none tell_source tell_sink tell_shelf _ _ _ _ _ _ c.in-Err.report c.in-Err.ensures.unstarted.0 c.in-Err.ensures.unstarted.1
 
 pub returns-in-Err-clause-reads : goal.returns-in-Err-clause-reads
 returns-in-Err-clause-reads g c =
-    IsReadByCount-none (source_state g.S.Source.left g.S.Source.faults g.S.Source.failures) _ _ _ _ _ c.in-Err.report c.in-Err.ensures.unstarted.0
+    IsReadByCount-none (source_state g.S.Source.left g.S.Source.faults g.S.Source.failures g.S.Source.reads) _ _ _ _ _ c.in-Err.report c.in-Err.ensures.unstarted.0
     c.in-Err.ensures.unstarted.1
 
 pub returns-in-Err-clause-in_time : goal.returns-in-Err-clause-in_time
 returns-in-Err-clause-in_time g c =
-    let tell = source_state g.S.Source.left g.S.Source.faults g.S.Source.failures in
+    let tell = source_state g.S.Source.left g.S.Source.faults g.S.Source.failures g.S.Source.reads in
     let (none, same) = c.in-Err.ensures.unstarted in
     record { readings = []; one_a_read = tt; entered = tt; last = (none.empty, ap tell same) }
 

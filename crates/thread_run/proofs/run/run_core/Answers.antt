@@ -44,7 +44,7 @@ finish-done-requires g c = let came = c.serve_all-outcome.ensures in (came.seen,
 
 pub returns-in-Ok-open_room-clause-ran : goal.returns-in-Ok-open_room-clause-ran
 returns-in-Ok-open_room-clause-ran g c =
-    let tell = source_state g.S.Source.left g.S.Source.faults g.S.Source.failures in
+    let tell = source_state g.S.Source.left g.S.Source.faults g.S.Source.failures g.S.Source.reads in
     let state = state_of g.K.Sink.held g.K.Sink.faults g.K.Sink.failures g.H.Shelf.files g.H.Shelf.faults in
     let first = c.in-Ok-open_room.room.table.shared.key.first.value in
     let new = c.in-Ok-open_room.ensures in
@@ -74,7 +74,7 @@ returns-in-Ok-open_room-clause-reads g c =
 
 pub returns-in-Ok-open_room-clause-in_time : goal.returns-in-Ok-open_room-clause-in_time
 returns-in-Ok-open_room-clause-in_time g c =
-    let tell = source_state g.S.Source.left g.S.Source.faults g.S.Source.failures in
+    let tell = source_state g.S.Source.left g.S.Source.faults g.S.Source.failures g.S.Source.reads in
     let state = state_of g.K.Sink.held g.K.Sink.faults g.K.Sink.failures g.H.Shelf.files g.H.Shelf.faults in
     let first = c.in-Ok-open_room.room.table.shared.key.first.value in
     let new = c.in-Ok-open_room.ensures in
@@ -90,7 +90,7 @@ returns-in-Ok-open_room-clause-in_time g c =
 
 pub returns-in-Ok-open_room-clause-turns : goal.returns-in-Ok-open_room-clause-turns
 returns-in-Ok-open_room-clause-turns g c =
-    let tell = source_state g.S.Source.left g.S.Source.faults g.S.Source.failures in
+    let tell = source_state g.S.Source.left g.S.Source.faults g.S.Source.failures g.S.Source.reads in
     let state = state_of g.K.Sink.held g.K.Sink.faults g.K.Sink.failures g.H.Shelf.files g.H.Shelf.faults in
     let first = c.in-Ok-open_room.room.table.shared.key.first.value in
     let new = c.in-Ok-open_room.ensures in

@@ -40,7 +40,7 @@ serve-outcome-requires g c = record {
 
 pub returns-clause-ran : goal.returns-clause-ran
 returns-clause-ran g c =
-    let tell = source_state g.S.Source.left g.S.Source.faults g.S.Source.failures in
+    let tell = source_state g.S.Source.left g.S.Source.faults g.S.Source.failures g.S.Source.reads in
     let state = state_of g.K.Sink.held g.K.Sink.faults g.K.Sink.failures g.H.Shelf.files g.H.Shelf.faults in
     let members = c.args.crew.members.items in
     let front = c.new-run.result.taker in
@@ -64,7 +64,7 @@ returns-clause-ran g c =
 
 pub returns-clause-in_time : goal.returns-clause-in_time
 returns-clause-in_time g c =
-    let tell = source_state g.S.Source.left g.S.Source.faults g.S.Source.failures in
+    let tell = source_state g.S.Source.left g.S.Source.faults g.S.Source.failures g.S.Source.reads in
     let state = state_of g.K.Sink.held g.K.Sink.faults g.K.Sink.failures g.H.Shelf.files g.H.Shelf.faults in
     let members = c.args.crew.members.items in
     let front = c.new-run.result.taker in
@@ -82,7 +82,7 @@ returns-clause-in_time g c =
 
 pub returns-clause-turns : goal.returns-clause-turns
 returns-clause-turns g c =
-    let tell = source_state g.S.Source.left g.S.Source.faults g.S.Source.failures in
+    let tell = source_state g.S.Source.left g.S.Source.faults g.S.Source.failures g.S.Source.reads in
     let state = state_of g.K.Sink.held g.K.Sink.faults g.K.Sink.failures g.H.Shelf.files g.H.Shelf.faults in
     let members = c.args.crew.members.items in
     let front = c.new-run.result.taker in

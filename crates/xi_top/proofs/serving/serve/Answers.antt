@@ -7,7 +7,7 @@ pub loop-outcome-init : goal.loop-outcome-init
 loop-outcome-init g c =
     let l = g.L.LineTaker in
     let law = g.met.L.LineTaker in
-    let tell = source_state g.S.Source.left g.S.Source.faults g.S.Source.failures in
+    let tell = source_state g.S.Source.left g.S.Source.faults g.S.Source.failures g.S.Source.reads in
     record {
       ready = c.requires.ready;
       small = c.requires.small;
@@ -33,7 +33,7 @@ pub loop-outcome-preserved : goal.loop-outcome-preserved
 loop-outcome-preserved g c =
     let l = g.L.LineTaker in
     let law = g.met.L.LineTaker in
-    let tell = source_state g.S.Source.left g.S.Source.faults g.S.Source.failures in
+    let tell = source_state g.S.Source.left g.S.Source.faults g.S.Source.failures g.S.Source.reads in
     let so_far = c.loop-outcome.invariant.so_far in
     let run = c.loop-outcome.run in
     let next = c.step.new.self in
@@ -54,7 +54,7 @@ pub returns-in-Ends-clause-served : goal.returns-in-Ends-clause-served
 returns-in-Ends-clause-served g c =
     let l = g.L.LineTaker in
     let law = g.met.L.LineTaker in
-    let tell = source_state g.S.Source.left g.S.Source.faults g.S.Source.failures in
+    let tell = source_state g.S.Source.left g.S.Source.faults g.S.Source.failures g.S.Source.reads in
     let so_far = c.loop-outcome.invariant.so_far in
     served l.seen l.later l.ready law.onward (tell c.args.source.now) (tell c.loop-outcome.source) (tell c.step.new.source) c.args.run.now.taker
     c.loop-outcome.run c.step.new.self c.in-Ends.outcome so_far c.step.ensures.later (c.in-Ends.ensures.step so_far.taken so_far.answered)

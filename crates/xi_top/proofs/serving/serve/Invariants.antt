@@ -10,8 +10,8 @@ invariant-loop-outcome g l = record {
   small : IsSmall (begun_of l.run.intake);
   later : g.L.LineTaker.later l.initial.run.taker l.run.taker;
   so_far : IsSoFar g.L.LineTaker.seen g.L.LineTaker.later g.L.LineTaker.ready
-      (source_state g.S.Source.left g.S.Source.faults g.S.Source.failures l.initial.source)
-      (source_state g.S.Source.left g.S.Source.faults g.S.Source.failures l.source) l.initial.run.taker l.run;
+      (source_state g.S.Source.left g.S.Source.faults g.S.Source.failures g.S.Source.reads l.initial.source)
+      (source_state g.S.Source.left g.S.Source.faults g.S.Source.failures g.S.Source.reads l.source) l.initial.run.taker l.run;
 }
 
 abbrev pub decreases-loop-outcome : goal.decreases-loop-outcome
