@@ -4,6 +4,8 @@
 #[cfg(test)]
 mod changed;
 #[cfg(test)]
+mod files;
+#[cfg(test)]
 mod played;
 #[cfg(test)]
 mod runs;
