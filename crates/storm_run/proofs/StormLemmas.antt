@@ -9,6 +9,7 @@ use Rattle.plain_text.specs.InputLines.{lines_of}
 use Rattle.outside.specs.Faults.{Rose}
 use Rattle.outside.specs.Sink.{Gains, SinkState}
 use Rattle.session_step.specs.declared.terms.Terms.{Terms}
+use Rattle.session_step.specs.Accepted.{AreAccepted}
 use Rattle.core_session.specs.Shows.{Shows}
 use Rattle.storm_lines.specs.declared.summary.Summary.{Summary}
 use Rattle.storm_lines.specs.Summary.{summary_text}
@@ -81,10 +82,19 @@ some_lines plugins count seed passage journal ran stormy (inl (outcome, is, run)
     inr (holds_first plugins count seed passage journal outcome stormy run)
 some_lines plugins count seed passage journal ran stormy (inr (is, none)) = inl none.empty
 
+-- a journal without entries has none that was not accepted
+pub nothing_accepted : (plugins : ℕ) (journal : List Entry) → journal ≡ [] → ∥ AreAccepted (terms_for plugins) journal ∥₁
+nothing_accepted plugins journal empty = subst (λ j. ∥ AreAccepted (terms_for plugins) j ∥₁) (sym empty) ∣ tt ∣₁
+
 pub storm_legal : (plugins : ℕ) (passage : Passage) (journal : List Entry) (ran : ℕ) → RunsAlone plugins passage journal ran →
     (journal ≡ []) ⊎ IsLegal plugins journal
 storm_legal plugins passage journal ran (inl (outcome, is, run)) = inr run.legal
 storm_legal plugins passage journal ran (inr (is, none)) = inl none.empty
+
+pub storm_accepted : (plugins : ℕ) (passage : Passage) (journal : List Entry) (ran : ℕ) → RunsAlone plugins passage journal ran →
+    ∥ AreAccepted (terms_for plugins) journal ∥₁
+storm_accepted plugins passage journal ran (inl (outcome, is, run)) = run.accepted
+storm_accepted plugins passage journal ran (inr (is, none)) = nothing_accepted plugins journal none.empty
 
 pub ends_storm : (plugins count seed : ℕ) (passage : Passage) (journal : List Entry) (ran status : ℕ) (terms : Terms) (before after : SinkState) →
     IsStormy count seed passage → RunsAlone plugins passage journal ran → terms ≡ terms_for plugins →

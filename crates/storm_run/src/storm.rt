@@ -1,7 +1,9 @@
 ghost use Rattle.std.specs.Prelude.{◌≡◌, ◌≤◌, ◌<◌, ◌⊎◌, [], length, vec_len};
 ghost use Rattle.outside.specs.Sink.{sink_state};
 ghost use Rattle.xi_plain.specs.Journal.{IsLegal};
+ghost use Rattle.session_step.specs.Accepted.{AreAccepted};
 ghost use Rattle.core_session.specs.Core.{journal_of, sink_of, terms_of};
+ghost use Rattle.xi_top.specs.Alone.{terms_for};
 ghost use Rattle.xi_top.specs.Turns.{TakesTurns};
 ghost use Rattle.storm_run.specs.Inner.{TellsAs, TellsRun};
 ghost use Rattle.storm_run.specs.Storm.{EndsStorm};
@@ -29,6 +31,7 @@ pub fn run_storm<K: Sink, H: Shelf, P: Plugin>(
     ensures ends { EndsStorm count seed (length plugins.items) (sink_state K.held K.faults K.failures sink)
         (sink_state K.held K.faults K.failures result.sink) result.journal.items result.status }
     ensures legal { (result.journal.items ≡ []) ⊎ IsLegal (length plugins.items) result.journal.items }
+    ensures accepted { ∥ AreAccepted (terms_for (length plugins.items)) result.journal.items ∥₁ }
     ensures turns { TakesTurns P.told plugins.items result.plugins.items result.journal.items result.all_served }
     ensures shelf { result.shelf ≡ shelf }
 {

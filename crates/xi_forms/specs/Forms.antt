@@ -3,7 +3,7 @@ use Rattle.std.specs.Prelude.{◌≡◌, ℕ, List, [], length, Option, ◌⊎�
 use Rattle.outside.specs.Sink.{SinkState}
 use Rattle.xi_plain.specs.Journal.{IsLegal}
 use Rattle.plugin_session.specs.Turn.{Turned}
-pub use Rattle.storm_run.specs.Runs.{AnswersInTime, EndsWell, HasCauses, HoldsSaves, IsCalm, IsReadByCount, IsWrittenByCount, Passage, Report, RunsAlone, ServesPlugins, TakesTurns, terms_for}
+pub use Rattle.storm_run.specs.Runs.{AnswersInTime, AreAccepted, EndsWell, HasCauses, HoldsSaves, IsCalm, IsReadByCount, IsWrittenByCount, Passage, Report, RunsAlone, ServesPlugins, TakesTurns, terms_for}
 pub use Rattle.storm_run.specs.Storm.{EndsStorm}
 use Rattle.thread_run.specs.InTime.{EntersInTime}
 
@@ -32,9 +32,10 @@ module _ {K H P : Type 0} (told : P → Option (List Turned)) (handed : List P) 
     pub turns : TakesTurns told handed report.plugins.items report.journal.items report.all_served
     pub complete : IsCalm passage → EndsWell report.status
 
-  -- A STORM IS RUN of so many lines with this seed, beside these plugins, and its summary told to a sink: how it ends, that its journal is legal,
-  -- and how the plugins were served
+  -- A STORM IS RUN of so many lines with this seed, beside these plugins, and its summary told to a sink: how it ends, that its journal is legal
+  -- and its plugins' entries are accepted, and how the plugins were served
   pub record RunsStorm (count seed : ℕ) (before after : SinkState) : Type 0 where
     pub ends : EndsStorm count seed (length handed) before after report.journal.items report.status
     pub legal : (report.journal.items ≡ []) ⊎ IsLegal (length handed) report.journal.items
+    pub accepted : ∥ AreAccepted (terms_for (length handed)) report.journal.items ∥₁
     pub turns : TakesTurns told handed report.plugins.items report.journal.items report.all_served
