@@ -1,7 +1,8 @@
 //! What storms come to, as they are told.
 
 use outside::{CalmShelf, CalmSink, MemSink};
-use plain_text::NoMemory;
+use plain_text::{NoMemory, Text, Texts};
+use plugin_session::{Plugin, Turn};
 use shipped_plugins::StormPlugin;
 use std::alloc::Global;
 use xi_forms::run_storm;
@@ -25,13 +26,62 @@ fn plugins(alloc: Global, beside: Beside) -> Result<Vec<StormPlugin>, NoMemory> 
 /// Whether a storm ends well and tells this.
 fn tells(alloc: Global, count: u32, seed: u64, beside: Beside, expected: &str) -> bool {
     match plugins(alloc, beside) {
-        Ok(plugins) if plugins.len() <= 64 => {
-            let sink = CalmSink::new(alloc);
-            let report = run_storm(alloc, count, seed, sink, CalmShelf::new(alloc), plugins);
-            report.status == 0 && report.sink.bytes() == Some(expected.as_bytes())
-        }
-        _ => false,
+        Ok(plugins) => tells_beside(alloc, count, seed, plugins, expected),
+        Err(_) => false,
     }
+}
+
+/// The same beside these plugins.
+fn tells_beside<P: Plugin>(
+    alloc: Global,
+    count: u32,
+    seed: u64,
+    plugins: Vec<P>,
+    expected: &str,
+) -> bool {
+    if plugins.len() > 64 {
+        return false;
+    }
+    let sink = CalmSink::new(alloc);
+    let report = run_storm(alloc, count, seed, sink, CalmShelf::new(alloc), plugins);
+    report.status == 0 && report.sink.bytes() == Some(expected.as_bytes())
+}
+
+/// A plugin that gives this line a thousand times in each turn.
+#[derive(Drop)]
+struct Noisy {
+    line: &'static str,
+    alloc: Global,
+}
+
+impl Noisy {
+    fn lines(&self) -> Result<Texts, NoMemory> {
+        let mut lines = Texts::new(self.alloc);
+        for _ in 0..1000 {
+            lines.push(Text::from_str(self.alloc, self.line)?)?;
+        }
+        Ok(lines)
+    }
+}
+
+impl Plugin for Noisy {
+    ghost use Rattle.std.specs.Prelude.{None};
+
+    ghost told = { λ p. None };
+
+    fn turn(&mut self, _lines: &[Text]) -> Turn {
+        Turn {
+            lines: self.lines().unwrap_or(Texts::new(self.alloc)),
+            done: false,
+        }
+    }
+}
+
+/// Whether four lines tell this beside a plugin that gives this line a thousand times in each turn.
+fn tells_beside_noise(alloc: Global, line: &'static str, expected: &str) -> Result<bool, NoMemory> {
+    let mut plugins = Vec::new(alloc);
+    plugins.push(Noisy { line, alloc })?;
+    Ok(tells_beside(alloc, 4, 7, plugins, expected))
 }
 
 #[test]
@@ -84,6 +134,28 @@ fn a_plugin_edits_a_stale_text_beside_them(rt: HostRuntime) {
             "entries 24\nrevision 14\ncharacters 10\nkept 12\nlines 2\nvalid 2\n"
         )
     );
+}
+
+// Each of the lines that the view takes is an entry, which changes no text; what is no line of a plugin is none.
+#[test]
+fn a_thousand_lines_a_turn_make_a_storm_longer_and_nothing_else(rt: HostRuntime) {
+    let alloc = rt.alloc();
+    let rows = [
+        (
+            r#"{"id":1,"method":"line_count","params":{"view_id":"view-id-1"}}"#,
+            "entries 5006\nrevision 1\ncharacters 1\nkept 1\nlines 1\nvalid 1\n",
+        ),
+        (
+            "{",
+            "entries 6\nrevision 1\ncharacters 1\nkept 1\nlines 1\nvalid 1\n",
+        ),
+    ];
+    for (line, expected) in rows {
+        match tells_beside_noise(alloc, line, expected) {
+            Ok(told) => assert!(rt; told),
+            Err(_) => assert!(rt; false),
+        }
+    }
 }
 
 /// Whether a storm whose second write fails ends so, and has told as much as one write took.
