@@ -1,7 +1,7 @@
 #!/usr/bin/env python3
 """Says which crates stand on a crate, and so are proved anew after a change of it; without a name, the longest chain of crates that the
 program stands on, by the processor seconds of their proofs, as docs/COSTS.md has them, with those that have none there; and the one of most
-crates, with the four of the base counted as one. It ends with status 1 where a chain takes longer than it may.
+crates, with the four of the base counted as one. It ends with status 1 where a chain is longer than it may be.
 
     python3 docs/above.py plain_edits
     python3 docs/above.py
@@ -11,7 +11,7 @@ import os, re, sys
 TOP = os.path.dirname(os.path.dirname(os.path.abspath(__file__)))
 BASE, PROGRAM = "the base", "xi_core"
 PARTS = {"plain_text", "plain_edits", "plain_screen", "xi_plain"}
-SECONDS = 1200  # what one chain may take
+SECONDS, CRATES = 1200, 12  # what one chain may take, and how many crates it may have
 
 uses = {}  # each crate stands in the file below those that it uses
 for line in open(f"{TOP}/crates.txt", encoding="utf-8"):
@@ -56,5 +56,5 @@ else:
     unknown = [it for it in dict.fromkeys(slowest[::-1] + longest[::-1]) if not took.get(it)]
     print(f"{waits} seconds of {SECONDS}:", " > ".join(f"{it} {took.get(it, 0)}" for it in slowest[::-1]))
     if unknown: print("without seconds:", *unknown)
-    print(f"{len(longest)} crates:", " > ".join(longest[::-1]))
-    sys.exit(waits > SECONDS)
+    print(f"{len(longest)} crates of {CRATES}:", " > ".join(longest[::-1]))
+    sys.exit(waits > SECONDS or len(longest) > CRATES)
