@@ -47,7 +47,12 @@ expected_of script = record { output = script.output.bytes; turns = script.turns
 -- what a source, a sink and a shelf in memory tell
 abbrev pub outside_in_memory : Stock → Store → Shelves → Outside
 outside_in_memory source sink shelf = record {
-  source = record { left = Some source.left; faults = source.schedule.faults; failures = source.schedule.faults };
+  source = record {
+    left = Some source.left;
+    faults = source.schedule.faults;
+    failures = source.schedule.faults;
+    reads = Some source.schedule.calls;
+  };
   sink = record { held = sink.held; faults = sink.schedule.faults; failures = sink.schedule.faults };
   shelf = record { files = Some shelf.files; faults = shelf.schedule.faults };
 }
