@@ -427,3 +427,42 @@ fn many_plugins_on_threads_come_back(rt: HostRuntime) {
         None => panic!(rt; "out of memory"),
     }
 }
+
+#[test]
+fn a_plugin_on_a_thread_that_lacks_memory_ends_alone(rt: HostRuntime) {
+    let work = Work {
+        awaits: 5,
+        lines: &["x"],
+        closes: true,
+    };
+    let parts = [has("a m b"), has("d .")];
+    match play_on_threads(&rt, rt.alloc(), &parts, 0, work) {
+        Some(outcome) => {
+            assert!(rt; !outcome.served && outcome.players.len() == 2);
+            let journal = outcome.journal.as_str();
+            assert!(rt; journal.contains("1a ") && journal.contains("1. "));
+            assert!(rt; journal.contains("2d ") && journal.contains("2. "));
+            assert!(rt; journal.len() == 18 && journal.ends_with("0x 0# "));
+        }
+        None => panic!(rt; "out of memory"),
+    }
+}
+
+#[test]
+fn an_entry_of_a_thread_that_was_not_sent_ends_the_run(rt: HostRuntime) {
+    let work = Work {
+        awaits: 2,
+        lines: &["x"],
+        closes: true,
+    };
+    match play_on_threads(&rt, rt.alloc(), &[has("a u")], 0, work) {
+        Some(outcome) => {
+            assert!(rt; outcome.served && outcome.tooks.as_str() == "c");
+            assert!(rt; outcome.journal.as_str() == "1a 1u! 0# ");
+            assert!(rt;
+                matches!(outcome.players.as_slice(), [player] if player.given.as_str().ends_with("0# )"))
+            );
+        }
+        None => panic!(rt; "out of memory"),
+    }
+}
