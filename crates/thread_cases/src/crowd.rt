@@ -1,10 +1,10 @@
 //! Many plugins: each edits once for each line of the front end, and each edit stands once.
 
-use crate::tally::{Asks, Counter, Patient, Tally};
-use crate::told::{entries_of, joined, times};
+use crate::tally::{Asks, Counter, Hold, Patient, Tally};
+use crate::told::{entries_of, joined, last_text, times};
 use crate::typist::Typist;
-use outside::{CalmShelf, MemSink, MemSource};
-use plain_text::{NoMemory, Text};
+use outside::{CalmShelf, MemSink};
+use plain_text::NoMemory;
 use std::alloc::Global;
 use std::sync::Wait;
 use std::test::Fail;
@@ -31,23 +31,6 @@ fn input(alloc: Global) -> Result<Vec<u8>, Fail> {
     )?)
 }
 
-// The text before the first quote.
-fn to_quote(text: &str) -> &str {
-    match text.split('"').next() {
-        Some(text) => text,
-        None => "",
-    }
-}
-
-// The text of the one line on the screen: what the last update says.
-fn last_text(alloc: Global, bytes: &str) -> Result<Text, NoMemory> {
-    let mut last = Text::new(alloc);
-    for part in bytes.split("\"text\":\"") {
-        last = Text::from_str(alloc, to_quote(part))?;
-    }
-    Ok(last)
-}
-
 // A run in which each plugin, one for each of these letters, edits once for each insert of the front end.
 fn typed<R: Threads + Wait + Sync>(rt: &R, alloc: Global, letters: &str) -> Result<Played, Fail> {
     let mut plugins = Vec::new(alloc);
@@ -64,8 +47,8 @@ fn typed<R: Threads + Wait + Sync>(rt: &R, alloc: Global, letters: &str) -> Resu
         second: 10,
         others,
     };
-    let inserts = MemSource::new(input(alloc)?, 4096, Vec::new(alloc));
-    let mut source = Patient::new(inserts, &tally, asks);
+    let holds = [Hold { behind: 11, asks }];
+    let mut source = Patient::new(alloc, input(alloc)?, &tally, &holds);
     let sink = MemSink::new(alloc, 1 << 22, Vec::new(alloc));
     let gate = Counter {
         tally: &tally,

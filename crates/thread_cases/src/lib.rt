@@ -4,7 +4,10 @@
 mod alike;
 mod beside;
 mod crowd;
-mod reader;
+mod hostile;
+mod player;
+mod rude;
+mod scripts;
 mod tally;
 mod told;
 mod typist;

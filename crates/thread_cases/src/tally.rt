@@ -4,6 +4,7 @@ ghost use Rattle.outside.specs.Faults.{Rose};
 ghost use Rattle.outside.specs.Source.{IsPiece, failures_after};
 
 use outside::{Gate, MemSource, Point, Pulled, Source};
+use std::alloc::Global;
 use std::sync::atomic::{AtomicU64, Ordering};
 use std::thread;
 
@@ -87,23 +88,48 @@ impl Gate for Counter<'_> {
     }
 }
 
-// A source that holds back its end until so many asks were answered, and fails where they never are.
+// What is held back, the line behind so many others, or the end, until so many asks were answered.
+#[derive(Clone, Copy)]
+pub(crate) struct Hold {
+    pub(crate) behind: usize,
+    pub(crate) asks: Asks,
+}
+
+// A source that gives one byte at a time, holds back some of its lines, and fails where the asks that it awaits never come.
 #[derive(Drop)]
 pub(crate) struct Patient<'a> {
     source: MemSource,
     tally: &'a Tally,
-    asks: Asks,
+    holds: &'a [Hold],
+    // How many lines it gave.
+    given: usize,
     faults: u64,
 }
 
 impl<'a> Patient<'a> {
-    pub(crate) fn new(source: MemSource, tally: &'a Tally, asks: Asks) -> Patient<'a> {
+    pub(crate) fn new(
+        alloc: Global,
+        input: Vec<u8>,
+        tally: &'a Tally,
+        holds: &'a [Hold],
+    ) -> Patient<'a> {
         Patient {
-            source,
+            source: MemSource::new(input, 1, Vec::new(alloc)),
             tally,
-            asks,
+            holds,
+            given: 0,
             faults: 0,
         }
+    }
+
+    // Waits for the asks that are awaited where it stands. Whether they came.
+    fn may_go_on(&self) -> bool {
+        for hold in self.holds {
+            if hold.behind == self.given && !self.tally.await_asks(hold.asks) {
+                return false;
+            }
+        }
+        true
     }
 }
 
@@ -123,15 +149,18 @@ impl<'a> Source for Patient<'a> {
         ensures faults_fit { self.new.faults < 2 ^ 64 }
     {
         let faults = self.faults;
+        if !self.may_go_on() {
+            self.faults = faults.saturating_add(1);
+            return Pulled::Failed;
+        }
         match self.source.read(buf) {
-            Pulled::Got(count) => Pulled::Got(count),
-            Pulled::End => {
-                if self.tally.await_asks(self.asks) {
-                    return Pulled::End;
+            Pulled::Got(count) => {
+                if buf.first() == Some(&b'\n') {
+                    self.given = self.given.saturating_add(1);
                 }
-                self.faults = faults.saturating_add(1);
-                Pulled::Failed
+                Pulled::Got(count)
             }
+            Pulled::End => Pulled::End,
             Pulled::Failed => {
                 self.faults = faults.saturating_add(1);
                 Pulled::Failed

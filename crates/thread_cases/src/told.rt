@@ -38,3 +38,20 @@ pub(crate) fn joined(alloc: Global, texts: &[&str]) -> Result<Vec<u8>, AllocErro
     }
     Ok(bytes)
 }
+
+// The text before the first quote.
+fn to_quote(text: &str) -> &str {
+    match text.split('"').next() {
+        Some(text) => text,
+        None => "",
+    }
+}
+
+// The text of the one line on the screen: what the last update says.
+pub(crate) fn last_text(alloc: Global, bytes: &str) -> Result<Text, NoMemory> {
+    let mut last = Text::new(alloc);
+    for part in bytes.split("\"text\":\"") {
+        last = Text::from_str(alloc, to_quote(part))?;
+    }
+    Ok(last)
+}

@@ -30,8 +30,11 @@ fn digit(number: u64) -> char {
     char::from(b'0' + (number % 10) as u8)
 }
 
-// A number below 10,000.
+// A number below 100,000.
 fn push_number(text: &mut Text, number: u64) -> Result<(), NoMemory> {
+    if number >= 10_000 {
+        text.push(digit(number / 10_000))?;
+    }
     if number >= 1000 {
         text.push(digit(number / 1000))?;
     }
@@ -54,12 +57,16 @@ impl Typist {
         }
     }
 
-    // Reads what a line tells. Whether the front end edited.
-    fn read(&mut self, line: &str) -> bool {
+    // Reads what a line tells: the author of an edit, where it is one.
+    pub(crate) fn read(&mut self, line: &str) -> Option<u64> {
         if !line.contains("\"method\":\"update\"") {
-            return false;
+            return None;
         }
+        let mut author = None;
         for part in line.split(',') {
+            if part.starts_with("\"params\":{\"author\":") {
+                author = Some(number_in(part));
+            }
             if part.starts_with("\"rev\":") {
                 self.revision = number_in(part);
             }
@@ -67,10 +74,11 @@ impl Typist {
                 self.len = number_in(part);
             }
         }
-        line.contains("\"author\":0,")
+        author
     }
 
-    fn edit(&self) -> Result<Text, NoMemory> {
+    // Its letter, before all that it knows.
+    pub(crate) fn edit(&self) -> Result<Text, NoMemory> {
         let mut line = Text::from_str(
             self.alloc,
             "{\"id\":1,\"method\":\"edit\",\"params\":{\"after_cursor\":false,\"author\":\"p\",\"delta\":{\"base_len\":",
@@ -86,10 +94,21 @@ impl Typist {
         Ok(line)
     }
 
+    // The first 2^20 bytes of the text that it knows.
+    pub(crate) fn reading(&self) -> Result<Text, NoMemory> {
+        let mut line = Text::from_str(
+            self.alloc,
+            "{\"id\":2,\"method\":\"get_data\",\"params\":{\"max_size\":1048576,\"rev\":",
+        )?;
+        push_number(&mut line, self.revision)?;
+        line.push_str(",\"start\":0,\"view_id\":\"view-id-1\"}}")?;
+        Ok(line)
+    }
+
     fn edit_all(&mut self, lines: &[Text]) -> Result<Texts, NoMemory> {
         let mut edits: u32 = 0;
         for line in lines {
-            if self.read(line.as_str()) {
+            if self.read(line.as_str()) == Some(0) {
                 edits = edits.saturating_add(1);
             }
         }
