@@ -9,6 +9,8 @@ mod closing;
 #[cfg(test)]
 mod files;
 #[cfg(test)]
+mod hostile;
+#[cfg(test)]
 mod player;
 #[cfg(test)]
 mod replaced;

@@ -48,8 +48,9 @@ pub(crate) fn joined(alloc: Global, texts: &[&str], count: usize) -> Result<Vec<
     Ok(bytes)
 }
 
-// What a run came to: its status, how many entries it has with the closing one, and the bytes that were written.
-type Outcome = (u8, usize, Option<Vec<u8>>);
+// What a run came to: its status, how many entries it has with the closing one, how many of these were not sent, and the bytes that were
+// written.
+type Outcome = (u8, usize, usize, Option<Vec<u8>>);
 
 // A run over these bytes, of which at most `piece` are given at a time, and in which the read and the write of these numbers fail.
 fn ran(
@@ -71,9 +72,11 @@ fn ran(
         CalmShelf::new(alloc),
         no_plugins(alloc),
     );
+    let unsent = report.journal.iter().filter(|entry| !entry.sent).count();
     Ok((
         report.status,
         report.journal.len(),
+        unsent,
         report.sink.into_bytes(),
     ))
 }
@@ -82,19 +85,19 @@ fn ran(
 fn each_write_fails_in_turn(rt: HostRuntime) -> Result<(), Fail> {
     let alloc = rt.alloc();
     // The sixth write is not made.
-    for (write, status, entries) in [
-        (1, 5, 2),
-        (2, 5, 3),
-        (3, 5, 4),
-        (4, 5, 5),
-        (5, 5, 6),
-        (6, 0, 6),
+    for (write, status, entries, unsent) in [
+        (1, 5, 2, 1),
+        (2, 5, 3, 1),
+        (3, 5, 4, 1),
+        (4, 5, 5, 1),
+        (5, 5, 6, 1),
+        (6, 0, 6, 0),
     ] {
         let input = joined(alloc, &FIVE_LINES, 5)?;
         let written = joined(alloc, &FIVE_PIECES, write - 1)?;
         let outcome = ran(alloc, input, 4096, 0, write as u64)?;
         assert!(rt;
-            outcome == (status, entries, Some(written)),
+            outcome == (status, entries, unsent, Some(written)),
             "write {write}"
         );
     }
@@ -115,7 +118,7 @@ fn each_read_fails_in_turn(rt: HostRuntime) -> Result<(), Fail> {
             .count();
         let written = joined(alloc, &FIVE_PIECES, lines)?;
         let outcome = ran(alloc, input, 7, read as u64, 0)?;
-        assert!(rt; outcome == (4, lines + 1, Some(written)), "read {read}");
+        assert!(rt; outcome == (4, lines + 1, 0, Some(written)), "read {read}");
     }
     Ok(())
 }
@@ -124,14 +127,18 @@ fn each_read_fails_in_turn(rt: HostRuntime) -> Result<(), Fail> {
 fn the_input_ends_after_each_line(rt: HostRuntime) -> Result<(), Fail> {
     let alloc = rt.alloc();
     for lines in 0..6 {
-        let mut input = joined(alloc, &FIVE_LINES, lines)?;
         let written = joined(alloc, &FIVE_PIECES, lines)?;
+        let input = joined(alloc, &FIVE_LINES, lines)?;
         // The last line counts without its LF too.
-        if lines % 2 == 1 {
-            input.pop();
-        }
+        let mut cut = joined(alloc, &FIVE_LINES, lines)?;
+        cut.pop();
         let outcome = ran(alloc, input, 4096, 0, 0)?;
-        assert!(rt; outcome == (0, lines + 1, Some(written)), "{lines} lines");
+        let without = ran(alloc, cut, 4096, 0, 0)?;
+        assert!(rt; outcome == without, "{lines} lines without LF");
+        assert!(rt;
+            outcome == (0, lines + 1, 0, Some(written)),
+            "{lines} lines"
+        );
     }
     Ok(())
 }
