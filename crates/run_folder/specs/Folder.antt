@@ -81,10 +81,11 @@ IsPlayedTo ending.NoMemory tape bytes before after = (after ≡ before) ⊎ IsRe
 IsPlayedTo (ending.Missing part) tape bytes before after = ⊥
 IsPlayedTo (ending.Unread part) tape bytes before after = ⊥
 
--- a file of a folder has these bytes, or it is not there, where the shelf tells its files
+-- a file of a folder has these bytes, where the shelf tells its files
 abbrev pub HasPart : Files → List ℕ → Part → List ℕ → Type 0
 HasPart files folder part bytes = IfSome files (λ held. bytes_of held (path_of folder part) ≡ Some bytes)
 
+-- a file of a folder is not there, where the shelf tells its files
 abbrev pub HasNoPart : Files → List ℕ → Part → Type 0
 HasNoPart files folder part = IfSome files (λ held. bytes_of held (path_of folder part) ≡ None)
 

@@ -14,6 +14,7 @@ pub record ComesApart (count seed : ℕ) : Type 0 where
   pub short : AllByRecursion (λ line. length (bytes_of line) ≤ 100) (storm_lines count seed)
   pub many : length (storm_lines count seed) ≡ count + 1
 
+-- so each storm's input comes apart
 abbrev pub InputsComeApart : Type 0
 InputsComeApart = (count seed : ℕ) → ComesApart count seed
 
