@@ -82,32 +82,31 @@ impl<'a> Line<'a> {
             if tail.shown > 0 && look.column > self.width as u128 {
                 return look;
             }
-            look = self.passed(look, cluster, tail, &ahead);
+            self.pass(&mut look, cluster, tail, &ahead);
         }
         look
     }
 
-    /// What is known past one cluster more, after which `rest` goes on.
-    fn passed(&self, look: Look<'a>, cluster: Placed<'a>, tail: Tail, rest: &Walk<'a>) -> Look<'a>
+    /// What is known past one cluster more, after which `rest` goes on. Only what changes is written: a place is taken at most twice.
+    fn pass(&self, look: &mut Look<'a>, cluster: Placed<'a>, tail: Tail, rest: &Walk<'a>)
         requires tail { IsTail (chars cluster.cluster.now) tail }
-        requires reached { 0 < tail.shown → look.column ≤ self.now.width }
+        requires reached { 0 < tail.shown → look.old.column ≤ self.now.width }
         requires tab { walk_tab rest.now ≡ self.now.tab }
         ensures { (start : ℕ) →
-            Looked self.now.width self.now.tab (chars self.now.text.now) start look.entry
+            Looked self.now.width self.now.tab (chars self.now.text.now) start look.old
             (placed_view cluster.entry ∷ walk_left rest.now) →
-            Looked self.now.width self.now.tab (chars self.now.text.now) start result
+            Looked self.now.width self.now.tab (chars self.now.text.now) start look.new
             (walk_left rest.now) }
     {
         let width = self.width as u128;
         let columns = shown_columns(look.column, look.solid, cluster, tail);
-        let ends = is_candidate(columns <= width, cluster.end == self.len, tail.breaks);
-        let takes = is_first_or(columns <= width, &look.fitting);
-        Look {
-            column: cluster.column,
-            solid: solid_columns(columns, cluster, tail),
-            candidate: later(look.candidate, ends, cluster.end, rest),
-            fitting: later(look.fitting, takes, cluster.end, rest),
-        }
+        let fits = columns <= width;
+        let ends = is_candidate(fits, cluster.end == self.len, tail.breaks);
+        let takes = is_first_or(fits, &look.fitting);
+        look.column = cluster.column;
+        look.solid = solid_columns(columns, cluster, tail);
+        take_later(&mut look.candidate, ends, cluster.end, rest);
+        take_later(&mut look.fitting, takes, cluster.end, rest);
     }
 }
 
@@ -125,17 +124,15 @@ fn is_first_or(fits: bool, before: &Option<Place<'_>>) -> bool
     fits || before.is_none()
 }
 
-/// The place behind a cluster, where it is taken, or else the one before it.
-fn later<'a>(before: Option<Place<'a>>, takes: bool, end: u64, rest: &Walk<'a>) -> Option<Place<'a>>
-    ensures { IsLater before.entry takes end rest.now result }
+/// Puts the place behind a cluster for the one before it, where it is taken.
+fn take_later<'a>(place: &mut Option<Place<'a>>, takes: bool, end: u64, rest: &Walk<'a>)
+    ensures { IsLater place.old takes end rest.now place.new }
 {
     if takes {
-        Some(Place {
+        *place = Some(Place {
             end,
             rest: rest.copy(),
-        })
-    } else {
-        before
+        });
     }
 }
 
