@@ -1,5 +1,6 @@
 mod OrderLemmas
 mod CaretLemmas
+mod CursorLemmas
 pub mod RunLemmas
 mod SelectedLemmas
 mod CutLemmas

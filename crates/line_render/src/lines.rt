@@ -57,13 +57,9 @@ pub fn render_piece(
     let mut shown = selected_in(alloc, regions, start, end)?;
     put_cuts(&mut shown, spans_touching(found, start, end), start, end)?;
     put_cuts(&mut shown, spans, start, end)?;
-    let cursor = cursor_in(
-        alloc,
-        &line,
-        start,
-        gaps_of(line.as_str(), is_last),
-        regions,
-    )?;
+    let len = end - start;
+    let gaps = gaps_of(line.as_str(), len, is_last);
+    let cursor = cursor_in(alloc, &line, len, start, gaps, regions)?;
     let styles = triples(alloc, &line, shown.as_slice())?;
     Ok(Line {
         text: line,
@@ -73,19 +69,13 @@ pub fn render_piece(
     })
 }
 
-// How many gaps of a piece with these characters are its own.
-fn gaps_of(line: &str, is_last: bool) -> u64
-    ensures { result ≡ own_gaps is_last (length (chars line.now)) }
+// How many gaps of a piece with these so many characters are its own.
+fn gaps_of(line: &str, len: u64, is_last: bool) -> u64
+    requires { len ≡ length (chars line.now) }
+    ensures { result ≡ own_gaps is_last len }
 {
-    let len = count_in(line);
+    let _bytes = line.len();
     if is_last { len + 1 } else { len }
-}
-
-fn count_in(line: &str) -> u64
-    ensures count { result ≡ length (chars line.now) }
-    ensures small { result < 2 ^ 63 }
-{
-    line.chars().count() as u64
 }
 
 // Whether a piece with these characters is the last of the text.

@@ -1,5 +1,4 @@
-use Rattle.std.proofs.Common.{◌≡◌, ℕ, List, Bool, true, false, ◌+◌, ◌≤◌, ◌++◌, length, map, ap, ap₂, sym, ◌∙◌, subst, arith, append_assoc}
-use Rattle.std.specs.Str.{chars}
+use Rattle.std.proofs.Common.{◌≡◌, ℕ, List, Bool, true, false, ◌+◌, ◌-◌, ◌≤◌, ◌++◌, length, map, ap, ap₂, sym, ◌∙◌, subst, arith, append_assoc}
 use Rattle.plain_text.specs.Text.{place_of}
 use Rattle.plain_text.specs.declared.selection.Region.{Region}
 use Rattle.plain_edits.specs.declared.style.Span.{Span}
@@ -17,9 +16,16 @@ own_gaps-few : (is_last : Bool) (len : ℕ) → own_gaps is_last len ≤ len + 1
 own_gaps-few true len = omega arith
 own_gaps-few false len = omega arith
 
-pub cursor_in-requires : goal.cursor_in-requires
-cursor_in-requires c =
-    omega (arith, c.gaps_of.ensures, own_gaps-few c.args.is_last (length (chars c.as_str.result.now)), ap length c.as_str.ensures.characters)
+pub gaps_of-gaps-requires : goal.gaps_of-gaps-requires
+gaps_of-gaps-requires c = let is = c.requires.characters in omega (arith, ap length c.as_str.ensures.characters)
+
+pub cursor_in-requires-clause-len : goal.cursor_in-requires-clause-len
+cursor_in-requires-clause-len c = let is = c.requires.characters in omega arith
+
+pub cursor_in-requires-clause-gaps : goal.cursor_in-requires-clause-gaps
+cursor_in-requires-clause-gaps c =
+    let is = c.requires.characters in
+    omega (arith, c.gaps_of-gaps.ensures, own_gaps-few c.args.is_last (c.args.piece.now.end - c.args.piece.now.start))
 
 pub triples-requires : goal.triples-requires
 triples-requires c =
@@ -54,7 +60,8 @@ returns c =
     ap (λ (ss : List Span). ss ++ cut_spans start end c.args.spans.now) (c.in_ok-put_cuts.ensures ∙ ap₂ (λ (ss ts : List Span). ss ++ ts) selected found) ∙
     append_assoc (selected_spans regions start len) (cut_spans start end c.args.found.now) (cut_spans start end c.args.spans.now) ∙
     ap (λ (ss : List Span). selected_spans regions start len ++ ss) (sym (cut_spans-append start end c.args.found.now c.args.spans.now)) in
-    let many : c.gaps_of.result ≡ gaps = c.gaps_of.ensures ∙ ap (λ (cs : List ℕ). own_gaps c.args.is_last (length cs)) c.as_str.ensures.characters in
+    let few : end - start ≡ len = omega arith in
+    let many : c.gaps_of-gaps.result ≡ gaps = c.gaps_of-gaps.ensures ∙ ap (own_gaps c.args.is_last) few in
     let cursor = c.in_ok-cursor.ensures ∙
     ap₂ (λ (n : ℕ) (rs : List Region). map (place_of line) (shown_gaps start n 0 (carets_of rs))) many touching ∙
     ap (map (place_of line)) (shown_gaps-touching start len end gaps regions is (own_gaps-few c.args.is_last len) c.requires.selection) in
