@@ -1,17 +1,18 @@
 -- Points of a view, and the word and the line at a gap.
-use Rattle.std.proofs.Common.{◌≡◌, ⊎_elim, ℕ, zero, suc, ◌+◌, ◌-◌, ◌<◌, ◌≤◌, Bool, true, List, [], ◌∷◌, length, take, drop, reverse, refl, sym, ap, ap₂, subst, ◌∙◌, arith, length-drop}
+use Rattle.std.proofs.Common.{◌≡◌, ⊎_elim, ℕ, zero, suc, ◌+◌, ◌-◌, ◌^◌, ◌<◌, ◌≤◌, Bool, true, List, [], ◌∷◌, length, take, drop, reverse, refl, sym, ap, ap₂, subst, ◌∙◌, arith, length-drop}
 use Rattle.std.specs.Prelude.{min, nat_le, ◌&&◌, if◌then◌else◌, slice_range}
 use Rattle.std.specs.Char.{len_utf8}
 use Rattle.std.specs.Str.{all_scalars}
 use Rattle.std.proofs.lemmas.Bool.{cases_lt, le-leb, le-ltb, lt-leb, lt-ltb}
 use Rattle.std.proofs.lemmas.List.{length-reverse, length-take-le, take-append-drop, take-append-le}
 use Rattle.std.proofs.Math.Seq.{take-nil}
+use Rattle.std.proofs.lemmas.Str.{len_utf8_bounds}
 use Rattle.plain_text.specs.Text.{byte_len}
+use Rattle.plain_text.specs.declared.run.Run.{Run}
 use Rattle.plain_screen.specs.declared.piece.Piece.{Piece}
-use Rattle.plain_screen.specs.View.{ArePieces, LogicalLine, layout_line_of}
+use Rattle.plain_screen.specs.View.{ArePieces, LogicalLine, extent_of, layout_line_of}
 use Rattle.selection_core.specs.Selection.{greater_end, spanning}
-use Rattle.movement_core.specs.declared.lines.LineText.{LineText}
-use Rattle.movement_core.specs.Lines.{IsLastGap, IsTextOf, StartAtPlaces, belongs_to, line_under, start_of}
+use Rattle.movement_core.specs.Lines.{IsLastGap, StartAtPlaces, belongs_to, line_under, start_of}
 use Rattle.movement_core.specs.Places.{IsGreatestPlace, greatest_place}
 use Rattle.movement_core.specs.Words.{run_len}
 use Rattle.movement_core.proofs.ForCallers.{greatest_place-within, run_len-le, under-le, under-own}
@@ -61,6 +62,23 @@ gaps_within-misfits (suc n) bytes (c ∷ characters) past le =
     let rest = gaps_within-misfits n (bytes - len_utf8 c) characters (omega arith) (omega arith) in omega arith)
     (cases_lt bytes (len_utf8 c))
 
+-- so many bytes hold no more characters than that
+gaps_within-taken : (bytes n : ℕ) (characters : List ℕ) → bytes ≤ n → gaps_within bytes (take n characters) ≡ gaps_within bytes characters
+gaps_within-taken bytes zero [] le = refl
+gaps_within-taken bytes (suc n) [] le = refl
+gaps_within-taken bytes zero (c ∷ characters) le =
+    sym (gaps_within-stop bytes c characters (c ∷ characters) refl (let some = (len_utf8_bounds c).0 in omega arith))
+gaps_within-taken bytes (suc n) (c ∷ characters) le =
+    let some = (len_utf8_bounds c).0 in
+    ⊎_elim
+    (λ (less : bytes < len_utf8 c).
+    gaps_within-stop bytes c (take n characters) (c ∷ take n characters) refl less ∙ sym (gaps_within-stop bytes c characters (c ∷ characters) refl less))
+    (λ (fits : len_utf8 c ≤ bytes).
+    gaps_within-step bytes c (take n characters) (c ∷ take n characters) refl fits ∙
+    ap (λ (m : ℕ). 1 + m) (gaps_within-taken (bytes - len_utf8 c) n characters (omega arith)) ∙
+    sym (gaps_within-step bytes c characters (c ∷ characters) refl fits))
+    (cases_lt bytes (len_utf8 c))
+
 -- ---- the gap of a point
 
 take-front : (n k : ℕ) (characters : List ℕ) → n ≤ k → k ≤ length characters → take n characters ≡ take n (take k characters)
@@ -102,22 +120,44 @@ module _ (text : List ℕ) (pieces : List Piece) (line last : ℕ) (are : ArePie
       sym (ap (λ b. if b then greatest_place (λ other. belongs_to pieces line other && passes other) text else length text) (lt-ltb line (length pieces) there))
 
   -- the same of what the code holds: where the piece starts, the characters of the line, and how many of them the column has room for
-  gap-is : (from column count : ℕ) (held : List ℕ) → start ≡ from → held ≡ slice_range text from last → count ≡ gaps_within column held →
-      from + count ≡ start + gaps_within column part
-  gap-is from column count held from_is held_is count_is =
-      let same : gaps_within column held ≡ gaps_within column part = ap (gaps_within column) (held_is ∙ ap (λ (n : ℕ). slice_range text n last) (sym from_is)) in
+  part-taken : (column to : ℕ) → to ≡ min last (start + column) → gaps_within column (slice_range text start to) ≡ gaps_within column part
+  part-taken column to is =
+      ⊎_elim
+      (λ (less : start + column < last).
+      let all : to - start ≡ column = omega arith in
+      let long : column ≤ length part = omega (arith, part-long) in
+      let ordered = gaps.ordered in
+      let inside = gaps.inside in
+      ap (gaps_within column) (ap (λ (n : ℕ). take n (drop start text)) all ∙ take-front column (last - start) (drop start text) (omega arith) (omega (arith, length-drop start text))) ∙
+      gaps_within-taken column column part (omega arith))
+      (λ (whole : last ≤ start + column). let all : to ≡ last = omega arith in ap (λ (n : ℕ). gaps_within column (slice_range text start n)) all)
+      (cases_lt (start + column) last)
+
+  gap-is : (from to column count : ℕ) (held : List ℕ) → start ≡ from → to ≡ min last (from + column) → held ≡ slice_range text from to →
+      count ≡ gaps_within column held → from + count ≡ start + gaps_within column part
+  gap-is from to column count held from_is to_is held_is count_is =
+      let same : gaps_within column held ≡ gaps_within column part =
+      ap (gaps_within column) (held_is ∙ ap (λ (n : ℕ). slice_range text n to) (sym from_is)) ∙ part-taken column to (omega arith) in
       omega (arith, same)
 
-  pub held-inside : (from column count : ℕ) (held : List ℕ) → start ≡ from → held ≡ slice_range text from last → count ≡ gaps_within column held →
-      from + count ≤ length text
-  held-inside from column count held from_is held_is count_is =
-      let inside = gaps.inside in omega (arith, gap-is from column count held from_is held_is count_is, point-within column)
+  pub held-to : (from to column : ℕ) → start ≡ from → to ≡ min last (from + column) → (from ≤ to) × (to ≤ length text)
+  held-to from to column from_is to_is = let ordered = gaps.ordered in let inside = gaps.inside in (omega arith, omega arith)
 
-  pub held-point : (from column count : ℕ) (held : List ℕ) → start ≡ from → held ≡ slice_range text from last → count ≡ gaps_within column held →
+  pub held-inside : (from to column count : ℕ) (held : List ℕ) → start ≡ from → to ≡ min last (from + column) → held ≡ slice_range text from to →
+      count ≡ gaps_within column held → from + count ≤ length text
+  held-inside from to column count held from_is to_is held_is count_is =
+      let inside = gaps.inside in omega (arith, gap-is from to column count held from_is to_is held_is count_is, point-within column)
+
+  pub held-point : (from to column count : ℕ) (held : List ℕ) → start ≡ from → to ≡ min last (from + column) → held ≡ slice_range text from to →
+      count ≡ gaps_within column held →
       (place : ℕ) → IsGreatestPlace (λ other. nat_le other (from + count)) text place → place ≡ gap_of_point text pieces line column
-  held-point from column count held from_is held_is count_is place is =
+  held-point from to column count held from_is to_is held_is count_is place is =
       point-is column place
-      (subst (λ (gap : ℕ). IsGreatestPlace (λ other. nat_le other gap) text place) (gap-is from column count held from_is held_is count_is) is)
+      (subst (λ (gap : ℕ). IsGreatestPlace (λ other. nat_le other gap) text place) (gap-is from to column count held from_is to_is held_is count_is) is)
+
+-- a sum that stops at the largest number is the sum to what is no larger
+pub capped : (last start column sum to : ℕ) → last < 2 ^ 64 → sum ≡ min (start + column) (2 ^ 64 - 1) → to ≡ min last sum → to ≡ min last (start + column)
+capped last start column sum to bound summed is = omega arith
 
 pub point-past : (text : List ℕ) (pieces : List Piece) (line column : ℕ) → length pieces ≤ line → length text ≡ gap_of_point text pieces line column
 point-past text pieces line column past =
@@ -160,12 +200,14 @@ word-inside text up_to inside = omega (arith, run_right-le text (up_to - 1) (ome
 
 -- ---- the line at a gap
 
-pub line_around-is : (text : List ℕ) (pieces : List Piece) (gap line : ℕ) (held : LineText) → ArePieces text pieces → line ≡ layout_line_of pieces gap →
-    IsTextOf (line_under text pieces line) held → spanning true held.start (held.start + length held.text) ≡ line_around text gap
-line_around-is text pieces gap line held are is told =
-    ap₂ (λ (from : ℕ) (characters : List ℕ). spanning true from (from + length characters)) told.start told.text ∙
+pub line_around-is : (text : List ℕ) (pieces : List Piece) (gap line : ℕ) (run : Run) → ArePieces text pieces → line ≡ layout_line_of pieces gap →
+    run ≡ extent_of (line_under text pieces line) → spanning true run.start run.end ≡ line_around text gap
+line_around-is text pieces gap line run are is told =
+    ap (λ (r : Run). spanning true r.start r.end) told ∙
     ap (λ (own : LogicalLine). spanning true own.start (own.start + length own.text)) (ap (line_under text pieces) is ∙ sym (under-own text pieces gap are))
 
-pub line-inside : (text : List ℕ) (pieces : List Piece) (line : ℕ) (held : LineText) → IsTextOf (line_under text pieces line) held →
-    held.start + length held.text ≤ length text
-line-inside text pieces line held told = let start = told.start in omega (arith, ap length told.text, under-le text pieces line)
+pub line-inside : (text : List ℕ) (pieces : List Piece) (line : ℕ) (run : Run) → run ≡ extent_of (line_under text pieces line) →
+    (run.start ≤ run.end) × (run.end ≤ length text)
+line-inside text pieces line run told =
+    let start = ap (λ (r : Run). r.start) told in
+    let end = ap (λ (r : Run). r.end) told in (omega arith, omega (arith, under-le text pieces line))

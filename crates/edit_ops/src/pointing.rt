@@ -181,6 +181,6 @@ fn word_alone<T: TextView>(alloc: Global, view: &T, gap: u64) -> Result<Sel, NoM
 fn line_alone<T: TextView>(alloc: Global, view: &T, gap: u64) -> Result<Sel, NoMemory>
     ensures { IfOk result (λ after. AreSelected (T.text_of view.now) (line_around (T.text_of view.now) gap ∷ []) after.regions) }
 {
-    let line = line_region(alloc, view, gap)?;
+    let line = line_region(view, gap);
     alone(alloc, line)
 }

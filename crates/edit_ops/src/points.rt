@@ -6,12 +6,13 @@ ghost use Rattle.edit_ops.specs.Inner.{gaps_within};
 ghost use Rattle.edit_ops.specs.Points.{gap_of_point, line_around, word_around};
 
 use crate::editing::sum;
-use movement_core::{last_gap, line_text, outward_left, piece_at, run_left, run_right, text_end};
+use movement_core::{last_gap, outward_left, piece_at, run_left, run_right, text_end};
 use plain_screen::TextView;
 use plain_text::{NoMemory, Region};
 use std::alloc::Global;
 
-/// The gap of a point: a layout line, from 0, and a byte offset in it. This reads the layout line, and its logical line.
+/// The gap of a point: a layout line, from 0, and a byte offset in it. This reads the layout line up to the offset, and the boundary
+/// there.
 pub(crate) fn point<T: TextView>(
     alloc: Global,
     view: &T,
@@ -28,8 +29,8 @@ pub(crate) fn point<T: TextView>(
         return Ok(end);
     }
     let start = piece_at(view, line).start;
-    let last = last_gap(view, line);
-    let text = view.text(alloc, start, last)?;
+    let to = last_gap(view, line).min(start.saturating_add(column));
+    let text = view.text(alloc, start, to)?;
     let gaps = gaps_within(text.as_str(), column);
     outward_left(alloc, view, start + gaps)
 }
@@ -74,20 +75,15 @@ fn end_at(gap: u64, len: u64) -> u64
     if gap < len { gap + 1 } else { len }
 }
 
-/// The logical line at a gap, with its LF. This reads the line.
-pub(crate) fn line_region<T: TextView>(
-    alloc: Global,
-    view: &T,
-    gap: u64,
-) -> Result<Region, NoMemory>
-    ensures value { IfOk result (λ line. line ≡ line_around (T.text_of view.now) gap) }
-    ensures inside { IfOk result (λ line. greater_end line ≤ length (T.text_of view.now)) }
+/// The logical line at a gap, with its LF. This reads no text.
+pub(crate) fn line_region<T: TextView>(view: &T, gap: u64) -> Region
+    ensures value { result ≡ line_around (T.text_of view.now) gap }
+    ensures inside { greater_end result ≤ length (T.text_of view.now) }
 {
-    let own = line_text(alloc, view, view.line_of(gap))?;
-    let end = sum(own.start, own.text.char_count())?;
-    Ok(Region {
+    let own = view.logical_of(view.line_of(gap));
+    Region {
         anchor: own.start,
-        caret: end,
+        caret: own.end,
         goal: None,
-    })
+    }
 }

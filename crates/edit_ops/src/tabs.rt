@@ -15,7 +15,7 @@ use plain_text::{List, NoMemory, Region, Run, Sel, Text};
 use std::alloc::Global;
 use xi_plain::Config;
 
-/// The edit of a tab at each region, and the carets after it. This reads the logical line of each region's lesser end.
+/// The edit of a tab at each region, and the carets after it. This asks for one column at each region's lesser end.
 pub(crate) fn tabbed<T: TextView>(
     alloc: Global,
     view: &T,
