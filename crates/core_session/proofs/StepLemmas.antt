@@ -21,7 +21,7 @@ use Rattle.view_update.specs.declared.note.Scroll.{Scroll}
 use Rattle.doc_session.specs.declared.event.Event.{Event}
 use Rattle.doc_session.specs.declared.event.Event.TheVariants.{Config as Configured, Front, Other, Saved}
 use Rattle.doc_session.specs.Document.{Document, layout_of, no_request}
-use Rattle.doc_session.specs.declared.looking.Viewing.TheVariants.{Layout, Other as NoCommand}
+use Rattle.doc_view.specs.declared.looking.Viewing.TheVariants.{Layout, Other as NoCommand}
 use Rattle.doc_session.specs.ScreenOf.{IsUpToDate}
 use Rattle.doc_session.specs.Stands.{IsLastTold}
 use Rattle.doc_text.specs.Refusal.{edit_refused}

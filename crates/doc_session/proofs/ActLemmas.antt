@@ -1,5 +1,5 @@
 -- The commands of the front end: those that only look, an undo, a redo, and all others.
-use Rattle.std.proofs.Common.{◌≡◌, ℕ, ◌+◌, Bool, true, false, List, [], length, Option, Some, None, refl, ap, sym, subst, ◌∙◌}
+use Rattle.std.proofs.Common.{◌≡◌, ℕ, ◌+◌, Bool, true, false, [], length, Option, Some, None, refl, ap, sym, subst, ◌∙◌}
 use Rattle.std.specs.Prelude.{if◌then◌else◌, unwrap_or}
 use Rattle.std.proofs.lemmas.List.{length_push}
 use Rattle.plain_text.specs.declared.run.Run.{Run}
@@ -13,8 +13,8 @@ use Rattle.doc_view.specs.View.{View}
 use Rattle.doc_view.proofs.ForCallers.{do_nothing-none}
 use Rattle.doc_session.specs.declared.event.Body.{Body}
 use Rattle.doc_session.specs.declared.event.Body.TheVariants.{Null}
-use Rattle.doc_session.specs.declared.looking.Viewing.{Viewing}
-use Rattle.doc_session.specs.declared.looking.Viewing.TheVariants as Views
+use Rattle.doc_view.specs.declared.looking.Viewing.{Viewing}
+use Rattle.doc_view.specs.declared.looking.Viewing.TheVariants as Views
 use Rattle.doc_text.specs.Asking.{asked_refusal}
 use Rattle.doc_session.specs.Asking.{front_edit}
 use Rattle.doc_session.specs.Document.{Document, no_request}
@@ -22,9 +22,8 @@ use Rattle.edit_groups.specs.Typing.{kind_of}
 use Rattle.doc_text.specs.Notices.{notice_to}
 use Rattle.doc_session.specs.Effects.{scroll_after}
 use Rattle.doc_session.specs.Layout.{Position}
-use Rattle.doc_session.specs.Looking.{scrolls_at, viewed, viewed_lines, viewing_of}
-use Rattle.doc_session.specs.Step.{EventStep, act_step, answer_to, command_refusal, command_step, done_step, effect_on, history_step, no_edit_step, is_idle, looking_step, request_of, revision_step, scroll_if, scrolls, selected_document, step_to, typed_document, typed_step, undone_document, viewed_document, viewing_step}
-use Rattle.doc_session.specs.Ticks.{viewing_ticks}
+use Rattle.doc_view.specs.Looking.{scrolls, scrolls_at, viewed, viewed_lines, viewing_of, viewing_ticks}
+use Rattle.doc_session.specs.Step.{EventStep, act_step, answer_to, command_refusal, command_step, done_step, effect_on, history_step, no_edit_step, is_idle, looking_step, request_of, revision_step, scroll_if, selected_document, step_to, typed_document, typed_step, undone_document, viewed_document, viewing_step}
 use Rattle.doc_session.proofs.UntoldLemmas.{shown-viewed}
 
 -- a command that edits text or regions: it is done on these alone, its step is that of its effect, and it requests no lines
@@ -74,37 +73,6 @@ form_of (Acts.Find chars case_sensitive regex whole_words) = looks (Views.Seek c
 form_of (Acts.FindNext wrap_around allow_same) = looks (Views.Next wrap_around) (record { is = refl; request = refl; config = λ view. refl; effect = λ plain. refl; ticks = λ view. refl })
 form_of (Acts.FindPrevious wrap_around allow_same) = looks (Views.Previous wrap_around) (record { is = refl; request = refl; config = λ view. refl; effect = λ plain. refl; ticks = λ view. refl })
 form_of Acts.Nothing = commands (record { done = tt; looks_not = refl; step = λ plain. refl; request = refl })
-
--- what is none of those that only look does more
-pub viewing_of-else : (act : EditAct) → ((first last : ℕ) → act ≡ Acts.Scroll first last → ⊥) → ((first last : ℕ) → act ≡ Acts.RequestLines first last → ⊥) →
-    ((chars : List ℕ) (case_sensitive regex whole_words : Option Bool) → act ≡ Acts.Find chars case_sensitive regex whole_words → ⊥) →
-    ((wrap_around allow_same : Option Bool) → act ≡ Acts.FindNext wrap_around allow_same → ⊥) →
-    ((wrap_around allow_same : Option Bool) → act ≡ Acts.FindPrevious wrap_around allow_same → ⊥) → viewing_of act ≡ None
-viewing_of-else (Acts.Insert chars) no_scroll no_lines no_find no_next no_previous = refl
-viewing_of-else (Acts.Paste chars) no_scroll no_lines no_find no_next no_previous = refl
-viewing_of-else Acts.InsertNewline no_scroll no_lines no_find no_next no_previous = refl
-viewing_of-else Acts.InsertTab no_scroll no_lines no_find no_next no_previous = refl
-viewing_of-else Acts.DeleteBackward no_scroll no_lines no_find no_next no_previous = refl
-viewing_of-else Acts.DeleteForward no_scroll no_lines no_find no_next no_previous = refl
-viewing_of-else Acts.DeleteWordBackward no_scroll no_lines no_find no_next no_previous = refl
-viewing_of-else Acts.DeleteWordForward no_scroll no_lines no_find no_next no_previous = refl
-viewing_of-else Acts.Cut no_scroll no_lines no_find no_next no_previous = refl
-viewing_of-else Acts.Copy no_scroll no_lines no_find no_next no_previous = refl
-viewing_of-else Acts.Undo no_scroll no_lines no_find no_next no_previous = refl
-viewing_of-else Acts.Redo no_scroll no_lines no_find no_next no_previous = refl
-viewing_of-else Acts.SelectAll no_scroll no_lines no_find no_next no_previous = refl
-viewing_of-else Acts.Collapse no_scroll no_lines no_find no_next no_previous = refl
-viewing_of-else (Acts.Move motion extend) no_scroll no_lines no_find no_next no_previous = refl
-viewing_of-else (Acts.Scroll first last) no_scroll no_lines no_find no_next no_previous = absurd (no_scroll first last refl)
-viewing_of-else (Acts.RequestLines first last) no_scroll no_lines no_find no_next no_previous = absurd (no_lines first last refl)
-viewing_of-else (Acts.Click line col modifiers count) no_scroll no_lines no_find no_next no_previous = refl
-viewing_of-else (Acts.Drag line col modifiers) no_scroll no_lines no_find no_next no_previous = refl
-viewing_of-else (Acts.Gesture line col ty) no_scroll no_lines no_find no_next no_previous = refl
-viewing_of-else (Acts.GotoLine line) no_scroll no_lines no_find no_next no_previous = refl
-viewing_of-else (Acts.Find chars case_sensitive regex whole_words) no_scroll no_lines no_find no_next no_previous = absurd (no_find chars case_sensitive regex whole_words refl)
-viewing_of-else (Acts.FindNext wrap_around allow_same) no_scroll no_lines no_find no_next no_previous = absurd (no_next wrap_around allow_same refl)
-viewing_of-else (Acts.FindPrevious wrap_around allow_same) no_scroll no_lines no_find no_next no_previous = absurd (no_previous wrap_around allow_same refl)
-viewing_of-else Acts.Nothing no_scroll no_lines no_find no_next no_previous = refl
 
 -- what does more than look, and is no undo and no redo, edits text or regions
 pub IsCommand-else : (act : EditAct) → (act ≡ Acts.Undo → ⊥) → (act ≡ Acts.Redo → ⊥) → viewing_of act ≡ None → IsCommand act

@@ -5,7 +5,7 @@ use Rattle.doc_session.specs.declared.event.Event.{Event}
 use Rattle.doc_session.specs.declared.event.Event.TheVariants.{Ack, Config as Configure, Count, Edit, Ended, Front, Other, Read, Saved, Spans}
 use Rattle.doc_text.specs.Asking.{asked_spans}
 use Rattle.doc_session.specs.Document.{Document, no_request}
-use Rattle.doc_session.specs.declared.looking.Viewing.TheVariants.{Layout, Other as NoCommand}
+use Rattle.doc_view.specs.declared.looking.Viewing.TheVariants.{Layout, Other as NoCommand}
 use Rattle.doc_view.specs.View.{View}
 use Rattle.doc_session.specs.Effects.{pristine_from, settled}
 use Rattle.doc_session.specs.Step.{config_after, event_step, given_document, request_of, saved_document, styled_document, taken_step, viewed_document}

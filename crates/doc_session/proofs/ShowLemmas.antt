@@ -5,7 +5,7 @@ use Rattle.doc_session.specs.InMemory.{Doc}
 use Rattle.doc_session.specs.declared.event.Event.{Event}
 use Rattle.doc_session.specs.declared.event.Event.TheVariants.{Ack, Config as Configure, Count, Edit, Ended, Front, Other, Read, Saved, Spans}
 use Rattle.doc_layout.specs.Told.{screen_of}
-use Rattle.doc_session.specs.declared.looking.Viewing.TheVariants.{Layout, Other as NoCommand}
+use Rattle.doc_view.specs.declared.looking.Viewing.TheVariants.{Layout, Other as NoCommand}
 use Rattle.doc_session.specs.Document.{Document, layout_of, no_request}
 use Rattle.doc_text.specs.Asking.{asked_spans}
 use Rattle.doc_session.specs.Effects.{settled}

@@ -18,14 +18,15 @@ use Rattle.doc_text.specs.Revised.{IsRevised, IsTurnOf}
 use Rattle.doc_text.specs.Revisions.{typed_text}
 use Rattle.doc_text.specs.Writing.{Writing, head_text}
 use Rattle.doc_view.specs.View.{View}
+use Rattle.doc_view.specs.Looking.{viewing_ticks}
 use Rattle.doc_session.specs.declared.event.Event.{Event}
-use Rattle.doc_session.specs.declared.looking.Viewing.{Viewing}
+use Rattle.doc_view.specs.declared.looking.Viewing.{Viewing}
 use Rattle.doc_session.specs.Asking.{replacing_delta}
 use Rattle.doc_session.specs.Document.{Document}
 use Rattle.doc_session.specs.InMemory.{Doc}
 use Rattle.doc_session.specs.Stands.{DocStandsFor}
 use Rattle.doc_session.specs.Step.{EventStep, effect_in, effect_on, history_step}
-use Rattle.doc_session.specs.Ticks.{revision_ticks, step_ticks, ticks_at, viewing_ticks}
+use Rattle.doc_session.specs.Ticks.{revision_ticks, step_ticks, ticks_at}
 use Rattle.doc_session.specs.Touched.{AreTouched, touched_between}
 use Rattle.doc_session.proofs.FrontLemmas.{delta-same}
 use Rattle.doc_session.proofs.StepLemmas.{effect-is}
@@ -95,10 +96,6 @@ ticks-step from to plain step other is counted = subst (λ (s : EventStep). to �
 pub ticks-event : (from to : ℕ) (plain : Document) (event named : Event) → event ≡ named → to ≤ from + ticks_at plain named →
     to ≤ from + ticks_at plain event
 ticks-event from to plain event named is counted = subst (λ (e : Event). to ≤ from + ticks_at plain e) (sym is) counted
-
-pub ticks-viewing : (from to : ℕ) (view : View) (viewing named : Viewing) → viewing ≡ named → to ≤ from + viewing_ticks view named →
-    to ≤ from + viewing_ticks view viewing
-ticks-viewing from to view viewing named is counted = subst (λ (v : Viewing). to ≤ from + viewing_ticks view v) (sym is) counted
 
 pub ticks-view : (from to : ℕ) (view other : View) (viewing : Viewing) → view ≡ other → to ≤ from + viewing_ticks view viewing →
     to ≤ from + viewing_ticks other viewing

@@ -19,9 +19,9 @@ use Rattle.selection_core.specs.Mapped.{AreWithin}
 use Rattle.selection_core.specs.Selection.{IsSelection}
 use Rattle.doc_layout.specs.Told.{screen_of}
 use Rattle.doc_view.specs.View.{View}
-use Rattle.doc_session.specs.declared.looking.Viewing.{Viewing}
-use Rattle.doc_session.specs.declared.looking.Viewing.TheVariants.{Layout, Lines, Next, Other, Previous, Seek, Window}
-use Rattle.doc_session.specs.Looking.{viewed}
+use Rattle.doc_view.specs.declared.looking.Viewing.{Viewing}
+use Rattle.doc_view.specs.declared.looking.Viewing.TheVariants.{Layout, Lines, Next, Other, Previous, Seek, Window}
+use Rattle.doc_view.specs.Looking.{viewed}
 use Rattle.doc_session.specs.Document.{Document, layout_of}
 use Rattle.doc_session.specs.InMemory.{Doc}
 use Rattle.doc_session.specs.Inner.{IsUntold}

@@ -1,17 +1,12 @@
 -- What private functions say: the steps of an event.
-use Rattle.std.specs.Prelude.{◌≡◌, ℕ, ◌+◌, ◌≤◌, Bool, true, false, Some, None, Result, Ok, Err, IfOk}
-use Rattle.xi_plain.specs.declared.command.EditAct.{EditAct}
+use Rattle.std.specs.Prelude.{◌≡◌, ℕ, ◌+◌, ◌≤◌, Result, IfOk}
 use Rattle.doc_layout.specs.Told.{screen_of}
 use Rattle.doc_view.specs.declared.told.Pristine.{Pristine}
 use Rattle.doc_text.specs.InMemory.{is_pristine_in}
 use Rattle.doc_text.specs.Stands.{IsTextOf}
 use Rattle.doc_session.specs.declared.event.Effects.{Effects}
-use Rattle.doc_session.specs.declared.looking.Viewing.{Viewing}
-use Rattle.doc_session.specs.declared.said.Scrolling.{Scrolling}
-use Rattle.doc_session.specs.declared.said.Scrolling.TheVariants.{Nowhere, ToCaret}
 use Rattle.doc_session.specs.Document.{Document, layout_of}
 use Rattle.doc_session.specs.InMemory.{Doc}
-use Rattle.doc_session.specs.Looking.{viewing_of}
 use Rattle.doc_session.specs.Stands.{AreRegionsOf, DocStandsFor, IsLastTold, IsOfHead}
 use Rattle.doc_session.specs.Step.{AreEffectsOf, EventStep}
 
@@ -36,16 +31,6 @@ pub record IsUncollected (doc : Doc) (plain : Document) : Type 0 where
   pub of_head : IsOfHead plain
   pub regions_are : AreRegionsOf plain.view.text plain.view.regions
   pub screen : IsLastTold plain
-
--- whether the front end scrolls to the last caret, where that stands elsewhere then
-abbrev pub is_scrolling : Scrolling → Bool
-is_scrolling ToCaret = true
-is_scrolling Nowhere = false
-
--- a command as one that only looks, or the same command
-abbrev pub IsViewingOf : EditAct → Result Viewing EditAct → Type 0
-IsViewingOf act (Ok viewing) = viewing_of act ≡ Some viewing
-IsViewingOf act (Err same) = (viewing_of act ≡ None) × (act ≡ same)
 
 -- what an event makes is what its step gives, before anything is collected: the document after it, and what those outside are told
 pub record IsStepped (step : EventStep) (made : Doc × Effects) : Type 0 where

@@ -3,7 +3,6 @@ pub mod Document
 pub mod Asking
 pub mod Effects
 pub mod PositionView
-pub mod Looking
 pub mod Step
 pub mod Touched
 pub mod Ticks

@@ -7,7 +7,7 @@ use Rattle.xi_plain.specs.Chunk.{chunk_at}
 use Rattle.xi_plain.specs.declared.config.Config.{Config}
 use Rattle.xi_plain.specs.declared.config.Notice.{Notice}
 use Rattle.xi_plain.specs.declared.command.EditAct.{EditAct}
-use Rattle.xi_plain.specs.declared.command.EditAct.TheVariants.{Copy, Cut, Redo, RequestLines, SelectAll, Undo}
+use Rattle.xi_plain.specs.declared.command.EditAct.TheVariants.{Redo, RequestLines, Undo}
 use Rattle.plain_screen.specs.declared.screen.Update.{Update}
 use Rattle.plain_edits.specs.Caret.{moved_regions}
 use Rattle.plain_edits.specs.History.{History, head, text_at}
@@ -28,10 +28,10 @@ use Rattle.doc_session.specs.declared.event.Body.TheVariants.{Null, Chunk, Copie
 use Rattle.doc_session.specs.declared.event.Effects.{Effects}
 use Rattle.doc_session.specs.declared.event.Event.{Event}
 use Rattle.doc_session.specs.declared.event.Event.TheVariants.{Ack, Config as Configure, Count, Edit, Ended, Front, Other, Read, Saved, Spans}
-use Rattle.doc_session.specs.declared.looking.Viewing.{Viewing}
-use Rattle.doc_session.specs.declared.looking.Viewing.TheVariants.{Layout, Other as NoCommand}
+use Rattle.doc_view.specs.declared.looking.Viewing.{Viewing}
+use Rattle.doc_view.specs.declared.looking.Viewing.TheVariants.{Layout, Other as NoCommand}
 use Rattle.doc_session.specs.Document.{Document, no_request}
-use Rattle.doc_session.specs.Looking.{scrolls_at, viewed, viewed_lines, viewing_of}
+use Rattle.doc_view.specs.Looking.{copies, scrolls, scrolls_at, viewed, viewed_lines, viewing_of}
 use Rattle.stale_spans.specs.declared.asked.AskedSpans.{AskedSpans}
 use Rattle.stale_spans.specs.Asked.{layers_with_spans, moved_layers}
 use Rattle.stale_spans.specs.Places.{StandIn}
@@ -102,20 +102,11 @@ effect_on document act = effect_in document.view act
 abbrev pub is_idle : Document → Effect → Bool
 is_idle document effect = do_nothing (length document.view.text) effect.replacements
 
--- whether it copies what is selected; and what it is answered: the copied text, or nothing
-abbrev pub copies : EditAct → Bool
-copies Cut = true
-copies Copy = true
-copies act = false
-
+-- what it is answered: the copied text, or nothing
 abbrev pub answer_to : Document → EditAct → Body
 answer_to document act = if copies act then Copied (copied_text document.view.text document.view.regions) else Null
 
--- whether it scrolls to the last caret where that stands elsewhere then: one that selects all does not; and where it scrolls to
-abbrev pub scrolls : EditAct → Bool
-scrolls SelectAll = false
-scrolls act = true
-
+-- where the front end scrolls to, if it is asked
 abbrev pub scroll_if : Bool → Document → Document → Option Position
 scroll_if asked document next = if asked then scroll_after document next else None
 

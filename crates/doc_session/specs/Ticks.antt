@@ -2,11 +2,9 @@
 use Rattle.std.specs.Prelude.{ℕ, ◌+◌, ◌-◌}
 use Rattle.plain_edits.specs.History.{head}
 use Rattle.doc_text.specs.Writing.{Writing}
-use Rattle.doc_view.specs.View.{View, config_ticks}
+use Rattle.doc_view.specs.View.{config_ticks}
 use Rattle.doc_session.specs.declared.event.Event.{Event}
 use Rattle.doc_session.specs.declared.event.Event.TheVariants.{Config as Configure}
-use Rattle.doc_session.specs.declared.looking.Viewing.{Viewing}
-use Rattle.doc_session.specs.declared.looking.Viewing.TheVariants.{Layout}
 use Rattle.doc_session.specs.Document.{Document}
 use Rattle.doc_session.specs.Step.{EventStep, taken_step}
 use Rattle.doc_session.specs.Touched.{touched_between}
@@ -19,11 +17,6 @@ revision_ticks before next =
 -- from a document to the one after a step
 abbrev pub step_ticks : Document → EventStep → ℕ
 step_ticks document step = revision_ticks document.text step.document.text
-
--- at a line that leaves the text as it is none, but where another configuration cuts the text otherwise
-abbrev pub viewing_ticks : View → Viewing → ℕ
-viewing_ticks view (Layout config) = config_ticks view config
-viewing_ticks view viewing = 0
 
 -- THE MOST STEPS OF AN EVENT: those of the text before it and the text after, before anything is collected; and of a configuration
 -- those that the view needs

@@ -1,7 +1,6 @@
-ghost use Rattle.std.specs.Prelude.{◌≡◌, ◌≢◌, ◌+◌, ◌-◌, ◌^◌, ◌<◌, ◌≤◌, ℕ, [], length, if◌then◌else◌, Some, None, IfOk, IfErr, OnOk, OnErr, option_map, unwrap_or, IfSome, IsTrue, Option};
+ghost use Rattle.std.specs.Prelude.{◌≡◌, ◌≢◌, ◌+◌, ◌-◌, ◌^◌, ◌<◌, ◌≤◌, ℕ, [], length, Some, None, IfOk, IfErr, OnOk, OnErr, unwrap_or, IfSome, IsTrue, Option};
 ghost use Rattle.plain_edits.specs.Collection.{kept};
-ghost use Rattle.plain_edits.specs.History.{History, head};
-ghost use Rattle.delta_core.specs.Units.{text_after};
+ghost use Rattle.plain_edits.specs.History.{head};
 ghost use Rattle.line_index.specs.Index.{touched_lines};
 ghost use Rattle.edit_ops.specs.Commands.{IsDoneOnText, IsEffect};
 ghost use Rattle.selection_core.specs.Mapped.{AreWithin};
@@ -9,37 +8,35 @@ ghost use Rattle.selection_core.specs.Selection.{IsSelection};
 ghost use Rattle.span_styles.specs.Layers.{AreOver, mapped_layers};
 ghost use Rattle.doc_layout.specs.Changed.{IsChangeOf};
 ghost use Rattle.undo_groups.specs.Groups.{Groups, next_redo, next_undo, redone_one, undone_one};
-ghost use Rattle.doc_layout.specs.Told.{scroll_between};
 ghost use Rattle.doc_text.specs.Asking.{acknowledgement_refusal, asked_refusal, plugin_edit};
 ghost use Rattle.doc_text.specs.Collecting.{acknowledged_text, ended_text};
 ghost use Rattle.doc_text.specs.Fault.{DocRefuses};
-ghost use Rattle.doc_text.specs.InMemory.{is_pristine_in, text_in};
+ghost use Rattle.doc_text.specs.InMemory.{text_in};
 ghost use Rattle.doc_text.specs.Refusal.{edit_refused};
 ghost use Rattle.doc_text.specs.Revised.{IsRevised, IsRevisionOf, IsTurnOf};
 ghost use Rattle.doc_text.specs.Stands.{IsTextOf};
 ghost use Rattle.doc_text.specs.Writing.{Writing, head_text};
 ghost use Rattle.doc_view.specs.Front.{KeepsFront};
+ghost use Rattle.doc_view.specs.Looking.{MayView, is_scrolling, viewing_of, viewing_ticks};
 ghost use Rattle.doc_view.specs.Told.{IsKeptLeftOf, IsTextLeft, settled_view, told};
-ghost use Rattle.doc_view.specs.View.{point_in};
 ghost use Rattle.doc_session.specs.Asking.{front_edit};
 ghost use Rattle.doc_session.specs.declared.event.Event.TheVariants.{Other};
 ghost use Rattle.doc_session.specs.Document.{Document, layout_of, loaded_document};
 ghost use Rattle.doc_session.specs.InMemory.{is_resting};
-ghost use Rattle.doc_session.specs.Inner.{IsCountedBy, IsStepOf, IsStepped, IsUncollected, IsUntold, is_scrolling, pristine_to};
-ghost use Rattle.doc_session.specs.Looking.{viewing_of};
-ghost use Rattle.doc_session.specs.PositionView.{position_view};
+ghost use Rattle.doc_session.specs.Inner.{IsCountedBy, IsStepOf, IsStepped, IsUncollected, IsUntold, pristine_to};
 ghost use Rattle.doc_session.specs.ScreenOf.{IsShownAfter};
 ghost use Rattle.doc_session.specs.Stands.{DocStandsFor};
 ghost use Rattle.doc_session.specs.Ticks.{revision_ticks, step_ticks, ticks_at};
 ghost use Rattle.doc_session.specs.Whole.{IsKept};
-ghost use Rattle.doc_session.specs.Step.{AreEffectsOf, IsEventFor, act_step, answer_to, answered_step, collected_document, command_refusal, command_step, done_step, effect_in, effect_on, event_step, history_step, no_edit_step, plugin_step, refusal_at, revised_document, revision_step, saved_step, scroll_if, silent_step, step_to, taken_step, typed_step, with_text};
+ghost use Rattle.doc_session.specs.Step.{AreEffectsOf, IsEventFor, act_step, answer_to, answered_step, collected_document, command_refusal, command_step, done_step, effect_in, effect_on, event_step, history_step, no_edit_step, plugin_step, refusal_at, revised_document, revision_step, saved_step, scroll_if, silent_step, step_to, taken_step, typed_step, viewing_step, with_text};
 
 use crate::event::{Body, Effects, Event};
-use crate::looking::{Viewing, copies, scrolls, viewing_of};
-use crate::said::{NO_REQUEST, Said, Scrolling};
-use doc_layout::scroll_of;
+use crate::said::Said;
 use doc_text::{DocFault, Revised, TextState};
-use doc_view::{Goals, Pristine, TextLeft, ViewState, does_nothing, kept_front};
+use doc_view::{
+    Goals, NO_REQUEST, Pristine, Scrolling, TextLeft, ViewState, Viewing, copies, does_nothing,
+    kept_front, scrolls, scrolls_at, viewed_lines, viewing_of,
+};
 use edit_groups::kind_of;
 use plain_edits::UnitDelta;
 use plain_screen::Update;
@@ -202,6 +199,33 @@ impl Doc {
             Event::Saved => Ok(self.save(alloc)?),
             Event::Other => Ok(self.view_only(alloc, Viewing::Other, steps)?),
         }
+    }
+
+    // The document after a line that leaves the text as it is; the front end is told what it lacks.
+    fn view_only<L: Ledger>(
+        &self,
+        alloc: Global,
+        viewing: Viewing,
+        steps: &mut Steps<L>,
+    ) -> Result<(Doc, Effects), NoMemory>
+        requires { MayView viewing }
+        ensures stepped { IsStepOf self.now (λ plain. viewing_step plain viewing) result }
+        ensures sessions { IfOk result (λ made. made.0.text.sessions ≡ self.now.text.sessions) }
+        ensures steps { IsCountedBy self.now (λ plain. viewing_ticks plain.view viewing) steps.old steps.new }
+    {
+        let request = viewed_lines(&viewing);
+        let scrolling = scrolls_at(&viewing);
+        let view = self.view.viewed(alloc, viewing, steps)?;
+        let text = self.text.with_run(alloc, None)?;
+        let next = document_of(text, view);
+        let said = Said {
+            text: TextLeft::Same,
+            request,
+            body: Body::Null,
+            scrolling,
+            notice: None,
+        };
+        self.told(alloc, next, said)
     }
 
     fn act<L: Ledger>(
@@ -528,7 +552,7 @@ impl Doc {
             scrolling,
             notice,
         } = said;
-        let scroll = self.scroll_to(&next, scrolling);
+        let scroll = self.view.scroll_to(&next.view, scrolling);
         let (next, update) = self.updated(alloc, next, text, request)?;
         let effects = Effects {
             body,
@@ -560,17 +584,6 @@ impl Doc {
         let Doc { text: next, view } = next;
         let (view, update) = self.view.settled(alloc, view, text, request, pristine)?;
         Ok((Doc { text: next, view }, update))
-    }
-
-    // Where the last caret stands then, where that is asked and it is another place on the layout than before.
-    fn scroll_to(&self, next: &Doc, asked: Scrolling) -> Option<(u64, u64)>
-        ensures { option_map position_view result
-            ≡ (if is_scrolling asked then scroll_between (point_in self.now.view) (point_in next.now.view) else None) }
-    {
-        match asked {
-            Scrolling::Nowhere => None,
-            Scrolling::ToCaret => scroll_of(self.view.point(), next.view.point()),
-        }
     }
 
     // The session of a plugin acknowledges this revision.

@@ -8,7 +8,6 @@
 mod doc;
 mod event;
 pub mod laws;
-mod looking;
 mod reading;
 mod said;
 mod styles;
@@ -16,4 +15,3 @@ mod styles;
 pub use doc::Doc;
 pub use doc_text::{DocFault, Kind, Misplaced, Typing};
 pub use event::{Body, Effects, Event};
-pub use looking::Viewing;

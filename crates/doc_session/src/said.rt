@@ -1,18 +1,7 @@
 use crate::event::Body;
-use doc_view::TextLeft;
+use doc_view::{Scrolling, TextLeft};
 use plain_text::Run;
 use xi_plain::Notice;
-
-/// What an event requests that requests no lines.
-pub(crate) const NO_REQUEST: Run = Run { start: 0, end: 0 };
-
-/// Where the front end scrolls.
-#[derive(Clone, Copy)]
-pub(crate) enum Scrolling {
-    /// To the last caret, where that stands elsewhere than before.
-    ToCaret,
-    Nowhere,
-}
 
 /// What is said of an event beside its update: what it left of the text, which lines it requests, what it is answered, where the front end
 /// scrolls, and what the plugins are told.

@@ -10,9 +10,9 @@ ghost use Rattle.doc_session.specs.Step.{spans_step};
 
 use crate::doc::{Doc, document_of};
 use crate::event::{Body, Effects};
-use crate::said::{NO_REQUEST, Said, Scrolling};
+use crate::said::Said;
 use doc_text::DocFault;
-use doc_view::TextLeft;
+use doc_view::{NO_REQUEST, Scrolling, TextLeft};
 use plain_text::NoMemory;
 use stale_spans::{AskedSpans, with_spans};
 use std::alloc::Global;

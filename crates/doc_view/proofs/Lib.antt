@@ -9,4 +9,5 @@ pub mod ApartLemmas
 pub mod FrontLemmas
 pub mod LineLemmas
 pub mod AnewLemmas
+pub mod LookingLemmas
 pub mod ForCallers

@@ -15,7 +15,7 @@ use Rattle.doc_text.specs.Collecting.{AreAcknowledged, HasNoneLeft, collection_a
 use Rattle.doc_text.specs.Laws.{GoesOn}
 use Rattle.doc_text.specs.Writing.{head_text}
 use Rattle.doc_session.specs.Document.{Document, no_request}
-use Rattle.doc_session.specs.declared.looking.Viewing.TheVariants.{Other as NoCommand}
+use Rattle.doc_view.specs.declared.looking.Viewing.TheVariants.{Other as NoCommand}
 use Rattle.doc_session.specs.Effects.{settled}
 use Rattle.doc_session.specs.Step.{collected_document, history_step, taken_step, undone_document, viewed_document, with_text}
 use Rattle.doc_text.proofs.ForCallers.{HasNoneLeft-later, IsLast-next_undo, collected_once, fold_forgotten, has-next_undo, nothing_after}

@@ -28,9 +28,9 @@ use Rattle.doc_text.specs.Collecting.{collection_after, with_collection}
 use Rattle.doc_text.specs.Writing.{head_text}
 use Rattle.doc_session.specs.Document.{Document, loaded_document, no_request}
 use Rattle.doc_view.specs.View.{View}
-use Rattle.doc_session.specs.declared.looking.Viewing.{Viewing}
-use Rattle.doc_session.specs.declared.looking.Viewing.TheVariants.{Layout, Other as NoCommand}
-use Rattle.doc_session.specs.Looking.{viewed_lines, viewing_of}
+use Rattle.doc_view.specs.declared.looking.Viewing.{Viewing}
+use Rattle.doc_view.specs.declared.looking.Viewing.TheVariants.{Layout, Other as NoCommand}
+use Rattle.doc_view.specs.Looking.{viewed_lines, viewing_of}
 use Rattle.doc_session.specs.Effects.{pristine_from, settled}
 use Rattle.doc_session.specs.Step.{act_step, collected_document, command_step, done_step, effect_on, given_document, history_step, no_edit_step, is_idle, looking_step, saved_document, selected_document, styled_document, taken_step, typed_document, typed_step, undone_document, viewed_document, viewing_step, with_text}
 use Rattle.document_laws.specs.Laws.{AreOverText, SaysNoStyles, StylesFollow}

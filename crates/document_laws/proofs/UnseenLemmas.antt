@@ -27,13 +27,13 @@ use Rattle.doc_text.specs.Notices.{notice_of, notice_to}
 use Rattle.doc_text.specs.Revisions.{edited_text}
 use Rattle.doc_session.specs.Asking.{front_edit}
 use Rattle.doc_session.specs.Document.{Document, no_request}
-use Rattle.doc_session.specs.declared.looking.Viewing.{Viewing}
-use Rattle.doc_session.specs.declared.looking.Viewing.TheVariants.{Layout, Other as NoCommand}
-use Rattle.doc_session.specs.Looking.{viewed_lines, viewing_of}
+use Rattle.doc_view.specs.declared.looking.Viewing.{Viewing}
+use Rattle.doc_view.specs.declared.looking.Viewing.TheVariants.{Layout, Other as NoCommand}
+use Rattle.doc_view.specs.Looking.{scrolls, viewed_lines, viewing_of}
 use Rattle.doc_session.specs.Effects.{settled, update_after}
 use Rattle.doc_session.specs.Layout.{Position}
 use Rattle.doc_text.specs.Refusal.{edit_refused}
-use Rattle.doc_session.specs.Step.{EventStep, act_step, answer_to, collected_document, command_step, done_step, effect_on, event_step, history_step, no_edit_step, is_idle, looking_step, refusal_at, revised_document, revision_step, saved_document, scroll_if, scrolls, selected_document, step_to, taken_step, typed_step, undone_document, viewed_document, viewing_step, with_text}
+use Rattle.doc_session.specs.Step.{EventStep, act_step, answer_to, collected_document, command_step, done_step, effect_on, event_step, history_step, no_edit_step, is_idle, looking_step, refusal_at, revised_document, revision_step, saved_document, scroll_if, selected_document, step_to, taken_step, typed_step, undone_document, viewed_document, viewing_step, with_text}
 use Rattle.edit_groups.proofs.ForCallers.{least-within}
 use Rattle.doc_text.proofs.ForCallers.{floor-found, head-after}
 use Rattle.document_laws.specs.Laws.{AcknowledgementsAreUnseen, AreAlike, CollectionIsUnseen, IsOfFront, TellTheSame, after_event, bare, bare_groups}

@@ -10,9 +10,9 @@ use Rattle.doc_text.specs.Collecting.{acknowledged_by, collected_text, collectio
 use Rattle.doc_text.specs.Writing.{Writing}
 use Rattle.doc_session.specs.declared.event.Event.{Event}
 use Rattle.doc_session.specs.declared.event.Event.TheVariants.{Ack, Config as Configure, Count, Edit, Ended, Front, Other, Read, Saved, Spans}
-use Rattle.doc_session.specs.declared.looking.Viewing.{Viewing}
+use Rattle.doc_view.specs.declared.looking.Viewing.{Viewing}
 use Rattle.doc_session.specs.Document.{Document}
-use Rattle.doc_session.specs.Looking.{viewing_of}
+use Rattle.doc_view.specs.Looking.{viewing_of}
 use Rattle.doc_session.specs.Step.{act_step, command_step, done_step, effect_on, event_step, history_step, no_edit_step, is_idle, looking_step, taken_step, typed_step}
 
 -- ---- commands of the front end

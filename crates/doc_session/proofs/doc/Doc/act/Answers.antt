@@ -2,8 +2,8 @@ use Rattle.std.proofs.Common.{◌≡◌, None, Some, ap, sym, ◌∙◌, subst}
 use Rattle.std.specs.Prelude.{IfErr, IfOk, OnOk}
 use Rattle.xi_plain.specs.declared.command.EditAct.{EditAct}
 use Rattle.doc_text.specs.Fault.{DocRefuses}
-use Rattle.doc_session.specs.Inner.{IsStepped, IsViewingOf}
-use Rattle.doc_session.specs.Looking.{viewing_of}
+use Rattle.doc_session.specs.Inner.{IsStepped}
+use Rattle.doc_view.specs.Looking.{IsViewingOf, viewing_of}
 use Rattle.doc_text.specs.Refusal.{edit_refused}
 use Rattle.doc_session.specs.Step.{command_refusal, done_step, effect_on, looking_step}
 use Rattle.doc_session.proofs.ActLemmas.{refusal-looking, ticks-looking}

@@ -2,8 +2,9 @@ use Rattle.std.proofs.Common.{refl, subst}
 use Rattle.std.specs.Prelude.{IfOk, Option}
 use Rattle.xi_plain.specs.declared.config.Notice.{Notice}
 use Rattle.span_styles.specs.Layers.{mapped_layers}
+use Rattle.doc_view.specs.Looking.{is_scrolling}
 use Rattle.doc_session.specs.Document.{no_request}
-use Rattle.doc_session.specs.Inner.{IsStepped, is_scrolling}
+use Rattle.doc_session.specs.Inner.{IsStepped}
 use Rattle.doc_session.specs.Step.{revised_document, scroll_if, step_to}
 use Rattle.doc_session.proofs.LayerLemmas.{moved-changed}
 use Rattle.doc_session.proofs.UntoldLemmas.{IsUntold-revised}

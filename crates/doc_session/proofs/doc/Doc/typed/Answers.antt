@@ -14,11 +14,12 @@ use Rattle.doc_text.specs.Revised.{IsRevised, IsRevisionOf}
 use Rattle.doc_text.specs.Revisions.{typed_text}
 use Rattle.doc_text.specs.Writing.{head_text}
 use Rattle.doc_view.specs.View.{View, pieces_in}
+use Rattle.doc_view.specs.Looking.{scrolls}
 use Rattle.doc_session.specs.Asking.{replacing_delta}
 use Rattle.doc_session.specs.InMemory.{Doc}
 use Rattle.doc_session.specs.Inner.{IsStepped}
 use Rattle.doc_session.specs.Stands.{DocStandsFor}
-use Rattle.doc_session.specs.Step.{EventStep, answer_to, effect_in, effect_on, revised_document, revision_step, scroll_if, scrolls}
+use Rattle.doc_session.specs.Step.{EventStep, answer_to, effect_in, effect_on, revised_document, revision_step, scroll_if}
 use Rattle.doc_session.proofs.FrontLemmas.{delta-same, text_after-front}
 use Rattle.doc_session.proofs.SomeLemmas.{effect-some}
 use Rattle.doc_session.proofs.StepLemmas.{effect-is}

@@ -7,7 +7,7 @@ use Rattle.doc_session.specs.declared.event.Body.TheVariants.{Null}
 use Rattle.doc_session.specs.InMemory.{Doc}
 use Rattle.doc_session.specs.Inner.{IsStepped, IsUntold}
 use Rattle.doc_session.specs.Stands.{DocStandsFor}
-use Rattle.doc_session.specs.Looking.{viewed}
+use Rattle.doc_view.specs.Looking.{viewed}
 use Rattle.doc_session.specs.Step.{scroll_if, step_to, viewed_document}
 use Rattle.doc_session.proofs.UntoldLemmas.{IsUntold-viewed, layers-viewed, text-viewed}
 use Rattle.doc_session.proofs.TickLemmas.{ticks-view}

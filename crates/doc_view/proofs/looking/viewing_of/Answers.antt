@@ -1,9 +1,9 @@
 use Rattle.std.proofs.Common.{Some, refl, ap, sym, ◌∙◌}
 use Rattle.plain_text.specs.declared.run.Run.{Run}
-use Rattle.doc_session.specs.declared.looking.Viewing.TheVariants.{Lines, Window}
-use Rattle.doc_session.specs.Looking.{viewing_of}
-use Rattle.doc_session.proofs.ActLemmas.{viewing_of-else}
-use Rattle.doc_session.proofs.looking.viewing_of.Goals as goal
+use Rattle.doc_view.specs.declared.looking.Viewing.TheVariants.{Lines, Window}
+use Rattle.doc_view.specs.Looking.{viewing_of}
+use Rattle.doc_view.proofs.LookingLemmas.{viewing_of-else}
+use Rattle.doc_view.proofs.looking.viewing_of.Goals as goal
 
 pub returns-in-Scroll : goal.returns-in-Scroll
 returns-in-Scroll c = ap viewing_of c.in-Scroll.is ∙ ap (λ (lines : Run). Some (Window lines)) (sym c.lines_of.ensures)

@@ -1,14 +1,16 @@
 -- LINES THAT LEAVE THE TEXT AS IT IS: what a view shows, what is looked for, and how the text is laid out and edited.
-use Rattle.std.specs.Prelude.{◌<◌, Bool, true, false, map, Option, Some, None, ⊤}
+use Rattle.std.specs.Prelude.{◌≡◌, ℕ, ◌<◌, Bool, true, false, map, Option, Some, None, Result, Ok, Err, ⊤}
 use Rattle.plain_text.specs.declared.run.Run.{Run}
 use Rattle.xi_plain.specs.declared.command.EditAct.{EditAct}
-use Rattle.xi_plain.specs.declared.command.EditAct.TheVariants.{Find, FindNext, FindPrevious, RequestLines, Scroll}
+use Rattle.xi_plain.specs.declared.command.EditAct.TheVariants.{Copy, Cut, Find, FindNext, FindPrevious, RequestLines, Scroll, SelectAll}
 use Rattle.edit_ops.specs.Regions.{without_goal}
+use Rattle.doc_layout.specs.Told.{no_request}
 use Rattle.doc_view.specs.Search.{next_found, previous_found, search_for}
-use Rattle.doc_view.specs.View.{View}
-use Rattle.doc_session.specs.declared.looking.Viewing.{Viewing}
-use Rattle.doc_session.specs.declared.looking.Viewing.TheVariants.{Layout, Lines, Next, Other, Previous, Seek, Window}
-use Rattle.doc_session.specs.Document.{no_request}
+use Rattle.doc_view.specs.View.{View, config_ticks}
+use Rattle.doc_view.specs.declared.looking.Scrolling.{Scrolling}
+use Rattle.doc_view.specs.declared.looking.Scrolling.TheVariants.{Nowhere, ToCaret}
+use Rattle.doc_view.specs.declared.looking.Viewing.{Viewing}
+use Rattle.doc_view.specs.declared.looking.Viewing.TheVariants.{Layout, Lines, Next, Other, Previous, Seek, Window}
 
 -- WHAT SUCH A LINE MAKES OF A VIEW: it shows other lines, requests lines, looks for other characters, selects the next match or the previous
 -- one, or is laid out and edited so. The goals go, but where a match is looked for and there is none, where the text is laid out, and at
@@ -47,3 +49,31 @@ viewing_of act = None
 abbrev pub MayView : Viewing → Type 0
 MayView (Layout config) = 0 < config.tab
 MayView viewing = ⊤
+
+-- a command as one that only looks, or the same command
+abbrev pub IsViewingOf : EditAct → Result Viewing EditAct → Type 0
+IsViewingOf act (Ok viewing) = viewing_of act ≡ Some viewing
+IsViewingOf act (Err same) = (viewing_of act ≡ None) × (act ≡ same)
+
+-- at a line that leaves the text as it is no step is taken, but where another configuration cuts the text otherwise
+abbrev pub viewing_ticks : View → Viewing → ℕ
+viewing_ticks view (Layout config) = config_ticks view config
+viewing_ticks view viewing = 0
+
+-- ---- what all commands say to the front end
+
+-- whether a command copies what is selected
+abbrev pub copies : EditAct → Bool
+copies Cut = true
+copies Copy = true
+copies act = false
+
+-- whether it scrolls to the last caret where that stands elsewhere then: one that selects all does not
+abbrev pub scrolls : EditAct → Bool
+scrolls SelectAll = false
+scrolls act = true
+
+-- whether the front end scrolls to the last caret, where that stands elsewhere then
+abbrev pub is_scrolling : Scrolling → Bool
+is_scrolling ToCaret = true
+is_scrolling Nowhere = false
