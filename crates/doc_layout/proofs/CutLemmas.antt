@@ -213,6 +213,38 @@ module _ (start end : ℕ) where
         sym (cut-past from (runs_by q from (suc m)) past (StandFrom-runs q from (suc m)))
   ]
 
+  -- they are those of the characters between the gaps, counted from the first gap
+  runs-inside : (p : ℕ → Option ℕ) (from n : ℕ) → start ≤ from → end ≤ from + n →
+      cut_spans start end (runs_by p from n) ≡ runs_by (λ k. p (start + k)) (from - start) (end - from)
+  runs-inside p from zero low high =
+      ap (runs_by (λ k. p (start + k)) (from - start)) (let none : 0 ≡ end - from = omega (arith, high) in none)
+  runs-inside p from (suc n) low high = elim (cases_lt from end) [
+    | inl before ↦
+        cut-inside from (p from) (runs_by p (from + 1) n) low before (StandFrom-runs p (from + 1) n) ∙
+        ap₂ (λ (style : Option ℕ) (spans : List Span). onto_spans (from - start) style spans)
+        (ap p (let here : from ≡ start + (from - start) = omega (arith, low) in here))
+        (runs-inside p (from + 1) n (omega (arith, low)) (omega (arith, high)) ∙
+        ap (λ (i : ℕ). runs_by (λ k. p (start + k)) i (end - (from + 1))) (let next : from + 1 - start ≡ from - start + 1 = omega (arith, low) in next)) ∙
+        ap (runs_by (λ k. p (start + k)) (from - start)) (let more : suc (end - (from + 1)) ≡ end - from = omega (arith, before) in more)
+    | inr past ↦
+        cut-past from (runs_by p from (suc n)) past (StandFrom-runs p from (suc n)) ∙
+        ap (runs_by (λ k. p (start + k)) (from - start)) (let none : 0 ≡ end - from = omega (arith, past) in none)
+  ]
+
+  pub runs-cut : (p : ℕ → Option ℕ) (from n : ℕ) → from ≤ start → end ≤ from + n →
+      cut_spans start end (runs_by p from n) ≡ runs_by (λ k. p (start + k)) 0 (end - start)
+  runs-cut p from zero low high = ap (runs_by (λ k. p (start + k)) 0) (let none : 0 ≡ end - start = omega (arith, low, high) in none)
+  runs-cut p from (suc n) low high = elim (cases_lt from start) [
+    | inl left ↦
+        cut-left from (p from) (runs_by p (from + 1) n) left (StandFrom-runs p (from + 1) n) ∙
+        runs-cut p (from + 1) n (omega (arith, left)) (omega (arith, high))
+    | inr there ↦
+        let same : from ≡ start = omega (arith, low, there) in
+        runs-inside p from (suc n) there high ∙
+        ap₂ (λ (i m : ℕ). runs_by (λ k. p (start + k)) i m) (let none : from - start ≡ 0 = omega (arith, same) in none)
+        (let all : end - from ≡ end - start = omega (arith, same) in all)
+  ]
+
   pub cut_spans-append : (spans others : List Span) → cut_spans start end (spans ++ others) ≡ cut_spans start end spans ++ cut_spans start end others
   cut_spans-append spans others =
       ap (map (cut_span start end)) (filter-append (reaches_in start end) spans others) ∙

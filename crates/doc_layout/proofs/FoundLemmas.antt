@@ -185,11 +185,11 @@ map-joined : (results : List Run) → map (styled_span 1) (joined results) ≡ j
 map-joined [] = refl
 map-joined (run ∷ results) = map-joined_onto run results
 
-RiseApart-lower : (len low from : ℕ) (results : List Run) → low ≤ from → RiseApart len from results → RiseApart len low results
+pub RiseApart-lower : (len low from : ℕ) (results : List Run) → low ≤ from → RiseApart len from results → RiseApart len low results
 RiseApart-lower len low from [] le rise = tt
 RiseApart-lower len low from (run ∷ results) le rise = (omega (arith, le, rise.0), rise.1, rise.2, rise.3)
 
-RiseApart-filter : (p : Run → Bool) (len from : ℕ) (results : List Run) → RiseApart len from results → RiseApart len from (filter p results)
+pub RiseApart-filter : (p : Run → Bool) (len from : ℕ) (results : List Run) → RiseApart len from results → RiseApart len from (filter p results)
 RiseApart-filter p len from [] rise = tt
 RiseApart-filter p len from (run ∷ results) rise = by (p run) (RiseApart-filter p len run.end results rise.3)
   where
@@ -208,7 +208,7 @@ not_within range run index low high none = elim (cases_lt index run.start) [
   ]
 ]
 
-found-shared : (range : Run) (results : List Run) (index : ℕ) → range.start ≤ index → index < range.end →
+pub found-shared : (range : Run) (results : List Run) (index : ℕ) → range.start ≤ index → index < range.end →
     is_found (filter (shares range) results) index ≡ is_found results index
 found-shared range [] index low high = refl
 found-shared range (run ∷ results) index low high = by (shares range run) refl (found-shared range results index low high)
@@ -245,7 +245,7 @@ RiseApart-are chars text len from [] are inside = tt
 RiseApart-are chars text len from (run ∷ runs) are inside =
     (are.0.after, inside.0.0, inside.0.1, RiseApart-are chars text len run.end runs are.1 inside.1)
 
-RiseApart-matches : (text chars : List ℕ) (fold : Bool) → RiseApart (length text) 0 (matches_of text chars fold)
+pub RiseApart-matches : (text chars : List ℕ) (fold : Bool) → RiseApart (length text) 0 (matches_of text chars fold)
 RiseApart-matches text [] fold = tt
 RiseApart-matches text (c ∷ chars) fold =
     RiseApart-are (folded fold (c ∷ chars)) (folded fold text) (length text) 0 (matches_of text (c ∷ chars) fold)

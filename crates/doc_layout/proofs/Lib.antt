@@ -8,4 +8,5 @@ pub mod SameLemmas
 pub mod CutLemmas
 pub mod FoundLemmas
 pub mod ReadLemmas
+pub mod MovedLemmas
 pub mod ForCallers

@@ -74,13 +74,13 @@ styles-read text pieces regions results layers styles at are same =
 
 -- ---- regions
 
-filter-alike : (p q : ℕ → Bool) (from n : ℕ) → ((k : ℕ) → from ≤ k → k < from + n → p k ≡ q k) → filter p (range_with_len from n) ≡ filter q (range_with_len from n)
+pub filter-alike : (p q : ℕ → Bool) (from n : ℕ) → ((k : ℕ) → from ≤ k → k < from + n → p k ≡ q k) → filter p (range_with_len from n) ≡ filter q (range_with_len from n)
 filter-alike p q from zero same = refl
 filter-alike p q from (suc n) same =
     ap₂ (λ b rest. cond b (from ∷ rest) rest) (same from (omega arith) (omega arith))
     (filter-alike p q (from + 1) n (λ k low high. same k (omega arith) (omega arith)))
 
-map-alike : {X : Type 0} (f g : ℕ → X) (from n : ℕ) → ((k : ℕ) → from ≤ k → k < from + n → f k ≡ g k) → map f (range_with_len from n) ≡ map g (range_with_len from n)
+pub map-alike : {X : Type 0} (f g : ℕ → X) (from n : ℕ) → ((k : ℕ) → from ≤ k → k < from + n → f k ≡ g k) → map f (range_with_len from n) ≡ map g (range_with_len from n)
 map-alike f g from zero same = refl
 map-alike f g from (suc n) same =
     ap₂ (λ y ys. y ∷ ys) (same from (omega arith) (omega arith)) (map-alike f g (from + 1) n (λ k low high. same k (omega arith) (omega arith)))

@@ -1,6 +1,6 @@
 //! Laws of the definitions, each the contract of a function: they hold of all texts.
 
-ghost use Rattle.doc_layout.specs.Laws.{LayoutsTell, LinesRead, RegionsRead, StylesRead};
+ghost use Rattle.doc_layout.specs.Laws.{LayoutsTell, LinesRead, PiecesRead, RegionsRead, StylesRead};
 
 /// A layout has the characters of its text and the places of its carets, and nothing else.
 pub fn layouts_tell()
@@ -21,4 +21,9 @@ pub fn regions_read()
 /// the same.
 pub fn lines_read()
     ensures { LinesRead }
+{}
+
+/// A line reads no more than its own characters and what is shown on them, wherever its piece stands.
+pub fn pieces_read()
+    ensures { PiecesRead }
 {}

@@ -47,8 +47,9 @@ pub(crate) fn lines_of<T: TextView>(
     Ok(lines)
 }
 
-/// The line of the piece with this index.
-pub(crate) fn line_at<T: TextView>(
+/// The line of the piece with this index. It costs the view's `text` for the piece, two searches among the regions, one among the results and
+/// those of them that touch the piece; and a layer that has a style costs the logarithm of its runs and those that stand in the piece.
+pub fn line_at<T: TextView>(
     alloc: Global,
     shown: &Shown<'_, T>,
     index: u64,

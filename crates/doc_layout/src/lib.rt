@@ -16,7 +16,7 @@ mod wire;
 mod wire_builder;
 
 pub use asked::Asked;
-pub use layout::Shown;
+pub use layout::{Shown, line_at};
 pub use plan::{scroll_of, update_of};
-pub use same::is_same_layout;
+pub use same::{are_alike, is_same_layout};
 pub use wire::to_wire;
