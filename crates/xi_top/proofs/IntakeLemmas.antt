@@ -1,6 +1,7 @@
 -- Lemmas on a run between two bytes: how each step goes on or stops.
 use Rattle.std.proofs.Common.{◌≡◌, ◌≢◌, ℕ, Bool, ◌+◌, ◌<◌, ◌≤◌, inl, inr, true, false, List, [], ◌∷◌, ◌++◌, length, map, Option, Some, None, Ok, Err, refl, ap, sym, ◌∙◌, subst, append_assoc, append-nil, length-append, arith}
 use Rattle.std.proofs.lemmas.List.{map-append}
+use Rattle.std.proofs.lemmas.List.Folds.{concat-append}
 use Rattle.std.specs.Prelude.{IfSome, unwrap_or}
 use Rattle.std.specs.Result.{IsErrAnd}
 use Rattle.std.specs.List.{AllByRecursion, concat}
@@ -8,7 +9,7 @@ use Rattle.xi_plain.specs.declared.command.Command.{Command}
 use Rattle.xi_plain.specs.declared.entry.Entry.{Entry}
 use Rattle.xi_plain.specs.Journal.{commands, front_entries}
 use Rattle.plain_text.specs.InputLines.{ended_lines, unended, last_line, lines_of}
-use Rattle.plain_text.proofs.callers.InputLemmas.{concat-lines_of}
+use Rattle.plain_text.proofs.callers.InputLemmas.{concat-ended_lines, concat-last_line, concat-lines_of, unended-append}
 use Rattle.front_wire.specs.Front.{command_of}
 use Rattle.outside.specs.Source.{SourceState, Gives}
 use Rattle.outside.proofs.ForCallers.{Gives-append}
@@ -99,11 +100,41 @@ stops_source taken left journal begun at =
       cut = at.sent;
     }
 
--- there was no memory, and these are the first lines
+-- a line comes later, where bytes stand after the last LF
+later_some : (front bytes : List ℕ) → unended [] front ++ bytes ≢ [] → ended_lines (unended [] front) bytes ++ last_line (unended [] (front ++ bytes)) ≢ []
+later_some front bytes some = λ none. some (sym whole ∙ ap concat none)
+  where
+    ended : List (List ℕ)
+    ended = ended_lines (unended [] front) bytes
+
+    last : List ℕ
+    last = unended [] (front ++ bytes)
+
+    whole : concat (ended ++ last_line last) ≡ unended [] front ++ bytes
+    whole =
+        concat-append ended (last_line last) ∙ ap (λ rest. concat ended ++ rest) (concat-last_line last ∙ unended-append [] front bytes) ∙
+        concat-ended_lines (unended [] front) bytes
+
+-- bytes that LF ends are some
+pub ends_some : (begun bytes : List ℕ) → EndsLine bytes → begun ++ bytes ≢ []
+ends_some begun bytes (front, is, none) = λ nil.
+    absurd (omega (arith, ap length nil, ap length is, length-append begun bytes, length-append front (10 ∷ [])))
+
+-- there was no memory, and these are the first lines, after which bytes stand
 stops_memory : (front extra left : List ℕ) (journal : List Entry) → commands (front_entries journal) ≡ map command_of (ended_lines [] front) →
-    AreSent (front_entries journal) → AreWithin (ended_lines [] front) → Stops journal (front ++ extra) left (Err NoMemory)
-stops_memory front extra left journal asked sent within =
-    record { lines = holds_first (Err NoMemory) front extra left (commands (front_entries journal)) asked within tt; cut = sent }
+    AreSent (front_entries journal) → AreWithin (ended_lines [] front) → unended [] front ++ extra ≢ [] → Stops journal (front ++ extra) left (Err NoMemory)
+stops_memory front extra left journal asked sent within some =
+    let more : unended [] front ++ (extra ++ left) ≢ [] = λ nil.
+    some (first_nil (unended [] front ++ extra) left (append_assoc (unended [] front) extra left ∙ nil)) in
+    record {
+      lines =
+          holds_first (Err NoMemory) front extra left (commands (front_entries journal)) asked within (later_some front (extra ++ left) more);
+      cut = sent;
+    }
+  where
+    first_nil : (xs ys : List ℕ) → xs ++ ys ≡ [] → xs ≡ []
+    first_nil [] ys nil = refl
+    first_nil (x ∷ xs) ys nil = absurd (omega (arith, ap length nil))
 
 -- the same where nothing more was entered
 same_front : (old new : List Entry) (taken : List ℕ) → front_entries new ≡ front_entries old →
@@ -149,6 +180,7 @@ module _ (taken bytes line : List ℕ) (old new : List Entry) (begun : Begun) (e
   }
   stops_line NoMemory fits fewer same left =
       stops_memory taken bytes left new (same_front old new taken same at.asked) (subst AreSent (sym same) at.sent) (within_taken old taken begun at)
+      (ends_some (unended [] taken) bytes ends)
   stops_line SourceFault fits fewer fails left = absurd fails
   stops_line TooMany fits fewer fails left = absurd fails
   stops_line TooLong fits fewer fails left = absurd fails
@@ -170,9 +202,10 @@ module _ (taken bytes line : List ℕ) (old new : List Entry) (begun : Begun) (e
       }
 
 -- there was no memory for its bytes
-pub stops_no_room : (taken bytes : List ℕ) (journal : List Entry) (begun : Begun) → HasTaken journal taken begun → (left : List ℕ) →
-    Stops journal (taken ++ bytes) left (Err NoMemory)
-stops_no_room taken bytes journal begun at left = stops_memory taken bytes left journal at.asked at.sent (within_taken journal taken begun at)
+pub stops_no_room : (taken bytes : List ℕ) (journal : List Entry) (begun : Begun) → HasTaken journal taken begun → begun.bytes ++ bytes ≢ [] →
+    (left : List ℕ) → Stops journal (taken ++ bytes) left (Err NoMemory)
+stops_no_room taken bytes journal begun at some left =
+    stops_memory taken bytes left journal at.asked at.sent (within_taken journal taken begun at) (λ nil. some (ap (λ b. b ++ bytes) at.rest ∙ nil))
 
 -- a line is too long: these first bytes of it have no LF
 stops_too_long : (taken bytes more left : List ℕ) (journal : List Entry) (begun : Begun) → HasTaken journal taken begun → HasNoEnd bytes →
@@ -242,7 +275,7 @@ goes_begin taken bytes journal begun next (Ok done) none at kept =
       counted = kept.count ∙ at.counted ∙ ap length (sym same);
       few = omega (arith, at.few, kept.count);
     }
-goes_begin taken bytes journal begun next (Err NoMemory) none at kept = (tt, λ left. stops_no_room taken bytes journal begun at left)
+goes_begin taken bytes journal begun next (Err NoMemory) none at kept = (tt, λ left. stops_no_room taken bytes journal begun at kept left)
 goes_begin taken bytes journal begun next (Err TooLong) none at kept =
     let At : List ℕ → List ℕ → Type 0 = λ left b. Stops journal (taken ++ b) left (Err TooLong) in
     (tt, λ left. subst (At left) (append-nil bytes) (stops_too_long taken bytes [] left journal begun at none kept))
@@ -254,7 +287,7 @@ goes_begin taken bytes journal begun next (Err TooMany) none at kept = absurd ke
 
 many_later : (ending : Ending) (taken later left : List ℕ) (lines others : List (List ℕ)) → IsNoSourceFault (Err ending) →
     AreSoMany (Err ending) taken (later ++ left) lines others → AreSoMany (Err ending) (taken ++ later) left lines others
-many_later NoMemory taken later left lines others inside many = tt
+many_later NoMemory taken later left lines others inside many = many
 many_later SinkFault taken later left lines others inside many = tt
 many_later TooMany taken later left lines others inside many = many
 many_later TooLong taken later left lines others inside many = record {
@@ -370,7 +403,8 @@ module _ (taken : List ℕ) (old new : List Entry) (begun : Begun) (at : HasTake
       let At : List ℕ → Type 0 = λ bytes. Stops new bytes [] (Err NoMemory) in (
         tt,
         subst At (append-nil taken)
-            (stops_memory taken [] [] new (same_front old new taken same at.asked) (subst AreSent (sym same) at.sent) (within_taken old taken begun at)),
+            (stops_memory taken [] [] new (same_front old new taken same at.asked) (subst AreSent (sym same) at.sent) (within_taken old taken begun at)
+            (λ nil. some (at.rest ∙ sym (append-nil (unended [] taken)) ∙ nil))),
       )
   finish_last (Err SourceFault) fails = absurd fails
   finish_last (Err TooMany) fails = absurd fails

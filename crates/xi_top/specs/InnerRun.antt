@@ -1,5 +1,5 @@
 -- What private functions say: how a run goes on within the bytes of a read, and how it stops.
-use Rattle.std.specs.Prelude.{◌≡◌, ℕ, ◌+◌, ◌*◌, ◌<◌, ◌≤◌, Bool, true, false, List, [], ◌∷◌, ◌++◌, length, Ok, Err, ⊤, ◌⊎◌}
+use Rattle.std.specs.Prelude.{◌≡◌, ◌≢◌, ℕ, ◌+◌, ◌*◌, ◌<◌, ◌≤◌, Bool, true, false, List, [], ◌∷◌, ◌++◌, length, Ok, Err, ⊤, ◌⊎◌}
 use Rattle.std.specs.List.{AllByRecursion}
 use Rattle.front_wire.specs.Front.{command_of}
 use Rattle.xi_plain.specs.declared.entry.Entry.{Entry}
@@ -68,10 +68,10 @@ ended_by took.NoMemory = Err NoMemory
 
 -- ---- bytes
 
--- why bytes were not kept
+-- why bytes were not kept: the line is too long with them, or there are some and memory was wanting
 abbrev pub KeepsNot : List ℕ → Ending → Type 0
 KeepsNot line TooLong = too_long ≤ length line
-KeepsNot line NoMemory = ⊤
+KeepsNot line NoMemory = line ≢ []
 KeepsNot line ending = ⊥
 
 -- bytes were put after those of the line that was begun

@@ -1,10 +1,10 @@
 -- Which lines of the input became entries.
-use Rattle.std.specs.Prelude.{◌≡◌, ℕ, ◌<◌, ◌≤◌, List, [], ◌∷◌, ◌++◌, length, map, Ok, Err, ⊤, ◌⊎◌}
+use Rattle.std.specs.Prelude.{◌≡◌, ◌≢◌, ℕ, ◌<◌, ◌≤◌, List, [], ◌∷◌, ◌++◌, length, map, Ok, Err, ⊤, ◌⊎◌}
 use Rattle.std.specs.List.{AllByRecursion, concat}
 use Rattle.xi_plain.specs.declared.command.Command.{Command}
 use Rattle.plain_text.specs.InputLines.{ended_lines, unended, lines_of}
 use Rattle.front_wire.specs.Front.{command_of}
-use Rattle.xi_top.specs.declared.ending.Ending.TheVariants.{SourceFault, TooMany, TooLong}
+use Rattle.xi_top.specs.declared.ending.Ending.TheVariants.{NoMemory, SourceFault, TooMany, TooLong}
 use Rattle.xi_top.specs.Ending.{Outcome, most_lines, too_long}
 
 -- a line with its LF that is not too long
@@ -26,10 +26,11 @@ pub record IsNextTooLong (taken : List ℕ) (lines : List (List ℕ)) : Type 0 w
   pub long : too_long ≤ length (unended [] front)
 
 -- HOW MANY LINES, by how the run ended, where these bytes were taken and those are left, and the others are the later lines: all of
--- them, where it ended with its input; where the source failed those that LF ended among the bytes taken; as many as a run takes; those
--- before the first that is too long; else some
+-- them, where it ended with its input; not all, where memory was wanting; where the source failed those that LF ended among the bytes taken;
+-- as many as a run takes; those before the first that is too long; else some
 abbrev pub AreSoMany : Outcome → List ℕ → List ℕ → List (List ℕ) → List (List ℕ) → Type 0
 AreSoMany (Ok done) taken left lines later = (left ≡ []) × (later ≡ [])
+AreSoMany (Err NoMemory) taken left lines later = later ≢ []
 AreSoMany (Err SourceFault) taken left lines later = lines ≡ ended_lines [] taken
 AreSoMany (Err TooMany) taken left lines later = length lines ≡ most_lines
 AreSoMany (Err TooLong) taken left lines later = IsNextTooLong taken lines

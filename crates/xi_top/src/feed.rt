@@ -107,6 +107,9 @@ impl Intake {
         requires { IsSmall (begun_of self.old) }
         ensures { KeepsBytes (begun_of self.old) (begun_of self.new) bytes.now result }
     {
+        if bytes.is_empty() {
+            return Ok(());
+        }
         if bytes.len() >= TOO_LONG - self.begun.len() {
             return Err(Ending::TooLong);
         }

@@ -2,7 +2,7 @@ use Rattle.std.proofs.Common.{◌≡◌, ◌+◌, ◌≤◌, ◌++◌, ℕ, leng
 use Rattle.xi_top.specs.Ending.{Outcome, too_long}
 use Rattle.xi_top.specs.InnerRun.{Counts, GoesOn, begun_of}
 use Rattle.xi_top.proofs.EnterLemmas.{no_fault}
-use Rattle.xi_top.proofs.IntakeLemmas.{failed_with, goes_next, stops_line, stops_long_line, stops_no_room, takes_line}
+use Rattle.xi_top.proofs.IntakeLemmas.{ends_some, failed_with, goes_next, stops_line, stops_long_line, stops_no_room, takes_line}
 use Rattle.xi_top.proofs.feed.Intake.end_line.Goals as goal
 
 pub returns-then-ending-len-clause-later : goal.returns-then-ending-len-clause-later
@@ -21,7 +21,8 @@ returns-then-ending-len-clause-goes g c = λ taken ends at.
 
 pub returns-then-is_err-clause-goes : goal.returns-then-is_err-clause-goes
 returns-then-is_err-clause-goes g c = λ taken ends at.
-    (tt, stops_no_room taken c.args.ending.now (g.L.LineTaker.seen c.args.taker.now) (begun_of c.args.self.now) at)
+    let begun = begun_of c.args.self.now in
+    (tt, stops_no_room taken c.args.ending.now (g.L.LineTaker.seen c.args.taker.now) begun at (ends_some begun.bytes c.args.ending.now ends))
 
 pub returns-in_err-enter-clause-goes : goal.returns-in_err-enter-clause-goes
 returns-in_err-enter-clause-goes g c = λ taken ends at.
