@@ -1,18 +1,15 @@
 -- What a storm comes to, by what its run came to.
-use Rattle.std.proofs.Common.{◌≡◌, ℕ, suc, inl, inr, List, [], ◌∷◌, ◌<◌, length, take, Option, Some, Ok, Err, ap, sym, ◌∙◌, subst, arith}
-use Rattle.std.proofs.lemmas.List.{take_all}
+use Rattle.std.proofs.Common.{◌≡◌, ℕ, suc, inl, inr, List, [], ◌∷◌, Option, Some, Ok, Err, ap, sym, ◌∙◌, subst, arith}
 use Rattle.std.proofs.lemmas.List.Elements.{filter-append}
 use Rattle.std.specs.Prelude.{◌==◌, ◌⊎◌}
 use Rattle.xi_plain.specs.declared.entry.Entry.{Entry}
 use Rattle.xi_plain.specs.Journal.{IsLegal, closing_entry, front_entries}
 use Rattle.plain_text.specs.InputLines.{lines_of}
-use Rattle.outside.specs.Faults.{Rose}
 use Rattle.outside.specs.Sink.{Gains, SinkState}
 use Rattle.session_step.specs.declared.terms.Terms.{Terms}
 use Rattle.session_step.specs.Accepted.{AreAccepted}
 use Rattle.core_session.specs.Shows.{Shows}
 use Rattle.storm_lines.specs.declared.summary.Summary.{Summary}
-use Rattle.storm_lines.specs.Summary.{summary_text}
 use Rattle.storm_lines.specs.Lines.{storm_bytes}
 use Rattle.storm_lines.proofs.ForCallers.{inputs_come_apart}
 use Rattle.xi_top.specs.declared.ending.Ending.TheVariants.{NoMemory, SourceFault, SinkFault, TooMany, TooLong}
@@ -111,28 +108,6 @@ ends_storm plugins count seed passage journal ran status terms before after stor
     inr (inr (is, some_lines plugins count seed passage journal ran stormy runs, same))
 
 -- ---- what was told of a run
-
-pub tells_by : (summary : Summary) (before after : SinkState) (text : List ℕ) (taken len status : ℕ) → text ≡ summary_text summary →
-    len ≡ length text → Gains before.held after.held (take taken text) → (taken < length text → Rose before.faults after.faults) →
-    ((status ≡ 0) × (taken ≡ len)) ⊎ ((status ≡ 5) × (taken < len)) → TellsAs summary before after status
-tells_by summary before after text taken len status is counts gains rose (inl (ends, whole)) =
-    inl (
-      ends,
-      record {
-        gains = subst (Gains before.held after.held) (ap (λ n. take n text) (whole ∙ counts) ∙ take_all (length text) text (omega arith) ∙ is) gains;
-      },
-    )
-tells_by summary before after text taken len status is counts gains rose (inr (ends, cut)) =
-    let part : taken < length text = omega (arith, cut, counts) in
-    inr (inl (
-      ends,
-      record {
-        rose = rose part;
-        n = taken;
-        part = subst (λ t. taken < length t) is part;
-        gains = subst (λ t. Gains before.held after.held (take taken t)) is gains;
-      },
-    ))
 
 pub tells_run : (terms : Terms) (journal : List Entry) (held : Option (List ℕ)) (ran : ℕ) (summary : Summary) (before after : SinkState) (status : ℕ) →
     ran ≡ 0 → (bytes : List ℕ) × (held ≡ Some bytes) × ∥ IsSummaryOf terms journal bytes summary ∥₁ → TellsAs summary before after status →

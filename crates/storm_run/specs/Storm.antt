@@ -2,7 +2,7 @@
 use Rattle.std.specs.Prelude.{◌≡◌, ℕ, ◌<◌, List, [], ◌∷◌, ◌++◌, length, map, take, ◌⊎◌}
 use Rattle.xi_plain.specs.declared.entry.Entry.{Entry}
 use Rattle.xi_plain.specs.Journal.{closing_entry, commands, front_entries}
-use Rattle.outside.specs.Faults.{Rose}
+use Rattle.outside.specs.Faults.{Rose, counted}
 use Rattle.outside.specs.Sink.{SinkState, Gains}
 use Rattle.front_wire.specs.Front.{command_of}
 use Rattle.session_step.specs.declared.terms.Terms.{Terms}
@@ -33,13 +33,15 @@ pub record IsSummary (terms : Terms) (journal : List Entry) (summary : Summary) 
   pub shows : ∥ Shows terms journal bytes ∥₁
   pub numbers : ∥ IsSummaryOf terms journal bytes summary ∥₁
 
--- WHAT THE SINK GAINED of a summary, by the status: the whole
+-- WHAT THE SINK GAINED of a summary, by the status: the whole, and no call of it failed
 pub record GainsWhole (summary : Summary) (before after : SinkState) : Type 0 where
   pub gains : Gains before.held after.held (summary_text summary)
+  pub failures : after.failures ≡ before.failures
 
--- a part that is not the whole, and its count of faults rose
+-- a part that is not the whole; one call of it failed, and its count of faults rose
 pub record GainsPart (summary : Summary) (before after : SinkState) : Type 0 where
   pub rose : Rose before.faults after.faults
+  pub failures : after.failures ≡ counted before.failures
   pub n : ℕ
   pub part : n < length (summary_text summary)
   pub gains : Gains before.held after.held (take n (summary_text summary))

@@ -1,5 +1,5 @@
 ghost use Rattle.std.specs.Prelude.{◌≡◌, ◌<◌, ◌≤◌, length, take};
-ghost use Rattle.outside.specs.Faults.{Rose};
+ghost use Rattle.outside.specs.Faults.{Rose, counted};
 ghost use Rattle.outside.specs.Sink.{Gains};
 
 use outside::{Pushed, Sink};
@@ -10,6 +10,8 @@ pub fn write_piece<K: Sink>(sink: &mut K, piece: &[u8]) -> usize
     ensures within { result ≤ length piece.now }
     ensures gains { Gains (K.held sink.old) (K.held sink.new) (take result piece.now) }
     ensures failed { result < length piece.now → Rose (K.faults sink.old) (K.faults sink.new) }
+    ensures once { result < length piece.now → K.failures sink.new ≡ counted (K.failures sink.old) }
+    ensures never { result ≡ length piece.now → K.failures sink.new ≡ K.failures sink.old }
 {
     let mut taken = 0;
     while taken < piece.len() {

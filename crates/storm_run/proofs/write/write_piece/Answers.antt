@@ -1,4 +1,4 @@
-use Rattle.std.proofs.Common.{subst, arith, List, ℕ, length-drop}
+use Rattle.std.proofs.Common.{◌∙◌, subst, arith, List, ℕ, length-drop}
 use Rattle.outside.specs.Sink.{Gains}
 use Rattle.outside.proofs.ForCallers.{Gains-append}
 use Rattle.storm_run.proofs.PieceLemmas.{take-plus_rest}
@@ -12,5 +12,6 @@ loop-taken-preserved g c =
       gains =
           subst At (take-plus_rest c.loop-taken.taken c.in-Took.n c.args.piece.now)
           (Gains-append _ _ _ _ _ c.loop-taken.invariant.gains c.in-Took.ensures.gains);
+      failures = c.in-Took.ensures.failures ∙ c.loop-taken.invariant.failures;
       stays = omega (arith, c.loop-taken.invariant.stays, c.in-Took.ensures.faults_stay);
     }
