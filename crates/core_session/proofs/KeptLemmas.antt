@@ -13,7 +13,7 @@ use Rattle.std.proofs.lemmas.List.Folds.{list_all-append, list_any-append}
 use Rattle.plain_edits.specs.declared.style.Style.{Style}
 use Rattle.plugin_wire.specs.Told.{stopped}
 use Rattle.entry_lines.specs.Notices.{AreNoticeTexts}
-use Rattle.plugin_acts.specs.Effects.{views_with}
+use Rattle.session_step.specs.PluginEffects.{views_with}
 use Rattle.xi_plain.specs.declared.config.Config.{Config}
 use Rattle.xi_plain.specs.declared.entry.Entry.{Entry}
 use Rattle.xi_plain.specs.Journal.{IsLegal, closing_entry, has_own_note, is_closing, is_ordered, may_follow}

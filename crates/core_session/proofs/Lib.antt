@@ -1,4 +1,5 @@
 pub mod SessionLemmas
+pub mod AskLemmas
 pub mod PlanLemmas
 pub mod ScreenLemmas
 pub mod StepLemmas

@@ -25,13 +25,13 @@ use Rattle.session_step.specs.PluginStep.{plugin_messages, plugin_outcome, plugi
 use Rattle.session_step.specs.Session.{OpenView, Session, ended_after, ended_with, is_front, messages_by, plugin_act_step, step, step_by}
 use Rattle.session_step.specs.Views.{AreOfPlugins, AreThere, HasSession, HaveSessions, Stands}
 use Rattle.session_step.specs.declared.opened.Opened.{Opened}
-use Rattle.plugin_acts.specs.Effects.{HasPlace, views_with}
-use Rattle.plugin_acts.specs.Made.{IsPluginMade, IsPluginPrepared}
-use Rattle.plugin_acts.specs.declared.made.PluginMade.TheVariants as made_of
-use Rattle.plugin_acts.specs.declared.made.PluginPrepared.{PluginPrepared}
-use Rattle.plugin_acts.specs.declared.next.NextViews.{NextViews}
-use Rattle.plugin_acts.specs.declared.next.NextViews.TheVariants.{All, One, Same}
-use Rattle.plugin_acts.proofs.ForCallers.{closes_of-plugin, note_of-plugin}
+use Rattle.session_step.specs.PluginEffects.{HasPlace, views_with}
+use Rattle.core_session.specs.PluginMade.{IsPluginMade, IsPluginPrepared}
+use Rattle.core_session.specs.declared.plugin_made.PluginMade.TheVariants as made_of
+use Rattle.core_session.specs.declared.plugin_made.PluginPrepared.{PluginPrepared}
+use Rattle.session_step.specs.declared.next.NextViews.{NextViews}
+use Rattle.session_step.specs.declared.next.NextViews.TheVariants.{All, One, Same}
+use Rattle.core_session.proofs.AskLemmas.{closes_of-plugin, note_of-plugin}
 use Rattle.core_session.specs.InnerSession.{IsPrepared, updates_by}
 use Rattle.core_session.specs.Kept.{IsOpen, StandsForSession, plugin_entry}
 use Rattle.core_session.specs.Shelves.{asks_as}

@@ -3,7 +3,7 @@ use Rattle.std.proofs.Common.{◌≡◌, ◌<◌, ℕ, List, None, true, subst}
 use Rattle.plain_edits.specs.declared.style.Style.{Style}
 use Rattle.xi_plain.specs.declared.command.Command.{Command}
 use Rattle.xi_plain.specs.declared.config.Config.{Config}
-use Rattle.plugin_acts.specs.declared.next.NextViews.TheVariants.{All}
+use Rattle.session_step.specs.declared.next.NextViews.TheVariants.{All}
 use Rattle.core_session.specs.declared.ask.Asked.{Asked}
 use Rattle.session_step.specs.declared.opened.Opened.{Opened}
 use Rattle.session_step.specs.Session.{Session, config_after}

@@ -9,7 +9,7 @@ use Rattle.view_update.specs.declared.note.ViewUpdate.{ViewUpdate}
 use Rattle.xi_plain.specs.declared.entry.Entry.{Entry}
 use Rattle.entry_lines.specs.Notices.{AreNoticeTexts}
 use Rattle.entry_lines.specs.Piece.{AreLinesOf, UpdatesReadBack}
-use Rattle.plugin_acts.specs.Effects.{views_with}
+use Rattle.session_step.specs.PluginEffects.{views_with}
 use Rattle.session_step.specs.declared.opened.Opened.{Opened}
 use Rattle.session_step.specs.Accepted.{AcceptsBy}
 use Rattle.session_step.specs.News.{news_by}

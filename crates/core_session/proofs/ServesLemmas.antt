@@ -19,7 +19,7 @@ use Rattle.outside.specs.Faults.{Rose}
 use Rattle.xi_plain.specs.declared.command.Command.{Command}
 use Rattle.xi_plain.specs.declared.command.Id.{Id}
 use Rattle.entry_lines.specs.PluginAnswer.{IsAnswerText, Verdict, plugin_answer}
-use Rattle.plugin_acts.specs.Made.{IsRefusal}
+use Rattle.core_session.specs.PluginMade.{IsRefusal}
 use Rattle.session_step.specs.Session.{session_of}
 use Rattle.xi_plain.specs.Journal.{closing_entry}
 use Rattle.core_session.proofs.EnterLemmas.{never_prop, not_none}

@@ -15,7 +15,7 @@ use Rattle.session_step.specs.News.{front_news, news_of}
 use Rattle.session_step.specs.PluginStep.{plugin_outcome}
 use Rattle.session_step.specs.Session.{Session, given_by, is_front, messages_by, opened_after, outcome, step}
 use Rattle.session_step.specs.Views.{IsDone}
-use Rattle.plugin_acts.specs.Effects.{views_with}
+use Rattle.session_step.specs.PluginEffects.{views_with}
 use Rattle.entry_lines.specs.Notices.{AreNoticeTexts}
 use Rattle.entry_lines.specs.Piece.{AreLinesOf, UpdatesReadBack}
 use Rattle.core_session.specs.Kept.{StandsForSession}

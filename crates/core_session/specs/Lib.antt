@@ -3,6 +3,7 @@ pub mod Shows
 pub mod Kept
 pub mod Notes
 pub mod Core
+pub mod PluginMade
 pub mod InnerSession
 pub mod Grown
 pub mod GrownLaws

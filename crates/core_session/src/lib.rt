@@ -10,6 +10,7 @@ mod ask;
 pub mod laws;
 mod made;
 mod object;
+mod plugin_made;
 mod prepare;
 mod session;
 mod stage;

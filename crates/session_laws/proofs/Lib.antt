@@ -5,4 +5,5 @@ pub mod LawLemmas
 pub mod NewsLemmas
 pub mod PluginLemmas
 pub mod RowLemmas
+pub mod PluginRowLemmas
 pub mod ToldLemmas

@@ -5,4 +5,5 @@ pub mod DoneLemmas
 pub mod SessionsLemmas
 pub mod EndedLemmas
 pub mod PluginLemmas
+pub mod PluginActLemmas
 pub mod ForCallers

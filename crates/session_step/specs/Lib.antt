@@ -1,5 +1,6 @@
 pub mod ViewSteps
 pub mod PluginStep
+pub mod PluginEffects
 pub mod Session
 pub mod News
 pub mod Accepted

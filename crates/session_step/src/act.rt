@@ -29,7 +29,7 @@ use view_update::{Scroll, ViewUpdate};
 use xi_plain::{Act, Config, EditAct, Fault};
 
 /// The member of a line that names its view.
-const VIEW_MEMBER: &str = "view_id";
+pub(crate) const VIEW_MEMBER: &str = "view_id";
 
 /// What an act came to: what it is answered, the views that are open then, what else the front end is told, and what plugins are.
 #[derive(Drop)]

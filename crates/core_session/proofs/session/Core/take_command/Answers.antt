@@ -5,8 +5,8 @@ use Rattle.std.proofs.Math.Logic.{∥∥₁_elim, ∥∥₁_map}
 use Rattle.plain_edits.specs.declared.style.Style.{Style}
 use Rattle.xi_plain.specs.declared.command.Command.{Command}
 use Rattle.xi_plain.specs.declared.entry.Entry.{Entry}
-use Rattle.plugin_acts.specs.Made.{IsPluginMade, IsPluginPrepared, HasCommand, IsRefusal}
-use Rattle.plugin_acts.specs.declared.made.PluginMade.{PluginMade}
+use Rattle.core_session.specs.PluginMade.{IsPluginMade, IsPluginPrepared, HasCommand, IsRefusal}
+use Rattle.core_session.specs.declared.plugin_made.PluginMade.{PluginMade}
 use Rattle.session_step.specs.Accepted.{is_of_plugin}
 use Rattle.session_step.specs.PluginStep.{plugin_refusal}
 use Rattle.session_step.specs.Session.{session_of, views_of}

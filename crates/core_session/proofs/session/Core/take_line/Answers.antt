@@ -3,7 +3,7 @@ use Rattle.std.specs.Prelude.{◌^◌, nat_le}
 use Rattle.std.specs.Coded.{le_prop}
 use Rattle.std.proofs.Math.Bool.{Bool-set}
 use Rattle.std.proofs.Math.Logic.{∥∥₁_elim, ∥∥₁_map}
-use Rattle.plugin_acts.specs.Effects.{HasPlace}
+use Rattle.session_step.specs.PluginEffects.{HasPlace}
 use Rattle.xi_plain.specs.declared.entry.Entry.{Entry}
 use Rattle.session_step.specs.declared.opened.Opened.{Opened}
 use Rattle.session_step.specs.declared.terms.Terms.{Terms}

@@ -2,7 +2,7 @@ use Rattle.std.proofs.Common.{◌≡◌, None, true, refl, sym, subst}
 use Rattle.xi_plain.specs.declared.command.Command.{Command}
 use Rattle.session_step.specs.Accepted.{is_of_plugin}
 use Rattle.session_step.specs.Session.{session_of}
-use Rattle.plugin_acts.proofs.ForCallers.{asks_of-line}
+use Rattle.core_session.proofs.AskLemmas.{asks_of-line}
 use Rattle.core_session.specs.Core.{journal_of}
 use Rattle.plugin_wire.specs.Asked.{ask_of}
 use Rattle.core_session.specs.GrownLaws.{IsGrown-same}

@@ -1,4 +1,0 @@
-pub mod ActLemmas
-pub mod AskLemmas
-pub mod ForCallers
-pub mod RowLemmas
