@@ -1,0 +1,5 @@
+pub mod AskedLemmas
+pub mod NextLemmas
+pub mod NumberLemmas
+pub mod PlanLemmas
+pub mod ForCallers
