@@ -8,7 +8,7 @@ use std::alloc::Global;
 use std::sync::Wait;
 use std::test::Fail;
 use std::thread::Threads;
-use thread_run::run_threads;
+use xi_forms::run_threads;
 use xi_top::Report;
 
 const OPENING: &str = "{\"id\":0,\"method\":\"new_view\"}\n";

@@ -9,7 +9,7 @@ use std::alloc::Global;
 use std::sync::Wait;
 use std::test::Fail;
 use std::thread::Threads;
-use thread_run::run_threads;
+use xi_forms::run_threads;
 use xi_top::{Plugin, Report, run_alone};
 
 // A session of a user: an opening of a file, motions, typing, a save and the view's end.

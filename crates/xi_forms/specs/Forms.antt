@@ -3,9 +3,9 @@ use Rattle.std.specs.Prelude.{◌≡◌, ℕ, List, [], length, Option, ◌⊎�
 use Rattle.outside.specs.Sink.{SinkState}
 use Rattle.xi_plain.specs.Journal.{IsLegal}
 use Rattle.plugin_session.specs.Turn.{Turned}
-pub use Rattle.storm_run.specs.Runs.{AnswersInTime, AreAccepted, EndsWell, HasCauses, HoldsSaves, IsCalm, IsReadByCount, IsWrittenByCount, Passage, Report, RunsAlone, ServesPlugins, TakesTurns, terms_for}
-pub use Rattle.storm_run.specs.Storm.{EndsStorm}
-use Rattle.thread_run.specs.InTime.{EntersInTime}
+pub use Rattle.xi_forms.specs.Runs.{AnswersInTime, AreAccepted, EndsWell, HasCauses, HoldsSaves, IsCalm, IsReadByCount, IsWrittenByCount, Passage, Report, RunsAlone, ServesPlugins, TakesTurns, terms_for}
+pub use Rattle.xi_forms.specs.Storm.{EndsStorm}
+use Rattle.xi_forms.specs.InTime.{EntersInTime}
 
 module _ {K H P : Type 0} (told : P → Option (List Turned)) (handed : List P) (report : Report K H P) where
   -- A FRONT END IS SERVED on the calling thread, and these plugins on threads of their own: the same run and its causes, what the shelf holds, where a

@@ -2,17 +2,18 @@ ghost use Rattle.std.specs.Prelude.{◌≡◌, ◌↔◌, ◌≤◌, ℕ, [], tr
 ghost use Rattle.outside.specs.Source.{source_state};
 ghost use Rattle.outside.specs.Sink.{sink_state};
 ghost use Rattle.storm_lines.specs.Forms.{form_in};
-ghost use Rattle.storm_run.specs.Runs.{passage_of, shelf_state};
+ghost use Rattle.xi_forms.specs.Runs.{passage_of, shelf_state};
 ghost use Rattle.xi_forms.specs.Forms.{RunsStorm, ServesAlone, ServesOnThreads};
 
+use crate::storm::run_storm;
+use crate::threads::run_threads;
 use outside::{Gate, Shelf, Sink, Source};
 use plain_text::Text;
 use std::alloc::Global;
 use std::sync::Wait;
 use std::thread::Threads;
 use storm_lines::{Form, form_of};
-use storm_run::{Plugin, Report, run_alone, run_storm};
-use thread_run::run_threads;
+use xi_top::{Plugin, Report, run_alone};
 
 /// Does what the program does, by its words: [`run_threads`] without words, [`run_alone`] with the one word `alone`, and [`run_storm`] with
 /// `storm N SEED`. With all other words the status is 2, nothing is done, and all that was handed in comes back.

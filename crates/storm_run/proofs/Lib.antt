@@ -1,4 +1,0 @@
-mod PieceLemmas
-mod ScreenLemmas
-mod StormLemmas
-mod SummaryLemmas

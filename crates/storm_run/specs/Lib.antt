@@ -1,4 +1,0 @@
-pub mod Inner
-pub mod Runs
-pub mod Storm
-pub mod Summary

@@ -1,3 +1,0 @@
-pub mod SeatLemmas
-pub mod FrontLemmas
-pub mod EndLemmas

@@ -1,0 +1,7 @@
+pub mod SeatLemmas
+pub mod FrontLemmas
+pub mod EndLemmas
+mod PieceLemmas
+mod ScreenLemmas
+mod StormLemmas
+mod SummaryLemmas
