@@ -1,0 +1,2 @@
+-- What a journal tells in short.
+pub mod Told
