@@ -22,7 +22,7 @@ pub(crate) fn view_of(alloc: Global, text: &Text) -> Result<PlainView, NoMemory>
 }
 
 /// The caret and the goal of a caret after a motion.
-fn after(
+pub(crate) fn after(
     alloc: Global,
     characters: &str,
     caret: u64,
