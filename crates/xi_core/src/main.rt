@@ -3,6 +3,8 @@
 
 mod methods;
 mod program;
+mod replaying;
+mod taped;
 mod texts;
 mod words;
 

@@ -1,14 +1,15 @@
-ghost use Rattle.std.specs.Prelude.{◌≡◌, ◌≢◌, ◌≤◌, IfOk, IfSome, Some, length};
+ghost use Rattle.std.specs.Prelude.{◌≡◌, ◌≤◌, IfOk, IfSome, length};
 ghost use Rattle.std.specs.Process.{exit_status};
-ghost use Rattle.storm_lines.specs.declared.form.Form.{Form};
 ghost use Rattle.storm_lines.specs.Forms.{form_in};
-ghost use Rattle.xi_core.specs.declared.words.Handed.{Handed};
-ghost use Rattle.xi_core.specs.Words.{AsksFor, EndsFor, EndsForSome, EndsRun, EndsWith, handed_count};
+ghost use Rattle.xi_core.specs.Words.{EndsFor, EndsForSome, EndsRun, EndsWith, IsTold, handed_count, invocation_in, run_in};
 
 use crate::methods::print_methods;
+use crate::replaying::played;
+use crate::taped::keep;
 use crate::texts::{Stream, stream_of, text_of};
-use crate::words::{Handed, Invocation, invocation_of, words};
-use outside::{FileShelf, FreeGate, StdSink, StdSource};
+use crate::words::{Handed, Invocation, form_words, invocation_of, words};
+use macro_record::TapeSource;
+use outside::{FileShelf, FreeGate, Shelf, Sink, Source, StdSink, StdSource};
 use plain_text::{NoMemory, Text};
 use shipped_plugins::{StormPlugin, TodoMarks};
 use std::alloc::Global;
@@ -33,7 +34,9 @@ fn answered<R: Threads + Wait + Sync>(rt: &HostRuntime, threads: &R, words: &[Te
 {
     let invocation = invocation_of(words);
     match invocation {
-        Invocation::Run(form, handed) => run(rt, threads, words, form, handed),
+        Invocation::Run(form, handed) => run(rt, threads, words, None, form, handed),
+        Invocation::Record(form, handed) => run_recorded(rt, threads, words, form, handed),
+        Invocation::Replay => played(rt, &words[1]),
         Invocation::Methods => listed(rt),
         _ => told(rt, invocation),
     }
@@ -41,8 +44,7 @@ fn answered<R: Threads + Wait + Sync>(rt: &HostRuntime, threads: &R, words: &[Te
 
 /// Says what the program says of itself.
 fn told(rt: &HostRuntime, invocation: Invocation) -> ExitCode
-    requires no_run { (form : Form) → (handed : Handed) → invocation ≢ Invocation.Run form handed }
-    requires no_table { invocation ≢ Invocation.Methods }
+    requires { IsTold invocation }
     ensures { EndsWith invocation (exit_status result) }
 {
     let text = text_of(invocation);
@@ -68,46 +70,43 @@ fn listed(rt: &HostRuntime) -> ExitCode
     }
 }
 
-/// The run that these words ask for, with these plugins.
-fn run<R: Threads + Wait + Sync>(
+/// The run that the words behind the folder ask for, kept there.
+fn run_recorded<R: Threads + Wait + Sync>(
     rt: &HostRuntime,
     threads: &R,
     words: &[Text],
     form: Form,
     handed: Handed,
 ) -> ExitCode
-    requires { AsksFor words.now (Invocation.Run form handed) }
-    ensures { EndsWith (Invocation.Run form handed) (exit_status result) }
+    requires { invocation_in words.now ≡ Invocation.Record form handed }
+    ensures { EndsWith (Invocation.Record form handed) (exit_status result) }
 {
-    let words = words_of(words, form, handed);
-    match form {
-        Form::Threads | Form::Alone => run_beside(
-            rt,
-            threads,
-            words,
-            form,
-            handed,
-            TodoMarks::new(rt.alloc()),
-        ),
-        Form::Storm { .. } => run_beside(
-            rt,
-            threads,
-            words,
-            form,
-            handed,
-            StormPlugin::new(rt.alloc()),
-        ),
-    }
+    let (_named, later) = words.split_at(2);
+    run(rt, threads, later, Some(&words[1]), form, handed)
 }
 
-/// The words of the form, behind what is said of the plugins.
-fn words_of(words: &[Text], form: Form, handed: Handed) -> &[Text]
-    requires { AsksFor words.now (Invocation.Run form handed) }
-    ensures { form_in result.now ≡ Some form }
+/// The run that these words ask for, with these plugins, and kept in this folder, where there is one.
+fn run<R: Threads + Wait + Sync>(
+    rt: &HostRuntime,
+    threads: &R,
+    words: &[Text],
+    folder: Option<&Text>,
+    form: Form,
+    handed: Handed,
+) -> ExitCode
+    requires { run_in words.now ≡ Invocation.Run form handed }
+    ensures { EndsWith (Invocation.Run form handed) (exit_status result) }
 {
-    match handed {
-        Handed::Shipped => words,
-        Handed::Nothing => &words[1..],
+    let words = form_words(words);
+    match form {
+        Form::Threads | Form::Alone => {
+            let plugin = TodoMarks::new(rt.alloc());
+            run_beside(rt, threads, words, folder, handed, plugin)
+        }
+        Form::Storm { .. } => {
+            let plugin = StormPlugin::new(rt.alloc());
+            run_beside(rt, threads, words, folder, handed, plugin)
+        }
     }
 }
 
@@ -116,15 +115,17 @@ fn run_beside<R: Threads + Wait + Sync, P: Plugin + Send>(
     rt: &HostRuntime,
     threads: &R,
     words: &[Text],
-    form: Form,
+    folder: Option<&Text>,
     handed: Handed,
     plugin: P,
 ) -> ExitCode
-    requires { form_in words.now ≡ Some form }
-    ensures { EndsWith (Invocation.Run form handed) (exit_status result) }
+    ensures { IfSome (form_in words.now) (λ form. EndsWith (Invocation.Run form handed) (exit_status result)) }
 {
     match plugins(rt.alloc(), handed, plugin) {
-        Ok(plugins) => run_with(rt, threads, words, plugins),
+        Ok(plugins) => match folder {
+            None => run_with(rt, threads, words, plugins),
+            Some(folder) => run_taped(rt, threads, words, folder, plugins),
+        },
         Err(_) => ExitCode::from(3),
     }
 }
@@ -154,7 +155,7 @@ fn run_with<R: Threads + Wait + Sync, P: Plugin + Send>(
     let mut source = StdSource::new(rt.stdin());
     let sink = StdSink::new(rt.stdout());
     let shelf = FileShelf::new(rt);
-    let report = xi_main(
+    let report = report_of(
         threads,
         rt.alloc(),
         words,
@@ -162,9 +163,59 @@ fn run_with<R: Threads + Wait + Sync, P: Plugin + Send>(
         sink,
         shelf,
         plugins,
-        &FreeGate,
     );
     code_of(&report)
+}
+
+/// The same run, whose tape and journal are saved in a folder when it ends. What was not saved is told, and changes no status.
+fn run_taped<R: Threads + Wait + Sync, P: Plugin + Send>(
+    rt: &HostRuntime,
+    threads: &R,
+    words: &[Text],
+    folder: &Text,
+    plugins: Vec<P>,
+) -> ExitCode
+    requires few { length plugins.items ≤ 64 }
+    ensures { IfSome (form_in words.now) (λ form. EndsRun form (length plugins.items) (exit_status result)) }
+{
+    let mut source = TapeSource::new(rt.alloc(), StdSource::new(rt.stdin()));
+    let sink = StdSink::new(rt.stdout());
+    let shelf = FileShelf::new(rt);
+    let report = report_of(
+        threads,
+        rt.alloc(),
+        words,
+        &mut source,
+        sink,
+        shelf,
+        plugins,
+    );
+    keep(rt, folder, &source, &report.journal);
+    code_of(&report)
+}
+
+/// The run by the words of a form.
+fn report_of<
+    S: Source,
+    K: Sink + Send,
+    H: Shelf + Send,
+    P: Plugin + Send,
+    R: Threads + Wait + Sync,
+>(
+    threads: &R,
+    alloc: Global,
+    words: &[Text],
+    source: &mut S,
+    sink: K,
+    shelf: H,
+    plugins: Vec<P>,
+) -> Report<K, H, P>
+    requires few { length plugins.items ≤ 64 }
+    ensures { IfSome (form_in words.now) (λ form. EndsRun form (length plugins.items) result.status) }
+{
+    xi_main(
+        threads, alloc, words, source, sink, shelf, plugins, &FreeGate,
+    )
 }
 
 /// The process ends with the status of its run.

@@ -1,7 +1,8 @@
-ghost use Rattle.std.specs.Prelude.{◌≡◌, ◌↔◌, [], ◌∷◌, IsTrue, IfOk, codes, drop, map, string_bytes};
+ghost use Rattle.std.specs.Prelude.{◌≡◌, [], ◌∷◌, IfOk, drop, map, string_bytes};
 ghost use Rattle.std.specs.Str.{chars};
 ghost use Rattle.std.specs.Vec.Iter.{into_iter_items};
-ghost use Rattle.xi_core.specs.Words.{AsksFor, run_of};
+ghost use Rattle.storm_lines.specs.Forms.{is_named};
+ghost use Rattle.xi_core.specs.Words.{form_words, handed_by, invocation_in, recorded, replay_of, run_in, run_of};
 
 use plain_text::{List, NoMemory, Text, Texts};
 use std::alloc::Global;
@@ -18,6 +19,10 @@ pub enum Invocation {
     Methods,
     /// A run of this form, beside these plugins.
     Run(Form, Handed),
+    /// The same, whose tape and journal are kept in the folder that the second word names.
+    Record(Form, Handed),
+    /// What the run wrote whose tape and journal are in the folder that the second word names.
+    Replay,
     /// They are no form.
     Misused,
 }
@@ -69,16 +74,45 @@ fn one_empty(alloc: Global) -> Result<Texts, NoMemory>
     Ok(words)
 }
 
-/// What the words ask for: a run by the words of its form, before which it may be told to go without plugins.
+/// What the words ask for: a run by the words of its form, before which it may be told to go without plugins, and before that where it is
+/// recorded; or what a recorded run wrote.
 pub fn invocation_of(words: &[Text]) -> Invocation
-    ensures { AsksFor words.now result }
+    ensures { result ≡ invocation_in words.now }
 {
     match words {
-        [word] if is_help(word) => Invocation::Help,
-        [word] if is_version(word) => Invocation::Version,
-        [word] if is_methods(word) => Invocation::Methods,
-        [flag, form @ ..] if is_without(flag) => run_of(form_of(form), Handed::Nothing),
-        _ => run_of(form_of(words), Handed::Shipped),
+        [word] if is_named(word, b"--help") => Invocation::Help,
+        [word] if is_named(word, b"--version") => Invocation::Version,
+        [word] if is_named(word, b"--methods") => Invocation::Methods,
+        [word, _folder, later @ ..] if is_named(word, b"--record") => recorded(run_asked(later)),
+        [word, _folder, later @ ..] if is_named(word, b"replay") => replay_of(later),
+        _ => run_asked(words),
+    }
+}
+
+/// The run that these words ask for, if they do.
+fn run_asked(words: &[Text]) -> Invocation
+    ensures { result ≡ run_in words.now }
+{
+    run_of(form_of(form_words(words)), handed_by(words))
+}
+
+/// The words of the form, behind what is said of the plugins.
+pub fn form_words(words: &[Text]) -> &[Text]
+    ensures { result.now ≡ form_words words.now }
+{
+    match words {
+        [flag, form @ ..] if is_named(flag, b"--no-plugins") => form,
+        _ => words,
+    }
+}
+
+/// What is said of the plugins.
+fn handed_by(words: &[Text]) -> Handed
+    ensures { result ≡ handed_by words.now }
+{
+    match words {
+        [flag, ..] if is_named(flag, b"--no-plugins") => Handed::Nothing,
+        _ => Handed::Shipped,
     }
 }
 
@@ -92,26 +126,29 @@ fn run_of(form: Option<Form>, handed: Handed) -> Invocation
     }
 }
 
-fn is_help(word: &Text) -> bool
-    ensures { IsTrue result ↔ (word.now ≡ codes "--help") }
+/// What was recorded, written again, where no word stands behind its folder.
+fn replay_of(later: &[Text]) -> Invocation
+    ensures { result ≡ replay_of later.now }
 {
-    word.as_str() == "--help"
+    match later {
+        [] => Invocation::Replay,
+        _ => Invocation::Misused,
+    }
 }
 
-fn is_version(word: &Text) -> bool
-    ensures { IsTrue result ↔ (word.now ≡ codes "--version") }
+/// The same run, recorded, where it has a tape.
+fn recorded(run: Invocation) -> Invocation
+    ensures { result ≡ recorded run }
 {
-    word.as_str() == "--version"
+    match run {
+        Invocation::Run(Form::Threads, handed) => Invocation::Record(Form::Threads, handed),
+        Invocation::Run(Form::Alone, handed) => Invocation::Record(Form::Alone, handed),
+        _ => Invocation::Misused,
+    }
 }
 
-fn is_methods(word: &Text) -> bool
-    ensures { IsTrue result ↔ (word.now ≡ codes "--methods") }
+fn is_named(word: &Text, name: &[u8]) -> bool
+    ensures { result ≡ is_named word.now name.now }
 {
-    word.as_str() == "--methods"
-}
-
-fn is_without(word: &Text) -> bool
-    ensures { IsTrue result ↔ (word.now ≡ codes "--no-plugins") }
-{
-    word.as_str() == "--no-plugins"
+    word.as_str().as_bytes() == name
 }
