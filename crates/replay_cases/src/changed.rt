@@ -64,7 +64,8 @@ enum Change {
     Cut(usize),
 }
 
-fn entry(caller: u32, id: Id, act: Act) -> Entry {
+// One that asks the shelf for nothing, and was sent.
+pub(crate) fn entry(caller: u32, id: Id, act: Act) -> Entry {
     Entry {
         caller,
         command: Command { id, act },

@@ -1,5 +1,6 @@
 //! Files of journals: each kind of command and note, and lines that are none.
 
+use crate::changed::entry;
 use crate::runs::alone;
 use front_wire::command_of;
 use journal_file::{BadJournal, Unwritten, read_journal, write_journal};
@@ -86,15 +87,6 @@ const LINES: [&str; 71] = [
     r#"{"id":3,"method":"edit","params":{"view_id":"view-id-1","method":"debug_rewrap"}}"#,
 ];
 
-fn entry(caller: u32, id: Id, act: Act) -> Entry {
-    Entry {
-        caller,
-        command: Command { id, act },
-        shelf: ShelfNote::NoCall,
-        sent: true,
-    }
-}
-
 // Whether the journal is read back as it was written.
 fn reads_back(alloc: Global, journal: &[Entry]) -> Result<bool, NoMemory> {
     let text = match write_journal(alloc, journal) {
@@ -144,47 +136,35 @@ fn lines_of_a_front_end_are_kept(rt: HostRuntime) -> Result<(), Fail> {
     Ok(())
 }
 
-#[test]
-fn acts_of_a_plugin_are_kept(rt: HostRuntime) -> Result<(), Fail> {
-    let alloc = rt.alloc();
-    let view = || Text::from_str(alloc, "view-id-1");
-    assert!(rt; is_kept(alloc, entry(1, Id::NoId, Act::Ended))?, "the end");
-    assert!(rt;
-        is_kept(
-            alloc,
-            entry(2, Id::Num(0), Act::LineCount { view: view()? })
-        )?,
-        "line_count"
-    );
+fn a_view(alloc: Global) -> Result<Text, NoMemory> {
+    Text::from_str(alloc, "view-id-1")
+}
+
+fn acknowledgement(alloc: Global, rev: u64) -> Result<Entry, NoMemory> {
+    let view = a_view(alloc)?;
+    Ok(entry(1, Id::NoId, Act::Ack { view, rev }))
+}
+
+// What plugins ask that has no list in it.
+fn plain_asks(alloc: Global) -> Result<Vec<Entry>, NoMemory> {
+    let mut journal = Vec::new(alloc);
     let msg = Text::from_str(alloc, "a\nb")?;
-    assert!(rt;
-        is_kept(alloc, entry(64, Id::NoId, Act::Alert { msg }))?,
-        "alert"
-    );
-    assert!(rt;
-        is_kept(
-            alloc,
-            entry(
-                1,
-                Id::NoId,
-                Act::Ack {
-                    view: view()?,
-                    rev: 9
-                }
-            )
-        )?,
-        "ack"
-    );
+    journal.push(entry(64, Id::NoId, Act::Alert { msg }))?;
+    let view = a_view(alloc)?;
+    journal.push(entry(2, Id::Num(0), Act::LineCount { view }))?;
     let data = Act::GetData {
-        view: view()?,
+        view: a_view(alloc)?,
         rev: 1,
         start: 2,
         max: 3,
     };
-    assert!(rt;
-        is_kept(alloc, entry(1, Id::Word(view()?), data))?,
-        "get_data"
-    );
+    journal.push(entry(1, Id::Word(a_view(alloc)?), data))?;
+    journal.push(acknowledgement(alloc, 9)?)?;
+    journal.push(entry(1, Id::NoId, Act::Ended))?;
+    Ok(journal)
+}
+
+fn styling(alloc: Global) -> Result<Entry, NoMemory> {
     let style = Style {
         fg_color: Some(1),
         bg_color: None,
@@ -198,46 +178,57 @@ fn acts_of_a_plugin_are_kept(rt: HostRuntime) -> Result<(), Fail> {
         end: 2,
         style,
     })?;
-    let spans = List::from_vec(spans);
     let act = Act::UpdateSpans {
-        view: view()?,
+        view: a_view(alloc)?,
         rev: 1,
         start: 0,
         len: 2,
-        spans,
+        spans: List::from_vec(spans),
     };
-    assert!(rt; is_kept(alloc, entry(1, Id::NoId, act))?, "update_spans");
+    Ok(entry(1, Id::NoId, act))
+}
+
+// A plugin's edit, which may name a group.
+fn plugin_edit(alloc: Global, named: Option<u64>) -> Result<Entry, NoMemory> {
+    let mut els = Vec::new(alloc);
+    els.push(El::Copy { a: 0, b: 4 })?;
+    let text = Text::from_str(alloc, "é")?;
+    els.push(El::Insert { text })?;
+    let act = Act::PluginEdit {
+        view: a_view(alloc)?,
+        rev: 1,
+        delta: Delta {
+            els: List::from_vec(els),
+            base_len: 4,
+        },
+        priority: 7,
+        after_cursor: true,
+        author: Text::from_str(alloc, "p")?,
+        named,
+    };
+    Ok(entry(1, Id::Num(4), act))
+}
+
+#[test]
+fn acts_of_a_plugin_are_kept(rt: HostRuntime) -> Result<(), Fail> {
+    let alloc = rt.alloc();
+    assert!(rt;
+        reads_back(alloc, &plain_asks(alloc)?)?,
+        "alert, line_count, get_data, ack, the end"
+    );
+    assert!(rt; is_kept(alloc, styling(alloc)?)?, "update_spans");
     for named in [None, Some(3)] {
-        let mut els = Vec::new(alloc);
-        els.push(El::Copy { a: 0, b: 4 })?;
-        els.push(El::Insert {
-            text: Text::from_str(alloc, "é")?,
-        })?;
-        let act = Act::PluginEdit {
-            view: view()?,
-            rev: 1,
-            delta: Delta {
-                els: List::from_vec(els),
-                base_len: 4,
-            },
-            priority: 7,
-            after_cursor: true,
-            author: Text::from_str(alloc, "p")?,
-            named,
-        };
-        assert!(rt; is_kept(alloc, entry(1, Id::Num(4), act))?, "edit");
+        assert!(rt; is_kept(alloc, plugin_edit(alloc, named)?)?, "edit");
     }
-    // What no line says has no file.
+    Ok(())
+}
+
+#[test]
+fn what_no_line_says_has_no_file(rt: HostRuntime) -> Result<(), Fail> {
+    let alloc = rt.alloc();
     let mut journal = Vec::new(alloc);
     journal.push(entry(1, Id::NoId, Act::Ended))?;
-    journal.push(entry(
-        1,
-        Id::NoId,
-        Act::Ack {
-            view: view()?,
-            rev: 1 << 63,
-        },
-    ))?;
+    journal.push(acknowledgement(alloc, 1 << 63)?)?;
     assert!(rt;
         write_journal(alloc, &journal) == Err(Unwritten::Entry(1)),
         "a number that no line has"

@@ -6,6 +6,8 @@ mod changed;
 #[cfg(test)]
 mod files;
 #[cfg(test)]
+mod folder;
+#[cfg(test)]
 mod played;
 #[cfg(test)]
 mod runs;

@@ -18,7 +18,11 @@ pub(crate) struct Ran {
     pub(crate) bytes: Vec<u8>,
 }
 
-fn shelf_of(alloc: Global, files: &[File], refused: &[u64]) -> Result<MemShelf, NoMemory> {
+pub(crate) fn shelf_of(
+    alloc: Global,
+    files: &[File],
+    refused: &[u64],
+) -> Result<MemShelf, NoMemory> {
     let mut shelf = CalmShelf::new(alloc);
     for (path, bytes) in files {
         let bytes = List::from_vec(Vec::from_slice(alloc, bytes)?);
