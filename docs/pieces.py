@@ -8,7 +8,7 @@ import glob, os, re, sys
 
 TOP = os.path.dirname(os.path.dirname(os.path.abspath(__file__)))
 PAGES = ("PLUGINS.md", "PROTOCOL.md")
-CRATES = ("shipped_plugins", "shipped_cases", "plugin_side", "plugin_session", "plugin_replacer", "xi_plain", "plain_edits", "whole_cases")  # whose code a page shows
+CRATES = ("shipped_plugins", "shipped_cases", "plugin_side", "plugin_session", "plugin_replacer", "xi_plain", "plain_edits", "turn_cases")  # whose code a page shows
 MARK = re.compile(r"(?:[<>][|*]?|@[=>|-]?|!|=|[1-9][<>]) |[1-9][.!]$")
 RUST = re.compile(r"(?:pub |impl |fn |use |let |match |const |self\.|///|#\[)")
 

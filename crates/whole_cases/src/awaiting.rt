@@ -25,7 +25,10 @@ pub struct Awaiting<'a> {
 }
 
 impl<'a> Awaiting<'a> {
-    pub fn new(source: MemSource, written: &'a Cell<u64>) -> Awaiting<'a> {
+    pub fn new(source: MemSource, written: &'a Cell<u64>) -> Awaiting<'a>
+        ensures source { result.source ≡ source }
+        ensures fresh { (result.owed ≡ 0) × (result.faults ≡ 0) }
+    {
         Awaiting {
             source,
             written,
@@ -79,7 +82,9 @@ pub struct Counting<'a> {
 }
 
 impl<'a> Counting<'a> {
-    pub fn new(sink: CalmSink, written: &'a Cell<u64>) -> Counting<'a> {
+    pub fn new(sink: CalmSink, written: &'a Cell<u64>) -> Counting<'a>
+        ensures { result.sink ≡ sink }
+    {
         Counting { sink, written }
     }
 }

@@ -1,11 +1,12 @@
 //! Runs over files: what is opened, refused and saved, and what the shelf has in the end.
 
-use crate::player::no_plugins;
-use core_session::ShelfNote;
+use crate::none::no_plugins;
+use case_runs::{USUAL, USUAL_WRITES};
 use outside::{CalmShelf, MemShelf, MemSink, MemSource};
 use plain_text::{List, NoMemory, Text};
 use std::alloc::Global;
-use xi_top::{Report, run_alone};
+use xi_plain::ShelfNote;
+use xi_top::{Entry, Report, run_alone};
 
 // A path and its bytes.
 type File = (&'static str, &'static [u8]);
@@ -51,21 +52,24 @@ fn played(alloc: Global, play: Play) -> Result<Report<MemSink, MemShelf>, NoMemo
 
 // Whether the run ends so: with this status, these bytes written, and this file in the shelf.
 fn ends(alloc: Global, play: Play, status: u8, written: &str, file: File) -> bool {
-    let (path, bytes) = file;
-    match (played(alloc, play), Text::from_str(alloc, path)) {
-        (Ok(report), Ok(path)) => {
+    match played(alloc, play) {
+        Ok(report) => {
             report.status == status
                 && report.sink.bytes() == Some(written.as_bytes())
-                && has(report.shelf.files(), &path, bytes)
+                && has(alloc, report.shelf.files(), file)
         }
-        _ => false,
+        Err(_) => false,
     }
 }
 
-fn has(files: &CalmShelf, path: &Text, bytes: &[u8]) -> bool {
-    match files.get(path) {
-        Some(found) => found.as_slice() == bytes,
-        None => false,
+fn has(alloc: Global, files: &CalmShelf, file: File) -> bool {
+    let (path, bytes) = file;
+    match Text::from_str(alloc, path) {
+        Ok(path) => match files.get(&path) {
+            Some(found) => found.as_slice() == bytes,
+            None => false,
+        },
+        Err(_) => false,
     }
 }
 
@@ -90,17 +94,18 @@ fn is_noted(note: &ShelfNote, noted: Noted) -> bool {
     }
 }
 
+fn are_noted(journal: &[Entry], noted: &[Noted]) -> bool {
+    journal.len() == noted.len()
+        && journal
+            .iter()
+            .zip(noted)
+            .all(|(entry, noted)| is_noted(&entry.shelf, *noted))
+}
+
 // Whether the entries of the run have these notes, the closing one too.
 fn notes(alloc: Global, play: Play, noted: &[Noted]) -> bool {
     match played(alloc, play) {
-        Ok(report) => {
-            report.journal.len() == noted.len()
-                && report
-                    .journal
-                    .iter()
-                    .zip(noted)
-                    .all(|(entry, noted)| is_noted(&entry.shelf, *noted))
-        }
+        Ok(report) => are_noted(&report.journal, noted),
         Err(_) => false,
     }
 }
@@ -205,27 +210,6 @@ const TWO_WRITES: &str = r#"{"id":0,"result":"view-id-1"}
 {"method":"update","params":{"update":{"ops":[{"lines":[{"cursor":[1],"ln":1,"styles":[],"text":"2a"},{"cursor":[],"styles":[],"text":"bc"},{"cursor":[],"styles":[],"text":"d"}],"n":3,"op":"ins"}],"pristine":false},"view_id":"view-id-2"}}
 "#;
 
-// A usual session.
-pub(crate) const USUAL: &str = r#"{"method":"client_started","params":{}}
-{"method":"set_theme","params":{"theme_name":"InspiredGitHub"}}
-{"id":0,"method":"new_view","params":{"file_path":"notes.txt"}}
-{"method":"edit","params":{"method":"scroll","params":[0,40],"view_id":"view-id-1"}}
-{"method":"edit","params":{"method":"click","params":[1,5,0,1],"view_id":"view-id-1"}}
-{"method":"edit","params":{"method":"insert","params":{"chars":"!"},"view_id":"view-id-1"}}
-{"id":1,"method":"save","params":{"file_path":"notes.txt","view_id":"view-id-1"}}
-{"method":"close_view","params":{"view_id":"view-id-1"}}
-"#;
-
-pub(crate) const USUAL_WRITES: &str = r#"{"id":0,"result":"view-id-1"}
-{"method":"update","params":{"update":{"ops":[{"lines":[{"cursor":[0],"ln":1,"styles":[],"text":"hello\n"},{"cursor":[],"ln":2,"styles":[],"text":"world\n"},{"cursor":[],"ln":3,"styles":[],"text":""}],"n":3,"op":"ins"}],"pristine":true},"view_id":"view-id-1"}}
-{"method":"update","params":{"update":{"ops":[{"lines":[{"cursor":[],"ln":1,"styles":[],"text":"hello\n"},{"cursor":[5],"ln":2,"styles":[],"text":"world\n"},{"cursor":[],"ln":3,"styles":[],"text":""}],"n":3,"op":"ins"}],"pristine":true},"view_id":"view-id-1"}}
-{"method":"scroll_to","params":{"col":5,"line":1,"view_id":"view-id-1"}}
-{"method":"update","params":{"update":{"ops":[{"lines":[{"cursor":[],"ln":1,"styles":[],"text":"hello\n"},{"cursor":[6],"ln":2,"styles":[],"text":"world!\n"},{"cursor":[],"ln":3,"styles":[],"text":""}],"n":3,"op":"ins"}],"pristine":false},"view_id":"view-id-1"}}
-{"method":"scroll_to","params":{"col":6,"line":1,"view_id":"view-id-1"}}
-{"id":1,"result":null}
-{"method":"update","params":{"update":{"ops":[{"lines":[{"cursor":[],"ln":1,"styles":[],"text":"hello\n"},{"cursor":[6],"ln":2,"styles":[],"text":"world!\n"},{"cursor":[],"ln":3,"styles":[],"text":""}],"n":3,"op":"ins"}],"pristine":true},"view_id":"view-id-1"}}
-"#;
-
 // The sink fails in the piece of a saving that was done.
 const CUT: &str = r#"{"id":0,"method":"new_view","params":{}}
 {"method":"edit","params":{"method":"insert","params":{"chars":"a"},"view_id":"view-id-1"}}
@@ -269,33 +253,30 @@ fn files_are_opened_and_saved(rt: HostRuntime) {
 }
 
 #[test]
-fn what_the_shelf_refuses_is_told(rt: HostRuntime) {
+fn a_file_that_is_no_text_is_told(rt: HostRuntime) {
     let alloc = rt.alloc();
+    let play = calm(&[("ff", b"\xFF")], NO_TEXT);
     let strange: File = ("ff", b"\xFF");
-    assert!(rt;
-        ends(
-            alloc,
-            calm(&[("ff", b"\xFF")], NO_TEXT),
-            0,
-            NO_TEXT_WRITES,
-            strange
-        )
-    );
+    assert!(rt; ends(alloc, play, 0, NO_TEXT_WRITES, strange));
     assert!(rt;
         notes(
             alloc,
-            calm(&[("ff", b"\xFF")], NO_TEXT),
+            play,
             &[Noted::Held(b"\xFF"), Noted::Absent, Noted::Nothing]
         )
     );
-    let file: File = ("a", b"x");
+}
+
+#[test]
+fn an_opening_that_fails_is_told(rt: HostRuntime) {
+    let alloc = rt.alloc();
     let refused = Play {
         files: &[("a", b"x")],
         refused: &[1],
         cut: &[],
         lines: REFUSED,
     };
-    assert!(rt; ends(alloc, refused, 0, REFUSED_WRITES, file));
+    assert!(rt; ends(alloc, refused, 0, REFUSED_WRITES, ("a", b"x")));
     assert!(rt;
         notes(
             alloc,
@@ -303,13 +284,18 @@ fn what_the_shelf_refuses_is_told(rt: HostRuntime) {
             &[Noted::Failed, Noted::Held(b"x"), Noted::Nothing]
         )
     );
+}
+
+#[test]
+fn a_saving_that_fails_is_told(rt: HostRuntime) {
+    let alloc = rt.alloc();
     let not_saved = Play {
         files: &[("a", b"x")],
         refused: &[2],
         cut: &[],
         lines: NOT_SAVED,
     };
-    assert!(rt; ends(alloc, not_saved, 0, NOT_SAVED_WRITES, file));
+    assert!(rt; ends(alloc, not_saved, 0, NOT_SAVED_WRITES, ("a", b"x")));
     assert!(rt;
         notes(
             alloc,
@@ -325,6 +311,21 @@ fn what_the_shelf_refuses_is_told(rt: HostRuntime) {
     );
 }
 
+// Whether the third of the four entries of the run was not sent, and it alone.
+fn has_third_unsent(alloc: Global, play: Play) -> bool {
+    match played(alloc, play) {
+        Ok(report) => is_third_unsent(&report.journal),
+        Err(_) => false,
+    }
+}
+
+fn is_third_unsent(journal: &[Entry]) -> bool {
+    match journal {
+        [first, second, third, last] => { first.sent && second.sent && !third.sent && last.sent }
+        _ => false,
+    }
+}
+
 // The file was written before the sink failed, and the entry was not sent.
 #[test]
 fn a_saving_stands_whose_piece_was_cut_off(rt: HostRuntime) {
@@ -336,13 +337,5 @@ fn a_saving_stands_whose_piece_was_cut_off(rt: HostRuntime) {
         lines: CUT,
     };
     assert!(rt; ends(alloc, cut, 5, CUT_WRITES, ("s", b"a")));
-    match played(alloc, cut) {
-        Ok(report) => {
-            let sent = report.journal.iter().filter(|entry| entry.sent).count();
-            assert_eq!(rt; sent, 3);
-            assert_eq!(rt; report.journal.len(), 4);
-            assert!(rt; !report.journal[2].sent);
-        }
-        Err(_) => assert!(rt; false, "no memory"),
-    }
+    assert!(rt; has_third_unsent(alloc, cut));
 }

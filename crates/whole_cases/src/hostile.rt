@@ -1,10 +1,9 @@
 //! Long lines that no front end would send: each gets one answer, and the next line is served as if it had not come.
 
-use crate::player::no_plugins;
-use crate::runs::{FIVE_LINES, FIVE_PIECES};
+use crate::none::no_plugins;
+use case_runs::{FIVE_LINES, FIVE_PIECES, is_so};
 use outside::{CalmShelf, MemSink, MemSource};
 use std::alloc::{AllocError, Global};
-use std::test::Fail;
 use xi_top::run_alone;
 
 // Bytes with a part that stands many times between them.
@@ -77,10 +76,8 @@ const LONG_NAME_TOLD: Long = Long {
 };
 
 #[test]
-fn a_long_line_is_answered_once(rt: HostRuntime) -> Result<(), Fail> {
+fn a_long_line_is_answered_once(rt: HostRuntime) {
     let alloc = rt.alloc();
-    for (line, answer) in [(MANY_MEMBERS, NO_SUCH), (LONG_NAME, LONG_NAME_TOLD)] {
-        assert!(rt; answers(alloc, line, answer)?);
-    }
-    Ok(())
+    assert!(rt; is_so(answers(alloc, MANY_MEMBERS, NO_SUCH)));
+    assert!(rt; is_so(answers(alloc, LONG_NAME, LONG_NAME_TOLD)));
 }

@@ -1,26 +1,18 @@
-//! Tables of tests of whole runs and sessions, each proved once. Single runs are scripts of `protocol_cases`; here a run fails at each of its
-//! calls, and a session is closed before each of its lines.
+//! Tables of tests of whole runs without plugins, each proved once. Single runs are scripts of `protocol_cases`; here a run fails at each of its
+//! calls, its input ends after each line, and it opens and saves files; and on threads it comes to what it comes to in turns.
 #![tactic(auto)]
 
 #[cfg(test)]
-mod awaiting;
+mod alike;
 #[cfg(test)]
-mod closing;
+mod awaiting;
 #[cfg(test)]
 mod files;
 #[cfg(test)]
 mod hostile;
 #[cfg(test)]
-mod player;
-#[cfg(test)]
-mod replaced;
-#[cfg(test)]
-mod rooms;
+mod none;
 #[cfg(test)]
 mod runs;
 #[cfg(test)]
 mod tapes;
-#[cfg(test)]
-mod turns;
-#[cfg(test)]
-mod usual;

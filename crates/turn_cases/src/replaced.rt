@@ -1,13 +1,12 @@
 //! A run in which a plugin replaces all spots of a file by one edit, which one undo takes back.
 
-use crate::turns::callers;
+use case_runs::{callers, is_so};
 use outside::{CalmShelf, MemSink, MemSource};
 use plain_text::{List, NoMemory, Text};
 use plugin_replacer::Replacer;
 use regex::Regex;
 use regex_find::RegexSpot;
 use std::alloc::Global;
-use std::test::Fail;
 use xi_top::{Report, run_alone};
 
 type Played = Report<MemSink, CalmShelf, Replacer<RegexSpot>>;
@@ -50,21 +49,24 @@ fn played(alloc: Global, plugin: Replacer<RegexSpot>) -> Result<Played, NoMemory
     ))
 }
 
-#[test]
-fn all_spots_are_one_step_of_undo(rt: HostRuntime) -> Result<(), Fail> {
-    let alloc = rt.alloc();
-    let Some(plugin) = numbers(alloc) else {
-        assert!(rt; false, "no pattern");
-        return Ok(());
-    };
+// Whether the run of this plugin goes as said, and the plugin came back without a fault.
+fn goes(alloc: Global, plugin: Replacer<RegexSpot>) -> Result<bool, NoMemory> {
     let report = played(alloc, plugin)?;
-    assert_eq!(rt; report.status, 0);
-    assert!(rt; report.all_served);
-    assert_eq!(rt; callers(alloc, &report.journal)?.as_str(), "010101010");
-    assert_eq!(rt; report.sink.bytes(), Some(WRITES.as_bytes()));
-    assert_eq!(rt; report.plugins.len(), 1);
-    for plugin in &report.plugins {
-        assert!(rt; plugin.fault().is_none());
+    Ok(
+        report.status == 0
+            && report.all_served
+            && callers(alloc, &report.journal)?.as_str() == "010101010"
+            && report.sink.bytes() == Some(WRITES.as_bytes())
+            && report.plugins.len() == 1
+            && report.plugins.iter().all(|plugin| plugin.fault().is_none()),
+    )
+}
+
+#[test]
+fn all_spots_are_one_step_of_undo(rt: HostRuntime) {
+    let alloc = rt.alloc();
+    match numbers(alloc) {
+        Some(plugin) => assert!(rt; is_so(goes(alloc, plugin))),
+        None => assert!(rt; false, "no pattern"),
     }
-    Ok(())
 }

@@ -11,7 +11,6 @@ use plugin_session::{AloneDoor, Door};
 use room_lock::{Ask, Object, Pass, Room};
 use std::alloc::Global;
 use std::sync::Wait;
-use std::test::Fail;
 use std::thread;
 use std::thread::Threads;
 
@@ -133,16 +132,19 @@ fn in_order(journal: &[Entry], sink: &MemSink) -> bool {
     }
 }
 
-#[test]
-fn a_room_has_the_lines_of_two_threads(rt: HostRuntime) -> Result<(), Fail> {
-    let Some(core) = in_a_room(&rt, rt.alloc()) else {
-        panic!(rt; "out of memory")
-    };
+// Whether the session has both lines and the closing entry, in the order in which it wrote.
+fn has_both(core: Session) -> bool {
     let (journal, sink, _shelf) = core.into_parts();
     let plugins = journal.iter().filter(|entry| entry.caller == 1).count();
-    assert_eq!(rt; (journal.len(), plugins), (3, 1));
-    assert!(rt; in_order(&journal, &sink));
-    Ok(())
+    journal.len() == 3 && plugins == 1 && in_order(&journal, &sink)
+}
+
+#[test]
+fn a_room_has_the_lines_of_two_threads(rt: HostRuntime) {
+    match in_a_room(&rt, rt.alloc()) {
+        Some(core) => assert!(rt; has_both(core)),
+        None => panic!(rt; "out of memory"),
+    }
 }
 
 // What the door of a plugin answers a line after the opening.
@@ -163,14 +165,13 @@ fn says(reply: &Option<Reply>, text: &str) -> bool {
 }
 
 #[test]
-fn a_door_answers_a_line(rt: HostRuntime) -> Result<(), Fail> {
+fn a_door_answers_a_line(rt: HostRuntime) {
     let reply = at_a_door(rt.alloc());
     assert!(rt; says(&reply, r#"{"id":"x","result":1}"#));
-    Ok(())
 }
 
 // What came of an ask.
-#[derive(Clone, Copy, Debug, PartialEq, Eq)]
+#[derive(Clone, Copy, PartialEq, Eq)]
 enum Came {
     Taken,
     SinkFault,
@@ -209,7 +210,7 @@ fn with_a_fault(alloc: Global) -> Option<[Came; 6]> {
 }
 
 #[test]
-fn a_fault_in_a_plugins_entry_shuts_all_but_the_closing(rt: HostRuntime) -> Result<(), Fail> {
+fn a_fault_in_a_plugins_entry_shuts_all_but_the_closing(rt: HostRuntime) {
     let wanted = [
         Came::Taken,
         Came::SinkFault,
@@ -218,8 +219,7 @@ fn a_fault_in_a_plugins_entry_shuts_all_but_the_closing(rt: HostRuntime) -> Resu
         Came::Closed,
         Came::Taken,
     ];
-    assert_eq!(rt; with_a_fault(rt.alloc()), Some(wanted));
-    Ok(())
+    assert!(rt; with_a_fault(rt.alloc()) == Some(wanted));
 }
 
 // How many notes say that the shelf failed, and its count, where each of two savings fails.
@@ -238,7 +238,6 @@ fn with_a_failing_shelf(alloc: Global) -> Option<(usize, u64)> {
 }
 
 #[test]
-fn each_failed_saving_is_noted_and_counted(rt: HostRuntime) -> Result<(), Fail> {
-    assert_eq!(rt; with_a_failing_shelf(rt.alloc()), Some((2, 2)));
-    Ok(())
+fn each_failed_saving_is_noted_and_counted(rt: HostRuntime) {
+    assert!(rt; with_a_failing_shelf(rt.alloc()) == Some((2, 2)));
 }

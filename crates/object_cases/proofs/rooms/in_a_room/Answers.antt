@@ -4,7 +4,7 @@ use Rattle.outside.proofs.mem_shelf.MemShelf.TheSendSync as MemShelf
 use Rattle.outside.proofs.mem_sink.MemSink.TheSendSync as MemSink
 use Rattle.room_lock.specs.Room.{Known}
 use Rattle.session_sent.proofs.ForCallers.{Core-send}
-use Rattle.whole_cases.proofs.rooms.in_a_room.Goals as goal
+use Rattle.object_cases.proofs.rooms.in_a_room.Goals as goal
 
 -- a session may be sent where its sink and its shelf may
 pub both_ask-front-requires-send-O : goal.both_ask-front-requires-send-O

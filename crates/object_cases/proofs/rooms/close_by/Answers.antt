@@ -1,6 +1,6 @@
 use Rattle.std.proofs.Common.{[], ◌∷◌, ◌++◌, length, arith, ap, sym, ◌∙◌, subst}
 use Rattle.room_lock.specs.Room.{AreAll}
-use Rattle.whole_cases.proofs.rooms.close_by.Goals as goal
+use Rattle.object_cases.proofs.rooms.close_by.Goals as goal
 
 pub push_reserved-requires : goal.push_reserved-requires
 push_reserved-requires c = omega (arith, c.args.passes.ok.0, ap length c.requires.places.0, c.requires.places.1)

@@ -1,16 +1,8 @@
 //! A plugin that plays a part, and keeps what it was given.
-ghost use Rattle.std.specs.Prelude.{◌≡◌, vec_len};
 
 use plain_text::{NoMemory, Text, Texts};
 use std::alloc::Global;
 use xi_top::{Plugin, Turn};
-
-// A run without plugins.
-pub(crate) fn no_plugins(alloc: Global) -> Vec<Box<dyn Plugin + Send>>
-    ensures { vec_len result ≡ 0 }
-{
-    Vec::new(alloc)
-}
 
 // A plugin's part: turns, parted by bars, of lines, of which a full stop says that it is done; and then so often this line in each turn.
 #[derive(Clone, Copy)]
