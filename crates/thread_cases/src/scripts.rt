@@ -1,11 +1,12 @@
 //! Runs whose front end waits for the plugins: on threads they come to what they come to in turns.
 use crate::player::{Part, Player};
 use crate::tally::{Asks, Counter, Hold, Patient, Tally};
-use crate::told::{callers, joined};
+use crate::told::is_run;
+use case_runs::{is_so, joined};
 use outside::{CalmShelf, MemSink, MemSource};
+use plain_text::NoMemory;
 use std::alloc::Global;
 use std::sync::Wait;
-use std::test::Fail;
 use std::thread::Threads;
 use xi_forms::run_threads;
 use xi_top::{Report, run_alone};
@@ -260,7 +261,7 @@ const HIGHER_FIRST: Row = Row {
 
 type Played = Report<MemSink, CalmShelf, Player>;
 
-fn plugins_of(alloc: Global, parts: &[Part]) -> Result<Vec<Player>, Fail> {
+fn plugins_of(alloc: Global, parts: &[Part]) -> Result<Vec<Player>, NoMemory> {
     let mut plugins = Vec::new(alloc);
     for part in parts {
         plugins.push(Player::new(alloc, *part))?;
@@ -268,42 +269,49 @@ fn plugins_of(alloc: Global, parts: &[Part]) -> Result<Vec<Player>, Fail> {
     Ok(plugins)
 }
 
-fn on_threads<R: Threads + Wait + Sync>(
+// A run on threads over these bytes, with what its front end waits for.
+fn ran<R: Threads + Wait + Sync>(
     rt: &R,
     alloc: Global,
-    row: Row,
-) -> Result<Option<Played>, Fail> {
-    let plugins = plugins_of(alloc, row.parts)?;
+    input: Vec<u8>,
+    plugins: Vec<Player>,
+    hold: Hold,
+) -> Option<Played> {
     if plugins.len() > 64 {
-        return Ok(None);
+        return None;
     }
     let tally = Tally::new();
-    let holds = [row.hold];
-    let mut source = Patient::new(alloc, joined(alloc, row.lines)?, &tally, &holds);
-    let sink = MemSink::new(alloc, 1 << 20, Vec::new(alloc));
+    let holds = [hold];
     let gate = Counter {
         tally: &tally,
         awaits: 0,
     };
+    let mut source = Patient::new(alloc, input, &tally, &holds);
+    let sink = MemSink::new(alloc, 1 << 20, Vec::new(alloc));
     let shelf = CalmShelf::new(alloc);
-    Ok(Some(run_threads(rt, alloc, &mut source, sink, shelf, plugins, &gate)))
+    Some(run_threads(rt, alloc, &mut source, sink, shelf, plugins, &gate))
 }
 
-fn in_turns(alloc: Global, row: Row) -> Result<Option<Played>, Fail> {
+fn on_threads<R: Threads + Wait + Sync>(
+    rt: &R,
+    alloc: Global,
+    row: Row,
+) -> Result<Option<Played>, NoMemory> {
+    let input = joined(alloc, row.lines, row.lines.len())?;
+    let plugins = plugins_of(alloc, row.parts)?;
+    Ok(ran(rt, alloc, input, plugins, row.hold))
+}
+
+fn in_turns(alloc: Global, row: Row) -> Result<Option<Played>, NoMemory> {
+    let input = joined(alloc, row.lines, row.lines.len())?;
     let plugins = plugins_of(alloc, row.parts)?;
     if plugins.len() > 64 {
         return Ok(None);
     }
-    let mut source = MemSource::new(joined(alloc, row.lines)?, 4096, Vec::new(alloc));
+    let mut source = MemSource::new(input, 4096, Vec::new(alloc));
     let sink = MemSink::new(alloc, 1 << 20, Vec::new(alloc));
     let shelf = CalmShelf::new(alloc);
     Ok(Some(run_alone(alloc, &mut source, sink, shelf, plugins)))
-}
-
-// Whether the run went as the row says, and no plugin lacked anything.
-fn goes_as(alloc: Global, row: Row, report: &Played) -> Result<bool, Fail> {
-    let told = callers(alloc, &report.journal)?;
-    Ok(report.status == 0 && report.all_served && told.as_str() == row.told)
 }
 
 // Whether the plugins of both were given the same, in the same order.
@@ -316,37 +324,42 @@ fn hear_alike(one: &[Player], other: &[Player]) -> bool {
 }
 
 // Whether both runs wrote the same bytes, and they show this.
-fn show_alike(alloc: Global, one: Played, other: Played, shown: &str) -> bool {
-    let one = one.sink.into_bytes().unwrap_or(Vec::new(alloc));
-    let other = other.sink.into_bytes().unwrap_or(Vec::new(alloc));
-    one == other && str::from_utf8(&one).unwrap_or("").contains(shown)
+fn show_alike(one: &MemSink, other: &MemSink, shown: &str) -> bool {
+    let bytes = one.bytes().unwrap_or(&[]);
+    one.bytes() == other.bytes() && str::from_utf8(bytes).unwrap_or("").contains(shown)
+}
+
+// Whether both runs went as the row says, and alike.
+fn are_alike(alloc: Global, row: Row, one: &Played, other: &Played) -> Result<bool, NoMemory> {
+    Ok(
+        is_run(alloc, one, 0, row.told)?
+            && is_run(alloc, other, 0, row.told)?
+            && hear_alike(&one.plugins, &other.plugins)
+            && show_alike(&one.sink, &other.sink, row.shown),
+    )
+}
+
+// Whether the row comes to the same on threads and in turns.
+fn goes_alike<R: Threads + Wait + Sync>(rt: &R, alloc: Global, row: Row) -> Result<bool, NoMemory> {
+    let Some(other) = in_turns(alloc, row)? else {
+        return Ok(false);
+    };
+    match on_threads(rt, alloc, row)? {
+        Some(one) => are_alike(alloc, row, &one, &other),
+        None => Ok(false),
+    }
 }
 
 #[test]
-fn scripts_come_to_the_same_on_threads_and_in_turns(rt: HostRuntime) -> Result<(), Fail> {
+fn scripts_come_to_the_same_on_threads_and_in_turns(rt: HostRuntime) {
     let alloc = rt.alloc();
-    for row in [
-        REFUSED,
-        ALERTED,
-        STALE,
-        AT_THE_CARET,
-        DELETING,
-        JOINING,
-        MARKING,
-        AT_ONE_GAP,
-        HIGHER_FIRST,
-    ] {
-        let (Some(one), Some(other)) = (on_threads(&rt, alloc, row)?, in_turns(alloc, row)?) else {
-            assert!(rt; false, "no run");
-            return Ok(());
-        };
-        assert!(rt;
-            goes_as(alloc, row, &one)? && goes_as(alloc, row, &other)?,
-            "{}",
-            row.shown
-        );
-        assert!(rt; hear_alike(&one.plugins, &other.plugins), "{}", row.shown);
-        assert!(rt; show_alike(alloc, one, other, row.shown), "{}", row.shown);
-    }
-    Ok(())
+    assert!(rt; is_so(goes_alike(&rt, alloc, REFUSED)));
+    assert!(rt; is_so(goes_alike(&rt, alloc, ALERTED)));
+    assert!(rt; is_so(goes_alike(&rt, alloc, STALE)));
+    assert!(rt; is_so(goes_alike(&rt, alloc, AT_THE_CARET)));
+    assert!(rt; is_so(goes_alike(&rt, alloc, DELETING)));
+    assert!(rt; is_so(goes_alike(&rt, alloc, JOINING)));
+    assert!(rt; is_so(goes_alike(&rt, alloc, MARKING)));
+    assert!(rt; is_so(goes_alike(&rt, alloc, AT_ONE_GAP)));
+    assert!(rt; is_so(goes_alike(&rt, alloc, HIGHER_FIRST)));
 }

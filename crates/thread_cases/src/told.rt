@@ -1,19 +1,8 @@
 //! What a journal and bytes tell, in short.
+use case_runs::callers;
 use plain_text::{NoMemory, Text};
-use std::alloc::{AllocError, Global};
-use xi_top::Entry;
-
-// The callers of the entries, as digits, and `!` behind one that was not sent.
-pub(crate) fn callers(alloc: Global, entries: &[Entry]) -> Result<Text, NoMemory> {
-    let mut told = Text::new(alloc);
-    for entry in entries {
-        told.push(char::from(b'0' + (entry.caller % 10) as u8))?;
-        if !entry.sent {
-            told.push('!')?;
-        }
-    }
-    Ok(told)
-}
+use std::alloc::Global;
+use xi_top::{Entry, Report};
 
 // How many entries this caller has.
 pub(crate) fn entries_of(entries: &[Entry], caller: u32) -> usize {
@@ -23,20 +12,22 @@ pub(crate) fn entries_of(entries: &[Entry], caller: u32) -> usize {
         .count()
 }
 
+// Whether the run has this status, and these callers of its entries, and no plugin lacked anything.
+pub(crate) fn is_run<K, H, P>(
+    alloc: Global,
+    report: &Report<K, H, P>,
+    status: u8,
+    told: &str,
+) -> Result<bool, NoMemory> {
+    let callers = callers(alloc, &report.journal)?;
+    Ok(report.status == status && report.all_served && callers.as_str() == told)
+}
+
 // How often the character stands in the text.
 pub(crate) fn times(text: &str, letter: char) -> usize {
     text.chars()
         .filter(|character| *character == letter)
         .count()
-}
-
-// These texts, one after the other.
-pub(crate) fn joined(alloc: Global, texts: &[&str]) -> Result<Vec<u8>, AllocError> {
-    let mut bytes = Vec::new(alloc);
-    for text in texts {
-        bytes.extend_from_slice(text.as_bytes())?;
-    }
-    Ok(bytes)
 }
 
 // The text before the first quote.
