@@ -1,4 +1,5 @@
-ghost use Rattle.std.specs.Prelude.{◌≡◌, IfSome};
+ghost use Rattle.std.specs.Prelude.{◌≡◌, ◌≤◌, IfSome};
+ghost use Rattle.outside.specs.Faults.{Rose};
 ghost use Rattle.outside.specs.Shelf.{TellsOf, bytes_of};
 ghost use Rattle.outside.specs.Sink.{sink_state};
 ghost use Rattle.run_folder.specs.Folder.{IsPlayedFrom, IsPlayedOn, IsPlayedTo, path_of, plugin_count, with_caller};
@@ -42,6 +43,8 @@ pub fn replay_folder<H: Shelf, K: Sink>(
     ensures played { IsPlayedFrom result.0 folder.now (H.files shelf.old) (sink_state K.held K.faults K.failures sink)
         (sink_state K.held K.faults K.failures result.1) }
     ensures files { H.files shelf.new ≡ H.files shelf.old }
+    ensures faults { H.faults shelf.old ≤ H.faults shelf.new }
+    ensures unread { (part : Part) → result.0 ≡ Ending.Unread part → Rose (H.faults shelf.old) (H.faults shelf.new) }
 {
     match read_part(alloc, shelf, folder, Part::Tape) {
         Shelved::Held(tape) => replay_tape(alloc, shelf, folder, &tape, sink),
@@ -62,6 +65,8 @@ fn replay_tape<H: Shelf, K: Sink>(
     ensures played { IsPlayedOn result.0 folder.now tape.now (H.files shelf.old) (sink_state K.held K.faults K.failures sink)
         (sink_state K.held K.faults K.failures result.1) }
     ensures files { H.files shelf.new ≡ H.files shelf.old }
+    ensures faults { H.faults shelf.old ≤ H.faults shelf.new }
+    ensures unread { (part : Part) → result.0 ≡ Ending.Unread part → Rose (H.faults shelf.old) (H.faults shelf.new) }
 {
     match read_part(alloc, shelf, folder, Part::Journal) {
         Shelved::Held(bytes) => replay_bytes(alloc, tape, &bytes, sink),
@@ -117,6 +122,8 @@ fn with_caller(count: u32, caller: u32) -> u32
 fn read_part<H: Shelf>(alloc: Global, shelf: &mut H, folder: &Text, part: Part) -> Shelved
     ensures bytes { IfSome (H.files shelf.old) (λ held. TellsOf result (bytes_of held (path_of folder.now part))) }
     ensures files { H.files shelf.new ≡ H.files shelf.old }
+    ensures faults { H.faults shelf.old ≤ H.faults shelf.new }
+    ensures failed { result ≡ Shelved.Failed → Rose (H.faults shelf.old) (H.faults shelf.new) }
 {
     match path_of(alloc, folder, part) {
         Err(_) => Shelved::NoMemory,

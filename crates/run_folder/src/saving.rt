@@ -1,5 +1,6 @@
-ghost use Rattle.std.specs.Prelude.{◌≡◌, ◌≤◌};
+ghost use Rattle.std.specs.Prelude.{◌≡◌, ◌≤◌, ◌<◌, ℕ, length};
 ghost use Rattle.std.specs.Option.{option_map};
+ghost use Rattle.outside.specs.Faults.{Rose};
 ghost use Rattle.outside.specs.Shelf.{files_after};
 ghost use Rattle.run_folder.specs.Folder.{IsKept, IsSaved, path_of};
 
@@ -33,6 +34,8 @@ pub fn save_run<H: Shelf>(
 ) -> Saved
     ensures saved { IsSaved result folder.now tape.now journal.now (H.files shelf.old) (H.files shelf.new) }
     ensures faults { H.faults shelf.old ≤ H.faults shelf.new }
+    ensures failed { (part : Part) → result ≡ Saved.Failed part → Rose (H.faults shelf.old) (H.faults shelf.new) }
+    ensures unwritten { (index : ℕ) → result ≡ Saved.Unwritten index → index < length journal.now }
 {
     match save_part(alloc, shelf, folder, Part::Tape, tape.as_slice()) {
         Stored::Done => save_journal(alloc, shelf, folder, journal),
@@ -45,6 +48,8 @@ pub fn save_run<H: Shelf>(
 fn save_journal<H: Shelf>(alloc: Global, shelf: &mut H, folder: &Text, journal: &[Entry]) -> Saved
     ensures kept { IsKept result folder.now journal.now (H.files shelf.old) (H.files shelf.new) }
     ensures faults { H.faults shelf.old ≤ H.faults shelf.new }
+    ensures failed { (part : Part) → result ≡ Saved.Failed part → Rose (H.faults shelf.old) (H.faults shelf.new) }
+    ensures unwritten { (index : ℕ) → result ≡ Saved.Unwritten index → index < length journal.now }
 {
     match write_journal(alloc, journal) {
         Err(Unwritten::Entry(at)) => Saved::Unwritten(at),
@@ -75,6 +80,7 @@ fn save_part<H: Shelf>(
 ) -> Stored
     ensures files { H.files shelf.new ≡ option_map (λ held. files_after result held (path_of folder.now part) bytes.now) (H.files shelf.old) }
     ensures faults { H.faults shelf.old ≤ H.faults shelf.new }
+    ensures failed { result ≡ Stored.Failed → Rose (H.faults shelf.old) (H.faults shelf.new) }
 {
     match path_of(alloc, folder, part) {
         Err(_) => Stored::NoMemory,
