@@ -1,6 +1,7 @@
 -- What a call comes to in a session in memory, and what is printed of it.
 use Rattle.std.specs.Prelude.{◌≡◌, ◌^◌, ℕ, List, [], length, drop, min, Option, Some}
 use Rattle.outside.specs.MemSink.{Store}
+use Rattle.outside.specs.Schedule.{schedule_of}
 use Rattle.xi_plain.specs.declared.ask.Ask.{Ask}
 use Rattle.xi_plain.specs.declared.ask.Query.TheVariants.{Notices}
 use Rattle.xi_plain.specs.declared.reply.Answer.{Answer}
@@ -25,11 +26,12 @@ told_by core =
     state_of (λ (sink : Store). sink.held) (λ (sink : Store). sink.schedule.faults) (λ (sink : Store). sink.schedule.faults) (λ (files : Files). Some files)
     (λ (files : Files). 0) core
 
--- a session with so many plugins and these files, which has no entry
+-- a session with so many plugins and these files, which has no entry, and whose sink fails nowhere
 pub record IsFirst (plugins : ℕ) (files : Files) (core : Session) : Type 0 where
   pub terms : terms_of core ≡ record { plugins = plugins; limit = 2 ^ 40 }
   pub empty : journal_of core ≡ []
   pub held : (sink_of core).held ≡ Some []
+  pub calm : (sink_of core).schedule ≡ schedule_of []
   pub shelf : shelf_of core ≡ files
 
 -- what a sink holds behind what it held
