@@ -1,0 +1,13 @@
+-- Where the pieces of a logical line begin and end.
+use Rattle.std.specs.Prelude.{ℕ, ◌+◌, not, is_some, List, drop}
+use Rattle.std.specs.List.{prefix_len}
+use Rattle.plain_screen.specs.declared.piece.Piece.{Piece}
+use Rattle.plain_screen.specs.View.{layout_line_of, line_under}
+
+-- the first piece of the logical line that a piece is of
+abbrev pub first_piece : List ℕ → List Piece → ℕ → ℕ
+first_piece text pieces index = layout_line_of pieces (line_under text pieces index).start
+
+-- the piece behind that logical line: the first one behind the piece that has a number; where there is none, as many as there are
+abbrev pub past_piece : List Piece → ℕ → ℕ
+past_piece pieces index = index + 1 + prefix_len (λ piece. not (is_some piece.ln)) (drop (index + 1) pieces)
