@@ -1,6 +1,6 @@
 //! Plays the rows of a table in a session with two plugins.
 
-ghost use Rattle.std.specs.Prelude.{◌≡◌};
+ghost use Rattle.std.specs.Prelude.{◌≡◌, ◌≤◌, IfSome, length};
 ghost use Rattle.core_session.specs.Core.{terms_of};
 
 use core_session::{Answer, Core, Reply};
@@ -183,8 +183,11 @@ fn make_session(alloc: Global, failing: u64) -> Option<Session> {
     }
 }
 
-/// The first of the rows that comes to something else, in a session whose write of this number fails, and none where it is 0.
-pub fn first_other(alloc: Global, failing: u64, rows: &[Row]) -> Option<usize> {
+/// The first of the rows that comes to something else, in a session whose write of this number fails, and none where it is 0. Where there is no
+/// memory for the session it is 0.
+pub fn first_other(alloc: Global, failing: u64, rows: &[Row]) -> Option<usize>
+    ensures { IfSome result (λ at. at ≤ length rows.now) }
+{
     let Some(mut session) = make_session(alloc, failing) else {
         return Some(0);
     };
