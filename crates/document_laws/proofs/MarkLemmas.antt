@@ -1,5 +1,5 @@
 -- What a layout tells of the characters that are selected and found.
-use Rattle.std.proofs.Common.{◌≡◌, ℕ, zero, suc, ◌+◌, ◌-◌, ◌<◌, ◌≤◌, Bool, true, false, cond, List, [], ◌∷◌, ◌++◌, length, take, drop, map, Option, Some, None, refl, ap, ap₂, sym, subst, ◌∙◌, arith, inl, inr, pos, ◌-ℤ◌}
+use Rattle.std.proofs.Common.{◌≡◌, ℕ, zero, suc, ◌+◌, ◌-◌, ◌<◌, ◌≤◌, Bool, true, false, cond, List, [], ◌∷◌, ◌++◌, length, drop, map, Option, Some, None, refl, ap, ap₂, sym, subst, ◌∙◌, arith, inl, inr, pos, ◌-ℤ◌}
 use Rattle.std.specs.Prelude.{◌||◌, ◌&&◌, ◌==◌, if◌then◌else◌, nat_le, nat_lt, not, min, max, option_map, slice_get, slice_range, unwrap_or, IfSome}
 use Rattle.std.specs.List.{AllByRecursion, flat_map, filter, list_any}
 use Rattle.std.specs.Ordering.{is_lt}
@@ -12,7 +12,7 @@ use Rattle.std.proofs.lemmas.Option.{slice_get-map}
 use Rattle.plain_text.specs.declared.run.Run.{Run}
 use Rattle.plain_text.specs.declared.selection.Region.{Region}
 use Rattle.plain_text.specs.Text.{place_of}
-use Rattle.plain_text.proofs.callers.ListLemmas.{AllByRecursion-append}
+use Rattle.plain_text.proofs.callers.ListLemmas.{AllByRecursion-append, AllByRecursion-take}
 use Rattle.plain_text.proofs.callers.PlaceLemmas.{place_of-rises_strictly}
 use Rattle.plain_edits.specs.declared.style.Span.{Span}
 use Rattle.plain_edits.specs.Styles.{Layer}
@@ -310,11 +310,6 @@ Own-from : (from : ℕ) (layer : Layer) → AllByRecursion (λ style. IfSome sty
 Own-from from [] all = tt
 Own-from from (style ∷ layer) all = Own-onto from style (spans_from (from + 1) layer) all.0 (Own-from (from + 1) layer all.1)
 
-all-take : {X : Type 0} (P : X → Type 0) (n : ℕ) (xs : List X) → AllByRecursion P xs → AllByRecursion P (take n xs)
-all-take P zero xs all = tt
-all-take P (suc n) [] all = tt
-all-take P (suc n) (x ∷ xs) all = (all.0, all-take P n xs all.1)
-
 all-drop : {X : Type 0} (P : X → Type 0) (n : ℕ) (xs : List X) → AllByRecursion P xs → AllByRecursion P (drop n xs)
 all-drop P zero xs all = all
 all-drop P (suc n) [] all = tt
@@ -324,7 +319,8 @@ Own-layers : (range : Run) (layers : List Layer) → HaveOwnIds layers → Own (
 Own-layers range [] all = tt
 Own-layers range (layer ∷ layers) all =
     AllByRecursion-append (λ (span : Span). 2 ≤ span.style) (spans_in range layer) (flat_map (spans_in range) layers)
-    (Own-from range.start (slice_range layer range.start range.end) (all-take _ (range.end - range.start) (drop range.start layer) (all-drop _ range.start layer all.0)))
+    (Own-from range.start (slice_range layer range.start range.end)
+    (AllByRecursion-take _ (range.end - range.start) (drop range.start layer) (all-drop _ range.start layer all.0)))
     (Own-layers range layers all.1)
 
 shown-own : (id at : ℕ) (spans : List Span) → id < 2 → Own spans → is_shown id at spans ≡ false

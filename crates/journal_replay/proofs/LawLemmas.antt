@@ -17,6 +17,7 @@ use Rattle.journal_replay.specs.declared.replaying.ReplayFault.TheVariants as fa
 use Rattle.journal_replay.specs.Follow.{AllFollow, FirstDiffers, IsNextLine, IsByPlugin, IsTaken, IsTheClosing, NextAsks, Point, first_point, lines_left, point_with}
 use Rattle.journal_replay.specs.Laws.{AnswersExactly, IsWritable, OwnJournalFollows, OwnJournalIsShown}
 use Rattle.journal_replay.specs.Replay.{Replays, replay_terms}
+use Rattle.journal_replay.proofs.FollowLemmas.{first_of, second_of}
 
 -- ---- each answer where it is due
 
@@ -57,14 +58,6 @@ answers_exactly plugins tape journal before after (Some fault.SinkFault) replays
 answers_exactly plugins tape journal before after (Some fault.NoMemory) replays some calm = absurd (some refl)
 
 -- ---- a run's own journal
-
-first_of : (a b : Bool) → a && b ≡ true → a ≡ true
-first_of true b is = refl
-first_of false b is = absurd cc
-
-second_of : (a b : Bool) → a && b ≡ true → b ≡ true
-second_of true b is = is
-second_of false b is = absurd cc
 
 -- an entry with others behind it does not close
 open_before : (closes sent : Bool) (n : ℕ) (rest : Bool) → (if closes then n + 1 == 0 else (if sent then true else rest)) ≡ true → closes ≡ false

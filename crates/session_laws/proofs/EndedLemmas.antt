@@ -1,10 +1,12 @@
 -- In each view exactly the sessions of plugins have ended that ended; and where all have, nothing waits to be collected.
 use Rattle.std.proofs.Common.{◌≡◌, ℕ, zero, suc, ◌-◌, ◌<◌, ◌≤◌, Bool, true, false, List, [], ◌∷◌, ◌++◌, length, Option, Some, None, refl, ap, sym, ◌∙◌, subst, arith, ◌≢◌}
 use Rattle.std.specs.Prelude.{◌==◌, ◌&&◌, ◌||◌, ◌↔◌, if◌then◌else◌, replicate, slice_index_or, slice_set}
-use Rattle.std.specs.List.{AllByRecursion, list_any}
+use Rattle.std.specs.List.{AllByRecursion}
 use Rattle.std.specs.Str.{encode_utf8_all}
+use Rattle.std.proofs.Math.Bool.{and-false, or-false, or_assoc, or_comm}
 use Rattle.std.proofs.lemmas.Bool.Decides.{nat_tests}
 use Rattle.std.proofs.lemmas.List.Folds.{list_any-append}
+use Rattle.plain_text.specs.Numbers.{has}
 use Rattle.xi_plain.specs.declared.command.Act.{Act}
 use Rattle.xi_plain.specs.declared.command.Act.TheVariants as act
 use Rattle.xi_plain.specs.declared.command.Act.TheVariants.{Ended as Over}
@@ -94,19 +96,11 @@ swapped true false c = refl
 swapped false true c = refl
 swapped false false c = refl
 
-or_false : (b : Bool) → (b || false) ≡ b
-or_false true = refl
-or_false false = refl
-
 last_first : (a b : Bool) → (a || (b || false)) ≡ (b || a)
 last_first true true = refl
 last_first true false = refl
 last_first false true = refl
 last_first false false = refl
-
--- whether the plugin is one of these
-abbrev has : List ℕ → ℕ → Bool
-has callers caller = list_any (λ other. other == caller) callers
 
 has-with : (ended : List ℕ) (other caller : ℕ) → has (ended_with ended other) caller ≡ ((other == caller) || has ended caller)
 has-with ended other caller = by (has ended other) refl
@@ -121,20 +115,6 @@ has-with ended other caller = by (has ended other) refl
     by true is = one (other == caller) refl is
     by false is = list_any-append (λ n. n == caller) ended (other ∷ []) ∙ last_first (has ended caller) (other == caller)
 
-flipped : (a b : Bool) → (a || b) ≡ (b || a)
-flipped true true = refl
-flipped true false = refl
-flipped false true = refl
-flipped false false = refl
-
-or_or : (a b c : Bool) → ((a || b) || c) ≡ (a || (b || c))
-or_or true b c = refl
-or_or false b c = refl
-
-and_false : (a : Bool) → (a && false) ≡ false
-and_false true = refl
-and_false false = refl
-
 -- who ended by these entries is one of those who had ended, or an end of his stands among them
 has-entry : (session : Session) (entry : Entry) (caller : ℕ) → 1 ≤ caller →
     has (step session entry).ended caller ≡ (has session.ended caller || (is_end entry.command.act && (entry.caller == caller)))
@@ -144,23 +124,23 @@ has-entry session entry caller at_one = by (is_front entry) refl
     before = has session.ended caller
 
     plugin : (asks : Act) → has (ended_after session.ended entry.caller asks) caller ≡ (before || (is_end asks && (entry.caller == caller)))
-    plugin Over = has-with session.ended entry.caller caller ∙ flipped (entry.caller == caller) before
-    plugin asks = sym (or_false before)
+    plugin Over = has-with session.ended entry.caller caller ∙ or_comm (entry.caller == caller) before
+    plugin asks = sym (or-false before)
 
     by : (front : Bool) → is_front entry ≡ front →
         has (step_by front session entry).ended caller ≡ (before || (is_end entry.command.act && (entry.caller == caller)))
     by true is =
         let other : (entry.caller == caller) ≡ false = grind (arith, nat_tests, is, at_one) in
-        sym (or_false before) ∙ ap (λ b. before || b) (sym (and_false (is_end entry.command.act))) ∙
+        sym (or-false before) ∙ ap (λ b. before || b) (sym (and-false (is_end entry.command.act))) ∙
         ap (λ same. before || (is_end entry.command.act && same)) (sym other)
     by false is = plugin entry.command.act
 
 has-entries : (session : Session) (entries : List Entry) (caller : ℕ) → 1 ≤ caller →
     has (session_after session entries).ended caller ≡ (has session.ended caller || has_ended entries caller)
-has-entries session [] caller at_one = sym (or_false (has session.ended caller))
+has-entries session [] caller at_one = sym (or-false (has session.ended caller))
 has-entries session (entry ∷ entries) caller at_one =
     has-entries (step session entry) entries caller at_one ∙ ap (λ b. b || has_ended entries caller) (has-entry session entry caller at_one) ∙
-    or_or (has session.ended caller) (is_end entry.command.act && (entry.caller == caller)) (has_ended entries caller)
+    or_assoc (has session.ended caller) (is_end entry.command.act && (entry.caller == caller)) (has_ended entries caller)
 
 -- each of them is a plugin's number
 abbrev AreCallers : List ℕ → Type 0
@@ -207,7 +187,7 @@ module _ (caller : ℕ) (at_one : 1 ≤ caller) where
   says-loaded session within are text =
       gone-without session.ended (loaded_document text session.terms.plugins session.terms.limit session.config) are ∙
       ap (λ gone. has session.ended caller || gone) (gone-none session.terms.plugins (caller - 1) (omega (arith, at_one, within))) ∙
-      or_false (has session.ended caller)
+      or-false (has session.ended caller)
 
   abbrev AllSay : List ℕ → List OpenView → Type 0
   AllSay ended views = AllByRecursion (λ (view : OpenView). Says ended view.document) views
