@@ -73,9 +73,11 @@ fn without_asks(work: Work<'_>) -> Work<'_> {
 
 // The front closes the room, where this is so.
 fn close_where<R: Threads + Wait>(taker: &mut RoomFront<'_, Desk, R, Player>, closes: bool)
-    requires { IsStaffed taker.old.room.now.table.shared.table_id taker.old.room.now.table.shared.key.first.value taker.old.pass (givens_of taker.old.posts.items) }
+    requires { IsStaffed taker.old.room.now.table.shared.table_id taker.old.room.now.table.shared.key.first.value
+        taker.old.pass (givens_of taker.old.posts.items) }
     ensures same { (taker.new.room.now ≡ taker.old.room.now) × (givens_of taker.new.posts.items ≡ givens_of taker.old.posts.items) }
-    ensures staffed { IsStaffed taker.new.room.now.table.shared.table_id taker.new.room.now.table.shared.key.first.value taker.new.pass (givens_of taker.new.posts.items) }
+    ensures staffed { IsStaffed taker.new.room.now.table.shared.table_id taker.new.room.now.table.shared.key.first.value
+        taker.new.pass (givens_of taker.new.posts.items) }
 {
     if closes {
         taker.close();
@@ -90,10 +92,12 @@ fn front_works<R: Threads + Wait>(
     back: Back<Player>,
     work: Work<'_>,
 ) -> (Option<Text>, Back<Player>)
-    requires staffed { IsStaffed taker.room.now.table.shared.table_id taker.room.now.table.shared.key.first.value taker.pass (givens_of taker.posts.items) }
+    requires staffed { IsStaffed taker.room.now.table.shared.table_id taker.room.now.table.shared.key.first.value
+        taker.pass (givens_of taker.posts.items) }
     requires empty { (back.passes.items ≡ []) × (back.plugins.items ≡ []) }
     requires reserved { (length taker.posts.items < vec_capacity back.passes) × (length taker.posts.items ≤ vec_capacity back.plugins) }
-    ensures { IsAllBack taker.entry.room.now.table.shared.table_id taker.entry.room.now.table.shared.key.first.value result.1.passes.items result.1.plugins.items result.1.all_served }
+    ensures { IsAllBack taker.entry.room.now.table.shared.table_id taker.entry.room.now.table.shared.key.first.value
+        result.1.passes.items result.1.plugins.items result.1.all_served }
 {
     let mut taker = taker;
     keeper.await_served(work.awaits);
@@ -121,7 +125,8 @@ fn all_in_scope<'s, E, R: Threads + Wait + Sync>(
     requires vectors { (vec_len players ≤ length said.now) × (posts.items ≡ []) × (vec_len players ≤ vec_capacity posts) }
     requires empty { (back.passes.items ≡ []) × (back.plugins.items ≡ []) }
     requires reserved { (vec_len players < vec_capacity back.passes) × (vec_len players ≤ vec_capacity back.plugins) }
-    ensures { IsAllBack room.now.table.shared.table_id room.now.table.shared.key.first.value result.1.passes.items result.1.plugins.items result.1.all_served }
+    ensures { IsAllBack room.now.table.shared.table_id room.now.table.shared.key.first.value
+        result.1.passes.items result.1.plugins.items result.1.all_served }
 {
     let taker = hire_all(scope, rt, alloc, room, front, players, said, posts, keeper);
     front_works(alloc, keeper, taker, back, work)
@@ -144,7 +149,8 @@ fn all_on_threads<R: Threads + Wait + Sync>(
     requires words { vec_len players ≤ length said.now }
     requires empty { (back.passes.items ≡ []) × (back.plugins.items ≡ []) }
     requires reserved { (vec_len players < vec_capacity back.passes) × (vec_len players ≤ vec_capacity back.plugins) }
-    ensures { IsAllBack room.now.table.shared.table_id room.now.table.shared.key.first.value result.1.passes.items result.1.plugins.items result.1.all_served }
+    ensures { IsAllBack room.now.table.shared.table_id room.now.table.shared.key.first.value
+        result.1.passes.items result.1.plugins.items result.1.all_served }
 {
     thread::scope(
         thread::scope_env(),
@@ -155,7 +161,8 @@ fn all_on_threads<R: Threads + Wait + Sync>(
             requires words { vec_len players ≤ length said.now }
             requires empty { (back.passes.items ≡ []) × (back.plugins.items ≡ []) }
             requires reserved { (vec_len players < vec_capacity back.passes) × (vec_len players ≤ vec_capacity back.plugins) }
-            ensures { IsAllBack room.entry.now.table.shared.table_id room.entry.now.table.shared.key.first.value result.1.passes.items result.1.plugins.items result.1.all_served }
+            ensures { IsAllBack room.entry.now.table.shared.table_id room.entry.now.table.shared.key.first.value
+                result.1.passes.items result.1.plugins.items result.1.all_served }
         {
             match Vec::with_capacity(alloc, players.len()) {
                 Ok(posts) => all_in_scope(
@@ -195,7 +202,8 @@ fn first_on_a_thread<'s, E, R: Threads + Wait + Sync>(
     requires few { 2 < room.now.table.shared.key.most }
     requires posts { (posts.items ≡ []) × (2 ≤ vec_capacity posts) }
     ensures room { result.room.now ≡ room.now }
-    ensures staffed { IsStaffed room.now.table.shared.table_id room.now.table.shared.key.first.value result.pass (givens_of result.posts.items) }
+    ensures staffed { IsStaffed room.now.table.shared.table_id room.now.table.shared.key.first.value
+        result.pass (givens_of result.posts.items) }
     ensures count { length result.posts.items ≡ 2 }
 {
     let mut front = front;
@@ -229,7 +237,8 @@ fn two_in_scope<'s, E, R: Threads + Wait + Sync>(
     requires posts { (posts.items ≡ []) × (2 ≤ vec_capacity posts) }
     requires empty { (back.passes.items ≡ []) × (back.plugins.items ≡ []) }
     requires reserved { (2 < vec_capacity back.passes) × (2 ≤ vec_capacity back.plugins) }
-    ensures { IsAllBack room.now.table.shared.table_id room.now.table.shared.key.first.value result.1.passes.items result.1.plugins.items result.1.all_served }
+    ensures { IsAllBack room.now.table.shared.table_id room.now.table.shared.key.first.value
+        result.1.passes.items result.1.plugins.items result.1.all_served }
 {
     let taker = first_on_a_thread(scope, rt, alloc, keeper, room, front, pair, said, posts);
     front_works(alloc, keeper, taker, back, work)
@@ -252,7 +261,8 @@ fn two_on_threads<R: Threads + Wait + Sync>(
     requires words { 1 ≤ length said.now }
     requires empty { (back.passes.items ≡ []) × (back.plugins.items ≡ []) }
     requires reserved { (2 < vec_capacity back.passes) × (2 ≤ vec_capacity back.plugins) }
-    ensures { IsAllBack room.now.table.shared.table_id room.now.table.shared.key.first.value result.1.passes.items result.1.plugins.items result.1.all_served }
+    ensures { IsAllBack room.now.table.shared.table_id room.now.table.shared.key.first.value
+        result.1.passes.items result.1.plugins.items result.1.all_served }
 {
     thread::scope(
         thread::scope_env(),
@@ -263,7 +273,8 @@ fn two_on_threads<R: Threads + Wait + Sync>(
             requires words { 1 ≤ length said.now }
             requires empty { (back.passes.items ≡ []) × (back.plugins.items ≡ []) }
             requires reserved { (2 < vec_capacity back.passes) × (2 ≤ vec_capacity back.plugins) }
-            ensures { IsAllBack room.entry.now.table.shared.table_id room.entry.now.table.shared.key.first.value result.1.passes.items result.1.plugins.items result.1.all_served }
+            ensures { IsAllBack room.entry.now.table.shared.table_id room.entry.now.table.shared.key.first.value
+                result.1.passes.items result.1.plugins.items result.1.all_served }
         {
             match Vec::with_capacity(alloc, 2) {
                 Ok(posts) => two_in_scope(

@@ -9,13 +9,13 @@ use Rattle.protocol_cases.specs.declared.case.Run.{Run}
 use Rattle.case_scripts.specs.declared.script.Script.{Script}
 use Rattle.protocol_cases.specs.declared.verdict.Expected.{Expected}
 use Rattle.protocol_cases.specs.declared.verdict.Verdict.{Verdict}
-use Rattle.protocol_cases.specs.Case.{IsJudged, IsVerdictOn, expected_of, passage_between, plugins_from, shelf_from, sink_from, source_of, told_by}
+use Rattle.protocol_cases.specs.Case.{IsJudged, IsVerdictOn, expected_of, passage_between, plugins_from, shelf_from, sink_from, source_of, told_turns}
 use Rattle.protocol_cases.specs.Played.{Played}
 
 -- a run of this source, this sink, this shelf and these plugins
 pub record Ran (source : Stock) (sink : Store) (shelf : Shelves) (players : List Played) (run : Run) : Type 0 where
   pub runs : RunsAlone (length players) (passage_between source sink shelf run) run.report.journal.items run.report.status
-  pub turns : TakesTurns told_by players run.report.plugins.items run.report.journal.items run.report.all_served
+  pub turns : TakesTurns told_turns players run.report.plugins.items run.report.journal.items run.report.all_served
 
 pub judged : (script : Script) (source : Stock) (sink : Store) (shelf : Shelves) (players : List Played) (run : Run) (expected : Expected)
     (verdict : Verdict) → source ≡ source_of script → sink ≡ sink_from script → shelf ≡ shelf_from script → players ≡ plugins_from script →

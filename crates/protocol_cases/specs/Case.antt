@@ -37,8 +37,8 @@ abbrev pub plugins_from : Script → List Played
 plugins_from script = players_of script.turns.turns 1 (min script.turns.count 64)
 
 -- the turns that a plugin tells: those that it had, unless it lacked memory to keep them
-abbrev pub told_by : Played → Option (List Turned)
-told_by played = if played.lost then None else Some (map turned_of played.had)
+abbrev pub told_turns : Played → Option (List Turned)
+told_turns played = if played.lost then None else Some (map turned_of played.had)
 
 -- what a script is to come to
 abbrev pub expected_of : Script → Expected
@@ -77,7 +77,7 @@ pub record IsJudged (script : Script) (outcome : Outcome) : Type 0 where
   pub made : outcome.run ≡ Some run
   pub runs : RunsAlone (length (plugins_from script)) (passage_between (source_of script) (sink_from script) (shelf_from script) run)
       run.report.journal.items run.report.status
-  pub turns : TakesTurns told_by (plugins_from script) run.report.plugins.items run.report.journal.items run.report.all_served
+  pub turns : TakesTurns told_turns (plugins_from script) run.report.plugins.items run.report.journal.items run.report.all_served
   pub verdict : IsVerdictOn run (expected_of script) outcome.verdict
 
 -- what becomes of what a text was read as: the run of its script is judged, or there is none, and the bad line is told

@@ -1,7 +1,7 @@
 ghost use Rattle.std.specs.Prelude.{◌≤◌, IfOk, length, vec_len};
 ghost use Rattle.xi_top.specs.Run.{RunsAlone};
 ghost use Rattle.xi_top.specs.Turns.{TakesTurns};
-ghost use Rattle.protocol_cases.specs.Case.{IsJudged, IsCaseOutcome, IsVerdictOn, passage_between, told_by};
+ghost use Rattle.protocol_cases.specs.Case.{IsJudged, IsCaseOutcome, IsVerdictOn, passage_between, told_turns};
 
 use crate::player::{Player, players_of};
 use crate::verdict::{Expected, Verdict, judge};
@@ -76,7 +76,8 @@ fn made(
 ) -> Run
     requires { vec_len players ≤ 64 }
     ensures runs { RunsAlone (length players.items) (passage_between source sink shelf result) result.report.journal.items result.report.status }
-    ensures turns { TakesTurns told_by players.items result.report.plugins.items result.report.journal.items result.report.all_served }
+    ensures turns { TakesTurns told_turns players.items result.report.plugins.items result.report.journal.items
+        result.report.all_served }
 {
     let mut source = source;
     let report = run_alone(alloc, &mut source, sink, shelf, players);

@@ -55,7 +55,8 @@ impl Player {
 
     /// Has its next turn.
     fn play(&mut self, lines: &[Text]) -> Result<Turn, NoMemory>
-        ensures had { IfOk result (λ turn. self.new.had ≡ self.old.had ++ record { caller = self.old.caller; given = lines.now; gives = turn.lines; done = turn.done } ∷ []) }
+        ensures had { IfOk result (λ turn. self.new.had ≡ self.old.had ++
+            record { caller = self.old.caller; given = lines.now; gives = turn.lines; done = turn.done } ∷ []) }
         ensures kept { self.new.lost ≡ self.old.lost }
     {
         let turn = reply_of(self.alloc, self.turns.get(self.had.len()))?;

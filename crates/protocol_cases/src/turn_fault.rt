@@ -58,7 +58,8 @@ fn rest_fault(
     said: Option<&TurnSaid>,
     had: Option<&TurnSaid>,
 ) -> Result<Option<Fault>, NoMemory>
-    ensures { IfOk result (λ found. found ≡ rest_fault plugin turn (option_map (λ turn. turn.now) said.entry) (option_map (λ turn. turn.now) had.entry)) }
+    ensures { IfOk result (λ found. found ≡ rest_fault plugin turn
+        (option_map (λ turn. turn.now) said.entry) (option_map (λ turn. turn.now) had.entry)) }
 {
     match (said, had) {
         (None, None) => Ok(None),

@@ -21,8 +21,8 @@ abbrev pub Session : Type 0
 Session = Core Store Files
 
 -- what it tells of itself
-abbrev pub told_by : Session → SessionState
-told_by core =
+abbrev pub told_state : Session → SessionState
+told_state core =
     state_of (λ (sink : Store). sink.held) (λ (sink : Store). sink.schedule.faults) (λ (sink : Store). sink.schedule.faults) (λ (files : Files). Some files)
     (λ (files : Files). 0) core
 
@@ -47,7 +47,7 @@ gained_by old new = gained (sink_of old).held (sink_of new).held
 pub record SaysReply (old new : Session) (caller : ℕ) (ask : Ask) (said : List ℕ) : Type 0 where
   pub reply : Reply
   pub serves : Serves (terms_of old) (journal_of old) caller ask reply (journal_of new)
-  pub grown : IsGrown (told_by old) (told_by new)
+  pub grown : IsGrown (told_state old) (told_state new)
   pub printed : said ≡ reply_said reply (gained_by old new)
 
 -- WHAT IS PRINTED OF A LOOK is the answer from the entry on, or from the journal's end where that comes before it; the session stays as it is

@@ -85,7 +85,8 @@ impl Hand {
 
     /// What a plugin sees from the entry at this place on, or from the journal's end.
     fn seen(&self, caller: u32, from: u64) -> Answer
-        ensures { Answers (terms_of self.now.core) (journal_of self.now.core) (Query.Notices (min from (length (journal_of self.now.core)))) result }
+        ensures { Answers (terms_of self.now.core) (journal_of self.now.core)
+            (Query.Notices (min from (length (journal_of self.now.core)))) result }
     {
         self.core.notices(caller, from.min(self.core.len()))
     }

@@ -40,7 +40,8 @@ impl Table {
 
     /// Counts a line in the row of its kind, which is new where it is the first one.
     pub fn take(&mut self, kind: String, written: Written) -> anyhow::Result<()>
-        ensures { OnOk result (tallies_of self.new ≡ table_with (tallies_of self.old) (record { kind = string_bytes kind; written = written })) }
+        ensures { OnOk result (tallies_of self.new ≡
+            table_with (tallies_of self.old) (record { kind = string_bytes kind; written = written })) }
     {
         self.all.take(written)?;
         count_in(&mut self.rows, kind, written)

@@ -21,7 +21,8 @@ pub fn visit_in_room<K: Sink, H: Shelf, P: Plugin, R: Wait>(
     requires port { port.old.caller ≡ door.old.pass.caller }
     requires open { port.old.ended ≡ false }
     requires place { port.old.place ≤ length door.old.pass.seen }
-    ensures next { IsNextVisit (terms_of door.old.first) door.old.pass.caller port.old port.new door.old.pass.seen door.new.pass.seen result }
+    ensures next { IsNextVisit (terms_of door.old.first) door.old.pass.caller port.old port.new
+        door.old.pass.seen door.new.pass.seen result }
     ensures room { door.new.first ≡ door.old.first }
     ensures place { port.new.place ≤ length door.new.pass.seen }
 {
