@@ -2,4 +2,4 @@
 -- valid.
 pub use Rattle.line_cache.proofs.LawLemmas.{update_plan-apart, valid-plan}
 -- and of partners those that are valid by a screen's truths
-pub use Rattle.line_cache.proofs.ScreenLemmas.{partners-of}
+pub use Rattle.line_cache.proofs.ScreenLemmas.{partners-of, valid-at, valid_at}

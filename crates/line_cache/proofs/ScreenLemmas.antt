@@ -9,12 +9,12 @@ use Rattle.line_cache.specs.Mirror.{valid_lines}
 use Rattle.line_cache.specs.Stays.{if_true, valid_by}
 
 -- whether the line with an index is valid, if it is there
-abbrev valid_at : Option (Option Line) → Bool
+abbrev pub valid_at : Option (Option Line) → Bool
 valid_at (Some (Some line)) = true
 valid_at (Some None) = false
 valid_at None = false
 
-valid-at : (screen : Screen) (index : ℕ) → contains (valid_lines screen) index ≡ valid_at (slice_get screen index)
+pub valid-at : (screen : Screen) (index : ℕ) → contains (valid_lines screen) index ≡ valid_at (slice_get screen index)
 valid-at [] index = refl
 valid-at (None ∷ screen) zero = refl
 valid-at (Some line ∷ screen) zero = refl
