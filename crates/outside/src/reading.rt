@@ -1,4 +1,4 @@
-ghost use Rattle.std.specs.Prelude.{◌≡◌, ◌≢◌, ◌↔◌, None, Ok, Err, IfOk, IfSome, OnOk};
+ghost use Rattle.std.specs.Prelude.{◌≡◌, ◌≢◌, ◌↔◌, None, Some, Ok, Err, IfOk, IfSome, OnOk};
 ghost use Rattle.std.specs.Result.{IsErrAnd};
 ghost use Rattle.std.specs.IoError.{error_kind};
 ghost use Rattle.std.specs.Io.KnownBytes.{Consumes, IsAtEnd};
@@ -47,6 +47,7 @@ fn read_file<R: Files>(
 pub(crate) fn ordinary(found: io::Result<Metadata>) -> Result<Option<Metadata>, FileFault>
     ensures missing { (result ≡ Ok None) ↔ IsErrAnd found (λ e. error_kind e ≡ ErrorKind.NotFound) }
     ensures file { IfOk result (λ known. IfSome known (λ metadata. IsFile (file_type metadata))) }
+    ensures known { IfOk found (λ metadata. IsFile (file_type metadata) → result ≡ Ok (Some metadata)) }
     ensures fault { result ≢ Err FileFault.NoMemory }
 {
     match found {
