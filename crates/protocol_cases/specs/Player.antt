@@ -1,5 +1,5 @@
 -- The plugins of a script.
-use Rattle.std.specs.Prelude.{ℕ, zero, suc, ◌+◌, false, List, [], ◌∷◌, Option, Some, None}
+use Rattle.std.specs.Prelude.{ℕ, zero, suc, ◌+◌, false, List, [], ◌∷◌, length, slice_get, Option, Some, None}
 use Rattle.plugin_session.specs.declared.plugin.Turn.{Turn}
 use Rattle.case_scripts.specs.declared.turns.TurnSaid.{TurnSaid}
 use Rattle.protocol_cases.specs.Played.{Played}
@@ -9,6 +9,10 @@ use Rattle.case_scripts.specs.Turns.{turns_of}
 abbrev pub reply_of : Option TurnSaid → Turn
 reply_of None = record { lines = []; done = false }
 reply_of (Some turn) = record { lines = turn.gives; done = turn.done }
+
+-- WHAT IT GIVES in its next turn: what is said of this turn, and nothing once the turns are used up
+abbrev pub next_reply : Played → Turn
+next_reply played = reply_of (slice_get played.turns (length played.had))
 
 -- the plugin of this number, before its first turn
 abbrev pub player_of : List TurnSaid → ℕ → Played

@@ -1,6 +1,6 @@
 ghost use Rattle.std.specs.Prelude.{◌≡◌, ◌++◌, ◌∷◌, [], None, Some, IfOk, false, if◌then◌else◌, map, option_map, vec_len};
 ghost use Rattle.plugin_session.specs.Turn.{TellsMore, turn_had};
-ghost use Rattle.protocol_cases.specs.Player.{players_of, reply_of};
+ghost use Rattle.protocol_cases.specs.Player.{next_reply, players_of, reply_of};
 ghost use Rattle.case_scripts.specs.Turns.{turns_of};
 ghost use Rattle.protocol_cases.specs.Turns.{turned_of};
 
@@ -55,6 +55,8 @@ impl Player {
 
     /// Has its next turn.
     fn play(&mut self, lines: &[Text]) -> Result<Turn, NoMemory>
+        ensures gives { IfOk result (λ turn. turn ≡ next_reply self.old) }
+        ensures turns { self.new.turns ≡ self.old.turns }
         ensures had { IfOk result (λ turn. self.new.had ≡ self.old.had ++
             record { caller = self.old.caller; given = lines.now; gives = turn.lines; done = turn.done } ∷ []) }
         ensures kept { self.new.lost ≡ self.old.lost }
@@ -75,7 +77,12 @@ impl Plugin for Player {
     ghost told = { λ p. if p.lost then None else Some (map turned_of p.had) };
 
     /// Gives what the script says of this turn, and nothing where it says none.
-    fn turn(&mut self, lines: &[Text]) -> Turn {
+    fn turn(&mut self, lines: &[Text]) -> Turn
+        ensures tells { TellsMore (if self.old.lost then None else Some (map turned_of self.old.had))
+            (if self.new.lost then None else Some (map turned_of self.new.had)) (turn_had lines.now result ∷ []) }
+        ensures gives { self.new.lost ≡ false → result ≡ next_reply self.old }
+        ensures turns { self.new.turns ≡ self.old.turns }
+    {
         match self.play(lines) {
             Ok(turn) => turn,
             Err(NoMemory) => {
