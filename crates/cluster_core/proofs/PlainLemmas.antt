@@ -1,11 +1,8 @@
 -- A plain character is a cluster where what is apart from it comes next, whatever stands before it.
-use Rattle.std.proofs.Common.{◌≡◌, ℕ, ◌<◌, ◌&&◌, ◌||◌, ◌==◌, not, nat_le, Bool, true, false, ◌⊎◌, inl, inr, List, [], ◌∷◌, ◌++◌, length, map, take, drop, refl, sym, ap, ap₂, subst, ◌∙◌, arith, append_assoc, append-nil}
-use Rattle.std.specs.Prelude.{encode_utf8, encode_utf8_all, unwrap_or}
-use Rattle.std.specs.List.{concat}
-use Rattle.std.specs.Str.{all_scalars, chars, IsUtf8, IsCharBoundary}
-use Rattle.std.proofs.lemmas.Bool.{cases_Bool, eqb-true, leb-true}
+use Rattle.std.proofs.Common.{◌≡◌, ℕ, ◌<◌, ◌&&◌, ◌||◌, ◌==◌, not, Bool, true, false, List, [], ◌∷◌, ◌++◌, map, refl, sym, ap, ap₂, ◌∙◌, arith, append_assoc}
+use Rattle.std.specs.Prelude.{unwrap_or}
+use Rattle.std.specs.Str.{all_scalars}
 use Rattle.std.proofs.lemmas.List.Folds.{list_all-append}
-use Rattle.std.proofs.lemmas.Str.{chars_past_char, scalars-chars, encode_ascii, IsUtf8-past_char}
 use Rattle.ucd_table.proofs.Facts.{Stepped-below}
 use Rattle.ucd_breaks.specs.GraphemeClusterBreak.{grapheme_cluster_break}
 use Rattle.ucd_breaks.specs.declared.GraphemeClusterBreak.{GraphemeClusterBreak}
@@ -14,12 +11,12 @@ use Rattle.ucd_breaks.proofs.GraphemeClusterBreakLemmas.{grapheme_cluster_break_
 use Rattle.ucd_derived.specs.IndicConjunctBreak.{indic_conjunct_break}
 use Rattle.ucd_derived.proofs.IndicConjunctBreakLemmas.{indic_conjunct_break_stepped}
 use Rattle.ucd_emoji.specs.Binary.{is_extended_pictographic}
-use Rattle.unicode_segmentation.specs.Grapheme.{break_by_pair, ends_in_linker, ends_in_pictograph, ends_in_half_flag, is_regional, is_consonant, is_zwj}
+use Rattle.unicode_segmentation.specs.Grapheme.{break_by_pair, ends_in_pictograph, ends_in_half_flag, is_regional, is_consonant, is_zwj}
 use Rattle.unicode_segmentation.specs.Segments.{cut}
 use Rattle.unicode_segmentation.proofs.Computing.{unicode_segmentation}
 use Rattle.unicode_segmentation.proofs.SegmentsLemmas.{attach}
 use Rattle.cluster_core.specs.Boundaries.{clusters_in}
-use Rattle.cluster_core.specs.Plain.{is_plain_character, is_apart, StandsAlone, IsFirstCluster}
+use Rattle.cluster_core.specs.Plain.{is_plain_character, is_apart, StandsAlone}
 use Rattle.cluster_core.proofs.BoundaryLemmas.{onto, cluster_rule, cluster_rule-stops}
 use Rattle.cluster_core.proofs.FeedLemmas.{clusters_in-cut, cut-append, near, onto-push}
 use Rattle.cluster_core.proofs.RestartLemmas.{is_linked, ends_all, looks, rule_by, linker_behind, implied, negated, boundary-looks_no_further, cut-anew}

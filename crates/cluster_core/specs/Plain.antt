@@ -1,11 +1,15 @@
 -- Plain characters, which stand alone beside each other.
-use Rattle.std.specs.Prelude.{◌≡◌, ℕ, ◌≤◌, ◌==◌, ◌||◌, ◌&&◌, nat_le, Bool, true, List, [], ◌∷◌, ◌++◌}
+use Rattle.std.specs.Prelude.{◌≡◌, ℕ, ◌≤◌, ◌==◌, ◌||◌, ◌&&◌, nat_le, Bool, true, List, [], ◌∷◌, ◌++◌, length, map, drop}
 use Rattle.std.specs.Str.{all_scalars, chars}
 use Rattle.cluster_core.specs.Boundaries.{clusters_in}
 
 -- A PLAIN CHARACTER is a tab, or one from a space to `~`
 abbrev pub is_plain_character : ℕ → Bool
 is_plain_character c = (c == 9) || (nat_le 32 c && nat_le c 126)
+
+-- one from a space to `~`, which takes one column
+abbrev pub is_printable_character : ℕ → Bool
+is_printable_character c = nat_le 32 c && nat_le c 126
 
 -- what begins a cluster behind a plain character: another one, LF or CR
 abbrev pub is_apart : ℕ → Bool
@@ -16,6 +20,21 @@ abbrev pub StandsAlone : List ℕ → Type 0
 StandsAlone [] = ⊥
 StandsAlone (c ∷ []) = is_plain_character c ≡ true
 StandsAlone (c ∷ d ∷ line) = (is_plain_character c ≡ true) × (is_apart d ≡ true)
+
+-- a line begins with these printable characters, each of which stands alone
+abbrev pub BeginsAlone : List ℕ → List ℕ → Type 0
+BeginsAlone line [] = Unit {0}
+BeginsAlone [] (c ∷ run) = ⊥
+BeginsAlone (d ∷ line) (c ∷ run) = (d ≡ c) × (is_printable_character c ≡ true) × StandsAlone (d ∷ line) × BeginsAlone line run
+
+-- its first clusters are these characters, one by one
+abbrev pub BeginsByClusters : List ℕ → List ℕ → Type 0
+BeginsByClusters line run = clusters_in (chars line) ≡ map (λ c. c ∷ []) run ++ clusters_in (chars (drop (length run) line))
+
+-- what comes next is apart from a plain character before it
+abbrev pub ComesApart : List ℕ → Type 0
+ComesApart [] = Unit {0}
+ComesApart (d ∷ line) = is_apart d ≡ true
 
 -- PLAIN CHARACTERS STAND ALONE: between one and what is apart from it a cluster ends, and the clusters of a line are those of its part up to
 -- there and of its part from there on

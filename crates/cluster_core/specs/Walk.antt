@@ -1,9 +1,10 @@
 -- A walk along a logical line, cluster by cluster.
-use Rattle.std.specs.Prelude.{◌≡◌, ℕ, ◌+◌, List, [], ◌∷◌, length, Option}
+use Rattle.std.specs.Prelude.{◌≡◌, ℕ, ◌+◌, true, List, [], ◌∷◌, length, Option}
 use Rattle.std.specs.Iterator.{YieldsFirstBy}
 use Rattle.std.specs.Str.{chars}
 use Rattle.cluster_core.specs.Boundaries.{clusters_in}
 use Rattle.cluster_core.specs.Columns.{column_after}
+use Rattle.cluster_core.specs.Plain.{is_printable_character, BeginsAlone}
 use Rattle.cluster_core.specs.declared.walk.Placed.{Placed}
 use Rattle.cluster_core.specs.declared.walk.Walk.{Walk}
 
@@ -27,6 +28,12 @@ counted_anew tab column (item ∷ items) =
     record { cluster = item.cluster; end = item.end; column = column_after tab column item.cluster } ∷
     counted_anew tab (column_after tab column item.cluster) items
 
+-- the first of these clusters are these printable characters, each for itself
+abbrev pub AreFirst : List ℕ → List ClusterAt → Type 0
+AreFirst [] items = Unit {0}
+AreFirst (c ∷ run) [] = ⊥
+AreFirst (c ∷ run) (item ∷ items) = (item.cluster ≡ c ∷ []) × (is_printable_character c ≡ true) × AreFirst run items
+
 -- what a walk gives, what it has yet to give, and its tab width
 abbrev pub placed_view : Placed → ClusterAt
 placed_view item = record { cluster = chars item.cluster.now; end = item.end; column = item.column }
@@ -40,3 +47,7 @@ walk_tab walk = walk.tab
 -- a call gave the first of what was left, or `None` where nothing was left, and the tab width stayed
 abbrev pub Walks : Walk → Option Placed → Walk → Type 0
 Walks walk item rest = YieldsFirstBy placed_view walk_left walk item rest × (walk_tab rest ≡ walk_tab walk)
+
+-- these printable characters come next, each a cluster
+unfoldable pub walk_begins : Walk → List ℕ → Type 0
+walk_begins walk run = BeginsAlone walk.rest.now run

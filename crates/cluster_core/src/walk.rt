@@ -1,8 +1,8 @@
-ghost use Rattle.std.specs.Prelude.{◌≡◌, ◌+◌, ◌*◌, ◌^◌, ◌<◌, ◌≤◌, length};
+ghost use Rattle.std.specs.Prelude.{◌≡◌, ◌+◌, ◌*◌, ◌^◌, ◌<◌, ◌≤◌, length, drop};
 ghost use Rattle.std.specs.Iterator.{item_count};
 ghost use Rattle.std.specs.Str.{chars};
 
-use crate::first::first_cluster;
+use crate::first::{first_alone, first_cluster, past_alone};
 use crate::widths::{char_count, column_after};
 
 /// A cluster of a line, with the gap where it ends and the column after it.
@@ -26,7 +26,7 @@ pub struct Walk<'a> {
 
 impl<'a> Walk<'a> {
     ghost use Rattle.cluster_core.specs.Boundaries.{clusters_in};
-    ghost use Rattle.cluster_core.specs.Walk.{counted_anew, placed, walk_left, walk_tab};
+    ghost use Rattle.cluster_core.specs.Walk.{AreFirst, counted_anew, placed, walk_begins, walk_left, walk_tab};
 
     /// A walk from the line's start, where columns are counted from 0.
     pub fn new(line: &'a str, tab: u32) -> Walk<'a>
@@ -51,6 +51,32 @@ impl<'a> Walk<'a> {
             tab: self.tab,
             gap: self.gap,
             column: self.column,
+        }
+    }
+
+    /// The characters from a space to `~` that come next, at most so many, each of which is a cluster. It takes their time, and passes over
+    /// none of them.
+    pub fn alone(&self, most: u64) -> &'a [u8]
+        ensures first { AreFirst result.now (walk_left self.now) }
+        ensures begins { walk_begins self.now result.now }
+        ensures few { length result.now ≤ most }
+    {
+        first_alone(self.rest, most)
+    }
+
+    /// The walk past these characters, which come next. Its time does not depend on how many they are.
+    pub fn past(&self, run: &[u8]) -> Walk<'a>
+        requires { walk_begins self.now run.now }
+        ensures left { walk_left result ≡ drop (length run.now) (walk_left self.now) }
+        ensures tab { walk_tab result ≡ walk_tab self.now }
+    {
+        let rest = past_alone(self.rest, run);
+        let count = run.len();
+        Walk {
+            rest,
+            tab: self.tab,
+            gap: self.gap + count as u64,
+            column: self.column + count as u128,
         }
     }
 

@@ -1,8 +1,5 @@
-use Rattle.std.proofs.Common.{List, ℕ, true, false, take, drop, length, ap, ap₂, sym, subst, ◌∙◌, refl}
-use Rattle.std.specs.List.{concat}
-use Rattle.unicode_segmentation.specs.Grapheme.{is_grapheme_break}
-use Rattle.unicode_segmentation.proofs.SegmentsLemmas.{concat-segments}
-use Rattle.cluster_core.specs.Plain.{IsFirstCluster, StandsAlone}
+use Rattle.std.proofs.Common.{List, ℕ, true, sym, subst, ◌∙◌, refl}
+use Rattle.cluster_core.specs.Plain.{StandsAlone}
 use Rattle.cluster_core.proofs.FirstLemmas.{IsFirstCluster-alone, IsFirstCluster-cut, IsFirstCluster-parts, boundary-of_first, no_clusters}
 use Rattle.cluster_core.proofs.first.first_cluster.Goals as goal
 
