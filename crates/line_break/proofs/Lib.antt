@@ -6,4 +6,5 @@ mod TestLemmas
 mod PieceLemmas
 mod LineEndLemmas
 mod LookLemmas
+mod PlainEndLemmas
 pub mod ForCallers

@@ -139,6 +139,12 @@ module _ (width tab : ℕ) (line : List ℕ) (start : ℕ) where
   IsPieceEnd-same end other (inr (inr a)) (inr (inl b)) = absurd (a.0 other b.1.is)
   IsPieceEnd-same end other (inr (inr a)) (inr (inr b)) = let one = a.1.least other b.1.is in let two = b.1.least end a.1.is in omega arith
 
+-- what the rule says is the end of the piece
+pub piece_end-by : (width tab : ℕ) (line : List ℕ) (start end : ℕ) → all_scalars line ≡ true → start < length line → IsPieceEnd width tab line start end →
+    end ≡ piece_end width tab line start
+piece_end-by width tab line start end scalars inside is =
+    IsPieceEnd-same width tab line start end (piece_end width tab line start) is (IsPieceEnd-piece_end width tab line start scalars inside)
+
 -- an end of a cluster is inside the line
 pub IsEndPast-le : (line : List ℕ) (start end : ℕ) → all_scalars line ≡ true → IsEndPast line start end → end ≤ length line
 IsEndPast-le line start end scalars is =

@@ -5,3 +5,4 @@ pub mod LineEnds
 pub mod Laws
 pub mod Rows
 pub mod Inner
+pub mod Plain

@@ -10,6 +10,7 @@
 
 pub mod laws;
 mod line;
+mod plain;
 pub mod rows;
 mod tail;
 mod wrap;

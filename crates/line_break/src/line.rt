@@ -5,6 +5,7 @@ ghost use Rattle.cluster_core.specs.Walk.{placed_view, walk_left, walk_tab};
 ghost use Rattle.line_break.specs.Breaks.{piece_end};
 ghost use Rattle.line_break.specs.Inner.{IsTail, StandsAt, IsAhead, IsLater, Looked, IsThrough, inside_column};
 
+use crate::plain::plain_end;
 use crate::tail::{Tail, tail_of};
 use cluster_core::{Placed, Walk};
 use plain_text::split_at_gap;
@@ -60,8 +61,17 @@ impl<'a> Line<'a> {
         ensures ahead { IfSome result (IsAhead self.now.tab (chars self.now.text.now) from.now.end) }
         ensures none { IsNone result ↔ (from.now.end ≡ length (chars self.now.text.now)) }
     {
-        let look = self.look_through(from);
-        look.candidate.or(look.fitting)
+        let run = from.rest.alone(self.width as u64 + 2);
+        match plain_end(run, self.width) {
+            Some(len) => Some(Place {
+                end: from.end + len as u64,
+                rest: from.rest.past(run.split_at(len).0),
+            }),
+            None => {
+                let look = self.look_through(from);
+                look.candidate.or(look.fitting)
+            }
+        }
     }
 
     /// The clusters of the piece, and those after it up to where no later one can end it.
