@@ -1,5 +1,5 @@
 -- WHERE A FILE STANDS: the folder that its path names, and the new file that is made there.
-use Rattle.std.specs.Prelude.{◌≡◌, ◌≢◌, ℕ, ◌==◌, List, [], ◌++◌, length, take, drop, codes, ◌⊎◌}
+use Rattle.std.specs.Prelude.{◌≡◌, ◌≢◌, ℕ, zero, suc, ◌==◌, List, [], ◌++◌, length, take, drop, codes, ◌⊎◌}
 use Rattle.std.specs.Fmt.{decimal}
 use Rattle.std.specs.Str.{NoCharPasses}
 use Rattle.std.specs.Str.Pattern.{HasCharAt}
@@ -13,6 +13,19 @@ pub record IsFront (path front : List ℕ) : Type 0 where
 -- the folder of a path is its front, or the one where the program was started
 abbrev pub IsFolder : List ℕ → List ℕ → Type 0
 IsFolder path folder = (IsFront path folder × (folder ≢ [])) ⊎ (IsFront path [] × (folder ≡ codes "."))
+
+-- what stands before a link's name where it is followed: nothing where the name begins with a slash, else the link's front
+abbrev pub StandsBefore : List ℕ → List ℕ → List ℕ → Type 0
+StandsBefore link name front = ((front ≡ []) × (width : ℕ) × HasCharAt 47 name 0 width) ⊎ IsFront link front
+
+-- a link has a name that leads to this path
+abbrev pub LinksTo : List ℕ → List ℕ → Type 0
+LinksTo link path = (name front : List ℕ) × StandsBefore link name front × (path ≡ front ++ name)
+
+-- so many links, followed from a path on, lead to this one: none leads to the path itself
+abbrev pub LeadsTo : ℕ → List ℕ → List ℕ → Type 0
+LeadsTo zero path target = target ≡ path
+LeadsTo (suc links) path target = (link : List ℕ) × LeadsTo links path link × LinksTo link target
 
 -- a new file's path: in the folder of the other, by a name of its own with a number
 pub record StandsBeside (path new : List ℕ) : Type 0 where

@@ -1,7 +1,7 @@
-ghost use Rattle.std.specs.Prelude.{◌≡◌, IfOk, IfSome, OnOk, string_bytes};
+ghost use Rattle.std.specs.Prelude.{◌≡◌, ℕ, IfOk, IfSome, OnOk, string_bytes};
 ghost use Rattle.std.specs.Io.KnownBytes.{Appends};
 ghost use Rattle.std.specs.Fs.{file_type, IsFile};
-ghost use Rattle.outside.specs.Paths.{IsFolder, IsFront, StandsBeside};
+ghost use Rattle.outside.specs.Paths.{IsFolder, IsFront, LeadsTo, LinksTo, StandsBefore, StandsBeside};
 
 use crate::file_fault::FileFault;
 use crate::reading::ordinary;
@@ -58,15 +58,16 @@ pub(crate) fn save<R: Files>(
 
 /// Follows links to the file that the path names, which need not be there.
 fn target_of<R: Files>(files: &R, alloc: Global, path: &str) -> Result<Target, FileFault>
-    ensures { IfOk result (λ target. IfSome target.old (λ known. IsFile (file_type known))) }
+    ensures old { IfOk result (λ target. IfSome target.old (λ known. IsFile (file_type known))) }
+    ensures leads { IfOk result (λ target. (links : ℕ) × LeadsTo links path.now (string_bytes target.path)) }
 {
-    let mut path = String::from_str(alloc, path)?;
+    let mut reached = String::from_str(alloc, path)?;
     for _ in 0..LINKS {
-        match files.symlink_metadata(path.as_str()) {
-            Ok(found) if found.is_symlink() => path = linked(files, alloc, path.as_str())?,
+        match files.symlink_metadata(reached.as_str()) {
+            Ok(found) if found.is_symlink() => reached = linked(files, alloc, reached.as_str())?,
             found => {
                 let old = ordinary(found)?;
-                return Ok(Target { path, old });
+                return Ok(Target { path: reached, old });
             }
         }
     }
@@ -74,18 +75,28 @@ fn target_of<R: Files>(files: &R, alloc: Global, path: &str) -> Result<Target, F
 }
 
 /// The path that a link names.
-fn linked<R: Files>(files: &R, alloc: Global, link: &str) -> Result<String, FileFault> {
+fn linked<R: Files>(files: &R, alloc: Global, link: &str) -> Result<String, FileFault>
+    ensures { IfOk result (λ path. LinksTo link.now (string_bytes path)) }
+{
     let named = match files.read_link(alloc, link) {
         Ok(named) => named,
         Err(error) if error.kind() == ErrorKind::OutOfMemory => return Err(FileFault::NoMemory),
         Err(_) => return Err(FileFault::System),
     };
-    let front = if named.as_str().starts_with('/') {
+    let name = named.as_str();
+    let front = before(link, name);
+    Ok(format!(in alloc; "{front}{name}")?)
+}
+
+/// What stands before the name of a link where it is followed.
+fn before<'a>(link: &'a str, name: &str) -> &'a str
+    ensures { StandsBefore link.now name.now result.now }
+{
+    if name.starts_with('/') {
         ""
     } else {
         front_of(link)
-    };
-    Ok(format!(in alloc; "{front}{}", named.as_str())?)
+    }
 }
 
 /// A path up to its last slash, with it.
