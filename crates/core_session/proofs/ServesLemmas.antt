@@ -27,7 +27,7 @@ use Rattle.core_session.specs.Grown.{IsGrown, SessionState, are_sent}
 use Rattle.core_session.specs.ObjectLaws.{NothingStopsIt, RefusedExactly}
 use Rattle.core_session.specs.InnerObject.{ServesCommand}
 use Rattle.core_session.specs.Kept.{ending, front_entry, has_closing, is_over, plugin_entry, reply_if, with_sent}
-use Rattle.core_session.specs.Serves.{AddsCommand, IsAnswerTo, IsRefusedBy, IsVerdictText, Serves, command_asked, is_too_late, refusal_in, refusal_of, verdict_in}
+use Rattle.core_session.specs.Serves.{AddsCommand, IsAnswerTo, IsRefusedBy, IsVerdictText, Serves, ask_refusal, command_asked, is_too_late, refusal_in, verdict_in}
 
 -- what is no is not yes
 pub never : {A : Type 0} (b : Bool) → b ≡ false → b ≡ true → A
@@ -71,7 +71,7 @@ module _ (terms : Terms) (journal : List Entry) (caller : ℕ) (ask : Ask) (afte
   }
 
   -- it is an entry that was sent
-  pub serves_sent : (text : List ℕ) → is_too_late ask journal ≡ false → refusal_of terms journal caller ask ≡ None →
+  pub serves_sent : (text : List ℕ) → is_too_late ask journal ≡ false → ask_refusal terms journal caller ask ≡ None →
       AddsCommand journal caller (command_asked ask) true after → IsAnswerTo terms journal caller ask text →
       Serves terms journal caller ask (Taken text) after
   serves_sent text early accepted adds answers = record {
@@ -85,7 +85,7 @@ module _ (terms : Terms) (journal : List Entry) (caller : ℕ) (ask : Ask) (afte
   }
 
   -- it is an entry that was not sent
-  pub serves_unsent : is_too_late ask journal ≡ false → ask ≢ CloseDown → refusal_of terms journal caller ask ≡ None →
+  pub serves_unsent : is_too_late ask journal ≡ false → ask ≢ CloseDown → ask_refusal terms journal caller ask ≡ None →
       AddsCommand journal caller (command_asked ask) false after → Serves terms journal caller ask SinkFault after
   serves_unsent early other accepted adds = record {
     entry = adds;
@@ -106,7 +106,7 @@ none_refuses refusal id text none refuses = subst (λ r. IsRefusedBy r id text) 
 pub refused_exactly : RefusedExactly
 refused_exactly terms journal caller ask (Refused text) after served = (
   λ is. (
-    λ none. none_refuses (refusal_of terms journal caller ask) (command_asked ask).id text none (served.refused text refl),
+    λ none. none_refuses (ask_refusal terms journal caller ask) (command_asked ask).id text none (served.refused text refl),
     open_by (is_too_late ask journal) (λ late. closed_is (served.closed.1 late)),
     λ lacks. cc,
   ),
@@ -134,7 +134,7 @@ added_unsent old new caller command grown adds =
 pub nothing_stops_it : NothingStopsIt
 nothing_stops_it old new caller ask (Taken text) served grown accepted early calm = inl (text, refl)
 nothing_stops_it old new caller ask (Refused text) served grown accepted early calm =
-    absurd (none_refuses (refusal_of old.terms old.journal caller ask) (command_asked ask).id text accepted (served.refused text refl))
+    absurd (none_refuses (ask_refusal old.terms old.journal caller ask) (command_asked ask).id text accepted (served.refused text refl))
 nothing_stops_it old new caller ask SinkFault served grown accepted early calm =
     absurd (calm (added_unsent old new caller (command_asked ask) grown served.entry))
 nothing_stops_it old new caller ask Closed served grown accepted early calm = never (is_too_late ask old.journal) early (served.closed.0 refl)

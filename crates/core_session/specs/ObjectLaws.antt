@@ -7,7 +7,7 @@ use Rattle.xi_plain.specs.declared.reply.Reply.TheVariants.{Closed, NoMemory, Re
 use Rattle.outside.specs.Faults.{Rose}
 use Rattle.session_step.specs.declared.terms.Terms.{Terms}
 use Rattle.core_session.specs.Grown.{IsGrown, SessionState}
-use Rattle.core_session.specs.Serves.{Serves, is_too_late, refusal_of}
+use Rattle.core_session.specs.Serves.{Serves, ask_refusal, is_too_late}
 
 -- whether the reply is a refusal
 abbrev pub is_refusal : Reply → Bool
@@ -21,10 +21,10 @@ is_refusal NoMemory = false
 abbrev pub RefusedExactly : Type 0
 RefusedExactly = (terms : Terms) (before : List Entry) (caller : ℕ) (ask : Ask) (reply : Reply) (after : List Entry) →
     Serves terms before caller ask reply after →
-    (is_refusal reply ≡ true) ↔ ((refusal_of terms before caller ask ≢ None) × (is_too_late ask before ≡ false) × (reply ≢ NoMemory))
+    (is_refusal reply ≡ true) ↔ ((ask_refusal terms before caller ask ≢ None) × (is_too_late ask before ≡ false) × (reply ≢ NoMemory))
 
 -- NOTHING STOPS an ask that is not refused and does not come too late, where the sink's count did not rise: it is an entry that was sent, or lacks memory
 abbrev pub NothingStopsIt : Type 0
 NothingStopsIt = (old new : SessionState) (caller : ℕ) (ask : Ask) (reply : Reply) → Serves old.terms old.journal caller ask reply new.journal →
-    IsGrown old new → refusal_of old.terms old.journal caller ask ≡ None → is_too_late ask old.journal ≡ false →
+    IsGrown old new → ask_refusal old.terms old.journal caller ask ≡ None → is_too_late ask old.journal ≡ false →
     (Rose old.sink.faults new.sink.faults → ⊥) → ((text : List ℕ) × (reply ≡ Taken text)) ⊎ (reply ≡ NoMemory)

@@ -61,11 +61,11 @@ abbrev pub verdict_in : Session → ℕ → Command → Verdict
 verdict_in session caller command = (outcome_in session caller command).verdict
 
 -- the same of an ask of this caller: lines of plugins alone are refused
-abbrev pub refusal_of : Terms → List Entry → ℕ → Ask → Option Verdict
-refusal_of terms journal caller (FrontLine line) = None
-refusal_of terms journal caller (PluginLine line) = refusal_in (session_of terms journal) caller (ask_of line)
-refusal_of terms journal caller PluginEnd = None
-refusal_of terms journal caller CloseDown = None
+abbrev pub ask_refusal : Terms → List Entry → ℕ → Ask → Option Verdict
+ask_refusal terms journal caller (FrontLine line) = None
+ask_refusal terms journal caller (PluginLine line) = refusal_in (session_of terms journal) caller (ask_of line)
+ask_refusal terms journal caller PluginEnd = None
+ask_refusal terms journal caller CloseDown = None
 
 -- the text is the line of a verdict, and empty where that is told nothing
 abbrev pub IsVerdictText : Id → Verdict → List ℕ → Type 0
@@ -107,9 +107,9 @@ pub record Serves (terms : Terms) (before : List Entry) (caller : ℕ) (ask : As
   -- it adds one entry exactly where the reply is `Taken` or `SinkFault`: the command of the ask, sent in the one case and not in the other
   pub entry : MatchBool (has_entry reply) (AddsCommand before caller (command_asked ask) (is_taken reply) after) (after ≡ before)
   -- what is refused is no entry
-  pub accepted : has_entry reply ≡ true → refusal_of terms before caller ask ≡ None
+  pub accepted : has_entry reply ≡ true → ask_refusal terms before caller ask ≡ None
   -- the text of `Refused` is the line of the refusal, which is that of the journal before, as the text of `Taken` is the answer
-  pub refused : (text : List ℕ) → reply ≡ Refused text → IsRefusedBy (refusal_of terms before caller ask) (command_asked ask).id text
+  pub refused : (text : List ℕ) → reply ≡ Refused text → IsRefusedBy (ask_refusal terms before caller ask) (command_asked ask).id text
   pub answer : (text : List ℕ) → reply ≡ Taken text → IsAnswerTo terms before caller ask text
   -- `Closed` comes exactly where the ask comes too late
   pub closed : (reply ≡ Closed) ↔ (is_too_late ask before ≡ true)

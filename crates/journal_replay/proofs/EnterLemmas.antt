@@ -12,7 +12,7 @@ use Rattle.xi_plain.specs.Reply.{has_entry}
 use Rattle.entry_lines.specs.PluginAnswer.{Verdict}
 use Rattle.session_step.specs.declared.terms.Terms.{Terms}
 use Rattle.core_session.specs.Kept.{with_sent}
-use Rattle.core_session.specs.Serves.{AddsCommand, IsRefusedBy, Serves, command_asked, is_taken, refusal_of}
+use Rattle.core_session.specs.Serves.{AddsCommand, IsRefusedBy, Serves, ask_refusal, command_asked, is_taken}
 use Rattle.journal_replay.specs.declared.entering.Entered.{Entered}
 use Rattle.journal_replay.specs.declared.entering.Entered.TheVariants as entered
 use Rattle.journal_replay.specs.Follow.{FollowsAt, Point}
@@ -57,8 +57,8 @@ some_added false entry before after command sent asks same = ([], same ∙ sym (
 
 -- WHAT AN ENTRY COMES TO whose ask the session was given, and which follows exactly where the session does not refuse the ask
 module _ (plugins : ℕ) (point : Point) (entry : Entry) (terms : Terms) (before : List Entry) (ask : Ask) (after : List Entry)
-    (asks : entry.command ≡ command_asked ask) (goes : refusal_of terms before entry.caller ask ≡ None → FollowsAt plugins point entry)
-    (came : FollowsAt plugins point entry → refusal_of terms before entry.caller ask ≡ None) where
+    (asks : entry.command ≡ command_asked ask) (goes : ask_refusal terms before entry.caller ask ≡ None → FollowsAt plugins point entry)
+    (came : FollowsAt plugins point entry → ask_refusal terms before entry.caller ask ≡ None) where
   taken_by : (answer : Reply) → is_taken answer ≡ true → Serves terms before entry.caller ask answer after → EndsWith entry.shelf after →
       IsReplayed entered.Taken plugins point entry before after
   taken_by (Taken text) is serves ends =
@@ -77,7 +77,7 @@ module _ (plugins : ℕ) (point : Point) (entry : Entry) (terms : Terms) (before
   entered_by entered.Differs answer serves settled =
       let (text, is) = settled in
       let refused = subst (λ a. Serves terms before entry.caller ask a after) is serves in (
-        λ follows. none_refuses (refusal_of terms before entry.caller ask) (command_asked ask).id text (came follows) (refused.refused text refl),
+        λ follows. none_refuses (ask_refusal terms before entry.caller ask) (command_asked ask).id text (came follows) (refused.refused text refl),
         refused.entry,
       )
   entered_by entered.NoMemory answer serves settled =

@@ -44,7 +44,7 @@ use Rattle.session_step.proofs.ViewLemmas.{AreOthers, same_id}
 use Rattle.session_step.specs.declared.acted.Acted.{Acted}
 use Rattle.session_step.specs.declared.acted.Acted.TheVariants.{Refused, Taken}
 use Rattle.session_step.specs.declared.next.NextViews.TheVariants.{All, One, Same}
-use Rattle.session_step.specs.PluginEffects.{HasGrown, HasTable, IsActed, MayCome}
+use Rattle.session_step.specs.PluginEffects.{EventMayCome, HasGrown, HasTable, IsActed}
 
 -- ---- which event may come
 
@@ -56,14 +56,14 @@ StandIn-with_ids len styles (span ∷ spans) within =
     ((within.0.ordered, within.0.within), StandIn-with_ids len (with_style styles span.style) spans within.1)
 
 -- spans that stand in their range may come to each document in which the plugin has a session
-pub MayCome-spans : (caller rev start len : ℕ) (spans : List Span) (held : List Opened) → HaveSessions caller held → StandIn len spans →
-    MayCome (Spans caller rev start len spans) held
-MayCome-spans caller rev start len spans [] have within = tt
-MayCome-spans caller rev start len spans (kept ∷ held) have within =
-    ((have.0.0, have.0.1, within), MayCome-spans caller rev start len spans held have.1 within)
+pub EventMayCome-spans : (caller rev start len : ℕ) (spans : List Span) (held : List Opened) → HaveSessions caller held → StandIn len spans →
+    EventMayCome (Spans caller rev start len spans) held
+EventMayCome-spans caller rev start len spans [] have within = tt
+EventMayCome-spans caller rev start len spans (kept ∷ held) have within =
+    ((have.0.0, have.0.1, within), EventMayCome-spans caller rev start len spans held have.1 within)
 
 -- what may come to each may come to that which stands there
-pub may_come_at : (event : Event) (held : List Opened) (i : ℕ) (none : Opened) → MayCome event held → i < length held →
+pub may_come_at : (event : Event) (held : List Opened) (i : ℕ) (none : Opened) → EventMayCome event held → i < length held →
     IsEventFor (length (arc_value (get_or held i none).doc).text.sessions) event
 may_come_at event [] i none may below = absurd (omega (arith, below))
 may_come_at event (kept ∷ held) zero none may below = may.0

@@ -19,8 +19,8 @@ use Rattle.session_step.specs.declared.next.NextViews.{NextViews}
 use Rattle.session_step.specs.declared.next.NextViews.TheVariants.{All, One, Same}
 
 -- the event may come to each document
-abbrev pub MayCome : Event → List Opened → Type 0
-MayCome event held = AllByRecursion (λ (kept : Opened). IsEventFor (length (arc_value kept.doc).text.sessions) event) held
+abbrev pub EventMayCome : Event → List Opened → Type 0
+EventMayCome event held = AllByRecursion (λ (kept : Opened). IsEventFor (length (arc_value kept.doc).text.sessions) event) held
 
 -- the views once these became so
 abbrev pub views_with : List Opened → NextViews → List Opened

@@ -9,7 +9,7 @@ ghost use Rattle.session_step.specs.Views.{AreThere, HaveSessions, IsFoundAt, Ma
 ghost use Rattle.session_step.specs.PluginStep.{edit_by, ended_outcome, event_outcome, event_refusal, plugin_outcome, plugin_refusal, step_outcome, styles_after, telling};
 ghost use Rattle.session_step.specs.Session.{OpenView, named_view};
 ghost use Rattle.session_step.specs.declared.opened.Opened.{Opened as HeldView};
-ghost use Rattle.session_step.specs.PluginEffects.{HasGrown, HasTable, IsActed, MayCome};
+ghost use Rattle.session_step.specs.PluginEffects.{EventMayCome, HasGrown, HasTable, IsActed};
 
 use crate::after::after_alone;
 use crate::news::news_of;
@@ -182,7 +182,7 @@ fn spans_by(
 // An event in the view of this name that uses no style.
 fn in_view(alloc: Global, held: &[Opened], name: &Text, event: Event) -> Result<Acted, NoMemory>
     requires asked { MayBeAsked held.now }
-    requires event { MayCome event held.now }
+    requires event { EventMayCome event held.now }
     ensures acted { (views : List OpenView) → AreThere held.now views → IfOk result (IsActed held.now
         (event_refusal (named_view views name.now) event) (event_outcome [] views (named_view views name.now) event)) }
     ensures table { IfOk result (HasGrown None) }
@@ -203,7 +203,7 @@ fn in_view_with(
     fresh: Fresh,
 ) -> Result<Acted, NoMemory>
     requires asked { MayBeAsked held.now }
-    requires event { MayCome event held.now }
+    requires event { EventMayCome event held.now }
     ensures acted { (views : List OpenView) → AreThere held.now views → IfOk result (IsActed held.now
         (event_refusal (named_view views name.now) event) (event_outcome fresh.styles views (named_view views name.now) event)) }
     ensures table { IfOk result (HasGrown fresh.grown) }
@@ -223,7 +223,7 @@ fn at_view(
     fresh: Fresh,
 ) -> Result<Acted, NoMemory>
     requires asked { MayBeAsked held.now }
-    requires event { MayCome event held.now }
+    requires event { EventMayCome event held.now }
     requires inside { at < length held.now }
     ensures acted { (views : List OpenView) (view : OpenView) → AreThere held.now views → IsFoundAt views at view → IfOk result
         (IsActed held.now (event_refusal (Some view) event) (event_outcome fresh.styles views (Some view) event)) }

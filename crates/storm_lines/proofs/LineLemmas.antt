@@ -9,7 +9,7 @@ use Rattle.rand_core.specs.Pcg32Seed.{pcg32_seed}
 use Rattle.rand_pcg.specs.Pcg.{pcg32, pcg32_of_seed}
 use Rattle.storm_lines.specs.declared.line.StormLine.{StormLine}
 use Rattle.storm_lines.specs.declared.line.StormLine.TheVariants.{Opening, Insert, InsertNewline, DeleteBackward, DeleteForward, MoveLeft, MoveUp, MoveRight, Undo, Redo}
-use Rattle.storm_lines.specs.Lines.{bytes_of, drawn_words, letter_of, line_of, storm_lines}
+use Rattle.storm_lines.specs.Lines.{drawn_words, letter_of, line_bytes, line_of, storm_lines}
 use Rattle.storm_lines.specs.Laws.{InputsComeApart}
 use Rattle.storm_lines.proofs.WholeLemmas.{IsWhole, ended_all, lines_of-whole, passes, stays_open, unended_all}
 
@@ -45,7 +45,7 @@ before_letter = codes "{\"method\":\"edit\",\"params\":{\"method\":\"insert\",\"
 abbrev after_letter : List ℕ
 after_letter = codes "\"},\"view_id\":\"view-id-1\"}}\n"
 
-whole_line : (line : StormLine) → TypesLetter line → IsWhole (bytes_of line)
+whole_line : (line : StormLine) → TypesLetter line → IsWhole (line_bytes line)
 whole_line Opening types = record { ended = refl; last = refl }
 whole_line (Insert letter) types = record {
   ended = passes before_letter after_letter letter (no_feed letter types);
@@ -60,7 +60,7 @@ whole_line MoveRight types = record { ended = refl; last = refl }
 whole_line Undo types = record { ended = refl; last = refl }
 whole_line Redo types = record { ended = refl; last = refl }
 
-short_line : (line : StormLine) → length (bytes_of line) ≤ 100
+short_line : (line : StormLine) → length (line_bytes line) ≤ 100
 short_line Opening = omega arith
 short_line (Insert letter) = omega arith
 short_line InsertNewline = omega arith
@@ -78,11 +78,11 @@ each_types_letter : (words : List ℕ) → AllByRecursion TypesLetter (map line_
 each_types_letter [] = tt
 each_types_letter (word ∷ words) = (types_letter word, each_types_letter words)
 
-each_short : (lines : List StormLine) → AllByRecursion (λ line. length (bytes_of line) ≤ 100) lines
+each_short : (lines : List StormLine) → AllByRecursion (λ line. length (line_bytes line) ≤ 100) lines
 each_short [] = tt
 each_short (line ∷ lines) = (short_line line, each_short lines)
 
-each_whole : (lines : List StormLine) → AllByRecursion TypesLetter lines → AllByRecursion IsWhole (map bytes_of lines)
+each_whole : (lines : List StormLine) → AllByRecursion TypesLetter lines → AllByRecursion IsWhole (map line_bytes lines)
 each_whole [] types = tt
 each_whole (line ∷ lines) types = (whole_line line types.0, each_whole lines types.1)
 
@@ -94,11 +94,11 @@ length-first_words step (suc count) state = ap suc (length-first_words step coun
 pub inputs_come_apart : InputsComeApart
 inputs_come_apart count seed =
     let lines = storm_lines count seed in
-    let whole : AllByRecursion IsWhole (map bytes_of lines) = each_whole lines (tt, each_types_letter (drawn_words count seed)) in
+    let whole : AllByRecursion IsWhole (map line_bytes lines) = each_whole lines (tt, each_types_letter (drawn_words count seed)) in
     record {
-      lines = lines_of-whole (map bytes_of lines) whole;
-      ended = ended_all (map bytes_of lines) whole;
-      last = unended_all (map bytes_of lines) whole;
+      lines = lines_of-whole (map line_bytes lines) whole;
+      ended = ended_all (map line_bytes lines) whole;
+      last = unended_all (map line_bytes lines) whole;
       short = each_short lines;
       many =
           omega (arith, length-map (drawn_words count seed) line_of, length-first_words pcg32 count (pcg32_of_seed (pcg32_seed 16 seed)));

@@ -3,15 +3,15 @@ use Rattle.std.specs.Prelude.{◌≡◌, ℕ, ◌+◌, ◌^◌, ◌<◌, ◌≤�
 use Rattle.std.specs.List.{AllByRecursion}
 use Rattle.plain_text.specs.InputLines.{ended_lines, lines_of, unended}
 use Rattle.storm_lines.specs.declared.summary.Summary.{Summary}
-use Rattle.storm_lines.specs.Lines.{bytes_of, storm_bytes, storm_lines}
+use Rattle.storm_lines.specs.Lines.{line_bytes, storm_bytes, storm_lines}
 use Rattle.storm_lines.specs.Summary.{summary_in, summary_text}
 
 -- THE INPUT of a storm comes apart into its lines, each of which LF ends; and none of them is long
 pub record ComesApart (count seed : ℕ) : Type 0 where
-  pub lines : lines_of (storm_bytes count seed) ≡ map bytes_of (storm_lines count seed)
-  pub ended : ended_lines [] (storm_bytes count seed) ≡ map bytes_of (storm_lines count seed)
+  pub lines : lines_of (storm_bytes count seed) ≡ map line_bytes (storm_lines count seed)
+  pub ended : ended_lines [] (storm_bytes count seed) ≡ map line_bytes (storm_lines count seed)
   pub last : unended [] (storm_bytes count seed) ≡ []
-  pub short : AllByRecursion (λ line. length (bytes_of line) ≤ 100) (storm_lines count seed)
+  pub short : AllByRecursion (λ line. length (line_bytes line) ≤ 100) (storm_lines count seed)
   pub many : length (storm_lines count seed) ≡ count + 1
 
 -- so each storm's input comes apart

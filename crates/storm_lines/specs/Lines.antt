@@ -38,21 +38,21 @@ edit_line method params =
     codes "{\"method\":\"edit\",\"params\":{\"method\":\"" ++ method ++ codes "\",\"params\":" ++ params ++ codes ",\"view_id\":\"view-id-1\"}}\n"
 
 -- the bytes of a line, with its LF
-abbrev pub bytes_of : StormLine → List ℕ
-bytes_of Opening = codes "{\"id\":0,\"method\":\"new_view\",\"params\":{}}\n"
-bytes_of (Insert letter) = edit_line (codes "insert") (codes "{\"chars\":\"" ++ letter ∷ codes "\"}")
-bytes_of InsertNewline = edit_line (codes "insert_newline") (codes "[]")
-bytes_of DeleteBackward = edit_line (codes "delete_backward") (codes "[]")
-bytes_of DeleteForward = edit_line (codes "delete_forward") (codes "[]")
-bytes_of MoveLeft = edit_line (codes "move_left") (codes "[]")
-bytes_of MoveUp = edit_line (codes "move_up") (codes "[]")
-bytes_of MoveRight = edit_line (codes "move_right") (codes "[]")
-bytes_of Undo = edit_line (codes "undo") (codes "[]")
-bytes_of Redo = edit_line (codes "redo") (codes "[]")
+abbrev pub line_bytes : StormLine → List ℕ
+line_bytes Opening = codes "{\"id\":0,\"method\":\"new_view\",\"params\":{}}\n"
+line_bytes (Insert letter) = edit_line (codes "insert") (codes "{\"chars\":\"" ++ letter ∷ codes "\"}")
+line_bytes InsertNewline = edit_line (codes "insert_newline") (codes "[]")
+line_bytes DeleteBackward = edit_line (codes "delete_backward") (codes "[]")
+line_bytes DeleteForward = edit_line (codes "delete_forward") (codes "[]")
+line_bytes MoveLeft = edit_line (codes "move_left") (codes "[]")
+line_bytes MoveUp = edit_line (codes "move_up") (codes "[]")
+line_bytes MoveRight = edit_line (codes "move_right") (codes "[]")
+line_bytes Undo = edit_line (codes "undo") (codes "[]")
+line_bytes Redo = edit_line (codes "redo") (codes "[]")
 
 -- the bytes of lines, one after the other
 abbrev pub bytes_of_all : List StormLine → List ℕ
-bytes_of_all lines = concat (map bytes_of lines)
+bytes_of_all lines = concat (map line_bytes lines)
 
 -- THE INPUT of a storm
 abbrev pub storm_bytes : ℕ → ℕ → List ℕ

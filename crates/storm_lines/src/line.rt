@@ -1,6 +1,6 @@
 ghost use Rattle.std.specs.Prelude.{◌≡◌, ◌≤◌, ◌-◌, length, min, drop};
 ghost use Rattle.outside.specs.Source.{filled};
-ghost use Rattle.storm_lines.specs.Lines.{bytes_of, letter_of, line_of};
+ghost use Rattle.storm_lines.specs.Lines.{letter_of, line_bytes, line_of};
 
 const OPENING: &[u8] = b"{\"id\":0,\"method\":\"new_view\",\"params\":{}}\n";
 
@@ -71,9 +71,9 @@ impl StormLine {
 
     /// Puts as many of the line's bytes from this place on to the front of the buffer as it has room for, and says how many.
     pub fn put(self, at: usize, buf: &mut [u8]) -> usize
-        requires { at ≤ length (bytes_of self) }
-        ensures count { result ≡ min (length buf.old) (length (bytes_of self) - at) }
-        ensures put { buf.new ≡ filled buf.old (drop at (bytes_of self)) result }
+        requires { at ≤ length (line_bytes self) }
+        ensures count { result ≡ min (length buf.old) (length (line_bytes self) - at) }
+        ensures put { buf.new ≡ filled buf.old (drop at (line_bytes self)) result }
     {
         match self {
             StormLine::Opening => put_from(OPENING, at, buf),

@@ -1,7 +1,7 @@
 ghost use Rattle.std.specs.Prelude.{◌≡◌, ◌<◌, ◌∷◌, ◌-◌, ◌++◌, [], length, min, drop, IfSome, None, Some, map};
 ghost use Rattle.outside.specs.Source.{Gives, IsPiece, pulled, filled, failures_after};
 ghost use Rattle.outside.specs.Faults.{Rose};
-ghost use Rattle.storm_lines.specs.Lines.{bytes_of, bytes_of_all, drawn_words, line_of, storm_bytes};
+ghost use Rattle.storm_lines.specs.Lines.{bytes_of_all, drawn_words, line_bytes, line_of, storm_bytes};
 
 use crate::line::StormLine;
 use outside::{Pulled, Source};
@@ -112,18 +112,18 @@ struct Begun {
 
 impl Model for Begun {
     ghost use Rattle.std.specs.Prelude.{ℕ, ◌≤◌, List, drop, length};
-    ghost use Rattle.storm_lines.specs.Lines.{bytes_of};
+    ghost use Rattle.storm_lines.specs.Lines.{line_bytes};
 
     ghost Value = { List ℕ };
 
-    ghost view = { λ b. drop b.given (bytes_of b.line) };
+    ghost view = { λ b. drop b.given (line_bytes b.line) };
 
-    ghost invariant = { λ b. b.given ≤ length (bytes_of b.line) };
+    ghost invariant = { λ b. b.given ≤ length (line_bytes b.line) };
 }
 
 impl Begun {
     fn new(line: StormLine) -> Begun
-        ensures { result ≡ bytes_of line }
+        ensures { result ≡ line_bytes line }
     {
         Begun { line, given: 0 }
     }

@@ -133,11 +133,11 @@ help_text =
     10 ∷ codes "the input or the output failed; 6 after 2^40 lines; 7 for a line of 2^24 bytes without LF." ++
     10 ∷ 10 ∷ codes "Asked --version it tells which one it is, asked --methods what lines may ask, and asked --help this."
 
-abbrev pub text_of : Invocation → List ℕ
-text_of Help = help_text
-text_of Version = codes "xi_core 0.1.0"
-text_of Methods = []
-text_of (Run form handed) = []
-text_of (Record form handed) = []
-text_of Replay = []
-text_of Misused = usage_text
+abbrev pub said_text : Invocation → List ℕ
+said_text Help = help_text
+said_text Version = codes "xi_core 0.1.0"
+said_text Methods = []
+said_text (Run form handed) = []
+said_text (Record form handed) = []
+said_text Replay = []
+said_text Misused = usage_text

@@ -6,7 +6,7 @@ ghost use Rattle.xi_core.specs.Words.{EndsFor, EndsForSome, EndsRun, EndsWith, I
 use crate::methods::print_methods;
 use crate::replaying::played;
 use crate::taped::keep;
-use crate::texts::{Stream, stream_of, text_of};
+use crate::texts::{Stream, said_text, stream_of};
 use crate::words::{Handed, Invocation, form_words, invocation_of, words};
 use macro_record::TapeSource;
 use outside::{FileShelf, FreeGate, Shelf, Sink, Source, StdSink, StdSource};
@@ -47,7 +47,7 @@ fn told(rt: &HostRuntime, invocation: Invocation) -> ExitCode
     requires { IsTold invocation }
     ensures { EndsWith invocation (exit_status result) }
 {
-    let text = text_of(invocation);
+    let text = said_text(invocation);
     match stream_of(invocation) {
         Stream::Output => match println!(rt; "{text}") {
             Ok(()) => ExitCode::SUCCESS,

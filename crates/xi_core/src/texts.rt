@@ -1,5 +1,5 @@
 ghost use Rattle.std.specs.Prelude.{◌≡◌, ◌↔◌};
-ghost use Rattle.xi_core.specs.Words.{text_of};
+ghost use Rattle.xi_core.specs.Words.{said_text};
 
 use crate::words::Invocation;
 
@@ -34,8 +34,8 @@ pub enum Stream {
 }
 
 /// What the program says of itself.
-pub fn text_of(invocation: Invocation) -> &'static str
-    ensures { result.now ≡ text_of invocation }
+pub fn said_text(invocation: Invocation) -> &'static str
+    ensures { result.now ≡ said_text invocation }
 {
     match invocation {
         Invocation::Help => HELP,

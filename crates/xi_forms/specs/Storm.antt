@@ -8,7 +8,7 @@ use Rattle.front_wire.specs.Front.{command_of}
 use Rattle.session_step.specs.declared.terms.Terms.{Terms}
 use Rattle.core_session.specs.Shows.{Shows}
 use Rattle.storm_lines.specs.declared.summary.Summary.{Summary}
-use Rattle.storm_lines.specs.Lines.{bytes_of, storm_lines}
+use Rattle.storm_lines.specs.Lines.{line_bytes, storm_lines}
 use Rattle.storm_lines.specs.Summary.{summary_text}
 use Rattle.xi_top.specs.Alone.{terms_for}
 use Rattle.xi_forms.specs.Summary.{IsSummaryOf}
@@ -19,7 +19,7 @@ pub record HoldsFirst (count seed : ℕ) (journal : List Entry) : Type 0 where
   pub front : front_entries journal ≡ entries ++ closing_entry ∷ []
   pub lines : List (List ℕ)
   pub later : List (List ℕ)
-  pub first : map bytes_of (storm_lines count seed) ≡ lines ++ later
+  pub first : map line_bytes (storm_lines count seed) ≡ lines ++ later
   pub asked : commands entries ≡ map command_of lines
 
 -- the same of all its lines

@@ -13,7 +13,7 @@ use Rattle.style_numbers.specs.Numbers.{new_styles, spans_with_ids, styles_with}
 use Rattle.session_step.specs.PluginStep.{event_outcome, event_refusal, plugin_outcome, plugin_refusal, styles_after, telling}
 use Rattle.session_step.specs.Session.{named_view}
 use Rattle.session_step.specs.PluginEffects.{HasTable, IsActed}
-use Rattle.session_step.proofs.PluginActLemmas.{HasTable-grown, IsActed-else, MayCome-spans, StandIn-with_ids, asks_else, styles_after-else}
+use Rattle.session_step.proofs.PluginActLemmas.{EventMayCome-spans, HasTable-grown, IsActed-else, StandIn-with_ids, asks_else, styles_after-else}
 use Rattle.session_step.proofs.acted.plugin_act.Goals as goal
 
 pub returns-in_ok-copy-in-Bad-clause-acted : goal.returns-in_ok-copy-in-Bad-clause-acted
@@ -40,7 +40,7 @@ in_view_with-requires-clause-event c =
     let arm = c.in-UpdateSpans in
     let made = c.in_ok-spans-in-UpdateSpans in
     let fair = subst IsFairAsk arm.is c.requires.fair in
-    MayCome-spans c.args.caller arm.rev arm.start arm.len made.spans c.args.held.now c.requires.caller
+    EventMayCome-spans c.args.caller arm.rev arm.start arm.len made.spans c.args.held.now c.requires.caller
     (subst (StandIn arm.len) (sym (made.ensures.spans ∙ ap (spans_with_ids c.args.table.now) c.as_slice.ensures)) (StandIn-with_ids arm.len c.args.table.now arm.spans fair.1))
 
 pub returns-in_ok-spans-in-UpdateSpans-clause-acted : goal.returns-in_ok-spans-in-UpdateSpans-clause-acted
