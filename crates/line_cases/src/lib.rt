@@ -14,6 +14,8 @@ mod pieces;
 #[cfg(test)]
 mod rendering;
 #[cfg(test)]
+mod stretch_breaks;
+#[cfg(test)]
 mod stretches;
 #[cfg(test)]
 mod styles;

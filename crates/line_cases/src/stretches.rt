@@ -9,7 +9,7 @@ use xi_plain::Motion;
 
 // A mark, a joiner, a variation selector, one to three indicators, a syllable's letters, a family and a skin tone, a conjunct, ends of
 // lines, controls, a soft hyphen, and a sign that joins on to what follows.
-const PIECES: [&str; 16] = [
+pub(crate) const PIECES: [&str; 16] = [
     "\u{301}",
     "\u{200D}",
     "\u{FE0F}",
@@ -28,10 +28,15 @@ const PIECES: [&str; 16] = [
     "\u{600}",
 ];
 
-const COUNTS: [u64; 5] = [1, 255, 256, 257, 513];
+pub(crate) const COUNTS: [u64; 5] = [1, 255, 256, 257, 513];
 
 // So many letters and blanks, between two texts.
-fn between(alloc: Global, front: &str, count: u64, back: &str) -> Result<Text, NoMemory> {
+pub(crate) fn between(
+    alloc: Global,
+    front: &str,
+    count: u64,
+    back: &str,
+) -> Result<Text, NoMemory> {
     let mut text = Text::from_str(alloc, front)?;
     for i in 0..count {
         text.push(if i % 5 == 3 { ' ' } else { 'a' })?;
@@ -94,7 +99,7 @@ fn in_front(alloc: Global, piece: &str) -> Result<bool, NoMemory> {
     Ok(true)
 }
 
-fn holds(told: Result<bool, NoMemory>) -> bool {
+pub(crate) fn holds(told: Result<bool, NoMemory>) -> bool {
     match told {
         Ok(is) => is,
         Err(_) => false,

@@ -23,7 +23,12 @@ fn counted<L: Ledger>(
     breaks(alloc, line, width, tab, &mut steps)
 }
 
-fn wrapped(alloc: Global, line: &str, width: u32, tab: u32) -> Result<Offsets, NoMemory> {
+pub(crate) fn wrapped(
+    alloc: Global,
+    line: &str,
+    width: u32,
+    tab: u32,
+) -> Result<Offsets, NoMemory> {
     let line = Text::from_str(alloc, line)?;
     counted::<Brand>(alloc, &line, width, tab, Blank::new(1))
 }
