@@ -1,5 +1,5 @@
 -- WHERE A FILE STANDS: the folder that its path names, and the new file that is made there.
-use Rattle.std.specs.Prelude.{◌≡◌, ◌≢◌, ℕ, zero, suc, ◌==◌, List, [], ◌++◌, length, take, drop, codes, ◌⊎◌}
+use Rattle.std.specs.Prelude.{◌≡◌, ◌≢◌, ℕ, zero, suc, ◌==◌, List, [], ◌∷◌, ◌++◌, length, take, drop, codes, ◌⊎◌}
 use Rattle.std.specs.Fmt.{decimal}
 use Rattle.std.specs.Str.{NoCharPasses}
 use Rattle.std.specs.Str.Pattern.{HasCharAt}
@@ -16,7 +16,8 @@ IsFolder path folder = (IsFront path folder × (folder ≢ [])) ⊎ (IsFront pat
 
 -- what stands before a link's name where it is followed: nothing where the name begins with a slash, else the link's front
 abbrev pub StandsBefore : List ℕ → List ℕ → List ℕ → Type 0
-StandsBefore link name front = ((front ≡ []) × (width : ℕ) × HasCharAt 47 name 0 width) ⊎ IsFront link front
+StandsBefore link [] front = IsFront link front
+StandsBefore link (first ∷ name) front = ((first ≡ 47) × (front ≡ [])) ⊎ ((first ≢ 47) × IsFront link front)
 
 -- a link has a name that leads to this path
 abbrev pub LinksTo : List ℕ → List ℕ → Type 0

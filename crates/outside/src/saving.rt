@@ -92,10 +92,9 @@ fn linked<R: Files>(files: &R, alloc: Global, link: &str) -> Result<String, File
 fn before<'a>(link: &'a str, name: &str) -> &'a str
     ensures { StandsBefore link.now name.now result.now }
 {
-    if name.starts_with('/') {
-        ""
-    } else {
-        front_of(link)
+    match name.as_bytes() {
+        [first, ..] if *first == b'/' => "",
+        _ => front_of(link),
     }
 }
 
