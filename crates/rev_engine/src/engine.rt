@@ -24,7 +24,6 @@ use crate::flat::{alive, whole};
 use crate::step::{Fitting, PutIn, put_in, shown_after, units_from, units_of_heads, without};
 use crate::undo::{are_known, frozen, has_number, is_set_known};
 use crate::{Change, Edit, EditFault, UndoFault, UnitEdit, short};
-use delta_core::{fits, to_units};
 use plain_edits::{Added, UnitDelta};
 use plain_text::{NoMemory, Text};
 use rev_collect::{collect, collectable, may_collect};
@@ -154,8 +153,8 @@ impl Engine {
         self.shown(alloc, rev)
     }
 
-    /// What a revision shows, as a rope: at the head it is shared, in O(1), and for an older revision it costs what [`Engine::text_at`]
-    /// does, and is refused as that is.
+    /// What a revision shows, as a rope: at the head it is shared, in O(1), and for an older revision it costs what `RevList::dead_at`
+    /// does, and for each run of what is dead there the height of the union: no text is walked over. It is refused as [`Engine::text_at`] is.
     pub fn rope_at(&self, alloc: Global, rev: u64) -> Result<Rope, RevFault>
         ensures text { (history : History) → StandsFor self.now history
             → IfOk result (λ text. text ≡ text_at history rev) }
@@ -218,10 +217,7 @@ impl Engine {
         if self.is_head(rev) {
             return Ok(self.text.copy(alloc)?);
         }
-        match self.shown_then(alloc, rev) {
-            Ok(text) => Ok(Rope::of_text(alloc, &text)?),
-            Err(fault) => Err(fault),
-        }
+        self.rope_then(alloc, rev)
     }
 
     fn is_head(&self, rev: u64) -> bool
@@ -249,11 +245,24 @@ impl Engine {
         }
     }
 
+    // The same as a rope, which shares what it shows with the union.
+    fn rope_then(&self, alloc: Global, rev: u64) -> Result<Rope, RevFault>
+        ensures text { IfOk result (λ text. text ≡ shown_at self.now.union self.now.revisions rev) }
+        ensures unknown { (n : ℕ) → (result ≡ Err (RevFault.Unknown n)) ↔ IsUnknown self.now.revisions rev n }
+        ensures collected { (n : ℕ) → (result ≡ Err (RevFault.Collected n)) ↔ IsCollected self.now.revisions rev n }
+        ensures kept { OnOk result (IsKeptAt self.now.revisions rev) }
+    {
+        match self.revs.dead_at(alloc, rev) {
+            Ok(dead) => Ok(without(alloc, &self.union, &dead)?),
+            Err(fault) => Err(fault),
+        }
+    }
+
     /// Takes an edit as the next revision. The faults are looked for in the order of [`EditFault`]: the base, then the delta, then the
     /// limit. A fault leaves the engine as it is; want of memory too.
     ///
-    /// A stale edit costs the text that was ever inserted and the runs of the revisions after its base; one against the head costs
-    /// what [`Engine::edit_head`] does. `after_cursor` is passed over.
+    /// A stale edit costs the runs of the revisions after its base, what [`Engine::rope_at`] does, and for each of its elements the
+    /// height of that rope; one against the head costs what [`Engine::edit_head`] does. `after_cursor` is passed over.
     pub fn edit(&mut self, alloc: Global, edit: &Edit) -> Result<Change, EditFault>
         requires { MayAsk self.old.revisions edit.now.group }
         ensures stands { (history : History) → StandsFor self.old history
@@ -357,11 +366,11 @@ impl Engine {
         ensures refused { (history : History) → StandsFor self.now history
             → IfErr result (Refuses (edit_refusal history self.now.limit edit.now.rev edit.now.delta)) }
     {
-        let text = self.shown_then(alloc, edit.rev)?;
-        if let Err(misfit) = fits(&text, &edit.delta) {
+        let text = self.rope_then(alloc, edit.rev)?;
+        if let Err(misfit) = short::fits(&text, &edit.delta) {
             return Err(EditFault::Misfit(misfit));
         }
-        Ok(to_units(alloc, &text, &edit.delta)?)
+        Ok(short::to_units(alloc, &text, &edit.delta)?)
     }
 
     // An edit of the head text, or that there is no room for it.
