@@ -1,1 +1,2 @@
 pub mod callers
+mod CountLemmas

@@ -1,5 +1,5 @@
 -- A text is a list of characters.
-use Rattle.std.specs.Prelude.{ℕ, ◌+◌, ◌-◌, Bool, if◌then◌else◌, nat_lt, ◌==◌, List, [], ◌∷◌, take, Option, Some, None, unwrap_or, is_some}
+use Rattle.std.specs.Prelude.{ℕ, ◌+◌, ◌-◌, nat_le, ◌||◌, Bool, if◌then◌else◌, nat_lt, ◌==◌, List, [], ◌∷◌, take, Option, Some, None, unwrap_or, is_some}
 use Rattle.std.specs.Char.{len_utf8}
 
 -- how many bytes the text takes in UTF-8
@@ -28,3 +28,7 @@ gap_of text at = unwrap_or (gap_at text at) 0
 -- whether the byte offset is a place: the length of a prefix of the text
 abbrev pub is_place : List ℕ → ℕ → Bool
 is_place text at = is_some (gap_at text at)
+
+-- whether a character starts with this byte, and does not go on with it
+abbrev pub starts_character : ℕ → Bool
+starts_character byte = nat_lt byte 128 || nat_le 192 byte

@@ -4,7 +4,7 @@ ghost use Rattle.std.specs.Ordering.{nat_cmp};
 ghost use Rattle.std.specs.Cmp.{on_per, on_equiv, on_total, on_po, partial_equiv_from_equiv};
 ghost use Rattle.std.specs.Cmp.Lexicographic.{slice_cmp, nat_list_eq_equiv, nat_list_cmp_total, texts_ties, texts_po};
 ghost use Rattle.std.specs.String.{string_bytes};
-ghost use Rattle.plain_text.specs.Text.{byte_len, gap_at, gap_of, is_place, place_of};
+ghost use Rattle.plain_text.specs.Text.{byte_len, gap_at, gap_of, is_place, place_of, starts_character};
 
 use crate::list::List;
 use crate::memory::{NoMemory, TryClone};
@@ -120,7 +120,7 @@ impl Text {
     pub fn char_count(&self) -> u64
         ensures { result ≡ length self.now }
     {
-        self.as_str().chars().count() as u64
+        char_count(self.as_str())
     }
 
     pub fn is_empty(&self) -> bool
@@ -254,6 +254,26 @@ impl Ord for Text {
     fn cmp(&self, other: &Text) -> Ordering {
         self.as_str().cmp(other.as_str())
     }
+}
+
+// How many characters a text has, by the bytes that start one.
+fn char_count(text: &str) -> u64
+    ensures { result ≡ length (chars text.now) }
+{
+    let mut count: u64 = 0;
+    let bytes = text.as_bytes();
+    for byte in bytes {
+        if starts_character(*byte) {
+            count += 1;
+        }
+    }
+    count
+}
+
+fn starts_character(byte: u8) -> bool
+    ensures { result ≡ starts_character byte }
+{
+    byte < 128 || 192 <= byte
 }
 
 /// The gap whose place in the text is this byte offset.
