@@ -108,7 +108,26 @@ way_end m node at part own before way is =
       fits = subst (λ xs. IsTrue (is_countable (together before (lengths_of xs)))) alone way.fits;
     }
 
+-- the leaf that has an offset has each one that it reaches, in whatever measure
+pub chunk-reaches : (m n : Measure) (text : List ℕ) (at other : ℕ) (own : List ℕ) (before : Lengths) → IsChunkAt m text at own before →
+    long_by n before < other → other ≤ long_by n (together before (lengths_of own)) → IsChunkAt n text other own before
+chunk-reaches m n text at other own before found passed reached = record {
+  front = found.front;
+  back = found.back;
+  cut = found.cut;
+  total = found.total;
+  passed = passed;
+  reached = reached;
+  fits = found.fits;
+}
+
 -- ---- in a leaf
+
+-- an offset in a leaf is at most that of its end
+pub converted-reaches : (from to : Measure) (before : Lengths) (own : List ℕ) (at offset : ℕ) → IsConvertedIn from to before own at offset →
+    offset ≤ long_by to (together before (lengths_of own))
+converted-reaches from to before own at offset is =
+    omega (arith, is.is, ap (long to) is.cut, long-append to is.seen is.rest, long_by-together to before (lengths_of own))
 
 -- the characters of a leaf that were read, and the offsets behind them
 pub record IsReading (from to : Measure) (before : Lengths) (own : List ℕ) (at here there : ℕ) (rest : List ℕ) : Type 0 where
@@ -182,6 +201,11 @@ reading-ended from to before own at here there rest reading none reached =
     absurd (omega (arith, reading.below, reading.here_is, ap (long from) all, long_by-together from before (lengths_of own)))
 
 -- ---- the whole text
+
+-- what holds anyway holds where there is no answer
+pub none-anyway : {A : Type 0} (answer : Option A) (P : Type 0) → P → IfNone answer P
+none-anyway None P holds = holds
+none-anyway (Some found) P holds = tt
 
 pub converted-start : (from to : Measure) (text : List ℕ) (at : ℕ) → at ≡ 0 → IsConverted from to text at 0
 converted-start from to text at zero_at = record { front = []; back = text; cut = record { cut = refl; ends = none from ∙ sym zero_at; first = λ shorter longer c is. absurd (omega (arith, ap length is, length-append shorter (c ∷ longer))) }; is = sym (none to) }

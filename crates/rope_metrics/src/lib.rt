@@ -5,10 +5,12 @@
 #![tactic(auto)]
 
 mod gap;
+mod line;
 mod measure;
 mod offset;
 mod plain;
 
 pub use gap::gap_within;
+pub use line::{InLine, convert_both, in_line};
 pub use measure::Measure;
 pub use offset::{convert, total};
