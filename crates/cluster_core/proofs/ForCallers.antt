@@ -10,7 +10,7 @@ use Rattle.cluster_core.specs.Walk.{ClusterAt, counted_anew, placed}
 use Rattle.cluster_core.proofs.ColumnLemmas.{clipped-past, clipped-inside}
 pub use Rattle.cluster_core.proofs.ColumnLemmas.{clusters_in-chars, concat-clusters, columns_between-whole}
 -- a part of the printable characters that come next comes next too, and each takes one column
-pub use Rattle.cluster_core.proofs.WalkLemmas.{walk_begins-take}
+pub use Rattle.cluster_core.proofs.WalkLemmas.{WalkBegins-take}
 pub use Rattle.cluster_core.proofs.PrintableLemmas.{column_after-one}
 -- no cluster begins between CR and LF; and LF or CR LF behind a line is one cluster more
 pub use Rattle.cluster_core.proofs.FeedLemmas.{clusters-parted, clusters-feed, clusters-return_feed}

@@ -4,7 +4,7 @@ use Rattle.std.specs.Str.{chars}
 use Rattle.cluster_core.specs.Boundaries.{clusters_in}
 use Rattle.cluster_core.specs.Columns.{column_after}
 use Rattle.cluster_core.specs.Plain.{BeginsAlone, IsFirstCluster}
-use Rattle.cluster_core.specs.Walk.{AreFirst, placed, walk_begins}
+use Rattle.cluster_core.specs.Walk.{AreFirst, placed, WalkBegins}
 use Rattle.cluster_core.specs.declared.walk.Walk.{Walk}
 use Rattle.cluster_core.proofs.FirstLemmas.{BeginsAlone-take, clusters_in-empty}
 use Rattle.cluster_core.proofs.PrintableLemmas.{column_after-one}
@@ -44,6 +44,6 @@ placed-past tab gap column (d ∷ line) (c ∷ run) others begins =
     placed-past tab (gap + 1) (column + 1) line run others begins.3 ∙
     ap (λ n. drop (length run) (placed tab (gap + 1) n (map (λ c. c ∷ []) run ++ others))) (sym (column_after-one tab column c begins.1))
 
-pub walk_begins-take : (walk : Walk) (run : List ℕ) (k : ℕ) → walk_begins walk run → walk_begins walk (take k run)
-unfolding walk_begins
-walk_begins-take walk run k begins = BeginsAlone-take walk.rest.now run k begins
+pub WalkBegins-take : (walk : Walk) (run : List ℕ) (k : ℕ) → WalkBegins walk run → WalkBegins walk (take k run)
+unfolding WalkBegins
+WalkBegins-take walk run k begins = BeginsAlone-take walk.rest.now run k begins

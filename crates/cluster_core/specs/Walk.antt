@@ -49,5 +49,5 @@ abbrev pub Walks : Walk → Option Placed → Walk → Type 0
 Walks walk item rest = YieldsFirstBy placed_view walk_left walk item rest × (walk_tab rest ≡ walk_tab walk)
 
 -- these printable characters come next, each a cluster
-unfoldable pub walk_begins : Walk → List ℕ → Type 0
-walk_begins walk run = BeginsAlone walk.rest.now run
+unfoldable pub WalkBegins : Walk → List ℕ → Type 0
+WalkBegins walk run = BeginsAlone walk.rest.now run

@@ -26,7 +26,7 @@ pub struct Walk<'a> {
 
 impl<'a> Walk<'a> {
     ghost use Rattle.cluster_core.specs.Boundaries.{clusters_in};
-    ghost use Rattle.cluster_core.specs.Walk.{AreFirst, counted_anew, placed, walk_begins, walk_left, walk_tab};
+    ghost use Rattle.cluster_core.specs.Walk.{AreFirst, counted_anew, placed, WalkBegins, walk_left, walk_tab};
 
     /// A walk from the line's start, where columns are counted from 0.
     pub fn new(line: &'a str, tab: u32) -> Walk<'a>
@@ -58,7 +58,7 @@ impl<'a> Walk<'a> {
     /// none of them.
     pub fn alone(&self, most: u64) -> &'a [u8]
         ensures first { AreFirst result.now (walk_left self.now) }
-        ensures begins { walk_begins self.now result.now }
+        ensures begins { WalkBegins self.now result.now }
         ensures few { length result.now ≤ most }
     {
         first_alone(self.rest, most)
@@ -66,7 +66,7 @@ impl<'a> Walk<'a> {
 
     /// The walk past these characters, which come next. Its time does not depend on how many they are.
     pub fn past(&self, run: &[u8]) -> Walk<'a>
-        requires { walk_begins self.now run.now }
+        requires { WalkBegins self.now run.now }
         ensures left { walk_left result ≡ drop (length run.now) (walk_left self.now) }
         ensures tab { walk_tab result ≡ walk_tab self.now }
     {

@@ -1,7 +1,7 @@
 use Rattle.std.proofs.Common.{length, drop, sym, subst}
 use Rattle.std.specs.Str.{chars}
 use Rattle.cluster_core.specs.Boundaries.{clusters_in}
-use Rattle.cluster_core.specs.Walk.{AreFirst, placed, walk_begins, walk_left}
+use Rattle.cluster_core.specs.Walk.{AreFirst, placed, WalkBegins, walk_left}
 use Rattle.cluster_core.proofs.WalkLemmas.{placed-first}
 use Rattle.cluster_core.proofs.walk.Walk.alone.Goals as goal
 
@@ -14,5 +14,5 @@ returns-clause-first c =
     (placed-first walk.tab walk.gap walk.column walk.rest.now run (clusters_in (chars (drop (length run) walk.rest.now))) c.first_alone.ensures.begins)
 
 pub returns-clause-begins : goal.returns-clause-begins
-unfolding walk_begins
+unfolding WalkBegins
 returns-clause-begins c = c.first_alone.ensures.begins

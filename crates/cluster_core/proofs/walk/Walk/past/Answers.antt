@@ -1,16 +1,16 @@
 use Rattle.std.proofs.Common.{◌+◌, length, drop, ap, sym, ◌∙◌, refl}
 use Rattle.std.specs.Str.{chars}
 use Rattle.cluster_core.specs.Boundaries.{clusters_in}
-use Rattle.cluster_core.specs.Walk.{placed, walk_begins, walk_left, walk_tab}
+use Rattle.cluster_core.specs.Walk.{placed, WalkBegins, walk_left, walk_tab}
 use Rattle.cluster_core.proofs.WalkLemmas.{placed-past}
 use Rattle.cluster_core.proofs.walk.Walk.past.Goals as goal
 
 pub past_alone-rest-requires : goal.past_alone-rest-requires
-unfolding walk_begins
+unfolding WalkBegins
 past_alone-rest-requires c = c.requires
 
 pub returns-clause-left : goal.returns-clause-left
-unfolding walk_left walk_begins
+unfolding walk_left WalkBegins
 returns-clause-left c =
     let walk = c.args.self.now in
     let run = c.args.run.now in

@@ -1,7 +1,7 @@
 use Rattle.std.proofs.Common.{rules, ◌≡◌, ◌+◌, ◌<◌, ◌^◌, IsNone, IfSome, length, drop, sym, subst, refl, ap, ◌∙◌, arith}
 use Rattle.std.specs.Str.{chars}
-use Rattle.cluster_core.specs.Walk.{walk_begins, walk_left}
-use Rattle.cluster_core.proofs.ForCallers.{walk_begins-take}
+use Rattle.cluster_core.specs.Walk.{WalkBegins, walk_left}
+use Rattle.cluster_core.proofs.ForCallers.{WalkBegins-take}
 use Rattle.line_break.specs.Breaks.{piece_end}
 use Rattle.line_break.specs.Inner.{IsAhead}
 use Rattle.line_break.proofs.LookLemmas.{IsThrough-answers}
@@ -18,8 +18,8 @@ overflow_add-result c =
 
 pub past-requires : goal.past-requires
 past-requires c =
-    subst (walk_begins c.args.from.now.rest) (sym c.split_at.ensures.front)
-    (walk_begins-take c.args.from.now.rest c.alone-run.result.now c.in-Some.len c.alone-run.ensures.begins)
+    subst (WalkBegins c.args.from.now.rest) (sym c.split_at.ensures.front)
+    (WalkBegins-take c.args.from.now.rest c.alone-run.result.now c.in-Some.len c.alone-run.ensures.begins)
 
 pub returns-in-Some-clause-end : goal.returns-in-Some-clause-end
 returns-in-Some-clause-end c =
