@@ -1,5 +1,5 @@
 -- Where a piece ends that begins with printable characters, each of which is a cluster of one column.
-use Rattle.std.proofs.Common.{◌≡◌, ◌⊎◌, inl, inr, ⊎_elim, ℕ, zero, suc, ◌+◌, ◌-◌, ◌<◌, ◌≤◌, ◌==◌, ◌&&◌, Bool, true, false, cond, List, [], ◌∷◌, ◌++◌, length, map, take, drop, reverse, refl, sym, ap, ap₂, subst, ◌∙◌, arith, append_assoc, length-append}
+use Rattle.std.proofs.Common.{◌≡◌, ◌⊎◌, inl, inr, ⊎_elim, ℕ, zero, suc, ◌+◌, ◌-◌, ◌<◌, ◌≤◌, ◌==◌, ◌&&◌, Bool, true, false, cond, List, [], ◌∷◌, ◌++◌, length, map, take, drop, reverse, refl, sym, ap, ap₂, subst, ◌∙◌, arith, append_assoc, append-nil, length-append}
 use Rattle.std.specs.Prelude.{slice_index, slice_range}
 use Rattle.std.specs.List.{Contains, concat, fold, list_all}
 use Rattle.std.specs.Str.{all_scalars}
@@ -13,15 +13,15 @@ use Rattle.cluster_core.specs.Plain.{is_printable_character}
 use Rattle.cluster_core.specs.Walk.{AreFirst, placed, walk_left, walk_tab}
 use Rattle.cluster_core.proofs.ForCallers.{column_after-one, columns_between-clusters}
 use Rattle.line_break.specs.Breaks.{cluster_ends, is_breaking, is_space_or_tab, shown_len, piece_columns, piece_end}
-use Rattle.line_break.specs.Inner.{ended_len, solid_len, StandsAt, IsAhead}
+use Rattle.line_break.specs.Inner.{AddsPieces, ended_len, solid_len, StandsAt, IsAhead}
 use Rattle.line_break.specs.Plain.{IsFirstShown, BreaksNowhere, IsLastBreak, IsPlainEnd}
-use Rattle.line_break.specs.Test.{IsEndPast, IsFittingEnd, IsFittingCandidate, IsPieceEnd}
+use Rattle.line_break.specs.Test.{AreBreaksFrom, IsEndPast, IsFittingEnd, IsFittingCandidate, IsPieceEnd}
 use Rattle.line_break.specs.declared.line.Place.{Place}
 use Rattle.line_break.proofs.ClusterLemmas.{clusters-whole}
 use Rattle.line_break.proofs.ColumnLemmas.{columns-least, piece-is}
 use Rattle.line_break.proofs.EndLemmas.{first_is, first_or_later, in_none, later_is, end-last}
 use Rattle.line_break.proofs.TailLemmas.{StandsApart, solid_len-le, solid_len-push, shown-le-solid, shown_len-none, shown_len-push, shown_len-some}
-use Rattle.line_break.proofs.TestLemmas.{piece_end-by}
+use Rattle.line_break.proofs.TestLemmas.{AreBreaksFrom-more, piece_end-by}
 
 -- ---- characters as clusters
 
@@ -47,6 +47,11 @@ all-take p (suc k) [] all = refl
 all-take p (suc k) (c ∷ run) all =
     let parts = first_holds (p c) (list_all p run) all in
     ap₂ (λ a b. a && b) parts.0 (all-take p k run parts.1)
+
+all-drop : (p : ℕ → Bool) (k : ℕ) (run : List ℕ) → list_all p run ≡ true → list_all p (drop k run) ≡ true
+all-drop p zero run all = all
+all-drop p (suc k) [] all = all
+all-drop p (suc k) (c ∷ run) all = all-drop p k run (first_holds (p c) (list_all p run) all).1
 
 all-at : (p : ℕ → Bool) (run : List ℕ) (i : ℕ) → list_all p run ≡ true → i < length run → p (slice_index run i) ≡ true
 all-at p [] i all inside = absurd (omega arith)
@@ -282,55 +287,120 @@ module _ (width tab : ℕ) (line : List ℕ) (scalars : all_scalars line ≡ tru
         )))
         is.last
 
--- ---- the place past it
+-- ---- the place past some of them
+
+begun_at : (tab : ℕ) (line : List ℕ) (from : Place) (run : List ℕ) (stands : StandsAt tab line from) → AreFirst run (walk_left from.rest) → Begun run stands.back
+begun_at tab line from run s first = Begun-first tab from.end s.column run s.back (subst (AreFirst run) s.left first)
+
+-- the clusters of the line, where the first `k` of the characters stand in front
+parts_past : (tab : ℕ) (line : List ℕ) (from : Place) (run : List ℕ) (s : StandsAt tab line from) (begun : Begun run s.back) (k : ℕ) →
+    clusters_in line ≡ (s.front ++ singles (take k run)) ++ (singles (drop k run) ++ begun.others)
+parts_past tab line from run s begun k =
+    s.parts ∙ ap (λ cs. s.front ++ cs) (begun.parts ∙ ap (λ cs. cs ++ begun.others) (singles-parts k run) ∙
+    append_assoc (singles (take k run)) (singles (drop k run)) begun.others) ∙
+    sym (append_assoc s.front (singles (take k run)) (singles (drop k run) ++ begun.others))
+
+gap_past : (tab : ℕ) (line : List ℕ) (from : Place) (run : List ℕ) (s : StandsAt tab line from) (k : ℕ) → k ≤ length run →
+    length (concat (s.front ++ singles (take k run))) ≡ from.end + k
+gap_past tab line from run s k few =
+    let joined = concat-append s.front (singles (take k run)) in
+    let long : length (concat (singles (take k run))) ≡ k = ap length (concat-singles (take k run)) ∙ length-take-le k run few in
+    let gap_is = s.gap in
+    omega (arith, ap length joined, length-append (concat s.front) (concat (singles (take k run))), long, gap_is)
+
+pub StandsAt-past : (tab : ℕ) (line : List ℕ) (from : Place) (run : List ℕ) (k : ℕ) (place : Place) → StandsAt tab line from → AreFirst run (walk_left from.rest) →
+    k ≤ length run → place.end ≡ from.end + k → walk_left place.rest ≡ drop (length (take k run)) (walk_left from.rest) → walk_tab place.rest ≡ walk_tab from.rest →
+    StandsAt tab line place
+StandsAt-past tab line from run k place s first few end_is left tab_is =
+    let begun = begun_at tab line from run s first in
+    let these = singles (take k run) in
+    let back = singles (drop k run) ++ begun.others in
+    let back_is : s.back ≡ these ++ back = begun.parts ∙ ap (λ cs. cs ++ begun.others) (singles-parts k run) ∙ append_assoc these (singles (drop k run)) begun.others in
+    let long : length (concat these) ≡ k = ap length (concat-singles (take k run)) ∙ length-take-le k run few in
+    let end_here : from.end + length (concat these) ≡ place.end = omega (arith, end_is, long) in
+    record {
+      front = s.front ++ these;
+      back = back;
+      column = fold (column_after tab) s.column these;
+      parts = parts_past tab line from run s begun k;
+      gap = gap_past tab line from run s k few ∙ sym end_is;
+      left = left ∙ ap (λ n. drop n (walk_left from.rest)) (sym (length-singles (take k run))) ∙
+          ap (drop (length these)) (s.left ∙ ap (placed tab from.end s.column) back_is) ∙
+          placed-drop tab from.end s.column these back ∙ ap (λ n. placed tab n (fold (column_after tab) s.column these) back) end_here;
+      tab_width = tab_is ∙ s.tab_width;
+    }
+
+-- ---- the end of the piece that begins there
+
+pub record IsNext (width tab : ℕ) (line : List ℕ) (start end : ℕ) : Type 0 where
+  pub is : end ≡ piece_end width tab line start
+  pub past : start < end
+  pub inside : end ≤ length line
+
+pub plain-next : (width tab : ℕ) (line : List ℕ) (from : Place) (run : List ℕ) (k len : ℕ) → all_scalars line ≡ true → StandsAt tab line from →
+    AreFirst run (walk_left from.rest) → k ≤ length run → IsPlainEnd width (drop k run) len → IsNext width tab line (from.end + k) (from.end + k + len)
+plain-next width tab line from run k len scalars s first few is =
+    let begun = begun_at tab line from run s first in
+    let front = s.front ++ singles (take k run) in
+    let parts = parts_past tab line from run s begun k in
+    let printable = all-drop is_printable_character k run begun.printable in
+    let inside = within width tab line scalars front (drop k run) begun.others parts printable in
+    let gap_is = gap_past tab line from run s k few in
+    let stops = is.shown.inside in
+    let some = is.last.some in
+    let least = is.last.few in
+    let is_end : IsPieceEnd width tab line (from.end + k) (from.end + k + len) =
+    subst (λ n. IsPieceEnd width tab line n (n + len)) gap_is
+    (plain_end-is width tab line scalars front (drop k run) begun.others parts printable is.stop is.some is.shown len is.last) in
+    record {
+      is = piece_end-by width tab line (from.end + k) (from.end + k + len) scalars (omega arith) is_end;
+      past = omega arith;
+      inside = omega arith;
+    }
 
 pub record Answers (width tab : ℕ) (line : List ℕ) (from : Place) (len : ℕ) (place : Place) : Type 0 where
   pub end : place.end ≡ piece_end width tab line from.end
   pub ahead : IsAhead tab line from.end place
   pub inside : from.end < length line
 
+next-first : (width tab : ℕ) (line : List ℕ) (from : Place) (run : List ℕ) (len : ℕ) → all_scalars line ≡ true → StandsAt tab line from →
+    AreFirst run (walk_left from.rest) → IsPlainEnd width run len → IsNext width tab line from.end (from.end + len)
+next-first width tab line from run len scalars s first is =
+    subst (λ n. IsNext width tab line n (n + len)) (let same : from.end + 0 ≡ from.end = omega arith in same)
+    (plain-next width tab line from run 0 len scalars s first (omega arith) is)
+
 pub plain-fits : (width tab : ℕ) (line : List ℕ) (from : Place) (run : List ℕ) (len : ℕ) → all_scalars line ≡ true → StandsAt tab line from →
     AreFirst run (walk_left from.rest) → IsPlainEnd width run len → from.end + len ≤ length line
-plain-fits width tab line from run len scalars s first is =
-    let begun = Begun-first tab from.end s.column run s.back (subst (AreFirst run) s.left first) in
-    let parts : clusters_in line ≡ s.front ++ (singles run ++ begun.others) = s.parts ∙ ap (λ cs. s.front ++ cs) begun.parts in
-    omega (arith, within width tab line scalars s.front run begun.others parts begun.printable, s.gap, is.last.few, is.shown.inside)
+plain-fits width tab line from run len scalars s first is = (next-first width tab line from run len scalars s first is).inside
 
 pub plain-answers : (width tab : ℕ) (line : List ℕ) (from : Place) (run : List ℕ) (len : ℕ) (place : Place) → all_scalars line ≡ true → StandsAt tab line from →
     AreFirst run (walk_left from.rest) → IsPlainEnd width run len → place.end ≡ from.end + len →
     walk_left place.rest ≡ drop (length (take len run)) (walk_left from.rest) → walk_tab place.rest ≡ walk_tab from.rest → Answers width tab line from len place
 plain-answers width tab line from run len place scalars s first is end_is left tab_is =
-    let begun = Begun-first tab from.end s.column run s.back (subst (AreFirst run) s.left first) in
-    let parts : clusters_in line ≡ s.front ++ (singles run ++ begun.others) = s.parts ∙ ap (λ cs. s.front ++ cs) begun.parts in
-    let inside = within width tab line scalars s.front run begun.others parts begun.printable in
+    let next = next-first width tab line from run len scalars s first is in
     let few : len ≤ length run = omega (arith, is.last.few, is.shown.inside) in
-    let gap_is = s.gap in
-    let stops = is.shown.inside in
-    let first_some = is.last.some in
-    let before : from.end < length line = omega arith in
-    let these = singles (take len run) in
-    let back = singles (drop len run) ++ begun.others in
-    let back_is : s.back ≡ these ++ back = begun.parts ∙ ap (λ cs. cs ++ begun.others) (singles-parts len run) ∙ append_assoc these (singles (drop len run)) begun.others in
-    let long : length (concat these) ≡ len = ap length (concat-singles (take len run)) ∙ length-take-le len run few in
-    let end_here : from.end + length (concat these) ≡ place.end = omega (arith, end_is, long) in
-    let is_end : IsPieceEnd width tab line from.end (from.end + len) =
-    subst (λ n. IsPieceEnd width tab line n (n + len)) gap_is
-    (plain_end-is width tab line scalars s.front run begun.others parts begun.printable is.stop is.some is.shown len is.last) in
+    let past = next.past in
+    let within_line = next.inside in
     record {
-      end = end_is ∙ piece_end-by width tab line from.end (from.end + len) scalars before is_end;
-      ahead = record {
-        stands = record {
-          front = s.front ++ these;
-          back = back;
-          column = fold (column_after tab) s.column these;
-          parts = s.parts ∙ ap (λ cs. s.front ++ cs) back_is ∙ sym (append_assoc s.front these back);
-          gap = omega (arith, ap length (concat-append s.front these), length-append (concat s.front) (concat these), gap_is, end_here);
-          left = left ∙ ap (λ n. drop n (walk_left from.rest)) (sym (length-singles (take len run))) ∙
-              ap (drop (length these)) (s.left ∙ ap (placed tab from.end s.column) back_is) ∙
-              placed-drop tab from.end s.column these back ∙ ap (λ n. placed tab n (fold (column_after tab) s.column these) back) end_here;
-          tab_width = tab_is ∙ s.tab_width;
-        };
-        past = omega (arith, end_is, first_some);
-      };
-      inside = before;
+      end = end_is ∙ next.is;
+      ahead = record { stands = StandsAt-past tab line from run len place s first few end_is left tab_is; past = omega (arith, end_is, past) };
+      inside = omega arith;
+    }
+
+-- ---- pieces one after the other
+
+pub AddsPieces-none : (width tab : ℕ) (line : List ℕ) (first end : ℕ) (before : List ℕ) → first ≡ end → AddsPieces width tab line first end before before
+AddsPieces-none width tab line first end before same =
+    record { more = []; is = sym (append-nil before); breaks = λ rest are. subst (λ n. AreBreaksFrom width tab line n rest) (sym same) are }
+
+pub AddsPieces-more : (width tab : ℕ) (line : List ℕ) (start end next : ℕ) (before after more : List ℕ) → all_scalars line ≡ true →
+    AddsPieces width tab line start end before after → IsNext width tab line end next → more ≡ after ++ next ∷ [] →
+    AddsPieces width tab line start next before more
+AddsPieces-more width tab line start end next before after more scalars adds is pushed =
+    record {
+      more = adds.more ++ next ∷ [];
+      is = pushed ∙ ap (λ ns. ns ++ next ∷ []) adds.is ∙ append_assoc before adds.more (next ∷ []);
+      breaks = λ rest are.
+          subst (AreBreaksFrom width tab line start) (sym (append_assoc adds.more (next ∷ []) rest))
+          (adds.breaks (next ∷ rest) (AreBreaksFrom-more width tab line end next rest scalars is.past is.inside is.is are));
     }

@@ -9,6 +9,7 @@ use Rattle.cluster_core.specs.Columns.{column_after, columns_between}
 use Rattle.cluster_core.specs.Walk.{ClusterAt, placed, walk_left, walk_tab}
 use Rattle.cluster_core.specs.declared.walk.Walk.{Walk}
 use Rattle.line_break.specs.Breaks.{is_breaking, is_candidate, past_return, past_blanks, shown_len, fits, piece_end}
+use Rattle.line_break.specs.Test.{AreBreaksFrom}
 use Rattle.line_break.specs.declared.tail.Tail.{Tail}
 use Rattle.line_break.specs.declared.line.Place.{Place}
 use Rattle.line_break.specs.declared.line.Look.{Look}
@@ -92,3 +93,9 @@ pub record IsThrough (width tab : ℕ) (line : List ℕ) (start : ℕ) (look : L
   pub looked : Looked width tab line start look left
   pub none : filter (fits width tab line start) (ends_from (start + length (concat looked.these)) looked.back) ≡ []
   pub at_end : look.fitting ≡ None → start ≡ length line
+
+-- the ends of the pieces from `start` to `end` were put behind those before
+pub record AddsPieces (width tab : ℕ) (line : List ℕ) (start end : ℕ) (before after : List ℕ) : Type 0 where
+  pub more : List ℕ
+  pub is : after ≡ before ++ more
+  pub breaks : (rest : List ℕ) → AreBreaksFrom width tab line end rest → AreBreaksFrom width tab line start (more ++ rest)

@@ -1,15 +1,18 @@
-ghost use Rattle.std.specs.Prelude.{◌≡◌, ℕ, ◌+◌, ◌^◌, ◌<◌, ◌≤◌, ◌↔◌, ◌==◌, ◌&&◌, ◌||◌, cond, is_none, IsNone, IfSome, length, take, true, ◌∷◌};
+ghost use Rattle.std.specs.Prelude.{◌≡◌, ℕ, ◌+◌, ◌^◌, ◌<◌, ◌≤◌, ◌↔◌, ◌==◌, ◌&&◌, ◌||◌, cond, is_none, IfOk, IsNone, IfSome, length, take, true, ◌∷◌};
 ghost use Rattle.std.specs.Str.{all_scalars, chars};
 ghost use Rattle.cluster_core.specs.Columns.{column_after};
 ghost use Rattle.cluster_core.specs.Walk.{placed_view, walk_left, walk_tab};
 ghost use Rattle.line_break.specs.Breaks.{piece_end};
-ghost use Rattle.line_break.specs.Inner.{IsTail, StandsAt, IsAhead, IsLater, Looked, IsThrough, inside_column};
+ghost use Rattle.line_break.specs.Inner.{AddsPieces, IsTail, StandsAt, IsAhead, IsLater, Looked, IsThrough, inside_column};
 
 use crate::plain::plain_end;
 use crate::tail::{Tail, tail_of};
 use cluster_core::{Placed, Walk};
-use plain_text::split_at_gap;
+use plain_text::{NoMemory, split_at_gap};
 use unicode_width::UnicodeWidthStr;
+
+/// How many characters more than fit into the width are looked at together.
+const STRETCH: u64 = 4096;
 
 /// A line that is wrapped, with its length in characters.
 #[derive(Clone, Copy)]
@@ -72,6 +75,25 @@ impl<'a> Line<'a> {
                 look.candidate.or(look.fitting)
             }
         }
+    }
+
+    /// The place behind the pieces that go on from here, as far as plain characters alone tell them; their ends are put behind the others.
+    pub fn plain_pieces(&self, from: Place<'a>, ends: &mut Vec<u64>) -> Result<Place<'a>, NoMemory>
+        requires { StandsAt self.now.tab (chars self.now.text.now) from }
+        ensures stands { IfOk result (StandsAt self.now.tab (chars self.now.text.now)) }
+        ensures pieces { IfOk result (λ place. AddsPieces self.now.width self.now.tab (chars self.now.text.now) from.entry.end place.end ends.old.items ends.new.items) }
+        ensures order { IfOk result (λ place. from.entry.end ≤ place.end) }
+    {
+        let run = from.rest.alone(self.width as u64 + STRETCH);
+        let mut len: usize = 0;
+        while let Some(next) = plain_end(run.split_at(len).1, self.width) {
+            len += next;
+            ends.push(from.end + len as u64)?;
+        }
+        Ok(Place {
+            end: from.end + len as u64,
+            rest: from.rest.past(run.split_at(len).0),
+        })
     }
 
     /// The clusters of the piece, and those after it up to where no later one can end it.

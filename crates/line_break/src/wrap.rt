@@ -65,7 +65,7 @@ fn wrapped(alloc: Global, line: &Line<'_>) -> Result<Offsets, NoMemory>
     let mut at = line.start();
     while let Some(next) = line.next_piece(&at) {
         ends.push(next.end)?;
-        at = next;
+        at = line.plain_pieces(next, &mut ends)?;
     }
     Ok(Offsets::from_vec(ends))
 }

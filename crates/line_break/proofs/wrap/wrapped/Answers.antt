@@ -9,7 +9,8 @@ pub loop-next-smaller : goal.loop-next-smaller
 loop-next-smaller c =
     let line = c.args.line.now in
     let ahead = c.in-Some.ensures.ahead in
-    omega (arith, ahead.past, StandsAt-le line.tab (chars line.text.now) c.in-Some.next line.scalars ahead.stands)
+    let moved = c.in_ok-at.ensures in
+    omega (arith, ahead.past, moved.order, StandsAt-le line.tab (chars line.text.now) c.in_ok-at.at line.scalars moved.stands)
 
 pub loop-next-preserved : goal.loop-next-preserved
 loop-next-preserved c =
@@ -18,13 +19,16 @@ loop-next-preserved c =
     let ahead = c.in-Some.ensures.ahead in
     let end = c.in-Some.next.end in
     let le = StandsAt-le line.tab text c.in-Some.next line.scalars ahead.stands in
+    let adds = c.in_ok-at.ensures.pieces in
     record {
-      stands = ahead.stands;
+      stands = c.in_ok-at.ensures.stands;
       so_far = λ rest are.
           subst (AreBreaksFrom line.width line.tab text 0)
-          (sym (ap (λ items. items ++ rest) c.in_ok-push.ensures.items ∙ append_assoc c.loop-next.ends.items (end ∷ []) rest))
-          (c.loop-next.invariant.so_far (end ∷ rest)
-          (AreBreaksFrom-more line.width line.tab text c.loop-next.at.end end rest line.scalars ahead.past le c.in-Some.ensures.end are));
+          (sym (ap (λ items. items ++ rest) adds.is ∙ append_assoc _ adds.more rest ∙ ap (λ items. items ++ (adds.more ++ rest)) c.in_ok-push.ensures.items ∙
+          append_assoc c.loop-next.ends.items (end ∷ []) (adds.more ++ rest)))
+          (c.loop-next.invariant.so_far (end ∷ adds.more ++ rest)
+          (AreBreaksFrom-more line.width line.tab text c.loop-next.at.end end (adds.more ++ rest) line.scalars ahead.past le c.in-Some.ensures.end
+          (adds.breaks rest are)));
     }
 
 pub returns : goal.returns
