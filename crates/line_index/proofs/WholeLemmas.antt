@@ -1,6 +1,6 @@
 -- The logical lines of a text by their index, and as pieces.
 use Rattle.std.proofs.Common.{◌≡◌, ◌⊎◌, inl, inr, ℕ, zero, suc, ◌+◌, ◌-◌, ◌<◌, ◌≤◌, Bool, true, false, List, [], ◌∷◌, ◌++◌, length, map, take, drop, Option, Some, None, refl, ap, ap₂, sym, subst, ◌∙◌, arith, append-nil, length-append, length-take, take_all, take_at, take-add}
-use Rattle.std.specs.Prelude.{if◌then◌else◌, ◌==◌, is_some, unwrap_or, slice_get, slice_range}
+use Rattle.std.specs.Prelude.{if◌then◌else◌, ◌==◌, is_some, unwrap_or, slice_get, slice_range, IfNone, IfSome, IsNone, ◌↔◌}
 use Rattle.std.specs.List.{concat, onto_first}
 use Rattle.std.specs.Option.{option_map}
 use Rattle.std.proofs.lemmas.Bool.{both_ways, cases_lt}
@@ -15,6 +15,8 @@ use Rattle.plain_screen.specs.declared.piece.Piece.{Piece}
 use Rattle.plain_screen.specs.View.{IsLayoutLineOf, extent_of, layout_line_of, line_under, pieces_from, start_of, whole_lines}
 use Rattle.plain_screen.proofs.callers.ViewLemmas.{ArePieces-whole_lines, IsLayoutLineOf-layout_line_of, IsLayoutLineOf-only, concat-logical_lines}
 use Rattle.plain_screen.proofs.callers.OwnLemmas.{HasOwn, HasOwn-line}
+use Rattle.rope_metrics.specs.declared.line.InLine.{InLine}
+use Rattle.rope_metrics.specs.declared.measure.Measure.{Measure}
 use Rattle.rope_metrics.specs.declared.measure.Measure.TheVariants.{Bytes, Chars, Lines}
 use Rattle.rope_metrics.specs.Measure.{HasNone, IsConverted}
 use Rattle.rope_node.specs.Lengths.{byte_len-append, lf_count}
@@ -148,6 +150,12 @@ line_start-past text index none = elim (cases_lt (lf_count text) index) [
   | inr within ↦ let cut = feeds_cut text index within in absurd (none cut.0 cut.1 cut.2 cut.3)
 ]
 
+-- where a line starts, found or not
+pub line_start-either : (text : List ℕ) (index past : ℕ) (found : Option ℕ) → IfSome found (λ gap. IsConverted Lines Chars text index gap) →
+    IfNone found (HasNone Lines text index) → past ≡ length text → unwrap_or found past ≡ line_start text index
+line_start-either text index past (Some gap) is none past_is = line_start-converted text index gap is
+line_start-either text index past None is none past_is = past_is ∙ line_start-past text index none
+
 -- ---- the line of a gap
 
 -- so many first lines have as many LFs
@@ -226,6 +234,11 @@ gap-past text gap none = elim (cases_lt (length text) gap) [
       absurd (none (take gap text) (drop gap text) (sym (take-append-drop gap text)) all)
 ]
 
+pub gap-within : (m : Measure) (text : List ℕ) (gap offset : ℕ) → IsConverted Chars m text gap offset → gap ≤ length text
+gap-within m text gap offset is =
+    let long : length is.front ≡ gap = is.cut.ends in
+    omega (arith, long, ap length is.cut.cut, length-append is.front is.back)
+
 pub line-past : (text : List ℕ) (gap : ℕ) → HasNone Chars text gap → lf_count text ≡ layout_line_of (whole_lines text) gap
 line-past text gap none =
     let past = gap-past text gap none in
@@ -248,9 +261,30 @@ line_place-converted text index place is =
     let start = line_start-converted text index (length is.front) (record { front = is.front; back = is.back; cut = is.cut; is = refl }) in
     is.is ∙ ap byte_len (sym (ap (take (length is.front)) is.cut.cut ∙ take_at is.front is.back (length is.front) refl)) ∙ ap (place_of text) start
 
-pub line_place-past : (text : List ℕ) (index place : ℕ) → HasNone Lines text index → place ≡ byte_len text → place ≡ place_of text (line_start text index)
-line_place-past text index place none is =
-    is ∙ ap byte_len (sym (take_all (length text) text (omega arith))) ∙ ap (place_of text) (line_start-past text index none)
+-- ---- where a gap stands in its line
+
+pub inside-line : (text : List ℕ) (gap : ℕ) (found : Option InLine) → IfSome found (λ (at : InLine). IsConverted Chars Lines text gap at.line) →
+    IfSome found (λ (at : InLine). at.line ≡ layout_line_of (whole_lines text) gap)
+inside-line text gap None is = tt
+inside-line text gap (Some at) is = line-converted text gap at.line is
+
+pub inside-start : (text : List ℕ) (found : Option InLine) → IfSome found (λ (at : InLine). IsConverted Lines Bytes text at.line at.start) →
+    IfSome found (λ (at : InLine). at.start ≡ place_of text (line_start text at.line))
+inside-start text None is = tt
+inside-start text (Some at) is = line_place-converted text at.line at.start is
+
+pub inside-place : (text : List ℕ) (gap : ℕ) (found : Option InLine) → IfSome found (λ (at : InLine). IsConverted Chars Bytes text gap at.place) →
+    IfSome found (λ (at : InLine). at.place ≡ place_of text gap)
+inside-place text gap None is = tt
+inside-place text gap (Some at) is = place_of-converted text gap at.place is
+
+pub inside-none : (text : List ℕ) (gap : ℕ) (found : Option InLine) → IfSome found (λ (at : InLine). IsConverted Chars Lines text gap at.line) →
+    IfNone found (HasNone Chars text gap) → IsNone found ↔ (length text < gap)
+inside-none text gap None is none = (λ is_none. gap-past text gap none, λ past. refl)
+inside-none text gap (Some at) is none = (
+  λ is_none. absurd cc,
+  λ past. absurd (let within = gap-within Lines text gap at.line is in omega (arith, within, past)),
+)
 
 -- ---- between places
 
@@ -286,6 +320,9 @@ point-whole text gap line start from to is starts to_is from_is =
 
 -- ---- the logical line of a layout line
 
+pub same-run : (a b c d : ℕ) → a ≡ c → b ≡ d → record { start = a; end = b } ≡ (let run : Run = record { start = c; end = d } in run)
+same-run a b c d p q = rw (p, q) refl
+
 pub extent-whole : (text : List ℕ) (line : ℕ) → line < length (whole_lines text) →
     record { start = line_start text line; end = line_start text (line + 1) } ≡ extent_of (line_under text (whole_lines text) line)
 extent-whole text line inside =
@@ -294,9 +331,6 @@ extent-whole text line inside =
   where
     few : line ≤ lf_count text
     few = omega (arith, length-whole_lines text)
-
-    run-same : (a b c d : ℕ) → a ≡ c → b ≡ d → record { start = a; end = b } ≡ (let run : Run = record { start = c; end = d } in run)
-    run-same a b c d p q = rw (p, q) refl
 
     by : (first past : ℕ) → HasOwn text (whole_lines text) line first past →
         record { start = line_start text line; end = line_start text (line + 1) } ≡ extent_of (line_under text (whole_lines text) line)
@@ -315,4 +349,4 @@ extent-whole text line inside =
         ] in
         let start = (has.start _ (subst (λ (i : ℕ). slice_get (whole_lines text) i ≡ Some (record { start = line_start text line; end = line_start text (line + 1); ln = Some (line + 1) })) (sym first_is) (piece-whole text line few))).0 in
         let end = has.end line _ past_is (piece-whole text line few) in
-        run-same _ _ _ _ start end
+        same-run _ _ _ _ start end

@@ -1,4 +1,4 @@
-ghost use Rattle.std.specs.Prelude.{◌≡◌, ◌+◌, ◌<◌, ◌≤◌, ◌↔◌, length, IfOk, IfSome, IsNone};
+ghost use Rattle.std.specs.Prelude.{◌≡◌, ◌+◌, ◌^◌, ◌<◌, ◌≤◌, ◌↔◌, length, IfOk, IfSome, IsNone};
 ghost use Rattle.plain_text.specs.Lines.{logical_lines};
 ghost use Rattle.plain_edits.specs.UnitDelta.{IsUnitDelta};
 ghost use Rattle.delta_core.specs.Units.{text_after};
@@ -120,6 +120,17 @@ impl LineIndex {
         match &self.how {
             How::Whole { lines, tab: _ } => lines.rope(),
             How::Wrapped(lines) => lines.rope(),
+        }
+    }
+
+    /// How many characters, in O(1): one more fits 64 bits, so the gaps can be counted.
+    pub fn len(&self) -> u64
+        ensures count { result ≡ length self.now.text }
+        ensures bound { length self.now.text + 1 < 2 ^ 64 }
+    {
+        match &self.how {
+            How::Whole { lines, tab: _ } => lines.len(),
+            How::Wrapped(lines) => lines.len(),
         }
     }
 

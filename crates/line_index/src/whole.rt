@@ -2,7 +2,7 @@ ghost use Rattle.std.specs.Prelude.{◌≡◌, ◌+◌, ◌^◌, ◌<◌, ◌≤
 ghost use Rattle.plain_screen.specs.View.{whole_lines};
 ghost use Rattle.line_index.specs.Whole.{point_of};
 
-use crate::offsets::{lf_count, line_at, line_start, place_of, place_of_line};
+use crate::offsets::{in_line, lf_count, line_at, line_run};
 use plain_screen::{Piece, TextView};
 use plain_text::{NoMemory, Run, Text};
 use rope_tree::Rope;
@@ -53,17 +53,21 @@ impl WholeLines {
         &self.rope
     }
 
+    /// How many characters, in O(1): one more fits 64 bits, so the gaps can be counted.
+    pub fn len(&self) -> u64
+        ensures count { result ≡ length self.now }
+        ensures bound { length self.now + 1 < 2 ^ 64 }
+    {
+        self.rope.len()
+    }
+
     /// The layout line of a gap and its byte column there; `None` exactly where the gap is past the end. This takes no memory.
     pub fn locate(&self, gap: u64) -> Option<(u64, u64)>
         ensures some { IfSome result (λ point. point ≡ point_of self.now (whole_lines self.now) gap) }
         ensures none { IsNone result ↔ (length self.now < gap) }
     {
-        if gap > self.rope.len() {
-            return None;
-        }
-        let line = line_at(&self.rope, gap);
-        let start = place_of_line(&self.rope, line);
-        Some((line, place_of(&self.rope, gap) - start))
+        let at = in_line(&self.rope, gap)?;
+        Some((at.line, at.place - at.start))
     }
 }
 
@@ -80,9 +84,10 @@ impl TextView for WholeLines {
         if i > lf_count(&self.rope) {
             return None;
         }
+        let run = line_run(&self.rope, i);
         Some(Piece {
-            start: line_start(&self.rope, i),
-            end: line_start(&self.rope, i + 1),
+            start: run.start,
+            end: run.end,
             ln: Some(i + 1),
         })
     }
@@ -93,10 +98,7 @@ impl TextView for WholeLines {
 
     fn logical_of(&self, line: u64) -> Run {
         let _lines = self.lines();
-        Run {
-            start: line_start(&self.rope, line),
-            end: line_start(&self.rope, line + 1),
-        }
+        line_run(&self.rope, line)
     }
 
     fn text(&self, alloc: Global, from: u64, to: u64) -> Result<Text, NoMemory> {

@@ -75,6 +75,14 @@ impl WrappedLines {
         })
     }
 
+    /// How many characters, in O(1).
+    pub(crate) fn len(&self) -> u64
+        ensures count { result ≡ length self.now.text }
+        ensures bound { length self.now.text + 1 < 2 ^ 64 }
+    {
+        self.rope.len()
+    }
+
     pub(crate) fn copy(&self, alloc: Global) -> Result<WrappedLines, NoMemory>
         ensures { IfOk result (λ made. made ≡ self.now) }
     {

@@ -8,5 +8,5 @@ returns-then-i-lf_count c =
 
 pub returns : goal.returns
 returns c =
-    rw (← c.self.view_is, c.line_start.ensures, c.line_start-2.ensures)
+    rw (← c.self.view_is, c.line_run-run.ensures)
     (sym (piece-whole c.self.inside.rope c.args.i (omega (arith, c.if-i-lf_count.false, c.lf_count.ensures.value))))

@@ -1,8 +1,8 @@
-use Rattle.std.proofs.Common.{sym}
+use Rattle.std.proofs.Common.{sym, ◌∙◌}
 use Rattle.line_index.proofs.WholeLemmas.{extent-whole}
 use Rattle.line_index.proofs.whole.WholeLinesTextView.logical_of.Goals as goal
 
 pub returns : goal.returns
 returns c =
     let inside = rw (sym c.self.view_is) at c.requires in
-    rw (← c.self.view_is, c.line_start.ensures, c.line_start-2.ensures) (extent-whole c.self.inside.rope c.args.line inside)
+    rw (← c.self.view_is) (c.line_run.ensures ∙ extent-whole c.self.inside.rope c.args.line inside)
