@@ -81,7 +81,8 @@ impl<'a> Line<'a> {
     pub fn plain_pieces(&self, from: Place<'a>, ends: &mut Vec<u64>) -> Result<Place<'a>, NoMemory>
         requires { StandsAt self.now.tab (chars self.now.text.now) from }
         ensures stands { IfOk result (StandsAt self.now.tab (chars self.now.text.now)) }
-        ensures pieces { IfOk result (λ place. AddsPieces self.now.width self.now.tab (chars self.now.text.now) from.entry.end place.end ends.old.items ends.new.items) }
+        ensures pieces { IfOk result (λ place. AddsPieces self.now.width self.now.tab (chars self.now.text.now)
+            from.entry.end place.end ends.old.items ends.new.items) }
         ensures order { IfOk result (λ place. from.entry.end ≤ place.end) }
     {
         let run = from.rest.alone(self.width as u64 + STRETCH);
