@@ -75,7 +75,8 @@ fn made(
     players: Vec<Player>,
 ) -> Run
     requires { vec_len players ≤ 64 }
-    ensures runs { RunsAlone (length players.items) (passage_between source sink shelf result) result.report.journal.items result.report.status }
+    ensures runs { RunsAlone (length players.items) (passage_between source sink shelf result)
+        result.report.journal.items result.report.status }
     ensures turns { TakesTurns told_turns players.items result.report.plugins.items result.report.journal.items
         result.report.all_served }
 {

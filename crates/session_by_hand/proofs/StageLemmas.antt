@@ -4,11 +4,11 @@ use Rattle.std.specs.Prelude.{IfOk}
 use Rattle.core_session.specs.Shelves.{Files}
 use Rattle.session_by_hand.specs.declared.hand.Hand.{Hand}
 use Rattle.session_by_hand.specs.declared.stage.Step.{Step}
-use Rattle.session_by_hand.specs.Comes.{IsFirst}
+use Rattle.session_by_hand.specs.Comes.{IsFresh}
 use Rattle.session_by_hand.specs.Stage.{IsAfterCall, IsAfterFirstCall}
 
 pub first_made : {E : Type 0} (plugins : ℕ) (files : Files) (hand : Hand) (line : List ℕ) (made : Result (Option Step) E) → hand.plugins ≡ plugins →
-    IsFirst plugins files hand.core → IfOk made (λ next. IsAfterCall hand.plugins hand.core line next) → IfOk made (λ next. IsAfterFirstCall plugins files line next)
+    IsFresh plugins files hand.core → IfOk made (λ next. IsAfterCall hand.plugins hand.core line next) → IfOk made (λ next. IsAfterFirstCall plugins files line next)
 first_made plugins files hand line (Ok next) same first after = record {
   core = hand.core;
   first = first;

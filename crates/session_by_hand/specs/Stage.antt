@@ -8,7 +8,7 @@ use Rattle.session_by_hand.specs.declared.stage.Stage.{Stage}
 use Rattle.session_by_hand.specs.declared.stage.Stage.TheVariants as at
 use Rattle.session_by_hand.specs.declared.stage.Step.{Step}
 use Rattle.session_by_hand.specs.Call.{Asked, after_mark, call_of, plugins_of}
-use Rattle.session_by_hand.specs.Comes.{IsFirst, Says, Session}
+use Rattle.session_by_hand.specs.Comes.{IsFresh, Says, MemorySession}
 use Rattle.session_by_hand.specs.Files.{IsFileIn}
 
 -- the first line says how many plugins there are
@@ -33,7 +33,7 @@ pub record IsAfterFile (plugins : ℕ) (files : Files) (text : List ℕ) (next :
   pub refused : (IsNewIn files found → ⊥) → next ≡ None
 
 -- a call is made in the session, and what is printed of it is said
-pub record IsMade (plugins : ℕ) (core : Session) (call : Asked) (next : Option Step) : Type 0 where
+pub record IsMade (plugins : ℕ) (core : MemorySession) (call : Asked) (next : Option Step) : Type 0 where
   pub hand : Hand
   pub said : List ℕ
   pub is : next ≡ Some (record { stage = at.Calls hand; said = said })
@@ -41,18 +41,18 @@ pub record IsMade (plugins : ℕ) (core : Session) (call : Asked) (next : Option
   pub says : ∥ Says core hand.core call said ∥₁
 
 -- the same, where the line is a call
-abbrev pub IsMadeOf : ℕ → Session → Option Asked → Option Step → Type 0
+abbrev pub IsMadeOf : ℕ → MemorySession → Option Asked → Option Step → Type 0
 IsMadeOf plugins core None next = next ≡ None
 IsMadeOf plugins core (Some call) next = IsMade plugins core call next
 
 -- a line behind a call is one
-abbrev pub IsAfterCall : ℕ → Session → List ℕ → Option Step → Type 0
+abbrev pub IsAfterCall : ℕ → MemorySession → List ℕ → Option Step → Type 0
 IsAfterCall plugins core line next = IsMadeOf plugins core (call_of plugins line) next
 
 -- the first call is made in a session without entries
 pub record IsAfterFirstCall (plugins : ℕ) (files : Files) (line : List ℕ) (next : Option Step) : Type 0 where
-  pub core : Session
-  pub first : IsFirst plugins files core
+  pub core : MemorySession
+  pub first : IsFresh plugins files core
   pub after : IsAfterCall plugins core line next
 
 -- a line behind the first one says a file, or is a call

@@ -4,7 +4,7 @@ ghost use Rattle.core_session.specs.Answers.{Answers};
 ghost use Rattle.core_session.specs.Core.{journal_of, sink_of, terms_of};
 ghost use Rattle.core_session.specs.Serves.{FitsCaller};
 ghost use Rattle.session_by_hand.specs.Call.{IsOfOne, call_view};
-ghost use Rattle.session_by_hand.specs.Comes.{IsFirst, Says, SaysReply};
+ghost use Rattle.session_by_hand.specs.Comes.{IsFresh, Says, SaysReply};
 
 use crate::call::Call;
 use crate::said::{answer_said, reply_said};
@@ -39,7 +39,7 @@ impl Hand {
     /// A session with so many plugins and these files.
     pub fn make(alloc: Global, plugins: u32, shelf: CalmShelf) -> Result<Hand, NoMemory>
         ensures plugins { IfOk result (λ hand. hand.plugins ≡ plugins) }
-        ensures first { IfOk result (λ hand. IsFirst plugins shelf hand.core) }
+        ensures first { IfOk result (λ hand. IsFresh plugins shelf hand.core) }
     {
         let sink = MemSink::new(alloc, GREATEST, Vec::new(alloc));
         match Core::make(alloc, sink, shelf, plugins, TEXT_LIMIT) {

@@ -311,7 +311,8 @@ fn front_told(
 
 // No view takes a step, and the front end is told this.
 fn told(alloc: Global, reply: FrontReply) -> Result<Acted, NoMemory>
-    ensures acted { (held : List HeldView) (views : List OpenView) → Stands held views → IfOk result (IsActed held None (telling views (reply_of reply))) }
+    ensures acted { (held : List HeldView) (views : List OpenView) → Stands held views
+        → IfOk result (IsActed held None (telling views (reply_of reply))) }
     ensures table { IfOk result (HasGrown None) }
 {
     Ok(taken(

@@ -9,7 +9,7 @@ use Rattle.rand_core.specs.Pcg32Seed.{pcg32_seed}
 use Rattle.rand_pcg.specs.Pcg.{pcg32, pcg32_of_seed}
 use Rattle.storm_lines.specs.declared.line.StormLine.{StormLine}
 use Rattle.storm_lines.specs.declared.line.StormLine.TheVariants.{Opening, Insert, InsertNewline, DeleteBackward, DeleteForward, MoveLeft, MoveUp, MoveRight, Undo, Redo}
-use Rattle.storm_lines.specs.Lines.{drawn_words, letter_of, line_bytes, line_of, storm_lines}
+use Rattle.storm_lines.specs.Lines.{drawn_words, letter_of, line_bytes, storm_line_of, storm_lines}
 use Rattle.storm_lines.specs.Laws.{InputsComeApart}
 use Rattle.storm_lines.proofs.WholeLemmas.{IsWhole, ended_all, lines_of-whole, passes, stays_open, unended_all}
 
@@ -25,7 +25,7 @@ one_of : (P : StormLine → Type 0) (test : Bool) (first other : StormLine) → 
 one_of P true first other holds else_holds = holds
 one_of P false first other holds else_holds = else_holds
 
-types_letter : (word : ℕ) → TypesLetter (line_of word)
+types_letter : (word : ℕ) → TypesLetter (storm_line_of word)
 types_letter word =
     one_of TypesLetter (word % 16 == 8) InsertNewline _ tt
     (one_of TypesLetter (word % 16 == 9) DeleteBackward _ tt
@@ -74,7 +74,7 @@ short_line Redo = omega arith
 
 -- ---- all lines
 
-each_types_letter : (words : List ℕ) → AllByRecursion TypesLetter (map line_of words)
+each_types_letter : (words : List ℕ) → AllByRecursion TypesLetter (map storm_line_of words)
 each_types_letter [] = tt
 each_types_letter (word ∷ words) = (types_letter word, each_types_letter words)
 
@@ -101,5 +101,5 @@ inputs_come_apart count seed =
       last = unended_all (map line_bytes lines) whole;
       short = each_short lines;
       many =
-          omega (arith, length-map (drawn_words count seed) line_of, length-first_words pcg32 count (pcg32_of_seed (pcg32_seed 16 seed)));
+          omega (arith, length-map (drawn_words count seed) storm_line_of, length-first_words pcg32 count (pcg32_of_seed (pcg32_seed 16 seed)));
     }

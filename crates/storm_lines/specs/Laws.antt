@@ -7,7 +7,7 @@ use Rattle.storm_lines.specs.Lines.{line_bytes, storm_bytes, storm_lines}
 use Rattle.storm_lines.specs.Summary.{summary_in, summary_text}
 
 -- THE INPUT of a storm comes apart into its lines, each of which LF ends; and none of them is long
-pub record ComesApart (count seed : ℕ) : Type 0 where
+pub record ComesApartIntoLines (count seed : ℕ) : Type 0 where
   pub lines : lines_of (storm_bytes count seed) ≡ map line_bytes (storm_lines count seed)
   pub ended : ended_lines [] (storm_bytes count seed) ≡ map line_bytes (storm_lines count seed)
   pub last : unended [] (storm_bytes count seed) ≡ []
@@ -16,7 +16,7 @@ pub record ComesApart (count seed : ℕ) : Type 0 where
 
 -- so each storm's input comes apart
 abbrev pub InputsComeApart : Type 0
-InputsComeApart = (count seed : ℕ) → ComesApart count seed
+InputsComeApart = (count seed : ℕ) → ComesApartIntoLines count seed
 
 -- the numbers of a summary are such as 64 bits hold
 pub record IsFairSummary (summary : Summary) : Type 0 where

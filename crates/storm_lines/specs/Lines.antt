@@ -16,8 +16,8 @@ abbrev pub letter_of : ℕ → ℕ
 letter_of word = 97 + word / 16 % 26
 
 -- THE LINE OF A WORD: of sixteen, eight type a letter, and each of the others edits in a way of its own
-abbrev pub line_of : ℕ → StormLine
-line_of word =
+abbrev pub storm_line_of : ℕ → StormLine
+storm_line_of word =
     if word % 16 == 8 then InsertNewline
     else (if word % 16 == 9 then DeleteBackward
     else (if word % 16 == 10 then DeleteForward
@@ -30,7 +30,7 @@ line_of word =
 
 -- THE LINES of a storm: one that opens a view, and one for each of so many words of the generator with this seed
 abbrev pub storm_lines : ℕ → ℕ → List StormLine
-storm_lines count seed = Opening ∷ map line_of (drawn_words count seed)
+storm_lines count seed = Opening ∷ map storm_line_of (drawn_words count seed)
 
 -- the line that edits the view by this method, with these parameters
 abbrev pub edit_line : List ℕ → List ℕ → List ℕ

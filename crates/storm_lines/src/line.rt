@@ -1,6 +1,6 @@
 ghost use Rattle.std.specs.Prelude.{◌≡◌, ◌≤◌, ◌-◌, length, min, drop};
 ghost use Rattle.outside.specs.Source.{filled};
-ghost use Rattle.storm_lines.specs.Lines.{letter_of, line_bytes, line_of};
+ghost use Rattle.storm_lines.specs.Lines.{letter_of, line_bytes, storm_line_of};
 
 const OPENING: &[u8] = b"{\"id\":0,\"method\":\"new_view\",\"params\":{}}\n";
 
@@ -54,7 +54,7 @@ pub enum StormLine {
 impl StormLine {
     /// The line of a word.
     pub fn of_word(word: u32) -> StormLine
-        ensures { result ≡ line_of word }
+        ensures { result ≡ storm_line_of word }
     {
         match word % 16 {
             8 => StormLine::InsertNewline,

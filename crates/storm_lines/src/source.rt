@@ -1,7 +1,7 @@
 ghost use Rattle.std.specs.Prelude.{◌≡◌, ◌<◌, ◌∷◌, ◌-◌, ◌++◌, [], length, min, drop, IfSome, None, Some, map};
 ghost use Rattle.outside.specs.Source.{Gives, IsPiece, pulled, filled, failures_after};
 ghost use Rattle.outside.specs.Faults.{Rose};
-ghost use Rattle.storm_lines.specs.Lines.{bytes_of_all, drawn_words, line_bytes, line_of, storm_bytes};
+ghost use Rattle.storm_lines.specs.Lines.{bytes_of_all, drawn_words, line_bytes, storm_line_of, storm_bytes};
 
 use crate::line::StormLine;
 use outside::{Pulled, Source};
@@ -21,11 +21,11 @@ pub struct StormSource {
 
 impl Model for StormSource {
     ghost use Rattle.std.specs.Prelude.{◌++◌, ℕ, List, map};
-    ghost use Rattle.storm_lines.specs.Lines.{bytes_of_all, line_of};
+    ghost use Rattle.storm_lines.specs.Lines.{bytes_of_all, storm_line_of};
 
     ghost Value = { List ℕ };
 
-    ghost view = { λ s. s.begun ++ bytes_of_all (map line_of s.draws) };
+    ghost view = { λ s. s.begun ++ bytes_of_all (map storm_line_of s.draws) };
 }
 
 impl StormSource {

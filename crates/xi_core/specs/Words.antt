@@ -89,25 +89,25 @@ EndsReplay status =
 
 -- THE STATUS of the process: 0 where the help, the version or the methods are printed, and 5 where that fails; that of a run of the form with so many
 -- plugins, recorded or not, or 3 where there was no memory for these; that of a replay; 2 where the words are no form
-abbrev pub EndsWith : Invocation → ℕ → Type 0
-EndsWith Help status = (status ≡ 0) ⊎ (status ≡ 5)
-EndsWith Version status = (status ≡ 0) ⊎ (status ≡ 5)
-EndsWith Methods status = (status ≡ 0) ⊎ (status ≡ 5)
-EndsWith (Run form handed) status = EndsRun form (handed_count handed) status ⊎ (status ≡ 3)
-EndsWith (Record form handed) status = EndsRun form (handed_count handed) status ⊎ (status ≡ 3)
-EndsWith Replay status = EndsReplay status
-EndsWith Misused status = status ≡ 2
+abbrev pub EndsWithStatus : Invocation → ℕ → Type 0
+EndsWithStatus Help status = (status ≡ 0) ⊎ (status ≡ 5)
+EndsWithStatus Version status = (status ≡ 0) ⊎ (status ≡ 5)
+EndsWithStatus Methods status = (status ≡ 0) ⊎ (status ≡ 5)
+EndsWithStatus (Run form handed) status = EndsRun form (handed_count handed) status ⊎ (status ≡ 3)
+EndsWithStatus (Record form handed) status = EndsRun form (handed_count handed) status ⊎ (status ≡ 3)
+EndsWithStatus Replay status = EndsReplay status
+EndsWithStatus Misused status = status ≡ 2
 
 -- it is not for a run, nor for the table of methods
-abbrev pub IsTold : Invocation → Type 0
-IsTold Help = ⊤
-IsTold Version = ⊤
-IsTold Misused = ⊤
-IsTold other = ⊥
+abbrev pub IsForNoRun : Invocation → Type 0
+IsForNoRun Help = ⊤
+IsForNoRun Version = ⊤
+IsForNoRun Misused = ⊤
+IsForNoRun other = ⊥
 
 -- the status for what these words ask
 abbrev pub EndsFor : List (List ℕ) → ℕ → Type 0
-EndsFor words status = EndsWith (invocation_in words) status
+EndsFor words status = EndsWithStatus (invocation_in words) status
 
 -- there were words for which it ends so, or there was no memory for them
 abbrev pub EndsForSome : ℕ → Type 0

@@ -1,7 +1,7 @@
 ghost use Rattle.std.specs.Prelude.{◌≡◌, ◌≤◌, IfOk, IfSome, length};
 ghost use Rattle.std.specs.Process.{exit_status};
 ghost use Rattle.storm_lines.specs.Forms.{form_in};
-ghost use Rattle.xi_core.specs.Words.{EndsFor, EndsForSome, EndsRun, EndsWith, IsTold, handed_count, invocation_in, run_in};
+ghost use Rattle.xi_core.specs.Words.{EndsFor, EndsForSome, EndsRun, EndsWithStatus, IsForNoRun, handed_count, invocation_in, run_in};
 
 use crate::methods::print_methods;
 use crate::replaying::played;
@@ -44,8 +44,8 @@ fn answered<R: Threads + Wait + Sync>(rt: &HostRuntime, threads: &R, words: &[Te
 
 /// Says what the program says of itself.
 fn told(rt: &HostRuntime, invocation: Invocation) -> ExitCode
-    requires { IsTold invocation }
-    ensures { EndsWith invocation (exit_status result) }
+    requires { IsForNoRun invocation }
+    ensures { EndsWithStatus invocation (exit_status result) }
 {
     let text = said_text(invocation);
     match stream_of(invocation) {
@@ -62,7 +62,7 @@ fn told(rt: &HostRuntime, invocation: Invocation) -> ExitCode
 
 /// Prints the methods that lines may name.
 fn listed(rt: &HostRuntime) -> ExitCode
-    ensures { EndsWith Invocation.Methods (exit_status result) }
+    ensures { EndsWithStatus Invocation.Methods (exit_status result) }
 {
     match print_methods(rt) {
         Ok(()) => ExitCode::SUCCESS,
@@ -79,7 +79,7 @@ fn run_recorded<R: Threads + Wait + Sync>(
     handed: Handed,
 ) -> ExitCode
     requires { invocation_in words.now ≡ Invocation.Record form handed }
-    ensures { EndsWith (Invocation.Record form handed) (exit_status result) }
+    ensures { EndsWithStatus (Invocation.Record form handed) (exit_status result) }
 {
     let (_named, later) = words.split_at(2);
     run(rt, threads, later, Some(&words[1]), form, handed)
@@ -95,7 +95,7 @@ fn run<R: Threads + Wait + Sync>(
     handed: Handed,
 ) -> ExitCode
     requires { run_in words.now ≡ Invocation.Run form handed }
-    ensures { EndsWith (Invocation.Run form handed) (exit_status result) }
+    ensures { EndsWithStatus (Invocation.Run form handed) (exit_status result) }
 {
     let words = form_words(words);
     match form {
@@ -119,7 +119,7 @@ fn run_beside<R: Threads + Wait + Sync, P: Plugin + Send>(
     handed: Handed,
     plugin: P,
 ) -> ExitCode
-    ensures { IfSome (form_in words.now) (λ form. EndsWith (Invocation.Run form handed) (exit_status result)) }
+    ensures { IfSome (form_in words.now) (λ form. EndsWithStatus (Invocation.Run form handed) (exit_status result)) }
 {
     match plugins(rt.alloc(), handed, plugin) {
         Ok(plugins) => match folder {
