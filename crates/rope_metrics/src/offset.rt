@@ -74,7 +74,13 @@ pub(crate) fn chunk_at<'a, L: Ledger>(
 }
 
 /// The same of a leaf, where `before` are the lengths of all before it.
-pub(crate) fn in_chunk(chunk: &Chunk, from: Measure, to: Measure, at: u64, before: &Lengths) -> Option<u64>
+pub(crate) fn in_chunk(
+    chunk: &Chunk,
+    from: Measure,
+    to: Measure,
+    at: u64,
+    before: &Lengths,
+) -> Option<u64>
     requires passed { long_by from before.now < at }
     requires reached { at ≤ long_by from (together before.now (lengths_of chunk.now)) }
     requires fits { IsTrue (is_countable (together before.now (lengths_of chunk.now))) }
