@@ -8,7 +8,7 @@ use plain_edits::Span;
 use plain_screen::{Line, Piece, Triple};
 use plain_text::{NoMemory, Region, Regions, Sel, Text};
 use selection_core::Selection;
-use span_runs::{place_at, places_in, triples};
+use span_runs::triples;
 use std::alloc::Global;
 
 const fn piece(start: u64, end: u64, ln: Option<u64>) -> Piece {
@@ -122,23 +122,12 @@ fn triples_count_bytes(rt: HostRuntime) {
     assert!(rt; are_triples(alloc, "aé中b", span(2, 4, 3), &[triple(3, 4, 3)]));
 }
 
-// Whether a gap of a line is at this byte.
-fn is_at(alloc: Global, line: &str, gap: u64, byte: u64) -> bool {
-    let Ok(line) = Text::from_str(alloc, line) else {
-        return false;
-    };
-    match places_in(alloc, &line) {
-        Ok(places) => gap <= line.char_count() && place_at(&line, &places, gap) == byte,
-        Err(_) => false,
-    }
-}
-
 #[test]
 fn gaps_are_at_bytes(rt: HostRuntime) {
     let alloc = rt.alloc();
-    assert!(rt; is_at(alloc, "aé中b", 0, 0));
-    assert!(rt; is_at(alloc, "aé中b", 3, 6));
-    assert!(rt; is_at(alloc, "aé中b", 4, 7));
+    assert!(rt; are_triples(alloc, "aé中b", span(0, 0, 1), &[triple(0, 0, 1)]));
+    assert!(rt; are_triples(alloc, "aé中b", span(3, 3, 1), &[triple(6, 0, 1)]));
+    assert!(rt; are_triples(alloc, "aé中b", span(4, 4, 1), &[triple(7, 0, 1)]));
 }
 
 const WHOLE: &[(u64, u64)] = &[(0, 3)];
@@ -165,6 +154,14 @@ fn starts_count_from_the_end_of_the_span_before(rt: HostRuntime) {
         &[span(1, 3, 2), span(1, 2, 2)],
     );
     assert!(rt; has(twice, first, &[], &[triple(1, 1, 2), triple(-1, 2, 2)]));
+    let around = line_of(
+        alloc,
+        "aé中b",
+        piece(0, 4, first),
+        &[],
+        &[span(1, 2, 2), span(0, 4, 1)],
+    );
+    assert!(rt; has(around, first, &[], &[triple(0, 7, 1), triple(-6, 2, 2)]));
 }
 
 #[test]

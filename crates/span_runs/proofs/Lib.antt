@@ -1,2 +1,4 @@
 pub mod OrderLemmas
 pub mod PlaceLemmas
+mod GapLemmas
+pub mod ForCallers

@@ -1,75 +1,97 @@
--- The byte offsets of the gaps of a line, from its start on.
-use Rattle.std.proofs.Common.{◌≡◌, ℕ, zero, suc, Bool, true, false, ◌+◌, ◌<◌, ◌≤◌, List, [], ◌∷◌, ◌++◌, length, get_or, map, drop, refl, ap, ap₂, sym, subst, ◌∙◌, arith, append_assoc, append-nil, zero-add, ◌-◌, pos, ◌-ℤ◌}
-use Rattle.std.specs.Char.{len_utf8, encode_utf8}
+-- The triples of spans by the places of their ends.
+use Rattle.std.proofs.Common.{◌≡◌, ⊎_elim, ℕ, zero, suc, Bool, true, false, ◌+◌, ◌<◌, ◌≤◌, List, [], ◌∷◌, length, get_or, map, drop, ltb, refl, ap, subst, ◌∙◌, arith, ◌-◌, pos, ◌-ℤ◌}
 use Rattle.std.specs.Prelude.{if◌then◌else◌}
 use Rattle.std.specs.Ordering.{is_lt}
-use Rattle.std.specs.List.{AllByRecursion, range_with_len}
-use Rattle.std.specs.Str.{chars, IsUtf8}
-use Rattle.std.proofs.lemmas.Str.{chars_past_char, chars-nil}
-use Rattle.std.proofs.lemmas.List.{nil_from_length}
-use Rattle.std.proofs.lemmas.List.FromFn.{get_or-map-range_with_len, length-map-range_with_len}
-use Rattle.plain_text.specs.Text.{byte_len, place_of}
+use Rattle.std.specs.List.{AllByRecursion, Contains}
+use Rattle.std.specs.List.Sorted.{IsNonDecreasing, IsPermutation, IsPartitionPoint}
+use Rattle.std.proofs.lemmas.Bool.{cases_lt, ltb-true, ltb-false}
+use Rattle.std.proofs.lemmas.List.{get_or-map, get_or_default}
+use Rattle.std.proofs.lemmas.List.Sorted.{Contains-permutation, IsPermutation-sym}
+use Rattle.plain_text.specs.Text.{place_of}
 use Rattle.plain_edits.specs.declared.style.Span.{Span}
 use Rattle.plain_screen.specs.declared.screen.Triple.{Triple}
+use Rattle.span_runs.specs.Places.{HasEnds, RiseUpTo, ends_of}
 use Rattle.span_runs.specs.Spans.{span_cmp, with_span, sorted_spans}
 use Rattle.span_runs.specs.Triples.{LieInLine, triples_after}
 
--- the offsets behind each character, the first of which stands at this offset
-abbrev pub places_from : ℕ → List ℕ → List ℕ
-places_from place [] = []
-places_from place (c ∷ text) = (place + len_utf8 c) ∷ places_from (place + len_utf8 c) text
+-- ---- the ends of spans, in rising order
 
-map-range-next : {X : Type 0} (f : ℕ → X) (from n : ℕ) → map f (range_with_len (from + 1) n) ≡ map (λ i. f (i + 1)) (range_with_len from n)
-map-range-next f from zero = refl
-map-range-next f from (suc n) = ap (λ xs. f (from + 1) ∷ xs) (map-range-next f (from + 1) n)
+has_first : (x : ℕ) (xs : List ℕ) → Contains (x ∷ xs) x
+has_first x xs = (0, omega arith, refl)
 
-map_same : (f g : ℕ → ℕ) → ((i : ℕ) → f i ≡ g i) → (xs : List ℕ) → map f xs ≡ map g xs
-map_same f g same [] = refl
-map_same f g same (x ∷ xs) = ap₂ (λ y ys. y ∷ ys) (same x) (map_same f g same xs)
+has_later : (x y : ℕ) (xs : List ℕ) → Contains xs x → Contains (y ∷ xs) x
+has_later x y xs (k, inside, is) = (suc k, omega arith, is)
 
-place_of-next : (c i : ℕ) (text : List ℕ) → place_of (c ∷ text) (i + 1) ≡ len_utf8 c + place_of text i
-place_of-next c i text = ap (λ n. place_of (c ∷ text) n) (let next : i + 1 ≡ suc i = omega arith in next)
+ends-in : (gaps : List ℕ) (spans : List Span) → ((x : ℕ) → Contains (ends_of spans) x → Contains gaps x) → HasEnds gaps spans
+ends-in gaps [] all = tt
+ends-in gaps (span ∷ spans) all =
+    let others = ends_of spans in (
+      (all span.start (has_first span.start (span.end ∷ others)), all span.end (has_later span.end span.start (span.end ∷ others) (has_first span.end others))),
+      ends-in gaps spans (λ x has. all x (has_later x span.start (span.end ∷ others) (has_later x span.end others has))),
+    )
 
-places-from : (place : ℕ) (text : List ℕ) → map (λ gap. place + place_of text gap) (range_with_len 0 (length text + 1)) ≡ place ∷ places_from place text
-places-from place [] = ap (λ n. n ∷ []) (let none : place + 0 ≡ place = omega arith in none)
-places-from place (c ∷ text) =
-    let long : length (c ∷ text) + 1 ≡ suc (length text + 1) = omega arith in
-    ap (λ n. map (λ gap. place + place_of (c ∷ text) gap) (range_with_len 0 n)) long ∙
-    ap₂ (λ n ns. n ∷ ns) (let none : place + 0 ≡ place = omega arith in none)
-    (map-range-next (λ gap. place + place_of (c ∷ text) gap) 0 (length text + 1) ∙
-    map_same (λ i. place + place_of (c ∷ text) (i + 1)) (λ i. (place + len_utf8 c) + place_of text i)
-    (λ i. let next = place_of-next c i text in omega (arith, next)) (range_with_len 0 (length text + 1)) ∙
-    places-from (place + len_utf8 c) text)
+-- a sort of them has them all
+pub HasEnds-sorted : (gaps : List ℕ) (spans : List Span) → IsPermutation (ends_of spans) gaps → HasEnds gaps spans
+HasEnds-sorted gaps spans same = ends-in gaps spans (λ x has. Contains-permutation (ends_of spans) gaps x same has)
 
--- the places of all gaps
-pub places-all : (text : List ℕ) → 0 ∷ places_from 0 text ≡ map (place_of text) (range_with_len 0 (length text + 1))
-places-all text =
-    sym (places-from 0 text) ∙ map_same (λ gap. 0 + place_of text gap) (place_of text) (λ gap. zero-add (place_of text gap)) (range_with_len 0 (length text + 1))
+ends-within : (last : ℕ) (spans : List Span) → LieInLine last spans → (x : ℕ) → Contains (ends_of spans) x → x ≤ last
+ends-within last [] lie x (k, inside, is) = absurd (omega arith)
+ends-within last (span ∷ spans) lie x (zero, inside, is) = omega (arith, lie.0.0, lie.0.1, is)
+ends-within last (span ∷ spans) lie x (suc zero, inside, is) = omega (arith, lie.0.1, is)
+ends-within last (span ∷ spans) lie x (suc (suc k), inside, is) = ends-within last spans lie.1 x (k, omega arith, is)
 
--- one character further
-pub places-step : (places bs rest : List ℕ) (place c : ℕ) (all : List ℕ) → IsUtf8 bs → bs ≡ encode_utf8 c ++ rest →
-    places ++ places_from place (chars bs) ≡ all → (places ++ (place + len_utf8 c) ∷ []) ++ places_from (place + len_utf8 c) (chars rest) ≡ all
-places-step places bs rest place c all is_text cut so_far =
-    append_assoc places ((place + len_utf8 c) ∷ []) (places_from (place + len_utf8 c) (chars rest)) ∙
-    ap (λ cs. places ++ places_from place cs) (sym (chars_past_char bs rest c is_text cut)) ∙ so_far
+rise-up : (last low : ℕ) (gaps : List ℕ) → IsNonDecreasing (low ∷ gaps) → ((x : ℕ) → Contains gaps x → x ≤ last) → RiseUpTo low last gaps
+rise-up last low [] rise few = tt
+rise-up last low (gap ∷ gaps) rise few = (
+  rise 0 1 0 (omega arith) (omega arith),
+  few gap (has_first gap gaps),
+  rise-up last gap gaps (λ i j d le inside. rise (suc i) (suc j) d (omega arith) (omega arith)) (λ x has. few x (has_later x gap gaps has)),
+)
 
-pub places-end : (places bs all : List ℕ) (place : ℕ) → length bs ≡ 0 → places ++ places_from place (chars bs) ≡ all → places ≡ all
-places-end places bs all place none so_far =
-    sym (append-nil places) ∙ ap (λ cs. places ++ places_from place cs) (sym (ap chars (nil_from_length bs none) ∙ chars-nil)) ∙ so_far
+from_zero : (gaps : List ℕ) → IsNonDecreasing gaps → IsNonDecreasing (0 ∷ gaps)
+from_zero gaps rise zero j d le inside = omega arith
+from_zero gaps rise (suc i) zero d le inside = absurd (omega arith)
+from_zero gaps rise (suc i) (suc j) d le inside = rise i j d (omega arith) (omega arith)
 
--- the place of a gap among those of all gaps
-pub place_at-index : (text : List ℕ) (gap d : ℕ) → gap ≤ length text → get_or (map (place_of text) (range_with_len 0 (length text + 1))) gap d ≡ place_of text gap
-place_at-index text gap d inside = get_or-map-range_with_len (place_of text) 0 (length text + 1) gap gap d (omega arith) (zero-add gap)
+-- and rises, up to the end of a line in which the spans lie
+pub RiseUpTo-sorted : (last : ℕ) (gaps : List ℕ) (spans : List Span) → LieInLine last spans → IsPermutation (ends_of spans) gaps → IsNonDecreasing gaps →
+    RiseUpTo 0 last gaps
+RiseUpTo-sorted last gaps spans lie same rise =
+    rise-up last 0 gaps (from_zero gaps rise)
+    (λ x has. ends-within last spans lie x (Contains-permutation gaps (ends_of spans) x (IsPermutation-sym (ends_of spans) gaps same) has))
 
-pub length-places : (text : List ℕ) → length (map (place_of text) (range_with_len 0 (length text + 1))) ≡ length text + 1
-length-places text = length-map-range_with_len (place_of text) 0 (length text + 1)
+-- ---- a gap among them
 
--- no place is past the end
-pub place-le-byte_len : (text : List ℕ) (gap : ℕ) → place_of text gap ≤ byte_len text
-place-le-byte_len [] zero = omega arith
-place-le-byte_len [] (suc gap) = omega arith
-place-le-byte_len (c ∷ text) zero = omega arith
-place-le-byte_len (c ∷ text) (suc gap) = let rest = place-le-byte_len text gap in omega arith
+pub record IsFoundAt (gaps : List ℕ) (gap at : ℕ) : Type 0 where
+  pub inside : at < length gaps
+  pub is : get_or gaps at 0 ≡ gap
+
+-- where a search by halves stops stands the gap, if it is there
+pub found-at : (gaps : List ℕ) (gap at : ℕ) → IsNonDecreasing gaps → Contains gaps gap →
+    IsPartitionPoint (λ y. ltb y gap ≡ true) (λ y. ltb y gap ≡ false) gaps at → IsFoundAt gaps gap at
+found-at gaps gap at rise (k, within, is) (below, above) = ⊎_elim
+    (λ (before : k < at). let less = ltb-true (get_or gaps k gap) gap (below k gap (omega arith) before) in absurd (omega (arith, less, is)))
+    (λ (past : at ≤ k).
+    let inside : at < length gaps = omega arith in
+    let least = ltb-false (get_or gaps at gap) gap (above at gap (omega arith) inside) in
+    let most = rise at k gap past within in
+    let own = get_or_default gaps at gap 0 inside in
+    record { inside = inside; is = omega (arith, least, most, own, is) })
+    (cases_lt k at)
+
+-- its place
+pub place-found : (line gaps places : List ℕ) (gap at : ℕ) → IsFoundAt gaps gap at → places ≡ map (place_of line) gaps → get_or places at 0 ≡ place_of line gap
+place-found line gaps places gap at found is =
+    ap (λ (ps : List ℕ). get_or ps at 0) is ∙ get_or-map (place_of line) gaps at 0 0 found.inside ∙ ap (place_of line) found.is
+
+-- of spans with all their ends the one with an index
+pub HasEnds-at : (gaps : List ℕ) (i : ℕ) (spans : List Span) (d : Span) → i < length spans → HasEnds gaps spans →
+    Contains gaps (get_or spans i d).start × Contains gaps (get_or spans i d).end
+HasEnds-at gaps i [] d inside all = absurd (omega arith)
+HasEnds-at gaps zero (span ∷ spans) d inside all = all.0
+HasEnds-at gaps (suc i) (span ∷ spans) d inside all = HasEnds-at gaps i spans d (omega arith) all.1
+
+-- ---- triples
 
 -- the triple of a span, where the span before it ends at this byte
 abbrev pub triple_of : List ℕ → ℕ → Span → Triple

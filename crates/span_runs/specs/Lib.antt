@@ -1,3 +1,4 @@
 pub mod Spans
 pub mod Triples
+pub mod Places
 pub mod Rows

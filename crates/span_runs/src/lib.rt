@@ -6,7 +6,9 @@
 
 mod byte_triples;
 mod order;
+mod places;
 pub mod rows;
 
-pub use byte_triples::{place_at, places_in, triples};
+pub use byte_triples::triples;
 pub use order::in_order;
+pub use places::places_of;

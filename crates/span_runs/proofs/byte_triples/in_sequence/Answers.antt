@@ -3,7 +3,7 @@ use Rattle.plain_text.proofs.callers.TextLemmas.{place_of-rises}
 use Rattle.plain_edits.specs.declared.style.Span.{Span}
 use Rattle.plain_screen.specs.declared.screen.Triple.{Triple}
 use Rattle.span_runs.specs.Triples.{triples_after}
-use Rattle.span_runs.proofs.PlaceLemmas.{triples_after-step, triple_of, LieInLine-at}
+use Rattle.span_runs.proofs.PlaceLemmas.{triples_after-step, triple_of, HasEnds-at, LieInLine-at}
 use Rattle.span_runs.proofs.byte_triples.in_sequence.Goals as goal
 
 abbrev made_of : ℕ → ℕ → ℕ → ℕ → Triple
@@ -12,14 +12,11 @@ made_of end id start next = record { start = pos start -ℤ pos end; len = next 
 abbrev nothing : Span
 nothing = record { start = 0; end = 0; style = 0 }
 
-pub place_at-start-requires-clause-gap : goal.place_at-start-requires-clause-gap
-place_at-start-requires-clause-gap c =
-    let at = LieInLine-at (length c.args.line.now) c.loop-span.span-index c.args.sorted.now nothing c.loop-span-test.true c.loop-span.invariant.inside in
-    let one = at.0 in let two = at.1 in omega arith
+pub place_at-start-requires-clause-has : goal.place_at-start-requires-clause-has
+place_at-start-requires-clause-has c = (HasEnds-at c.args.gaps.now c.loop-span.span-index c.args.sorted.now nothing c.loop-span-test.true c.requires.ends).0
 
-pub place_at-next-requires-clause-gap : goal.place_at-next-requires-clause-gap
-place_at-next-requires-clause-gap c =
-    (LieInLine-at (length c.args.line.now) c.loop-span.span-index c.args.sorted.now nothing c.loop-span-test.true c.loop-span.invariant.inside).1
+pub place_at-next-requires-clause-has : goal.place_at-next-requires-clause-has
+place_at-next-requires-clause-has c = (HasEnds-at c.args.gaps.now c.loop-span.span-index c.args.sorted.now nothing c.loop-span-test.true c.requires.ends).1
 
 pub triple-requires-clause-ordered : goal.triple-requires-clause-ordered
 triple-requires-clause-ordered c =
