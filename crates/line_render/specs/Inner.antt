@@ -1,5 +1,5 @@
 -- What private functions say: which regions and spans touch a piece, and walks over them.
-use Rattle.std.specs.Prelude.{ℕ, ◌+◌, ◌-◌, ◌≤◌, min, ◌&&◌, not, if◌then◌else◌, nat_lt, nat_le, ◌==◌, List, [], ◌∷◌, Option, Some, None}
+use Rattle.std.specs.Prelude.{ℕ, ◌+◌, ◌-◌, min, ◌&&◌, not, if◌then◌else◌, nat_lt, nat_le, ◌==◌, List, [], ◌∷◌, Option, Some, None}
 use Rattle.std.specs.List.{filter}
 use Rattle.plain_text.specs.declared.run.Run.{Run}
 use Rattle.plain_text.specs.declared.selection.Region.{Region}
@@ -21,11 +21,6 @@ shown_gaps start gaps low (caret ∷ carets) =
     if nat_le (start + low) caret && nat_lt caret (start + gaps)
     then (caret - start) ∷ shown_gaps start gaps (caret - start + 1) carets
     else shown_gaps start gaps low carets
-
--- gaps rise from one on, up to a last one
-abbrev pub RiseUpTo : ℕ → ℕ → List ℕ → Type 0
-RiseUpTo from last [] = Unit {0}
-RiseUpTo from last (gap ∷ gaps) = (from ≤ gap) × (gap ≤ last) × RiseUpTo gap last gaps
 
 -- a run as a span of one style
 abbrev pub styled_span : ℕ → Run → Span

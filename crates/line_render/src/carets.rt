@@ -1,10 +1,10 @@
 ghost use Rattle.std.specs.Prelude.{◌≡◌, ◌+◌, ◌-◌, ◌≤◌, ◌&&◌, if◌then◌else◌, nat_le, nat_lt, length, map, IfOk, Some, None};
-ghost use Rattle.std.specs.Str.{chars};
 ghost use Rattle.plain_text.specs.Text.{place_of};
 ghost use Rattle.line_render.specs.Rendered.{carets_of};
-ghost use Rattle.line_render.specs.Inner.{RiseUpTo, shown_gaps};
+ghost use Rattle.line_render.specs.Inner.{shown_gaps};
 
-use plain_text::{NoMemory, Offsets, Region, Text, place_in};
+use plain_text::{NoMemory, Offsets, Region, Text};
+use span_runs::places_of;
 use std::alloc::Global;
 
 // The byte offsets of the carets at the first `gaps` gaps of a line of so many characters that starts at gap `start`. This goes along the
@@ -38,39 +38,6 @@ fn gaps_in(alloc: Global, start: u64, gaps: u64, regions: &[Region]) -> Result<O
         }
     }
     Ok(shown)
-}
-
-// The places of gaps that rise, in a line of so many characters.
-fn places_of(alloc: Global, line: &str, len: u64, gaps: &[u64]) -> Result<Offsets, NoMemory>
-    requires len { len ≡ length (chars line.now) }
-    requires rise { RiseUpTo 0 len gaps.now }
-    ensures { IfOk result (λ places. places ≡ map (place_of (chars line.now)) gaps.now) }
-{
-    let mut places = Offsets::new(alloc);
-    let mut rest = line;
-    let mut at: u64 = 0;
-    let mut place: u64 = 0;
-    for gap in gaps {
-        let step = place_past(rest, len - at, *gap - at);
-        place += step;
-        places.push(place)?;
-        rest = rest.split_at(step as usize).1;
-        at = *gap;
-    }
-    Ok(places)
-}
-
-// The place of a gap of a text of so many characters. A text of one byte a character is not looked at.
-fn place_past(text: &str, len: u64, gap: u64) -> u64
-    requires len { len ≡ length (chars text.now) }
-    requires inside { gap ≤ len }
-    ensures { result ≡ place_of (chars text.now) gap }
-{
-    if text.len() as u64 == len {
-        gap
-    } else {
-        place_in(text, gap)
-    }
 }
 
 // The caret's gap, counted from `start`, where it is from `low` on among the first `gaps`.

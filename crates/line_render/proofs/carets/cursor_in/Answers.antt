@@ -1,6 +1,6 @@
 use Rattle.std.proofs.Common.{arith, ap, length, sym, subst, ◌∙◌}
 use Rattle.line_render.specs.Rendered.{carets_of}
-use Rattle.line_render.specs.Inner.{RiseUpTo}
+use Rattle.span_runs.specs.Places.{RiseUpTo}
 use Rattle.line_render.proofs.CursorLemmas.{RiseUpTo-shown}
 use Rattle.line_render.proofs.carets.cursor_in.Goals as goal
 
