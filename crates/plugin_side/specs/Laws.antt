@@ -1,8 +1,10 @@
 -- The laws of a plugin's side of the wire, on data alone.
-use Rattle.std.specs.Prelude.{◌≡◌, ◌↔◌, ◌≤◌, ◌<◌, ◌^◌, ℕ, ℤ, List, codes, true, Some, None}
+use Rattle.std.specs.Prelude.{◌≡◌, ◌↔◌, ◌⊎◌, ◌≤◌, ◌<◌, ◌^◌, ℕ, ℤ, List, codes, true, Some, None}
 use Rattle.std.specs.Str.{all_scalars}
 use Rattle.xi_plain.specs.declared.command.Id.{Id}
+use Rattle.xi_plain.specs.declared.command.Act.TheVariants.{Bad}
 use Rattle.xi_plain.specs.declared.command.Command.{Command}
+use Rattle.xi_plain.specs.declared.command.Fault.{Fault}
 use Rattle.serde_json.specs.Data.{Data, null, depth}
 use Rattle.json_rpc.specs.Line.{line_of, IsLineOf}
 use Rattle.json_rpc.specs.Request.{IsTextId}
@@ -29,6 +31,14 @@ pub record IsAskLine (command : Command) (line : List ℕ) : Type 0 where
 abbrev pub CommandsReadBack : Type 0
 CommandsReadBack = (command : Command) → IsAsk command.act → IsHeldCommand command → IsTakenCommand command
     → IsAskLine command (line_of (command_data command)) × (depth (command_data command) ≤ 6)
+
+-- what is asked is refused, or the line that is written of it asks it again
+abbrev pub IsAskedAgain : Command → Type 0
+IsAskedAgain command = (IsAsk command.act × (ask_of (line_of (command_data command)) ≡ command)) ⊎ ((fault : Fault) × (command.act ≡ Bad fault))
+
+-- SO WHATEVER A LINE ASKS, in whatever form, the line that is written of it asks again, where it is not refused
+abbrev pub LinesAreAskedAgain : Type 0
+LinesAreAskedAgain = (line : List ℕ) → IsAskedAgain (ask_of line)
 
 -- ---- what is heard is what was told
 
