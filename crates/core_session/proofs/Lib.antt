@@ -6,6 +6,7 @@ pub mod StepLemmas
 pub mod PluginStepLemmas
 pub mod AfterLemmas
 pub mod ShelfLemmas
+pub mod HoldLemmas
 pub mod RevisionLemmas
 pub mod ShowsLemmas
 pub mod ShownLemmas

@@ -1,12 +1,13 @@
 -- What private functions say: what an act and a command come to in memory.
-use Rattle.std.specs.Prelude.{◌≡◌, ℕ, Bool, true, false, List, unwrap_or}
-use Rattle.std.specs.Str.{encode_utf8_all}
+use Rattle.std.specs.Prelude.{◌≡◌, ℕ, ◌||◌, Bool, true, false, List, [], ◌∷◌, Option, Some, None, unwrap_or}
+use Rattle.std.specs.Str.{bytes_eq, encode_utf8_all}
 use Rattle.outside.specs.declared.shelf.Stored.{Stored}
 use Rattle.outside.specs.declared.shelf.Stored.TheVariants as stored
 use Rattle.plain_edits.specs.declared.style.Style.{Style}
 use Rattle.view_update.specs.declared.note.ViewUpdate.{ViewUpdate}
 use Rattle.core_session.specs.declared.ask.Asked.{Asked}
 use Rattle.core_session.specs.declared.prepare.Prepared.{Prepared}
+use Rattle.xi_plain.specs.declared.command.Act.{Act}
 use Rattle.xi_plain.specs.declared.command.Command.{Command}
 use Rattle.xi_plain.specs.declared.entry.Entry.{Entry}
 use Rattle.session_step.specs.declared.opened.Opened.{Opened}
@@ -19,6 +20,21 @@ use Rattle.session_step.specs.PluginEffects.{views_with}
 use Rattle.entry_lines.specs.Notices.{AreNoticeTexts}
 use Rattle.entry_lines.specs.Piece.{AreLinesOf, UpdatesReadBack}
 use Rattle.core_session.specs.Kept.{StandsForSession}
+use Rattle.core_session.specs.Shelves.{opens_file, saved_view}
+
+-- one of the views in memory has this name
+abbrev pub holds_name : List Opened → List ℕ → Bool
+holds_name [] name = false
+holds_name (kept ∷ held) name = bytes_eq (encode_utf8_all name) (encode_utf8_all kept.id) || holds_name held name
+
+-- the same where there is a name
+abbrev pub holds_view : List Opened → Option (List ℕ) → Bool
+holds_view held None = false
+holds_view held (Some name) = holds_name held name
+
+-- whether an act asks the shelf, by the views in memory
+abbrev pub asks_by : List Opened → Act → Bool
+asks_by held act = opens_file act || holds_view held (saved_view act)
 
 -- a command by the note that it has: what it comes to, how many were opened by then, and the lines that tell plugins of it
 pub record IsAsked (session : Session) (command : Command) (asked : Asked) : Type 0 where

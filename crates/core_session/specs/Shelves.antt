@@ -1,6 +1,7 @@
 -- THE SHELF HOLDS THE SAVES: what the entries of a journal ask of a shelf, what they leave in it, and what their notes tell of it.
 use Rattle.session_step.specs.declared.terms.Terms.{Terms}
-use Rattle.std.specs.Prelude.{◌≡◌, ℕ, ◌+◌, ◌-◌, ◌^◌, ◌<◌, ◌≤◌, Bool, true, not, List, [], ◌∷◌, Option, Some, None, option_map, IfSome, ⊤}
+use Rattle.std.specs.Prelude.{◌≡◌, ℕ, ◌+◌, ◌-◌, ◌^◌, ◌<◌, ◌≤◌, ◌||◌, Bool, true, false, not, List, [], ◌∷◌, Option, Some, None, option_map, IfSome, ⊤}
+use Rattle.std.specs.Option.{is_some}
 use Rattle.std.specs.Str.{encode_utf8_all}
 use Rattle.xi_plain.specs.declared.command.Act.{Act}
 use Rattle.xi_plain.specs.declared.command.Act.TheVariants.{NewView, Save}
@@ -37,6 +38,24 @@ is_saving_of (Some view) note = not (is_no_call note)
 abbrev pub asks_as : List OpenView → Act → ShelfNote → Bool
 asks_as views (Save name path) note = is_saving_of (named_view views name) note
 asks_as views act note = true
+
+-- whether an act opens a file, and the view that it saves, if it does
+abbrev pub opens_file : Act → Bool
+opens_file (NewView (Some path)) = true
+opens_file act = false
+
+abbrev pub saved_view : Act → Option (List ℕ)
+saved_view (Save name path) = Some name
+saved_view act = None
+
+-- the view is open, where there is one
+abbrev pub has_view : List OpenView → Option (List ℕ) → Bool
+has_view views None = false
+has_view views (Some name) = is_some (named_view views name)
+
+-- WHETHER AN ACT ASKS THE SHELF, where these views are open: it opens a file, or saves one of them
+abbrev pub asks_shelf : List OpenView → Act → Bool
+asks_shelf views act = opens_file act || has_view views (saved_view act)
 
 -- EACH SAVING ASKS THE SHELF exactly where its view is open
 abbrev pub AreSavesAskedFrom : Session → List Entry → Type 0

@@ -1,11 +1,11 @@
-ghost use Rattle.std.specs.Prelude.{◌≡◌, ◌<◌, ◌≤◌, ◌^◌, ℕ, IfErr, IfOk, IfSome, List, Some, length, true};
+ghost use Rattle.std.specs.Prelude.{◌≡◌, ◌<◌, ◌≤◌, ◌^◌, ℕ, IfErr, IfOk, IfSome, List, Some, length, true, false};
 ghost use Rattle.json_rpc.specs.Request.{IsWireId};
 ghost use Rattle.outside.specs.Faults.{Rose};
 ghost use Rattle.xi_plain.specs.declared.entry.ShelfNote.TheVariants.{Done, Failed, Held, NoCall};
 ghost use Rattle.xi_plain.specs.declared.command.Act.TheVariants.{NewView, Save};
 ghost use Rattle.xi_plain.specs.Journal.{may_open};
 ghost use Rattle.session_step.specs.Views.{IsOfLine, AreOfPlugins, AreThere, IsFoundAt, MayBeAsked};
-ghost use Rattle.core_session.specs.InnerSession.{IsAsked};
+ghost use Rattle.core_session.specs.InnerSession.{IsAsked, asks_by, holds_name};
 ghost use Rattle.session_step.specs.Session.{OpenView, Session, config_after, given_by, named_view};
 ghost use Rattle.core_session.specs.Shelves.{IsNoted, KeepsFiles, NoteTells, shelf_state};
 
@@ -54,6 +54,7 @@ pub fn ask<H: Shelf>(
         session.views command.now.act asked.note) }
     ensures kept { IfErr result (λ _.
         KeepsFiles (shelf_state H.files H.faults shelf.old) (shelf_state H.files H.faults shelf.new)) }
+    ensures unasked { asks_by held.now command.now.act ≡ false → shelf.new ≡ shelf.old }
 {
     match &command.act {
         Act::NewView { path: Some(path) } => opening(
@@ -201,6 +202,7 @@ fn saving<H: Shelf>(
         session.views command.now.act asked.note) }
     ensures kept { IfErr result (λ _.
         KeepsFiles (shelf_state H.files H.faults shelf.old) (shelf_state H.files H.faults shelf.new)) }
+    ensures unasked { holds_name held.now name.now ≡ false → shelf.new ≡ shelf.old }
 {
     match place_of(held, name) {
         Some(at) => saving_at(

@@ -1,11 +1,11 @@
-ghost use Rattle.std.specs.Prelude.{◌≡◌, ◌<◌, ◌≤◌, ◌^◌, List, IfErr, IfOk, true};
+ghost use Rattle.std.specs.Prelude.{◌≡◌, ◌<◌, ◌≤◌, ◌^◌, List, IfErr, IfOk, true, false};
 ghost use Rattle.plain_edits.specs.declared.style.Style.{Style};
 ghost use Rattle.front_wire.specs.Front.{command_of};
 ghost use Rattle.session_step.specs.Session.{Session, config_after};
 ghost use Rattle.session_step.specs.Views.{IsOfLine, AreOfPlugins, AreThere, HasApart, MayBeAsked};
 ghost use Rattle.session_step.specs.PluginEffects.{HasPlace};
 ghost use Rattle.core_session.specs.Kept.{StandsForSession, front_entry};
-ghost use Rattle.core_session.specs.InnerSession.{IsPrepared};
+ghost use Rattle.core_session.specs.InnerSession.{IsPrepared, asks_by};
 ghost use Rattle.core_session.specs.Shelves.{IsNoted, KeepsFiles, shelf_state};
 
 use crate::ask::{Asked, ask};
@@ -62,6 +62,7 @@ pub fn prepare<H: Shelf>(
         session.views made.entry.command.act made.entry.shelf) }
     ensures kept { IfErr result (λ _.
         KeepsFiles (shelf_state H.files H.faults shelf.old) (shelf_state H.files H.faults shelf.new)) }
+    ensures unasked { asks_by held.now (command_of line.now).act ≡ false → shelf.new ≡ shelf.old }
 {
     let command = command_of(alloc, line)?;
     let config = config_after(config, &command.act);

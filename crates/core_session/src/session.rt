@@ -2,6 +2,7 @@ ghost use Rattle.std.specs.Prelude.{◌≡◌, ◌+◌, ◌≤◌, ◌^◌, ◌�
 ghost use Rattle.xi_plain.specs.declared.command.Command.{Command};
 ghost use Rattle.xi_plain.specs.Journal.{IsLegal, closing_entry};
 ghost use Rattle.xi_plain.specs.Reply.{has_entry};
+ghost use Rattle.front_wire.specs.Front.{command_of};
 ghost use Rattle.plugin_wire.specs.Asked.{ask_of};
 ghost use Rattle.plugin_wire.specs.FairAsk.{IsFairCommand};
 ghost use Rattle.plugin_wire.specs.Told.{stopped};
@@ -12,7 +13,7 @@ ghost use Rattle.session_step.specs.Accepted.{is_of_plugin};
 ghost use Rattle.session_step.specs.Session.{named_view, session_of, views_of};
 ghost use Rattle.core_session.specs.Kept.{IsOfJournal, IsOpen, StandBy, ending, has_closing, plugin_entry, reply_if, reserved, stage_if, stage_of, with_sent};
 ghost use Rattle.core_session.specs.Notes.{AreToldOf};
-ghost use Rattle.core_session.specs.Shelves.{asks_as};
+ghost use Rattle.core_session.specs.Shelves.{asks_as, asks_shelf};
 ghost use Rattle.core_session.specs.Grown.{IsGrown};
 ghost use Rattle.core_session.specs.Serves.{Serves, outcome_in, refusal_in};
 ghost use Rattle.core_session.specs.Answers.{Answers};
@@ -113,6 +114,8 @@ impl<K: Sink, H: Shelf> Core<K, H> {
     pub fn front_line(&mut self, line: &[u8]) -> Reply
         ensures stays { result ≡ Reply.Closed → self.new ≡ self.old }
         ensures sink { has_entry result ≡ false → sink_of self.new ≡ sink_of self.old }
+        ensures shelf { asks_shelf (views_of (terms_of self.old) (journal_of self.old)) (command_of line.now).act ≡ false
+            → shelf_of self.new ≡ shelf_of self.old }
         ensures serves { Serves (terms_of self.old) (journal_of self.old) 0 (Ask.FrontLine line.now) result (journal_of self.new) }
         ensures grown { IsGrown (state_of K.held K.faults K.failures H.files H.faults self.old) (state_of K.held K.faults K.failures H.files H.faults self.new) }
     {
@@ -126,6 +129,8 @@ impl<K: Sink, H: Shelf> Core<K, H> {
     fn take_line(&mut self, line: &[u8]) -> Reply
         requires { self.old.stage ≡ Stage.Serves }
         ensures sink { has_entry result ≡ false → sink_of self.new ≡ sink_of self.old }
+        ensures shelf { asks_shelf (views_of (terms_of self.old) (journal_of self.old)) (command_of line.now).act ≡ false
+            → shelf_of self.new ≡ shelf_of self.old }
         ensures serves { Serves (terms_of self.old) (journal_of self.old) 0 (Ask.FrontLine line.now) result (journal_of self.new) }
         ensures grown { IsGrown (state_of K.held K.faults K.failures H.files H.faults self.old) (state_of K.held K.faults K.failures H.files H.faults self.new) }
     {

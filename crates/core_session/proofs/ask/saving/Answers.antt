@@ -4,8 +4,11 @@ use Rattle.xi_plain.specs.declared.command.Act.{Act}
 use Rattle.xi_plain.specs.declared.entry.ShelfNote.TheVariants.{NoCall}
 use Rattle.core_session.specs.declared.ask.Asked.{Asked}
 use Rattle.session_step.specs.Views.{IsFirstNamed, IsPlaceOf}
+use Rattle.core_session.specs.InnerSession.{holds_name}
 use Rattle.core_session.specs.Shelves.{IsNoted, shelf_state}
 use Rattle.session_step.proofs.ForCallers.{first_inside, named_at, none_named}
+use Rattle.core_session.proofs.HoldLemmas.{holds_found}
+use Rattle.core_session.proofs.ServesLemmas.{never}
 use Rattle.core_session.proofs.ShelfLemmas.{noted_absent}
 use Rattle.core_session.proofs.ask.saving.Goals as goal
 
@@ -20,6 +23,13 @@ returns-in-Some-clause-noted g c = λ session there.
     let is : IsFirstNamed held name c.in-Some.at = subst (IsPlaceOf held name) c.in-Some.is c.place_of.ensures in
     let found = named_at held session.views name c.in-Some.at there is in
     c.saving_at.ensures.noted session found.view name there found.found found.named c.requires.act
+
+pub returns-in-Some-clause-unasked : goal.returns-in-Some-clause-unasked
+returns-in-Some-clause-unasked g c = λ none.
+    let held = c.args.held.now in
+    let name = c.args.name.now in
+    let is : IsFirstNamed held name c.in-Some.at = subst (IsPlaceOf held name) c.in-Some.is c.place_of.ensures in
+    never (holds_name held name) none (holds_found held name c.in-Some.at is)
 
 pub returns-in-None-clause-noted : goal.returns-in-None-clause-noted
 returns-in-None-clause-noted g c = λ session there.

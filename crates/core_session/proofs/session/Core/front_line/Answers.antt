@@ -24,3 +24,6 @@ pub returns-in-Serves-clause-stays : goal.returns-in-Serves-clause-stays
 returns-in-Serves-clause-stays g c = λ is.
     let core = c.args.self.now in
     never (is_over core.journal.items) (stage_serves core.journal.items (sym c.in-Serves.is ∙ core.staged)) (c.take_line.ensures.serves.closed.0 is)
+
+pub returns-in-Serves-clause-shelf : goal.returns-in-Serves-clause-shelf
+returns-in-Serves-clause-shelf g c = c.take_line.ensures.shelf

@@ -11,8 +11,10 @@ use Rattle.session_step.specs.Session.{session_of, views_of}
 use Rattle.session_step.specs.Views.{AreOfPlugins, MayBeAsked, Stands}
 use Rattle.core_session.specs.Kept.{reply_if, reserved}
 use Rattle.core_session.specs.Shelves.{asks_as}
+use Rattle.front_wire.specs.Front.{command_of}
 use Rattle.core_session.specs.InnerSession.{IsPrepared}
 use Rattle.core_session.proofs.KeptLemmas.{AreOfPlugins-prop, MayBeAsked-prop, stage_serves}
+use Rattle.core_session.proofs.HoldLemmas.{unasked_by}
 use Rattle.core_session.proofs.PrepareLemmas.{prepared_from}
 use Rattle.core_session.proofs.SessionLemmas.{none_within, terms-session_of}
 use Rattle.core_session.proofs.ShownLemmas.{MayBeAsked-stands}
@@ -143,3 +145,22 @@ returns-in-Ok-clause-grown g c =
 pub returns-in-Ok-clause-sink : goal.returns-in-Ok-clause-sink
 returns-in-Ok-clause-sink g c = λ is.
     never (has_entry c.reply_if.result) is (ap has_entry c.reply_if.ensures ∙ made_if c.new.result c.put-sent.result)
+
+pub returns-in-Ok-clause-shelf : goal.returns-in-Ok-clause-shelf
+returns-in-Ok-clause-shelf g c = λ none.
+    let core = c.args.self.now in
+    let journal = core.journal in
+    let few : length journal.items < 2 ^ 63 = omega (arith, journal.ok.0, journal.ok.1, journal.small, core.room) in
+    c.put-sent.ensures.shelf ∙
+    c.prepare.ensures.unasked
+    (unasked_by core.terms journal.items core.views c.as_slice.result.now (command_of c.args.line.now).act c.as_slice.ensures few
+    (∥∥₁_map core.kept (λ kept. kept.stands.views)) none)
+
+pub returns-in-Err-clause-shelf : goal.returns-in-Err-clause-shelf
+returns-in-Err-clause-shelf g c = λ none.
+    let core = c.args.self.now in
+    let journal = core.journal in
+    let few : length journal.items < 2 ^ 63 = omega (arith, journal.ok.0, journal.ok.1, journal.small, core.room) in
+    c.prepare.ensures.unasked
+    (unasked_by core.terms journal.items core.views c.as_slice.result.now (command_of c.args.line.now).act c.as_slice.ensures few
+    (∥∥₁_map core.kept (λ kept. kept.stands.views)) none)
