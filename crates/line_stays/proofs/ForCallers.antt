@@ -4,3 +4,5 @@ pub use Rattle.line_stays.proofs.TouchLemmas.{are_numbered, has_lines, touches_n
 pub use Rattle.line_stays.proofs.RevisionLemmas.{touches-revised}
 pub use Rattle.line_stays.proofs.ShowLemmas.{equal-planned, length-planned, valid-planned}
 pub use Rattle.line_stays.proofs.CountLemmas.{line-counts}
+-- and where no line has a partner that is valid
+pub use Rattle.line_stays.proofs.NoneLemmas.{none-untouched, none-valid, nothing-stays}

@@ -11,4 +11,16 @@ mod EdgeLemmas
 mod FlagLemmas
 mod RegionLemmas
 mod MarkLemmas
+mod NoneLemmas
+mod PlaceLemmas
+mod SettledLemmas
+mod WholeLemmas
+mod AlikeLemmas
+mod SplitLemmas
+mod EditLemmas
+mod NumberLemmas
+mod ShareLemmas
+mod ChangeLemmas
+mod PutLemmas
+mod GapLemmas
 pub mod ForCallers

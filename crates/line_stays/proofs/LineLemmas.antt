@@ -84,10 +84,10 @@ module _ (front gone come back : List ℕ) where
   abbrev pub made : List ℕ
   made = front ++ (come ++ back)
 
-  lf-was : lf_count was ≡ lf_count front + (lf_count gone + lf_count back)
+  pub lf-was : lf_count was ≡ lf_count front + (lf_count gone + lf_count back)
   lf-was = omega (arith, count_by-append (λ d. d == 10) front (gone ++ back), count_by-append (λ d. d == 10) gone back)
 
-  lf-made : lf_count made ≡ lf_count front + (lf_count come + lf_count back)
+  pub lf-made : lf_count made ≡ lf_count front + (lf_count come + lf_count back)
   lf-made = omega (arith, count_by-append (λ d. d == 10) front (come ++ back), count_by-append (λ d. d == 10) come back)
 
   -- there is room: right of the touched lines stand no more than there were

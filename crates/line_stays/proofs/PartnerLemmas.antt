@@ -1,5 +1,5 @@
 -- The partner of each line of a layout, by the logical line that it is of and its place in that.
-use Rattle.std.proofs.Common.{◌≡◌, ℕ, zero, suc, ◌+◌, ◌<◌, Bool, List, [], ◌∷◌, ◌++◌, length, map, take, Option, Some, None, refl, ap, ap₂, sym, subst, ◌∙◌, arith, length-append}
+use Rattle.std.proofs.Common.{◌≡◌, ℕ, zero, suc, ◌+◌, ◌<◌, Bool, List, [], ◌∷◌, ◌++◌, length, map, take, Option, Some, None, refl, ap, ap₂, ◌∙◌, arith, length-append}
 use Rattle.std.specs.Prelude.{slice_get, unwrap_or}
 use Rattle.std.specs.List.{enumerate_from, flat_map}
 use Rattle.plain_text.specs.declared.run.Run.{Run}
@@ -41,7 +41,7 @@ module _ (before : List (List Line)) where
   length-none [] = refl
   length-none (line ∷ lines) = ap suc (length-none lines)
 
-  length-partners : (other : Option ℕ) (lines : List Line) → length (partners_in before other lines) ≡ length lines
+  pub length-partners : (other : Option ℕ) (lines : List Line) → length (partners_in before other lines) ≡ length lines
   length-partners None lines = length-none lines
   length-partners (Some index) lines = length-on (first_of before index) (are_alike is_same_but_number (slice_get before index) lines) lines
 
@@ -56,7 +56,7 @@ module _ (before : List (List Line)) where
   at-partners (Some index) lines k less = at-on (first_of before index) k (are_alike is_same_but_number (slice_get before index) lines) lines less
 
   module _ (other_of : ℕ → Option ℕ) where
-    abbrev partners_on : ℕ → List (List Line) → List (Option (ℕ × Bool))
+    abbrev pub partners_on : ℕ → List (List Line) → List (Option (ℕ × Bool))
     partners_on start groups = flat_map (λ (i, lines). partners_in before (other_of i) lines) (enumerate_from start groups)
 
     at-groups : (start index k : ℕ) (groups : List (List Line)) (lines : List Line) → slice_get groups index ≡ Some lines → k < length lines →

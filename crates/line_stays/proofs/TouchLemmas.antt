@@ -41,7 +41,7 @@ same-text line other text some =
 
 -- ---- two logical lines of one text, cut alike
 
-slice-within : (front line back : List ℕ) (from end : ℕ) → from ≤ end → end ≤ length line →
+pub slice-within : (front line back : List ℕ) (from end : ℕ) → from ≤ end → end ≤ length line →
     slice_range (front ++ (line ++ back)) (length front + from) (length front + end) ≡ slice_range line from end
 slice-within front line back from end ordered inside =
     let few : length front + end - (length front + from) ≡ end - from = omega arith in
@@ -49,7 +49,7 @@ slice-within front line back from end ordered inside =
     take-append-le (end - from) (drop from line) back (omega (arith, length-drop from line))
 
 -- ends rise from a gap on up to the end of a line
-abbrev RiseWithin : ℕ → ℕ → List ℕ → Type 0
+abbrev pub RiseWithin : ℕ → ℕ → List ℕ → Type 0
 RiseWithin len from [] = from ≤ len
 RiseWithin len from (end ∷ ends) = (from ≤ end) × RiseWithin len end ends
 
@@ -57,11 +57,11 @@ RiseWithin-rise : (len from : ℕ) (ends : List ℕ) → RiseTo len from ends �
 RiseWithin-rise len from [] rise = omega arith
 RiseWithin-rise len from (end ∷ ends) rise = (let lt = rise.0 in omega arith, RiseWithin-rise len end ends rise.1)
 
-RiseWithin-ends : (len : ℕ) (ends : List ℕ) → AreEnds len ends → RiseWithin len 0 ends
+pub RiseWithin-ends : (len : ℕ) (ends : List ℕ) → AreEnds len ends → RiseWithin len 0 ends
 RiseWithin-ends zero ends are = subst (RiseWithin 0 0) (sym are) (omega arith, omega arith)
 RiseWithin-ends (suc len) ends are = RiseWithin-rise (suc len) 0 ends are
 
-RiseWithin-le : (len from : ℕ) (ends : List ℕ) → RiseWithin len from ends → from ≤ len
+pub RiseWithin-le : (len from : ℕ) (ends : List ℕ) → RiseWithin len from ends → from ≤ len
 RiseWithin-le len from [] rise = rise
 RiseWithin-le len from (end ∷ ends) rise = omega (arith, rise.0, RiseWithin-le len end ends rise.1)
 
@@ -84,13 +84,13 @@ module _ (front back front' back' line : List ℕ) (draw other : Piece → Line)
 -- ---- the logical lines of a text that is cut by a rule
 
 module _ (ends_of : List ℕ → List ℕ) where
-  abbrev cuts_of : List (List ℕ) → List (List ℕ × List ℕ)
+  abbrev pub cuts_of : List (List ℕ) → List (List ℕ × List ℕ)
   cuts_of lines = map (λ line. (line, ends_of line)) lines
 
-  abbrev AreCutLines : List (List ℕ) → Type 0
+  abbrev pub AreCutLines : List (List ℕ) → Type 0
   AreCutLines lines = AllByRecursion (λ line. AreEnds (length line) (ends_of line)) lines
 
-  cut-lines : (draw : Piece → Line) (keeps : (piece : Piece) → (draw piece).ln ≡ piece.ln) (lines : List (List ℕ)) → AreCutLines lines →
+  pub cut-lines : (draw : Piece → Line) (keeps : (piece : Piece) → (draw piece).ln ≡ piece.ln) (lines : List (List ℕ)) → AreCutLines lines →
       AreCut draw keeps (cuts_of lines)
   cut-lines draw keeps [] cuts = tt
   cut-lines draw keeps (line ∷ lines) cuts = (cuts.0, cut-lines draw keeps lines cuts.1)
@@ -101,7 +101,7 @@ module _ (ends_of : List ℕ → List ℕ) where
   ends-at (first ∷ lines) zero line is cuts = subst (λ l. AreEnds (length l) (ends_of l)) (ap (λ o. unwrap_or o first) is) cuts.0
   ends-at (first ∷ lines) (suc index) line is cuts = ends-at lines index line is cuts.1
 
-  lines-cut : (lines : List (List ℕ)) → map (λ ((line, ends) : List ℕ × List ℕ). line) (cuts_of lines) ≡ lines
+  pub lines-cut : (lines : List (List ℕ)) → map (λ ((line, ends) : List ℕ × List ℕ). line) (cuts_of lines) ≡ lines
   lines-cut [] = refl
   lines-cut (line ∷ lines) = ap (λ ls. line ∷ ls) (lines-cut lines)
 

@@ -4,8 +4,8 @@ ghost use Rattle.line_stays.specs.Edges.{first_piece, past_piece};
 
 use plain_screen::{Piece, TextView};
 
-// The piece with this index.
-fn piece_at<T: TextView>(view: &T, index: u64) -> Piece
+/// The piece with this index.
+pub(crate) fn piece_at<T: TextView>(view: &T, index: u64) -> Piece
     requires { index < length (T.pieces_of view.now) }
     ensures { Some result ≡ slice_get (T.pieces_of view.now) index }
 {
