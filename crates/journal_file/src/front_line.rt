@@ -219,6 +219,17 @@ fn edit_params(alloc: Global, act: &EditAct) -> Result<Option<Value>, NoMemory> 
             let last = *last;
             Ok(Some(json!(in alloc; [first, last])?))
         }
+        EditAct::GotoLine { line } => {
+            let line = *line;
+            Ok(Some(json!(in alloc; {"line": line})?))
+        }
+        _ => pointer_params(alloc, act),
+    }
+}
+
+/// The parameters of what a pointer does.
+fn pointer_params(alloc: Global, act: &EditAct) -> Result<Option<Value>, NoMemory> {
+    match act {
         EditAct::Click {
             line,
             col,
@@ -245,10 +256,6 @@ fn edit_params(alloc: Global, act: &EditAct) -> Result<Option<Value>, NoMemory> 
             let line = *line;
             let col = *col;
             Ok(Some(json!(in alloc; {"col": col, "line": line, "ty": touch_name(*ty)})?))
-        }
-        EditAct::GotoLine { line } => {
-            let line = *line;
-            Ok(Some(json!(in alloc; {"line": line})?))
         }
         _ => find_params(alloc, act),
     }
