@@ -4,18 +4,20 @@ use Rattle.std.specs.Prelude.{◌⊎◌, ◌==◌, ◌&&◌, not, nat_le, if◌t
 use Rattle.std.specs.List.{AllByRecursion, list_all}
 use Rattle.std.proofs.lemmas.Bool.{eqb-false, eqb-true}
 use Rattle.std.proofs.lemmas.Bool.Decides.{nat_tests}
+use Rattle.xi_plain.specs.declared.command.Act.TheVariants as Act
 use Rattle.xi_plain.specs.declared.command.Command.{Command}
+use Rattle.xi_plain.specs.declared.command.Fault.{Fault}
 use Rattle.xi_plain.specs.declared.entry.Entry.{Entry}
 use Rattle.xi_plain.specs.Journal.{closing_entry, commands, front_entries, has_own_note, is_closing, is_ordered, may_follow}
 use Rattle.front_wire.specs.Front.{command_of}
-use Rattle.session_step.specs.Accepted.{AcceptsBy, AreAcceptedFrom}
+use Rattle.plugin_side.specs.Laws.{IsAskedAgain, LinesAreAskedAgain}
+use Rattle.session_step.specs.Accepted.{AcceptsBy, AcceptsOf, AreAcceptedFrom, is_of_plugin}
 use Rattle.core_session.specs.Kept.{ending}
-use Rattle.core_session.specs.Serves.{refusal_in}
 use Rattle.core_session.specs.Shelves.{AreSavesAskedFrom}
 use Rattle.journal_replay.specs.declared.replaying.ReplayFault.{ReplayFault}
 use Rattle.journal_replay.specs.declared.replaying.ReplayFault.TheVariants as fault
 use Rattle.journal_replay.specs.Follow.{AllFollow, FirstDiffers, IsNextLine, IsByPlugin, IsTaken, IsTheClosing, NextAsks, Point, first_point, lines_left, point_with}
-use Rattle.journal_replay.specs.Laws.{AnswersExactly, IsWritable, OwnJournalFollows, OwnJournalIsShown}
+use Rattle.journal_replay.specs.Laws.{AnswersExactly, IsAskedFor, OwnJournalFollows, OwnJournalIsShown}
 use Rattle.journal_replay.specs.Replay.{Replays, replay_terms}
 use Rattle.journal_replay.proofs.FollowLemmas.{first_of, second_of}
 
@@ -82,7 +84,7 @@ first_line (line ∷ rest) command more is = (line, rest, refl, head_is is, tail
     tail_is : {a b : Command} {xs ys : List Command} → a ∷ xs ≡ b ∷ ys → xs ≡ ys
     tail_is is = cc
 
-module _ (plugins : ℕ) (rest : List (List ℕ)) where
+module _ (again : LinesAreAskedAgain) (plugins : ℕ) (rest : List (List ℕ)) where
   -- what is asked of entries and of a point before them, from which they follow
   record Own (point : Point) (entries : List Entry) (lines : List (List ℕ)) : Type 0 where
     unclosed : point.closed ≡ false
@@ -90,7 +92,7 @@ module _ (plugins : ℕ) (rest : List (List ℕ)) where
     noted : list_all has_own_note (entries ++ closing_entry ∷ []) ≡ true
     accepted : AreAcceptedFrom point.session (entries ++ closing_entry ∷ [])
     asked : AreSavesAskedFrom point.session (entries ++ closing_entry ∷ [])
-    writable : AllByRecursion IsWritable entries
+    asks : AllByRecursion IsAskedFor entries
     left : point.lines ≡ lines ++ rest
     fronts : map command_of lines ≡ commands (front_entries entries)
 
@@ -129,15 +131,25 @@ module _ (plugins : ℕ) (rest : List (List ℕ)) where
         inr (inr (record {
           from = from;
           to = within entry.caller plugins (first_of (nat_le entry.caller plugins) _ own.ordered);
-          asks = asks_by accepts.taken own.writable.0;
+          asks = asks_by accepts own.asks.0;
         })),
         (lines, used, fronts),
       )
     where
-      asks_by : refusal_in point.session entry.caller entry.command ≡ None → IsWritable entry → (entry.command ≡ ending) ⊎ IsTaken point.session entry
-      asks_by taken (inl front) = absurd (omega (arith, front, some_caller entry.caller is))
-      asks_by taken (inr (inl ends)) = inl ends
-      asks_by taken (inr (inr writes)) = inr (record { asks = writes.0; reads_back = writes.1; accepted = taken })
+      differs : false ≡ true → ⊥
+      differs is = cc
+
+      no_refusal : (fault : Fault) → entry.command.act ≡ Act.Bad fault → is_of_plugin entry.command.act ≡ true → ⊥
+      no_refusal fault bad may = differs (sym (ap is_of_plugin bad) ∙ may)
+
+      by_line : AcceptsOf point.session entry.caller entry.command.act → IsAskedAgain entry.command → IsTaken point.session entry
+      by_line accepts (inl both) = record { asks = both.0; reads_back = both.1; accepted = accepts.taken }
+      by_line accepts (inr (fault, bad)) = absurd (no_refusal fault bad accepts.asks)
+
+      asks_by : AcceptsOf point.session entry.caller entry.command.act → IsAskedFor entry → (entry.command ≡ ending) ⊎ IsTaken point.session entry
+      asks_by accepts (inl front) = absurd (omega (arith, front, some_caller entry.caller is))
+      asks_by accepts (inr (inl ends)) = inl ends
+      asks_by accepts (inr (inr (line, is))) = inr (by_line accepts (subst IsAskedAgain is (again line)))
 
   follow_from : (point : Point) (entries : List Entry) (lines : List (List ℕ)) → Own point entries lines →
       AllFollow plugins point (entries ++ closing_entry ∷ [])
@@ -159,32 +171,32 @@ module _ (plugins : ℕ) (rest : List (List ℕ)) where
           noted = second_of (has_own_note entry) _ own.noted;
           accepted = own.accepted.1;
           asked = own.asked.1;
-          writable = own.writable.1;
+          asks = own.asks.1;
           left = left;
           fronts = fronts;
         }),
       )
 
-pub own_journal_follows : OwnJournalFollows
-own_journal_follows terms tape entries rest lawful writable cut =
+pub own_journal_follows : LinesAreAskedAgain → OwnJournalFollows
+own_journal_follows again terms tape entries rest lawful asks cut =
     let (lines, left, fronts) = cut in
     let plugins = terms.plugins in
-    follow_from plugins rest (first_point terms tape) entries lines (record {
+    follow_from again plugins rest (first_point terms tape) entries lines (record {
       unclosed = refl;
       ordered = first_of (is_ordered plugins (entries ++ closing_entry ∷ [])) _ lawful.legal;
       noted = second_of (is_ordered plugins (entries ++ closing_entry ∷ [])) _ lawful.legal;
       accepted = lawful.accepted;
       asked = lawful.saves_asked;
-      writable = writable;
+      asks = asks;
       left = left;
       fronts = fronts;
     })
 
-pub own_journal_is_shown : OwnJournalIsShown
-own_journal_is_shown plugins tape entries rest before after answer lawful writable cut replays calm = by answer replays
+pub own_journal_is_shown : LinesAreAskedAgain → OwnJournalIsShown
+own_journal_is_shown again plugins tape entries rest before after answer lawful asks cut replays calm = by answer replays
   where
     follows : AllFollow plugins (first_point (replay_terms plugins) tape) (entries ++ closing_entry ∷ [])
-    follows = own_journal_follows (replay_terms plugins) tape entries rest lawful writable cut
+    follows = own_journal_follows again (replay_terms plugins) tape entries rest lawful asks cut
 
     by : (answer : Option ReplayFault) → Replays plugins tape (entries ++ closing_entry ∷ []) before after answer →
         (answer ≡ None) ⊎ (answer ≡ Some fault.NoMemory)

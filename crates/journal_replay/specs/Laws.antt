@@ -4,10 +4,8 @@ use Rattle.std.specs.List.{AllByRecursion}
 use Rattle.plain_text.specs.InputLines.{lines_of}
 use Rattle.xi_plain.specs.declared.entry.Entry.{Entry}
 use Rattle.xi_plain.specs.Journal.{closing_entry, commands, front_entries}
-use Rattle.json_rpc.specs.Line.{line_of}
 use Rattle.front_wire.specs.Front.{command_of}
 use Rattle.plugin_wire.specs.Asked.{ask_of}
-use Rattle.plugin_side.specs.Asking.{IsAsk, command_data}
 use Rattle.outside.specs.Faults.{Rose}
 use Rattle.outside.specs.Sink.{SinkState}
 use Rattle.session_step.specs.declared.terms.Terms.{Terms}
@@ -30,23 +28,22 @@ AnswersExactly = (plugins : ℕ) (tape : List ℕ) (journal : List Entry) (befor
     Replays plugins tape journal before after answer → answer ≢ Some NoMemory → (Rose before.faults after.faults → ⊥) →
     IsDue plugins tape journal answer
 
--- the entry is the front end's, the end of a plugin's session, or a command that its line reads back to
-abbrev pub IsWritable : Entry → Type 0
-IsWritable entry =
-    (entry.caller ≡ 0) ⊎ ((entry.command ≡ ending) ⊎ (IsAsk entry.command.act × (ask_of (line_of (command_data entry.command)) ≡ entry.command)))
+-- the entry is the front end's, the end of a plugin's session, or what a line of a plugin asks
+abbrev pub IsAskedFor : Entry → Type 0
+IsAskedFor entry = (entry.caller ≡ 0) ⊎ ((entry.command ≡ ending) ⊎ ((line : List ℕ) × (ask_of line ≡ entry.command)))
 
 -- A RUN'S OWN JOURNAL follows: one of a session with these terms, whose last entry is the closing one, and whose front end's commands before it
 -- are those of the first lines of the tape
 abbrev pub OwnJournalFollows : Type 0
 OwnJournalFollows = (terms : Terms) (tape : List ℕ) (entries : List Entry) (rest : List (List ℕ)) →
-    IsSessionJournal terms (entries ++ closing_entry ∷ []) → AllByRecursion IsWritable entries →
+    IsSessionJournal terms (entries ++ closing_entry ∷ []) → AllByRecursion IsAskedFor entries →
     ((lines : List (List ℕ)) × (lines_of tape ≡ lines ++ rest) × (map command_of lines ≡ commands (front_entries entries))) →
     AllFollow terms.plugins (first_point terms tape) (entries ++ closing_entry ∷ [])
 
 -- HENCE it is shown again: where no write failed, a replay of it by as many plugins is without fault, or memory was wanting
 abbrev pub OwnJournalIsShown : Type 0
 OwnJournalIsShown = (plugins : ℕ) (tape : List ℕ) (entries : List Entry) (rest : List (List ℕ)) (before after : SinkState) (answer : Option ReplayFault) →
-    IsSessionJournal (replay_terms plugins) (entries ++ closing_entry ∷ []) → AllByRecursion IsWritable entries →
+    IsSessionJournal (replay_terms plugins) (entries ++ closing_entry ∷ []) → AllByRecursion IsAskedFor entries →
     ((lines : List (List ℕ)) × (lines_of tape ≡ lines ++ rest) × (map command_of lines ≡ commands (front_entries entries))) →
     Replays plugins tape (entries ++ closing_entry ∷ []) before after answer → (Rose before.faults after.faults → ⊥) →
     (answer ≡ None) ⊎ (answer ≡ Some NoMemory)

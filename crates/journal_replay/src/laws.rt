@@ -10,9 +10,13 @@ pub fn answers_exactly()
 /// The journal of a run follows on the tape of the run.
 pub fn own_journal_follows()
     ensures { OwnJournalFollows }
-{}
+{
+    plugin_side::laws::lines_are_asked_again();
+}
 
 /// Hence a replay of it shows it again, where no write failed and memory did not want.
 pub fn own_journal_is_shown()
     ensures { OwnJournalIsShown }
-{}
+{
+    plugin_side::laws::lines_are_asked_again();
+}
