@@ -14,9 +14,9 @@ use xi_top::Report;
 
 const LETTERS: &str = "ABCDEFGHIJKLMNOPQRSTUVWXYZabcdefghijklmnopqrstuvwxyz0123456789-_";
 
-const OPENING: &str = "{\"id\":0,\"method\":\"new_view\"}\n";
+pub(crate) const OPENING: &str = "{\"id\":0,\"method\":\"new_view\"}\n";
 
-const TYPING: &str =
+pub(crate) const TYPING: &str =
     "{\"method\":\"edit\",\"params\":{\"method\":\"insert\",\"params\":{\"chars\":\".\"},\"view_id\":\"view-id-1\"}}\n";
 
 type Played = Report<MemSink, CalmShelf, Typist>;
@@ -29,7 +29,7 @@ fn input(alloc: Global) -> Result<Vec<u8>, NoMemory> {
     Ok(joined(alloc, &lines, lines.len())?)
 }
 
-fn typists(alloc: Global, letters: &str) -> Result<Vec<Typist>, NoMemory> {
+pub(crate) fn typists(alloc: Global, letters: &str) -> Result<Vec<Typist>, NoMemory> {
     let mut plugins = Vec::new(alloc);
     for letter in letters.chars() {
         plugins.push(Typist::new(alloc, letter))?;

@@ -1,7 +1,9 @@
-//! Tables of tests of runs on threads: plugins side by side, many plugins, plugins that mean no good, and scripts beside the
-//! same in turns.
+//! Tables of tests of runs on threads: plugins side by side, many plugins, plugins that mean no good, scripts beside the
+//! same in turns, and a run that is played again.
 #![tactic(auto)]
 
+#[cfg(test)]
+mod again;
 #[cfg(test)]
 mod beside;
 #[cfg(test)]
