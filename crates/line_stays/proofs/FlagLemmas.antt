@@ -4,7 +4,7 @@ use Rattle.std.specs.Prelude.{◌&&◌, ◌||◌, max, nat_le, nat_lt}
 use Rattle.std.specs.List.{range_with_len}
 use Rattle.std.proofs.lemmas.Bool.{and_right, cases_lt, le-leb, le-ltb, lt-leb, lt-ltb}
 use Rattle.std.proofs.lemmas.List.{length-replicate}
-use Rattle.line_stays.specs.Inner.{flags_by, reach, with_run}
+use Rattle.line_stays.specs.Inner.{flags_by, reach_within, with_run}
 
 or-false : (a : Bool) → (a || false) ≡ a
 or-false true = refl
@@ -82,16 +82,16 @@ module _ (from : ℕ) where
     module _ (test next : ℕ → Bool) (low start end more : ℕ) (flags : List Bool) (so_far : AreSoFar test low flags) (rises : low ≤ start)
         (runs : start ≤ more) (ends : end ≤ more + 1) (is_next : (k : ℕ) → k < n → next (from + k) ≡ (test (from + k) || in_run start end (from + k))) where
       abbrev first : List Bool
-      first = flags ++ replicate (reach from n start - length flags) false
+      first = flags ++ replicate (reach_within from n start - length flags) false
 
-      long : length first ≡ length flags + (reach from n start - length flags)
-      long = length-append flags (replicate (reach from n start - length flags) false) ∙
-          ap (λ m. length flags + m) (length-replicate (reach from n start - length flags) false)
+      long : length first ≡ length flags + (reach_within from n start - length flags)
+      long = length-append flags (replicate (reach_within from n start - length flags) false) ∙
+          ap (λ m. length flags + m) (length-replicate (reach_within from n start - length flags) false)
 
-      length-run : length (with_run from n start end flags) ≡ length first + (reach from n end - max (reach from n start) (length flags))
+      length-run : length (with_run from n start end flags) ≡ length first + (reach_within from n end - max (reach_within from n start) (length flags))
       length-run =
-          length-append first (replicate (reach from n end - max (reach from n start) (length flags)) true) ∙
-          ap (λ m. length first + m) (length-replicate (reach from n end - max (reach from n start) (length flags)) true)
+          length-append first (replicate (reach_within from n end - max (reach_within from n start) (length flags)) true) ∙
+          ap (λ m. length first + m) (length-replicate (reach_within from n end - max (reach_within from n start) (length flags)) true)
 
       -- a flag that is there stays
       next-left : (k : ℕ) → k < length flags → test (from + k) ≡ next (from + k)
@@ -110,7 +110,7 @@ module _ (from : ℕ) where
 
       first-is : first ≡ flags_by next from (length first)
       first-is =
-          flags-put next false flags (reach from n start - length flags)
+          flags-put next false flags (reach_within from n start - length flags)
           (so_far.is ∙ flags-other test next 0 (length flags) (λ k past less. next-left k (omega (arith, less))))
           (λ k past less. next-none k past (omega (arith, less)) (in-before start end (from + k) (omega (arith, past, less)))) ∙
           ap (flags_by next from) (sym long)
@@ -118,7 +118,7 @@ module _ (from : ℕ) where
       pub put-step : AreSoFar next more (with_run from n start end flags)
       put-step = record {
         is =
-            flags-put next true first (reach from n end - max (reach from n start) (length flags)) first-is
+            flags-put next true first (reach_within from n end - max (reach_within from n start) (length flags)) first-is
             (λ k past less. next-some k (omega (arith, past, long)) (omega (arith, past, less, long, so_far.room))
             (in-yes start end (from + k) (omega (arith, past, less, long)) (omega (arith, past, less, long)))) ∙
             ap (flags_by next from) (sym length-run);
@@ -175,7 +175,7 @@ module _ (from : ℕ) where
         (λ k past less. sym (so.splits k (omega (arith, less)) ∙ ap (λ b. so.test (from + k) || b) (none k (omega (arith, less))) ∙ or-false (so.test (from + k))))
 
 -- a run behind flags, put in two parts
-pub run-put : (from n start end low high : ℕ) (flags mid made : List Bool) → low ≡ reach from n start → high ≡ reach from n end →
+pub run-put : (from n start end low high : ℕ) (flags mid made : List Bool) → low ≡ reach_within from n start → high ≡ reach_within from n end →
     mid ≡ flags ++ replicate (low - length flags) false → made ≡ mid ++ replicate (high - length mid) true → made ≡ with_run from n start end flags
 run-put from n start end low high flags mid made low_is high_is mid_is made_is =
     let long : length mid ≡ max low (length flags) =

@@ -27,12 +27,12 @@ abbrev pub flags_by : (ℕ → Bool) → ℕ → ℕ → List Bool
 flags_by test from n = map (λ k. test (from + k)) (range_with_len 0 n)
 
 -- flags with a run behind them, as far as it reaches from there, and what stands between them
-abbrev pub reach : ℕ → ℕ → ℕ → ℕ
-reach from n gap = min (gap - from) n
+abbrev pub reach_within : ℕ → ℕ → ℕ → ℕ
+reach_within from n gap = min (gap - from) n
 
 abbrev pub with_run : ℕ → ℕ → ℕ → ℕ → List Bool → List Bool
 with_run from n start end flags =
-    (flags ++ replicate (reach from n start - length flags) false) ++ replicate (reach from n end - max (reach from n start) (length flags)) true
+    (flags ++ replicate (reach_within from n start - length flags) false) ++ replicate (reach_within from n end - max (reach_within from n start) (length flags)) true
 
 -- ---- what is shown on two texts
 

@@ -121,9 +121,11 @@ fn marks_of<T: TextView>(
     requires styled { AreStyledAlike change (T.pieces_of before.now.view.now) (T.pieces_of after.now.view.now)
         before.now.layers.now after.now.layers.now part.old part.new part.n }
     ensures reach { IfOk result (λ marks. EndBefore (T.pieces_of before.now.view.now) part.old part.n (length marks)) }
-    ensures count { IfOk result (λ marks. start_of (T.pieces_of before.now.view.now) part.old + length marks ≤ length (T.text_of before.now.view.now) + 1) }
+    ensures count { IfOk result (λ marks. start_of (T.pieces_of before.now.view.now) part.old + length marks
+        ≤ length (T.text_of before.now.view.now) + 1) }
     ensures plain { IfOk result (λ marks. (x : ℕ) → part.old ≤ x → x < part.old + part.n
-        → IsUnmarked (T.text_of before.now.view.now) (T.pieces_of before.now.view.now) marks (start_of (T.pieces_of before.now.view.now) part.old) x
+        → IsUnmarked (T.text_of before.now.view.now) (T.pieces_of before.now.view.now) marks
+        (start_of (T.pieces_of before.now.view.now) part.old) x
         → is_same_logical (T.text_of before.now.view.now) (T.pieces_of before.now.view.now)
         (layout (T.text_of before.now.view.now) (T.pieces_of before.now.view.now) before.now.sel.now.regions
         (runs_in before.now.results.now) before.now.layers.now)
@@ -166,7 +168,8 @@ fn put_marked<T: TextView>(
         × EndBefore (T.pieces_of before.now.view.now) part.old part.n (length marks.now) }
     requires some { 0 < part.n }
     requires plain { (x : ℕ) → part.old ≤ x → x < part.old + part.n
-        → IsUnmarked (T.text_of before.now.view.now) (T.pieces_of before.now.view.now) marks.now (start_of (T.pieces_of before.now.view.now) part.old) x
+        → IsUnmarked (T.text_of before.now.view.now) (T.pieces_of before.now.view.now) marks.now
+        (start_of (T.pieces_of before.now.view.now) part.old) x
         → is_same_logical (T.text_of before.now.view.now) (T.pieces_of before.now.view.now)
         (layout (T.text_of before.now.view.now) (T.pieces_of before.now.view.now) before.now.sel.now.regions
         (runs_in before.now.results.now) before.now.layers.now)

@@ -76,7 +76,8 @@ fn settled<T: TextView>(
         (layout (T.text_of before.now.view.now) (T.pieces_of before.now.view.now) before.now.sel.now.regions
         (runs_in before.now.results.now) before.now.layers.now)
         (layout (T.text_of after.now.view.now) (T.pieces_of after.now.view.now) after.now.sel.now.regions
-        (runs_in after.now.results.now) after.now.layers.now))) (length (T.pieces_of before.now.view.now)) (length (T.pieces_of after.now.view.now))) }
+        (runs_in after.now.results.now) after.now.layers.now)))
+        (length (T.pieces_of before.now.view.now)) (length (T.pieces_of after.now.view.now))) }
 {
     match change {
         Change::Edited { front, back } => beside(alloc, had, before, after, front, back),
@@ -106,7 +107,8 @@ fn as_was<T: TextView>(
         (layout (T.text_of before.now.view.now) (T.pieces_of before.now.view.now) before.now.sel.now.regions
         (runs_in before.now.results.now) before.now.layers.now)
         (layout (T.text_of after.now.view.now) (T.pieces_of after.now.view.now) after.now.sel.now.regions
-        (runs_in after.now.results.now) after.now.layers.now))) (length (T.pieces_of before.now.view.now)) (length (T.pieces_of after.now.view.now))) }
+        (runs_in after.now.results.now) after.now.layers.now)))
+        (length (T.pieces_of before.now.view.now)) (length (T.pieces_of after.now.view.now))) }
 {
     let all = Part {
         old: 0,
@@ -139,7 +141,8 @@ fn beside<T: TextView>(
         (layout (T.text_of before.now.view.now) (T.pieces_of before.now.view.now) before.now.sel.now.regions
         (runs_in before.now.results.now) before.now.layers.now)
         (layout (T.text_of after.now.view.now) (T.pieces_of after.now.view.now) after.now.sel.now.regions
-        (runs_in after.now.results.now) after.now.layers.now))) (length (T.pieces_of before.now.view.now)) (length (T.pieces_of after.now.view.now))) }
+        (runs_in after.now.results.now) after.now.layers.now)))
+        (length (T.pieces_of before.now.view.now)) (length (T.pieces_of after.now.view.now))) }
 {
     let change = Change::Edited { front, back };
     let left = left_part(after.view, front);
